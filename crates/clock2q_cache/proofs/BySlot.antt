@@ -9,7 +9,7 @@ use Rattle.clock2q_cache.proofs.Spent.{costs-of, reaches-none, remove-costs}
 
 -- nothing was spent
 nothing-spent : {a b : Counts} (links keys : ℕ) → b ≡ a → Spends 0 links keys a b
-nothing-spent links keys same = rw same (record { inspections = omega arith; accesses = (omega arith, omega arith); questions = (omega arith, omega arith) })
+nothing-spent links keys same = rw same (record { inspections = omega arith; accesses = (omega arith, omega arith); comparisons = (omega arith, omega arith) })
 
 module _ {K V S H : Type 0} (key : HashMembers K) (build : builder.Ghosts S H) (hash : hasher.Ghosts H) (old new : CacheState K V S) where
   -- the resident was hit

@@ -80,7 +80,7 @@ module _ {K V : Type 0} {eq : K → K → Bool} {hash : K → ℕ} {shares : Sha
   }
 
   -- a hash was looked up, and keys were compared
-  pub kept-looked : (x : ℕ) (h' : Remembered K) (keys' : KeyPlaces K V) → h' ≡ record h { places = places_looked_up x h.places; questions = h'.questions } → keys'.entries ≡ keys.entries
+  pub kept-looked : (x : ℕ) (h' : Remembered K) (keys' : KeyPlaces K V) → h' ≡ record h { places = places_looked_up x h.places; comparisons = h'.comparisons } → keys'.entries ≡ keys.entries
       → keys'.room ≡ keys.room → IsKept eq hash shares q h' index keys' free room
   kept-looked x h' keys' same entries keys_room =
       let remembered = ap (λ (z : Remembered K). z.entries) same in

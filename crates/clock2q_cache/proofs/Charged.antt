@@ -14,11 +14,11 @@ module _ {K V S H : Type 0} (key : HashMembers K) (build : builder.Ghosts S H) (
   -- what the caller leaves behind the reference is then the key's value
   pub lent : {links keys : ℕ} → links ≡ most_links key build hash k old → keys ≡ most_keys key build hash k old → (w : V)
       → cache_state (stored slot w new.machine) new.known new.hasher
-      (record { inspections = new.counts.inspections; accesses = new.counts.accesses + (links - new.counts.accesses); questions = new.counts.questions + (keys - new.counts.questions) })
+      (record { inspections = new.counts.inspections; accesses = new.counts.accesses + (links - new.counts.accesses); comparisons = new.counts.comparisons + (keys - new.counts.comparisons) })
       ≡ with_slot key build hash k w old
   lent {links} {keys} is_links is_keys w =
       let links_are : new.counts.accesses + (links - new.counts.accesses) ≡ most_links key build hash k old = omega (arith, is_links, spent.accesses.1) in
-      let keys_are : new.counts.questions + (keys - new.counts.questions) ≡ most_keys key build hash k old = omega (arith, is_keys, spent.questions.1) in
+      let keys_are : new.counts.comparisons + (keys - new.counts.comparisons) ≡ most_keys key build hash k old = omega (arith, is_keys, spent.comparisons.1) in
       cc (taken.writes w, spent.inspections)
 
 -- counts at their bounds are within the cost of a call for a key's slot
@@ -26,7 +26,7 @@ pub charged-costs : {K V S H : Type 0} {key : HashMembers K} {build : builder.Gh
     → IsEquivalence key.eq → ((x y : K) → key.eq x y ≡ true → key.hash_input x ≡ key.hash_input y) → IsWhole key.eq old.machine
     → length old.known.taken ≡ length old.machine.history → IsWithinCapacity old.known.index → Costs key build hash (SlotFor k w) old (with_slot key build hash k w old)
 charged-costs {key = key} {build} {hash} {k} w old laws respects whole as_many within = record {
-  counts = record { inspections = refl; accesses = (omega arith, omega arith); questions = (omega arith, omega arith) };
+  counts = record { inspections = refl; accesses = (omega arith, omega arith); comparisons = (omega arith, omega arith) };
   index = reaches-taken key build hash k laws respects whole as_many within refl;
   clock = omega (arith, clock_bounded key.eq (Put k w) old.machine);
 }

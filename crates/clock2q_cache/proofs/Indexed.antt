@@ -89,16 +89,16 @@ module _ {K V : Type 0} (hash : K → ℕ) (entries : List (Entry K V)) where
       of (Some e) l = omega (arith, l)
 
   -- what is known of the history: its keys are at its places
-  pub record Told (places : List ℕ) : Type 0 where
+  pub record GhostValue (places : List ℕ) : Type 0 where
     pub stand : AllByRecursion Stands places
     pub zipped : zip (map (λ (e : ℕ × K). e.1) (entries_of entries places)) places ≡ paired (key_at entries) places
 
-  pub told : (places : List ℕ) → length (entries_of entries places) ≡ length places → AllByRecursion (λ (e : ℕ × K). e.0 ≡ hash e.1) (entries_of entries places) → Told places
+  pub told : (places : List ℕ) → length (entries_of entries places) ≡ length places → AllByRecursion (λ (e : ℕ × K). e.0 ≡ hash e.1) (entries_of entries places) → GhostValue places
   told [] many a = record { stand = tt; zipped = refl }
   told (s ∷ ss) many a = of (hashed_at entries s) refl (λ n b. told ss n b) many a
     where
-      of : (o : Option (ℕ × K)) → hashed_at entries s ≡ o → (length (entries_of entries ss) ≡ length ss → AllByRecursion (λ (e : ℕ × K). e.0 ≡ hash e.1) (entries_of entries ss) → Told ss)
-          → length (cons_option o (entries_of entries ss)) ≡ suc (length ss) → AllByRecursion (λ (e : ℕ × K). e.0 ≡ hash e.1) (cons_option o (entries_of entries ss)) → Told (s ∷ ss)
+      of : (o : Option (ℕ × K)) → hashed_at entries s ≡ o → (length (entries_of entries ss) ≡ length ss → AllByRecursion (λ (e : ℕ × K). e.0 ≡ hash e.1) (entries_of entries ss) → GhostValue ss)
+          → length (cons_option o (entries_of entries ss)) ≡ suc (length ss) → AllByRecursion (λ (e : ℕ × K). e.0 ≡ hash e.1) (cons_option o (entries_of entries ss)) → GhostValue (s ∷ ss)
       of None is next many a = absurd (omega (arith, many, entries_within ss))
       of (Some e) is next many a =
           let later = next (omega (arith, many)) a.1 in

@@ -13,13 +13,13 @@ module _ {K V : Type 0} (q : QueueState) (h : Remembered K) (keys : KeyPlaces K 
       → Rises least most q.accesses q'.accesses → most ≤ 28 → {places : Places} {h' : Remembered K} → h' ≡ record h { places = places } → keys' ≡ record keys { entries = es; writes = n }
       → Spends 0 28 0 (counts_of q h keys) (counts_of q' h' keys')
   joined-spends least most queues links few moved renewed =
-      let asked = ap (λ (z : KeyPlaces K V). z.questions) renewed in
-      let told = ap (λ (z : Remembered K). z.questions) moved in
+      let asked = ap (λ (z : KeyPlaces K V). z.comparisons) renewed in
+      let told = ap (λ (z : Remembered K). z.comparisons) moved in
       let same = ap (λ (z : Remembered K). z.accesses) moved in
       record {
         inspections = omega (arith, ap (λ (z : QueueState). z.inspections) queues);
         accesses = (omega (arith, links.0, same), omega (arith, links.1, few, same));
-        questions = (omega (arith, asked, told), omega (arith, asked, told));
+        comparisons = (omega (arith, asked, told), omega (arith, asked, told));
       }
 
   -- a key that takes the slot of Small's tail, which is evicted
@@ -29,12 +29,12 @@ module _ {K V : Type 0} (q : QueueState) (h : Remembered K) (keys : KeyPlaces K 
       → h' ≡ record h { entries = kept; places = places; accesses = h'.accesses } → Rises 0 8 h.accesses h'.accesses
       → keys' ≡ record keys { entries = es; writes = n } → Spends 0 28 0 (counts_of q h keys) (counts_of q' h' keys')
   evicted-spends queues reused pushed remembered renewed =
-      let asked = ap (λ (z : KeyPlaces K V). z.questions) renewed in
-      let told = ap (λ (z : Remembered K). z.questions) pushed in
+      let asked = ap (λ (z : KeyPlaces K V). z.comparisons) renewed in
+      let told = ap (λ (z : Remembered K). z.comparisons) pushed in
       record {
         inspections = omega (arith, ap (λ (z : QueueState). z.inspections) queues);
         accesses = (omega (arith, reused.0, remembered.0), omega (arith, reused.1, remembered.1));
-        questions = (omega (arith, asked, told), omega (arith, asked, told));
+        comparisons = (omega (arith, asked, told), omega (arith, asked, told));
       }
 
 module _ {K V : Type 0} {eq : K → K → Bool} {hash : K → ℕ} {shares : Shares} {q : QueueState} {h : Remembered K} {index : List (List (ℕ × ℕ))} {keys : KeyPlaces K V} {free : List ℕ} {room : ℕ}
@@ -47,13 +47,13 @@ module _ {K V : Type 0} {eq : K → K → Bool} {hash : K → ℕ} {shares : Sha
       → let m = machine_of shares q keys.entries h.entries free in Spends (machine.inspections m.main) (machine.inspections m.main + 28) 0 (counts_of q h keys) (counts_of q' h' keys')
   victim-spends looks links queues moved renewed =
       let looked = main-inspections (key_at keys.entries) q.main (main_have laws kept) in
-      let asked = ap (λ (z : KeyPlaces K V). z.questions) renewed in
-      let told = ap (λ (z : Remembered K). z.questions) moved in
+      let asked = ap (λ (z : KeyPlaces K V). z.comparisons) renewed in
+      let told = ap (λ (z : Remembered K). z.comparisons) moved in
       let same = ap (λ (z : Remembered K). z.accesses) moved in
       record {
         inspections = omega (arith, looked, looks, ap (λ (z : QueueState). z.inspections) queues);
         accesses = (omega (arith, looked, links.0, same), omega (arith, looked, links.1, same));
-        questions = (omega (arith, asked, told), omega (arith, asked, told));
+        comparisons = (omega (arith, asked, told), omega (arith, asked, told));
       }
 
 pub no_last : {X : Type 0} (xs : List X) → 0 < length xs → last_or None xs ≡ None → ⊥

@@ -222,7 +222,7 @@ module _ {K V : Type 0} {eq : K → K → Bool} {hash : K → ℕ} {shares : Sha
       → Spends (machine.inspections m.main) (machine.set_front m.main) 0 (counts_of q h keys) (counts_of q' h keys)
   turned-spends q' looks links =
       let looked = main-inspections (key_at keys.entries) q.main (main_have laws kept) in
-      record { inspections = omega (arith, looks, looked); accesses = (omega (arith, links, looked), omega (arith, links, looked)); questions = (omega arith, omega arith) }
+      record { inspections = omega (arith, looks, looked); accesses = (omega (arith, links, looked), omega (arith, links, looked)); comparisons = (omega arith, omega arith) }
 
   -- Small's tail moves on to Main
   module _ (tail : ℕ) (last : last_or None (slots_of q.small) ≡ Some tail) {q' : QueueState} {links : ℕ}

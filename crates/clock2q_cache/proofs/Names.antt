@@ -17,7 +17,7 @@ pub use Rattle.clock2q_directory.specs.Directory.{Known}
 pub use Rattle.clock2q_directory.specs.History.{Remembered, most_beside, place_of, found_slot, found_place, IsWholeHistory, Places, oldest_hash, pushed_places, is_remembered}
 pub use Rattle.clock2q_directory.specs.Index.{IndexState, is_shared, slots, left}
 pub use Rattle.clock2q_directory.specs.Indexes.{IsIndex, HasHash, AllDistinct, is_named, is_alike}
-pub use Rattle.clock2q_directory.specs.Keys.{KeyPlaces, entry, written, hash_at, key_at, with_value, hashed_at, entries_of, is_key_at, questions_of, with_key, IsValueFor, Writes}
+pub use Rattle.clock2q_directory.specs.Keys.{KeyPlaces, entry, written, hash_at, key_at, with_value, hashed_at, entries_of, is_key_at, comparisons_of, with_key, IsValueFor, Writes}
 pub use Rattle.clock2q_queues.specs.MainRing.{main_hit_at, inspections, set_front, from_victim}
 pub use Rattle.clock2q_queues.specs.Queues.{QueueState, slots_of, tail_promoted, without_slot}
 pub use Rattle.clock2q_queues.specs.Rings.{has, AllBelow, AllApart, without}
@@ -27,7 +27,7 @@ pub use Rattle.clock2q_queues.proofs.Booleans.{or_parts, or_true, and_true, and_
 pub use Rattle.clock2q_directory.proofs.Emptied.{cleared_like, slots-cleared, for-new, new-none, emptied-slots}
 pub use Rattle.clock2q_directory.proofs.Entries.{key_at-own, key_at-others, values-written, length-values, slice_get-written, slice_get-written_other, length-written, set-written, all-written, same_place, key_there, any_entry, slice_get_some, value-there, hash_at-own, hash_at-others, written-replaced}
 pub use Rattle.clock2q_directory.proofs.Indexes.{length-put, named-own, IsIndex-cleared, length-cleared, IsIndex-kept, candidate_there, length-taken, IsIndex-put, IsIndex-taken, candidates_there}
-pub use Rattle.clock2q_directory.proofs.Lookups.{lookup, found_there, not_found, questions-most}
+pub use Rattle.clock2q_directory.proofs.Lookups.{lookup, found_there, not_found, comparisons-most}
 pub use Rattle.clock2q_directory.proofs.Remembering.{slots-pushed, shared-pushed, slots-freed, shared-freed}
 pub use Rattle.clock2q_queues.proofs.Rings.{has-append, has_first, has_later, below-more, below_of, below-has, eqb_swap, eqb_self, has-without, has-without_test}
 pub use Rattle.clock2q_queues.proofs.SlotLists.{slots_of-hit, slots_of-append, slots_of-mapped, slots_of-filter}
@@ -51,7 +51,7 @@ pub use Rattle.clock2q_cache.specs.CacheFields.{machine_of, places_of, with_keys
 pub use Rattle.clock2q_cache.specs.CacheState.{CacheState, cache_state, Counts, residents_in, remembered_in}
 pub use Rattle.clock2q_cache.specs.Charged.{most_links, most_keys, with_slot}
 pub use Rattle.clock2q_cache.specs.Closures.{Takes, Fetches, FillsUp, Reuses, AsksResident, MayBeAsked, Retains, TakesInTurn}
-pub use Rattle.clock2q_cache.specs.Costs.{Costs, Reaches, Spends, accesses_for, alike, Becomes, most_accesses, most_questions, most_slots, reached, walked, slots_for, slots_to_take}
+pub use Rattle.clock2q_cache.specs.Costs.{Costs, Reaches, Spends, accesses_for, alike, Becomes, most_accesses, most_comparisons, most_slots, reached, walked, slots_for, slots_to_take}
 pub use Rattle.clock2q_cache.specs.Hashes.{hash_of}
 pub use Rattle.clock2q_cache.specs.Indexed.{HasPlaces, IsIndexed, IsSpacious}
 pub use Rattle.clock2q_cache.specs.Insertions.{Fills, placed_inspections, main_inspections, small_inspections, placed, next_is_vacant, makes_slot}

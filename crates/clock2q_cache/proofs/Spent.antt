@@ -1,6 +1,6 @@
 -- What the parts of a call cost.
 use Rattle.std.proofs.Common.{◌≡◌, ℕ, ◌+◌, ◌*◌, ◌≤◌, Bool, true, false, List, length, Some, None, refl, ap, sym, ◌∙◌, subst, arith}
-use Rattle.clock2q_cache.proofs.Names.{HashMembers, candidates, KeyPlaces, questions_of, Remembered, QueueState, questions-most, set_bits, inspections_of, Call, Get, GetAt, Set, Remove, Retain, Prefill, counts_of, Places, CacheState, Counts, residents_in, Spends, Reaches, Costs, Becomes, most_accesses, most_questions, most_slots, walked, hash_of, looked_for, slot_of, hit, stored, prefilled, vacated, removed_at, then_some, is_at, after, hit_at, retained, replaced, replaced_at, hit-absent}
+use Rattle.clock2q_cache.proofs.Names.{HashMembers, candidates, KeyPlaces, comparisons_of, Remembered, QueueState, comparisons-most, set_bits, inspections_of, Call, Get, GetAt, Set, Remove, Retain, Prefill, counts_of, Places, CacheState, Counts, residents_in, Spends, Reaches, Costs, Becomes, most_accesses, most_comparisons, most_slots, walked, hash_of, looked_for, slot_of, hit, stored, prefilled, vacated, removed_at, then_some, is_at, after, hit_at, retained, replaced, replaced_at, hit-absent}
 use Rattle.std.specs.declared.hash.Hasher as hasher
 use Rattle.std.specs.declared.hash.BuildHasher as builder
 use Rattle.clock2q_machine.proofs.Clock.{clock_bounded}
@@ -10,7 +10,7 @@ pub spends-both : {i j n l k x l' k' x' : ℕ} {a b c : Counts} → Spends i l k
 spends-both before after looks links keys = record {
   inspections = omega (arith, before.inspections, after.inspections, looks);
   accesses = (omega (arith, before.accesses.0, after.accesses.0), omega (arith, before.accesses.1, after.accesses.1, links));
-  questions = (omega (arith, before.questions.0, after.questions.0), omega (arith, before.questions.1, after.questions.1, keys));
+  comparisons = (omega (arith, before.comparisons.0, after.comparisons.0), omega (arith, before.comparisons.1, after.comparisons.1, keys));
 }
 
 -- a cost within a larger bound
@@ -18,21 +18,21 @@ pub spends-more : {i l k l' k' : ℕ} {a b : Counts} → Spends i l k a b → l 
 spends-more spent links keys = record {
   inspections = spent.inspections;
   accesses = (spent.accesses.0, omega (arith, spent.accesses.1, links));
-  questions = (spent.questions.0, omega (arith, spent.questions.1, keys));
+  comparisons = (spent.comparisons.0, omega (arith, spent.comparisons.1, keys));
 }
 
 module _ {K V : Type 0} (q : QueueState) (h : Remembered K) (keys keys' : KeyPlaces K V) where
-  -- a lookup asks at most as many questions as there are places
+  -- a lookup asks at most as many comparisons as there are places
   pub asked-spends : (test : ℕ → Bool) {places all : List ℕ} → places ≡ all
-      → keys' ≡ record keys { questions = keys.questions + questions_of test places } → Spends 0 0 (length all) (counts_of q h keys) (counts_of q h keys')
+      → keys' ≡ record keys { comparisons = keys.comparisons + comparisons_of test places } → Spends 0 0 (length all) (counts_of q h keys) (counts_of q h keys')
   asked-spends test {places} same is =
-      let asked = ap (λ (z : KeyPlaces K V). z.questions) is in
+      let asked = ap (λ (z : KeyPlaces K V). z.comparisons) is in
       let most = ap (λ (z : List ℕ). length z) same in
-      record { inspections = omega arith; accesses = (omega arith, omega arith); questions = (omega (arith, asked), omega (arith, asked, most, questions-most test places)) }
+      record { inspections = omega arith; accesses = (omega arith, omega arith); comparisons = (omega (arith, asked), omega (arith, asked, most, comparisons-most test places)) }
 
-  -- making keys asks no question
-  pub made-spends : keys'.questions ≡ keys.questions → Spends 0 0 0 (counts_of q h keys) (counts_of q h keys')
-  made-spends same = record { inspections = omega arith; accesses = (omega arith, omega arith); questions = (omega (arith, same), omega (arith, same)) }
+  -- making keys asks no comparison
+  pub made-spends : keys'.comparisons ≡ keys.comparisons → Spends 0 0 0 (counts_of q h keys) (counts_of q h keys')
+  made-spends same = record { inspections = omega arith; accesses = (omega arith, omega arith); comparisons = (omega (arith, same), omega (arith, same)) }
 
 none-some : (b : Bool) (slot : ℕ) → None ≡ then_some b slot → b ≡ false
 none-some true slot e = cc
@@ -63,7 +63,7 @@ module _ {K V S H : Type 0} {key : HashMembers K} {build : builder.Ghosts S H} {
   -- a call that leaves the machine's next state has paid for its inspections
   pub costs-of : {call : Call K V} {old new : CacheState K V S} → new.machine ≡ after key.eq call old.machine
       → Reaches (most_slots key build hash call old) old new
-      → Spends (inspections_of key.eq call old.machine) (most_accesses key.eq call old.machine) (most_questions key build hash call old) old.counts new.counts
+      → Spends (inspections_of key.eq call old.machine) (most_accesses key.eq call old.machine) (most_comparisons key build hash call old) old.counts new.counts
       → Costs key build hash call old new
   costs-of {call} {old} {new} is reached spent = record { counts = spent; index = reached; clock = omega (arith, spent.inspections, clock_bounded key.eq call old.machine, ap set_bits is) }
 
@@ -112,7 +112,7 @@ module _ {K V S H : Type 0} {key : HashMembers K} {build : builder.Ghosts S H} {
 
   -- a lookup that finds a resident, which leaves
   pub remove-costs : {k : K} {slot : ℕ} {old found new : CacheState K V S} → Some slot ≡ slot_of (key.eq k) old.machine
-      → found ≡ record (looked_for key build hash k old) { counts = found.counts } → Spends 0 0 (most_questions key build hash (Remove k) old) old.counts found.counts
+      → found ≡ record (looked_for key build hash k old) { counts = found.counts } → Spends 0 0 (most_comparisons key build hash (Remove k) old) old.counts found.counts
       → Reaches (most_slots key build hash (Remove k) old) old new → new.machine ≡ vacated slot found.machine → Spends 0 8 0 found.counts new.counts
       → Costs key build hash (Remove k) old new
   remove-costs {k} {slot} {old} there kept asked reached is left = costs-of

@@ -70,4 +70,4 @@ pub record IsKept {K V : Type 0} (eq : K → K → Bool) (hash : K → ℕ) (sha
 
 -- what the layers below counted
 abbrev pub counts_of : {K V : Type 0} → QueueState → Remembered K → KeyPlaces K V → Counts
-counts_of q h keys = record { inspections = q.inspections; accesses = q.accesses + h.accesses; questions = h.questions + keys.questions }
+counts_of q h keys = record { inspections = q.inspections; accesses = q.accesses + h.accesses; comparisons = h.comparisons + keys.comparisons }

@@ -5,20 +5,20 @@ use Rattle.clock2q_directory.specs.Index.{slots, places}
 use Rattle.clock2q_directory.specs.History.{Places, places_code}
 use Rattle.clock2q_machine.specs.Machine.{Machine, machine_code}
 
--- the number of inspections, of accesses to links and of questions
+-- the number of inspections, of accesses to links and of comparisons
 pub record Counts : Type 0 where
   pub inspections : ℕ
   pub accesses : ℕ
-  pub questions : ℕ
+  pub comparisons : ℕ
 
 -- nothing was counted
 abbrev pub uncounted : Counts
-uncounted = record { inspections = 0; accesses = 0; questions = 0 }
+uncounted = record { inspections = 0; accesses = 0; comparisons = 0 }
 
 abbrev pub counts_code : Coded Counts
 counts_code =
-    code_by (ℕ × (ℕ × ℕ)) (coded× coded_ℕ (coded× coded_ℕ coded_ℕ)) (λ c. (c.inspections, (c.accesses, c.questions)))
-    (λ p. record { inspections = p.0; accesses = p.1.0; questions = p.1.1 }) (λ _. refl)
+    code_by (ℕ × (ℕ × ℕ)) (coded× coded_ℕ (coded× coded_ℕ coded_ℕ)) (λ c. (c.inspections, (c.accesses, c.comparisons)))
+    (λ p. record { inspections = p.0; accesses = p.1.0; comparisons = p.1.1 }) (λ _. refl)
 
 -- the machine that the cache is, the index of its known keys with the places of the history's keys, the state of its
 -- hasher, and the counts

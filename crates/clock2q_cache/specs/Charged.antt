@@ -10,15 +10,15 @@ use Rattle.clock2q_cache.specs.Places.{known_taken}
 use Rattle.clock2q_machine.specs.Steps.{put}
 
 module _ {K V S H : Type 0} (key : HashMembers K) (build : builder.Ghosts S H) (hash : hasher.Ghosts H) where
-  -- what was counted, plus the most accesses to links and questions that a call for a key's slot makes
+  -- what was counted, plus the most accesses to links and comparisons that a call for a key's slot makes
   abbrev pub most_links : K → CacheState K V S → ℕ
   most_links k c = c.counts.accesses + accesses_for (key.eq k) c.machine
 
   abbrev pub most_keys : K → CacheState K V S → ℕ
-  most_keys k c = c.counts.questions + alike key build hash k c
+  most_keys k c = c.counts.comparisons + alike key build hash k c
 
   abbrev pub charged : K → CacheState K V S → Counts
-  charged k c = record { inspections = c.counts.inspections + inspections_for (key.eq k) c.machine; accesses = most_links k c; questions = most_keys k c }
+  charged k c = record { inspections = c.counts.inspections + inspections_for (key.eq k) c.machine; accesses = most_links k c; comparisons = most_keys k c }
 
   -- the key has its slot with this value, and the counts are at their bounds
   abbrev pub with_slot : K → V → CacheState K V S → CacheState K V S

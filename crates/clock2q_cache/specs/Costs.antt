@@ -1,4 +1,4 @@
--- What a call costs a cache: inspections by the hand, accesses to links, questions to keys, slots of the index.
+-- What a call costs a cache: inspections by the hand, accesses to links, comparisons to keys, slots of the index.
 use Rattle.std.specs.Prelude.{◌≡◌, ℕ, ◌+◌, ◌*◌, ◌≤◌, Bool, if◌then◌else◌, Option, Some, None, is_some, length, sum_by}
 use Rattle.std.specs.List.{list_any, last_or}
 use Rattle.std.specs.Option.{option_map}
@@ -15,11 +15,11 @@ use Rattle.clock2q_machine.specs.Leaving.{leaves_for}
 use Rattle.clock2q_cache.specs.CacheState.{CacheState, Counts, residents_in, remembered_in}
 use Rattle.clock2q_cache.specs.Hashes.{hash_of}
 
--- the hand made this many inspections, and at most this many links were accessed and questions asked
+-- the hand made this many inspections, and at most this many links were accessed and comparisons asked
 pub record Spends (inspected links keys : ℕ) (old new : Counts) : Type 0 where
   pub inspections : new.inspections ≡ old.inspections + inspected
   pub accesses : Rises 0 links old.accesses new.accesses
-  pub questions : Rises 0 keys old.questions new.questions
+  pub comparisons : Rises 0 keys old.comparisons new.comparisons
 
 -- at most this many slots of the index were read and written, as they are charged
 pub record Reaches {K V S : Type 0} (slots : ℕ) (old new : CacheState K V S) : Type 0 where
@@ -57,25 +57,25 @@ module _ {K V S H : Type 0} (key : HashMembers K) (build : builder.Ghosts S H) (
   abbrev pub alike : K → CacheState K V S → ℕ
   alike k c = let x = hash_of build hash c.hasher (key.hash_input k) in length (candidates (residents_in c.known) x) + length (candidates (remembered_in c.known) x)
 
-  -- the bound on a call's questions: one to each key under the hash of its own, or one to the key at its slot
-  abbrev pub most_questions : Call K V → CacheState K V S → ℕ
-  most_questions (Put k value) c = alike k c
-  most_questions (Get k) c = alike k c
-  most_questions (GetAt slot k) c = 1
-  most_questions (Set k value) c = alike k c
-  most_questions (With k value) c = alike k c
-  most_questions (Try k value) c = alike k c
-  most_questions (SlotFor k value) c = alike k c
-  most_questions (Remove k) c = alike k c
-  most_questions (Peek k) c = 0
-  most_questions (Contains k) c = 0
-  most_questions (Retain bits) c = 0
-  most_questions Clear c = 0
-  most_questions Evict c = 0
-  most_questions (Prefill values) c = 0
-  most_questions Len c = 0
-  most_questions IsEmpty c = 0
-  most_questions Capacity c = 0
+  -- the bound on a call's comparisons: one to each key under the hash of its own, or one to the key at its slot
+  abbrev pub most_comparisons : Call K V → CacheState K V S → ℕ
+  most_comparisons (Put k value) c = alike k c
+  most_comparisons (Get k) c = alike k c
+  most_comparisons (GetAt slot k) c = 1
+  most_comparisons (Set k value) c = alike k c
+  most_comparisons (With k value) c = alike k c
+  most_comparisons (Try k value) c = alike k c
+  most_comparisons (SlotFor k value) c = alike k c
+  most_comparisons (Remove k) c = alike k c
+  most_comparisons (Peek k) c = 0
+  most_comparisons (Contains k) c = 0
+  most_comparisons (Retain bits) c = 0
+  most_comparisons Clear c = 0
+  most_comparisons Evict c = 0
+  most_comparisons (Prefill values) c = 0
+  most_comparisons Len c = 0
+  most_comparisons IsEmpty c = 0
+  most_comparisons Capacity c = 0
 
   -- the most slots of the index that one change under the hash of a key reads and writes, or 0 if there is no key
   abbrev pub reached : CacheState K V S → K → ℕ
@@ -127,7 +127,7 @@ module _ {K V S H : Type 0} (key : HashMembers K) (build : builder.Ghosts S H) (
   -- the call spent no more than its bounds, and each inspection was paid for: by Main's victim, or by a bit of Main
   -- that was set before or by the call
   pub record Costs (call : Call K V) (old new : CacheState K V S) : Type 0 where
-    pub counts : Spends (inspections_of key.eq call old.machine) (most_accesses key.eq call old.machine) (most_questions call old) old.counts new.counts
+    pub counts : Spends (inspections_of key.eq call old.machine) (most_accesses key.eq call old.machine) (most_comparisons call old) old.counts new.counts
     pub index : Reaches (most_slots call old) old new
     pub clock : new.counts.inspections + set_bits new.machine ≤ old.counts.inspections + main_victims key.eq call old.machine + settings key.eq call old.machine + set_bits old.machine
 

@@ -25,7 +25,7 @@ pub(crate) fn fill<K: Hash + Eq + Default, V, S: BuildHasher, A: Allocator, F: F
         (λ k. hash_of S.BuildHasher S.Hasher.Hasher hasher.now
         (K.hash_input k)) many directory.old.residents.entries directory.new.residents.entries last }
     ensures kept_room { directory.new.residents.room ≡ directory.old.residents.room }
-    ensures questions { directory.new.residents.questions ≡ directory.old.residents.questions }
+    ensures comparisons { directory.new.residents.comparisons ≡ directory.old.residents.comparisons }
     ensures history { directory.new.history ≡ directory.old.history }
 {
     for _ in directory.made()..many {

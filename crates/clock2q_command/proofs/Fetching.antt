@@ -74,7 +74,7 @@ module _ {K V S H : Type 0} (key : HashMembers K) (build : builder.Ghosts S H) (
         counts = record {
           inspections = omega (arith, spent.counts.inspections, looks);
           accesses = (spent.counts.accesses.0, omega (arith, spent.counts.accesses.1, links));
-          questions = spent.counts.questions;
+          comparisons = spent.counts.comparisons;
         };
         clock = omega (arith, spent.clock, victims);
       }

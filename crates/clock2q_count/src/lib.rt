@@ -1,17 +1,17 @@
 //! Numbers and other values that only contracts can see.
 //!
 //! A contract often has to state how often something was done, or what went through a device,
-//! though the program keeps no such value. A [`Count`] or a [`Told`] holds it: it takes no bytes,
+//! though the program keeps no such value. A [`Count`] or a [`GhostValue`] holds it: it takes no bytes,
 //! no code can read it, and clauses name it like any field.
 #![tactic(auto)]
 
 ghost use Rattle.std.specs.Prelude.{◌≡◌, ℕ, ◌+◌, ◌≤◌};
 
-mod told;
+mod ghost_value;
 
+pub use ghost_value::GhostValue;
 use std::fmt;
 use std::marker::Model;
-pub use told::Told;
 
 /// The number of times that something was done. It takes no bytes, and no code can read it: it is a
 /// field of the struct whose accesses it counts, and the accessors tick it.
@@ -31,7 +31,7 @@ pub use told::Told;
 /// ```
 #[derive(Drop)]
 pub struct Count {
-    told: Told<usize>,
+    told: GhostValue<usize>,
 }
 
 impl Model for Count {
@@ -48,7 +48,7 @@ impl Count {
         ensures zero { result.total ≡ 0 }
     {
         Count {
-            told: Told::new(&()),
+            told: GhostValue::new(&()),
         }
     }
 

@@ -101,8 +101,8 @@ module _ {K V : Type 0} (eq : K → K → Bool) where
   pub record Forgets (hash : ℕ) (key : K) (index : IndexState) (order : PlaceOrder)
       (keys : KeyPlaces K V) (index' : IndexState) (order' : PlaceOrder) (keys' : KeyPlaces K V) : Type 0 where
     pub whole : IsHistory eq index' order' keys'
-    pub shown : remembered (entries_of keys'.entries order'.places) order'.limit (places_from index' order') (accesses_of order' keys') keys'.questions
-        ≡ remembered (forgotten eq key (entries_of keys.entries order.places)) order.limit (places_from index' order') (accesses_of order' keys') keys'.questions
+    pub shown : remembered (entries_of keys'.entries order'.places) order'.limit (places_from index' order') (accesses_of order' keys') keys'.comparisons
+        ≡ remembered (forgotten eq key (entries_of keys.entries order.places)) order.limit (places_from index' order') (accesses_of order' keys') keys'.comparisons
     pub accesses : Rises 0 7 (accesses_of order keys) (accesses_of order' keys')
     pub found : has_key eq key (entries_of keys.entries order.places) ≡ true
     pub places : places_from index' order' ≡ freed_place hash (place_of (eq key) (map (λ (e : ℕ × K). e.1) (entries_of keys.entries order.places)) order.places) (places_from index order)
@@ -143,7 +143,7 @@ module _ {K V : Type 0} (eq : K → K → Bool) where
 
       pub forgets : (index' : IndexState) (order' : PlaceOrder) (keys' : KeyPlaces K V) → index' ≡ forgotten_at hash place index → IsWholeOrder order'
           → order' ≡ record order { places = without place order.places; free = place ∷ order.free; accesses = order.accesses + 7 }
-          → keys' ≡ record keys { questions = keys'.questions } → Forgets hash key index order keys index' order' keys'
+          → keys' ≡ record keys { comparisons = keys'.comparisons } → Forgets hash key index order keys index' order' keys'
       forgets index' order' keys' is w ordered same =
           let apart = AllApart-left order.places order.free h.whole.apart in
           let at = hash_there eq hash key (known.places index) keys.entries order.places h.indexed hashed place there.0 there.1 in

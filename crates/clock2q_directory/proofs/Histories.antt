@@ -49,9 +49,9 @@ module _ {K V : Type 0} (eq : K → K → Bool) where
 
   -- room beside the most places that there may be is room beside those that there are
   pub slot-room : (index : IndexState) (order : PlaceOrder) (keys : KeyPlaces K V) (h : Remembered K) → IsHistory eq index order keys
-      → remembered (entries_of keys.entries order.places) order.limit (places_from index order) (accesses_of order keys) keys.questions ≡ h → HasRoom h → HasSlotRoom index
+      → remembered (entries_of keys.entries order.places) order.limit (places_from index order) (accesses_of order keys) keys.comparisons ≡ h → HasRoom h → HasSlotRoom index
   slot-room index order keys h i is room =
-      let r : HasRoom (remembered (entries_of keys.entries order.places) order.limit (places_from index order) (accesses_of order keys) keys.questions) = subst (λ z. HasRoom z) (sym is) room in
+      let r : HasRoom (remembered (entries_of keys.entries order.places) order.limit (places_from index order) (accesses_of order keys) keys.comparisons) = subst (λ z. HasRoom z) (sym is) room in
       let most = beside_most (is_shared index) (total (known.places index)) order.limit (omega (arith, i.indexed.counted, i.whole.within)) in
       record { room = omega (arith, r.room, most); few = omega (arith, r.few, most) }
     where
@@ -77,15 +77,15 @@ module _ {K V : Type 0} (eq : K → K → Bool) where
       }
 
 -- the view that callers have, from each of its parts
-pub shown-as : {K : Type 0} {entries entries' : List (ℕ × K)} {limit limit' : ℕ} (places : Places) (accesses : ℕ) {questions questions' : ℕ}
-    → entries' ≡ entries → limit' ≡ limit → questions' ≡ questions
-    → remembered entries' limit' places accesses questions' ≡ remembered entries limit places accesses questions
-shown-as {K} {entries} {entries'} {limit} {limit'} places accesses {questions} {questions'} e l q =
-    ap (λ z. remembered z limit' places accesses questions') e ∙ ap (λ z. remembered entries z places accesses questions') l ∙ ap (λ z. remembered entries limit places accesses z) q
+pub shown-as : {K : Type 0} {entries entries' : List (ℕ × K)} {limit limit' : ℕ} (places : Places) (accesses : ℕ) {comparisons comparisons' : ℕ}
+    → entries' ≡ entries → limit' ≡ limit → comparisons' ≡ comparisons
+    → remembered entries' limit' places accesses comparisons' ≡ remembered entries limit places accesses comparisons
+shown-as {K} {entries} {entries'} {limit} {limit'} places accesses {comparisons} {comparisons'} e l q =
+    ap (λ z. remembered z limit' places accesses comparisons') e ∙ ap (λ z. remembered entries z places accesses comparisons') l ∙ ap (λ z. remembered entries limit places accesses z) q
 
-pub IsWholeHistory-from : {K : Type 0} (eq : K → K → Bool) (index : IndexState) (order : PlaceOrder) (keys : KeyPlaces K Unit) (accesses questions : ℕ) → IsHistory eq index order keys
-    → IsWholeHistory eq (remembered (entries_of keys.entries order.places) order.limit (places_from index order) accesses questions)
-IsWholeHistory-from eq index order keys accesses questions h =
+pub IsWholeHistory-from : {K : Type 0} (eq : K → K → Bool) (index : IndexState) (order : PlaceOrder) (keys : KeyPlaces K Unit) (accesses comparisons : ℕ) → IsHistory eq index order keys
+    → IsWholeHistory eq (remembered (entries_of keys.entries order.places) order.limit (places_from index order) accesses comparisons)
+IsWholeHistory-from eq index order keys accesses comparisons h =
     let n = entries_counted eq index order keys h in
     record {
       distinct = h.distinct;

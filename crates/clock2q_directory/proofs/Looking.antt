@@ -82,14 +82,14 @@ module _ (a b : ℕ → Bool) where
       ]
 
   -- none of the handles so far has the key, and no more were compared than there are
-  pub record LooksOn (all left : List ℕ) (slot_bound place_bound asked asked_now questions questions_now : ℕ) : Type 0 where
+  pub record LooksOn (all left : List ℕ) (slot_bound place_bound asked asked_now comparisons comparisons_now : ℕ) : Type 0 where
     pub first : first_known a b all ≡ first_known a b left
     pub slots : AllByRecursion (λ s. s < slot_bound) (slots_among left)
     pub places : AllByRecursion (λ p. p < place_bound) (places_among left)
     pub asked_from : asked ≤ asked_now
     pub asked_most : asked_now + length (slots_among left) ≤ asked + length (slots_among all)
-    pub questions_from : questions ≤ questions_now
-    pub questions_most : questions_now + length (places_among left) ≤ questions + length (places_among all)
+    pub comparisons_from : comparisons ≤ comparisons_now
+    pub comparisons_most : comparisons_now + length (places_among left) ≤ comparisons + length (places_among all)
 
   -- the next handle and the others
   pub looks-next : {all left : List ℕ} {h n m p p' q q' : ℕ} → LooksOn all left n m p p' q q' → Some h ≡ slice_get left 0 → LooksOn all (h ∷ drop 1 left) n m p p' q q'
@@ -113,15 +113,15 @@ module _ (a b : ℕ → Bool) where
         places = subst (λ z. AllByRecursion (λ s. s < m) z) places_are on.places;
         asked_from = omega (arith, on.asked_from);
         asked_most = omega (arith, on.asked_most, ap (λ (z : List ℕ). length z) slots_are);
-        questions_from = on.questions_from;
-        questions_most = omega (arith, on.questions_most, ap (λ (z : List ℕ). length z) places_are);
+        comparisons_from = on.comparisons_from;
+        comparisons_most = omega (arith, on.comparisons_most, ap (λ (z : List ℕ). length z) places_are);
       }
 
       pub resident-found : true ≡ a h → (Found.Resident h ≡ first_known a b all) × (p' + 1 ≤ p + length (slots_among all)) × (q' ≤ q + length (places_among all))
       resident-found it = (
         sym (on.first ∙ rw (lt-ltb h first_remembered l, sym it) refl),
         omega (arith, on.asked_most, ap (λ (z : List ℕ). length z) slots_are),
-        omega (arith, on.questions_most),
+        omega (arith, on.comparisons_most),
       )
 
     module _ (l : first_remembered ≤ h) where
@@ -141,8 +141,8 @@ module _ (a b : ℕ → Bool) where
         places = (subst (λ z. AllByRecursion (λ s. s < m) z) places_still on.places).1;
         asked_from = on.asked_from;
         asked_most = omega (arith, on.asked_most, ap (λ (z : List ℕ). length z) slots_still);
-        questions_from = omega (arith, on.questions_from);
-        questions_most = omega (arith, on.questions_most, ap (λ (z : List ℕ). length z) places_still);
+        comparisons_from = omega (arith, on.comparisons_from);
+        comparisons_most = omega (arith, on.comparisons_most, ap (λ (z : List ℕ). length z) places_still);
       }
 
       pub place-found : true ≡ b (h - first_remembered)
@@ -150,20 +150,20 @@ module _ (a b : ℕ → Bool) where
       place-found it = (
         sym (on.first ∙ rw (le-ltb h first_remembered l, sym it) refl),
         omega (arith, on.asked_most),
-        omega (arith, on.questions_most, ap (λ (z : List ℕ). length z) places_still),
+        omega (arith, on.comparisons_most, ap (λ (z : List ℕ). length z) places_still),
       )
 
 -- what the view of a history has in its index under a hash, and as a key's place
 module _ {K V : Type 0} (index : IndexState) (order : PlaceOrder) (keys : KeyPlaces K V) {s : Remembered K}
-    (is : remembered (entries_of keys.entries order.places) order.limit (places_from index order) (accesses_of order keys) keys.questions ≡ s) (x : ℕ) where
+    (is : remembered (entries_of keys.entries order.places) order.limit (places_from index order) (accesses_of order keys) keys.comparisons ≡ s) (x : ℕ) where
   pub slots-shown : {handles : List ℕ} → handles ≡ candidates index.shared x → slots_among handles ≡ candidates (known.slots s.places.index) x
   slots-shown at = ap slots_among at ∙ sym (candidates-slots index x) ∙ ap (λ (z : Remembered K). candidates (known.slots z.places.index) x) is
 
   pub places-shown : length (candidates (known.places index) x) ≡ length (candidates (known.places s.places.index) x)
   places-shown = ap (λ (z : Remembered K). length (candidates (known.places z.places.index) x)) is
 
-  pub questions-shown : keys.questions ≡ s.questions
-  questions-shown = ap (λ (z : Remembered K). z.questions) is
+  pub comparisons-shown : keys.comparisons ≡ s.comparisons
+  comparisons-shown = ap (λ (z : Remembered K). z.comparisons) is
 
   pub place-shown : {eq : K → K → Bool} → IsEquivalence eq → IsHistory eq index order keys → (key : K) → HasHash eq x key s.entries
       → place_of (eq key) (map (λ e. e.1) s.entries) s.places.taken ≡ find (is_key_at eq key keys.entries) (candidates (known.places index) x)

@@ -6,7 +6,7 @@ use Rattle.std.proofs.lemmas.Bool.{both_ways, cases_Bool, or_cases, eqb-true}
 use Rattle.clock2q_handles.specs.Homes.{candidates}
 use Rattle.clock2q_directory.specs.declared.keys.store.Entry.{Entry}
 use Rattle.clock2q_queues.specs.Rings.{has}
-use Rattle.clock2q_directory.specs.Keys.{hash_at, entries_of, is_key_at, questions_of}
+use Rattle.clock2q_directory.specs.Keys.{hash_at, entries_of, is_key_at, comparisons_of}
 use Rattle.clock2q_directory.specs.Indexes.{IsIndex, AllDistinct, HasHash, is_named}
 use Rattle.clock2q_queues.proofs.Rings.{has_first, has_later}
 use Rattle.clock2q_directory.proofs.Entries.{key_there, hash_of_hashed, all_entry, same_place}
@@ -78,15 +78,15 @@ module _ {K V : Type 0} (eq : K → K → Bool) (hash : ℕ) (key : K) (index : 
 
 -- Comparisons
 
-pub questions-most : (test : ℕ → Bool) (cs : List ℕ) → questions_of test cs ≤ length cs
-questions-most test [] = omega arith
-questions-most test (c ∷ cs) = elim (cases_Bool (test c)) [
+pub comparisons-most : (test : ℕ → Bool) (cs : List ℕ) → comparisons_of test cs ≤ length cs
+comparisons-most test [] = omega arith
+comparisons-most test (c ∷ cs) = elim (cases_Bool (test c)) [
   | inl h ↦ rw h (omega arith)
-  | inr h ↦ rw h (omega (arith, questions-most test cs))
+  | inr h ↦ rw h (omega (arith, comparisons-most test cs))
 ]
 
-pub questions-within : (test : ℕ → Bool) {places all : List ℕ} (n : ℕ) → places ≡ all → length all ≡ n → questions_of test places ≤ n
-questions-within test {places} n same is = omega (arith, questions-most test places, ap (λ (z : List ℕ). length z) same, is)
+pub comparisons-within : (test : ℕ → Bool) {places all : List ℕ} (n : ℕ) → places ≡ all → length all ≡ n → comparisons_of test places ≤ n
+comparisons-within test {places} n same is = omega (arith, comparisons-most test places, ap (λ (z : List ℕ). length z) same, is)
 
 -- a list begins with its first element
 pub begins_with : {xs : List ℕ} {x : ℕ} → Some x ≡ slice_get xs 0 → xs ≡ x ∷ drop 1 xs
@@ -100,21 +100,21 @@ is_empty {xs = y ∷ xs} e = absurd (cc)
 -- none of the places compared so far has the key
 pub record Asked (test : ℕ → Bool) (n bound : ℕ) (all : List ℕ) (asked : ℕ) (left : List ℕ) : Type 0 where
   pub found : find test all ≡ find test left
-  pub questions : n + questions_of test all ≡ asked + questions_of test left
+  pub comparisons : n + comparisons_of test all ≡ asked + comparisons_of test left
   pub there : AllByRecursion (λ place. place < bound) left
 
 pub asked-next : (test : ℕ → Bool) (n bound : ℕ) (all : List ℕ) (asked place : ℕ) (left : List ℕ)
     → Asked test n bound all asked (place ∷ left) → false ≡ test place → Asked test n bound all (asked + 1) left
 asked-next test n bound all asked place left a other =
-    let m : questions_of test (place ∷ left) ≡ suc (questions_of test left) = rw (sym other) refl in
+    let m : comparisons_of test (place ∷ left) ≡ suc (comparisons_of test left) = rw (sym other) refl in
     record {
       found = a.found ∙ rw (sym other) refl;
-      questions = omega (arith, a.questions, m);
+      comparisons = omega (arith, a.comparisons, m);
       there = a.there.1;
     }
 
 pub asked-found : {test : ℕ → Bool} {n bound : ℕ} {all : List ℕ} {asked : ℕ} (place : ℕ) (left : List ℕ) → Asked test n bound all asked (place ∷ left) → true ≡ test place
-    → (Some place ≡ find test all) × (asked + 1 ≡ n + questions_of test all)
+    → (Some place ≡ find test all) × (asked + 1 ≡ n + comparisons_of test all)
 asked-found {test} place left a it =
-    let m : questions_of test (place ∷ left) ≡ 1 = rw (sym it) refl in
-    (sym (a.found ∙ rw (sym it) refl), omega (arith, a.questions, m))
+    let m : comparisons_of test (place ∷ left) ≡ 1 = rw (sym it) refl in
+    (sym (a.found ∙ rw (sym it) refl), omega (arith, a.comparisons, m))

@@ -3,9 +3,9 @@ use Rattle.std.proofs.Common.{ℕ, ◌+◌, ◌≤◌, eqb, ltb, Option, Some, N
 use Rattle.std.specs.List.{last_or}
 use Rattle.std.proofs.lemmas.Bool.{cases_Bool}
 use Rattle.clock2q_handles.specs.Homes.{total, capacity, removed}
-use Rattle.clock2q_handles.specs.Positions.{relabelled}
+use Rattle.clock2q_handles.specs.Positions.{handle_replaced}
 use Rattle.clock2q_handles.proofs.Removals.{removed-walk}
-use Rattle.clock2q_handles.proofs.Runs.{removed-room, removed-run, relabelled-run, relabelled-walk}
+use Rattle.clock2q_handles.proofs.Runs.{removed-room, removed-run, handle_replaced-run, handle_replaced-walk}
 use Rattle.clock2q_queues.specs.Order.{place_for}
 use Rattle.clock2q_directory.specs.Accesses.{most_changed}
 use Rattle.clock2q_directory.specs.Index.{IndexState, IsWithinCapacity, is_shared, first_remembered, left, remembered_at, forgotten_at, most_reached}
@@ -17,8 +17,8 @@ module _ (homes : List (List (ℕ × ℕ))) (room : total homes ≤ capacity (le
   removed-changed y = omega (arith, removed-walk eqb homes x h room y, removed-run eqb homes x h room y)
 
   -- nor does one once an entry has another handle
-  pub relabelled-changed : (w y : ℕ) → most_changed (relabelled eqb homes x h w) y ≤ most_changed homes y
-  relabelled-changed w y = omega (arith, relabelled-walk eqb homes x h room w y, relabelled-run eqb homes x h room w y)
+  pub handle_replaced-changed : (w y : ℕ) → most_changed (handle_replaced eqb homes x h w) y ≤ most_changed homes y
+  handle_replaced-changed w y = omega (arith, handle_replaced-walk eqb homes x h room w y, handle_replaced-run eqb homes x h room w y)
 
 -- no change of either table reads and writes more slots than before, and the entries fit
 pub record IsNoDearer (v w : IndexState) : Type 0 where
@@ -62,7 +62,7 @@ module _ (v : IndexState) (within : IsWithinCapacity v) where
   -- the resident at a slot is remembered at a place: the places' own table may then cost more
   pub remembered-shared : (x s p y : ℕ) → most_changed (remembered_at x s p v).shared y ≤ most_changed v.shared y
   remembered-shared x s p y = elim (cases_Bool (is_shared v)) [
-    | inl h ↦ rw h (relabelled-changed v.shared within.shared x s (first_remembered + p) y)
+    | inl h ↦ rw h (handle_replaced-changed v.shared within.shared x s (first_remembered + p) y)
     | inr h ↦ rw h (removed-changed v.shared within.shared x s y)
   ]
 

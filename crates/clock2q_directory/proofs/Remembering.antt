@@ -78,8 +78,8 @@ shared-freed hash (Some place) p = (forgotten-like p.index hash place).shared
 pub record Remembers {K V : Type 0} (eq : K → K → Bool) (hash slot : ℕ) (key : K) (index : IndexState) (order : PlaceOrder)
     (keys : KeyPlaces K V) (index' : IndexState) (order' : PlaceOrder) (keys' : KeyPlaces K V) : Type 0 where
   pub whole : IsHistory eq index' order' keys'
-  pub shown : remembered (entries_of keys'.entries order'.places) order'.limit (places_from index' order') (accesses_of order' keys') keys'.questions
-      ≡ remembered (take order.limit ((hash, key) ∷ entries_of keys.entries order.places)) order.limit (places_from index' order') (accesses_of order' keys') keys.questions
+  pub shown : remembered (entries_of keys'.entries order'.places) order'.limit (places_from index' order') (accesses_of order' keys') keys'.comparisons
+      ≡ remembered (take order.limit ((hash, key) ∷ entries_of keys.entries order.places)) order.limit (places_from index' order') (accesses_of order' keys') keys.comparisons
   pub accesses : Rises 0 8 (accesses_of order keys) (accesses_of order' keys')
   pub places : places_from index' order' ≡ pushed_places order.limit hash slot (oldest_hash (λ (e : ℕ × K). e.0) (entries_of keys.entries order.places)) (places_from index order)
 
@@ -108,7 +108,7 @@ module _ {K V : Type 0} (eq : K → K → Bool) (hash slot : ℕ) (key : K) (val
   pub still_held : has slot (candidates (known.slots index) hash) ≡ true → has slot (candidates (known.slots index1) hash) ≡ true
   still_held held = rw m.slots held
 
-  module _ (write : keys' ≡ key_places (written place (entry hash key value) keys.entries) keys.room (keys.writes + 1) keys.questions)
+  module _ (write : keys' ≡ key_places (written place (entry hash key value) keys.entries) keys.room (keys.writes + 1) keys.comparisons)
       (below : slot < first_remembered) (held : has slot (candidates (known.slots index) hash) ≡ true)
       (put : index' ≡ remembered_at hash slot place index1) (w : IsWholeOrder order')
       (absent : has_key eq key (entries_of keys.entries order.places) ≡ false) where
@@ -157,7 +157,7 @@ module _ {K V : Type 0} (eq : K → K → Bool) (hash slot : ℕ) (key : K) (val
             own_room = λ own. rw (m.limit, slot_count) (h.own_room (sym shared ∙ own));
             short = rw m.limit h.short;
           };
-          shown = shown-as _ _ entries_now m.limit (ap (λ (z : KeyPlaces K V). z.questions) write);
+          shown = shown-as _ _ entries_now m.limit (ap (λ (z : KeyPlaces K V). z.comparisons) write);
           accesses = counted m.accesses (ap (λ (z : KeyPlaces K V). z.writes) write);
           places = ap (λ z. places_with z order'.places order'.free) put ∙ m.placed hash slot;
         }

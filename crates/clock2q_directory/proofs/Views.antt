@@ -5,7 +5,7 @@ use Rattle.std.proofs.lemmas.Bool.{both_ways, cases_Bool, cases_eq, eqb-false}
 use Rattle.std.proofs.lemmas.List.{append_assoc, length-append, length-map, map-set, set-get_or}
 use Rattle.std.proofs.lemmas.List.Elements.{filter-append}
 use Rattle.clock2q_handles.specs.Homes.{top, home, listed, total, candidates, with_list, with_handle, removed, without_first, is_entry_of}
-use Rattle.clock2q_handles.specs.Positions.{with_first, relabelled}
+use Rattle.clock2q_handles.specs.Positions.{with_first, handle_replaced}
 use Rattle.clock2q_handles.proofs.Lookups.{with_top}
 use Rattle.clock2q_handles.proofs.Changes.{length-with_list, listed-with_same, listed-with_other, total-with_list}
 use Rattle.clock2q_directory.specs.declared.keys.store.Entry.{Entry}
@@ -249,8 +249,8 @@ places-left v x s below = ap (λ homes. if is_shared v then homes else v.own) (o
 
 -- A place put in for a slot
 
-relabelled_slots : (homes : List (List (ℕ × ℕ))) (x s p : ℕ) → s < first_remembered → slots_in (relabelled eqb homes x s (first_remembered + p)) ≡ removed eqb (slots_in homes) x s
-relabelled_slots homes x s p below =
+handle_replaced_slots : (homes : List (List (ℕ × ℕ))) (x s p : ℕ) → s < first_remembered → slots_in (handle_replaced eqb homes x s (first_remembered + p)) ≡ removed eqb (slots_in homes) x s
+handle_replaced_slots homes x s p below =
     view-with_list slot_entries refl homes x (with_first (is_entry_of eqb x s) (top x, first_remembered + p) (listed homes x))
     ∙ ap (λ es. with_list (slots_in homes) x es)
     (kept-with_first (λ e. ltb e.1 first_remembered) (is_entry_of eqb x s) (top x, first_remembered + p) (place_is_past p) (slot_is_below x s below) (listed homes x)
@@ -258,7 +258,7 @@ relabelled_slots homes x s p below =
 
 pub slots-remembered : (v : IndexState) (x s p : ℕ) → s < first_remembered → slots (remembered_at x s p v) ≡ removed eqb (slots v) x s
 slots-remembered v x s p below = elim (cases_Bool (is_shared v)) [
-  | inl h ↦ rw h (relabelled_slots v.shared x s p below)
+  | inl h ↦ rw h (handle_replaced_slots v.shared x s p below)
   | inr h ↦ rw h (taken_slots v.shared x s below)
 ]
 
@@ -350,16 +350,16 @@ held_entry v x s held =
 
 module _ {K V : Type 0} (homes : List (List (ℕ × ℕ))) (keys : List (Entry K V)) (ps : List ℕ) (x s p : ℕ) (below : s < first_remembered) (some : 0 < length (places_in homes))
     (held : list_any (is_entry_of eqb x s) (listed homes x) ≡ true) (i : IsIndex (with_handle (places_in homes) x p) keys ps) where
-  IsIndex-relabelled : IsIndex (places_in (relabelled eqb homes x s (first_remembered + p))) keys ps
-  IsIndex-relabelled =
+  IsIndex-handle_replaced : IsIndex (places_in (handle_replaced eqb homes x s (first_remembered + p))) keys ps
+  IsIndex-handle_replaced =
       let put = put_between x s p (listed homes x) below held in
-      let is : places_in (relabelled eqb homes x s (first_remembered + p)) ≡ with_list (places_in homes) x (put.before ++ (top x, p) ∷ put.after) =
+      let is : places_in (handle_replaced eqb homes x s (first_remembered + p)) ≡ with_list (places_in homes) x (put.before ++ (top x, p) ∷ put.after) =
       view-with_list place_entries refl homes x (with_first (is_entry_of eqb x s) (top x, first_remembered + p) (listed homes x))
       ∙ ap (λ es. with_list (places_in homes) x es) put.new in
       subst (λ z. IsIndex z keys ps) (sym is)
       (IsIndex-between (places_in homes) x p put.before put.after some (listed-view place_entries refl homes x ∙ put.old) keys ps i)
 
-places-remembered_shared : (v : IndexState) (x s p : ℕ) → is_shared v ≡ true → places (remembered_at x s p v) ≡ places_in (relabelled eqb v.shared x s (first_remembered + p))
+places-remembered_shared : (v : IndexState) (x s p : ℕ) → is_shared v ≡ true → places (remembered_at x s p v) ≡ places_in (handle_replaced eqb v.shared x s (first_remembered + p))
 places-remembered_shared v x s p h = rw h (rw h refl)
 
 places-remembered_own : (v : IndexState) (x s p : ℕ) → is_shared v ≡ false → places (remembered_at x s p v) ≡ with_handle v.own x p
@@ -376,7 +376,7 @@ IsIndex-remembered v keys keys' ps x s p below i some held absent same at =
       | inl h ↦
           let is : places v ≡ places_in v.shared = ap (λ b. if b then places_in v.shared else v.own) h in
           subst (λ z. IsIndex z keys' (p ∷ ps)) (sym (places-remembered_shared v x s p h))
-          (IsIndex-relabelled v.shared keys' (p ∷ ps) x s p below (subst (λ z. 0 < length z) is some) (held_entry v x s held)
+          (IsIndex-handle_replaced v.shared keys' (p ∷ ps) x s p below (subst (λ z. 0 < length z) is some) (held_entry v x s held)
           (subst (λ z. IsIndex (with_handle z x p) keys' (p ∷ ps)) is put))
       | inr h ↦
           let is : places v ≡ v.own = ap (λ b. if b then places_in v.shared else v.own) h in
@@ -441,7 +441,7 @@ left-like v x s = like v (left x s v) (length-taken v.shared x s) refl
 pub remembered-like : (v : IndexState) (x s p : ℕ) → IsLikeBefore v (remembered_at x s p v)
 remembered-like v x s p = elim (cases_Bool (is_shared v)) [
   | inl h ↦
-      let w = record v { shared = relabelled eqb v.shared x s (first_remembered + p); accesses = v.accesses + most_changed v.shared x } in
+      let w = record v { shared = handle_replaced eqb v.shared x s (first_remembered + p); accesses = v.accesses + most_changed v.shared x } in
       let is : remembered_at x s p v ≡ w = rw h refl in
       subst (λ z. IsLikeBefore v z) (sym is)
       (like v w (length-with_list v.shared x (with_first (is_entry_of eqb x s) (top x, first_remembered + p) (listed v.shared x))) refl)

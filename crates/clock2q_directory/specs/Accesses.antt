@@ -16,7 +16,7 @@ abbrev pub counted_code : Coded CountedTable
 counted_code =
     code_by (List (List (ℕ × ℕ)) × ℕ) (coded× (coded_list (coded_list (coded× coded_ℕ coded_ℕ))) coded_ℕ) (λ t. (t.homes, t.accesses)) (λ p. counted p.0 p.1) (λ _. refl)
 
--- the most slots that an insertion, a removal or a relabelling under a hash reads and writes: the walk of the hash, and
+-- the most slots that an insertion, a removal or a replacement under a hash reads and writes: the walk of the hash, and
 -- twice its run with the slot of one more entry
 abbrev pub most_changed : List (List (ℕ × ℕ)) → ℕ → ℕ
 most_changed homes x = walk homes x + 2 * (run (layout homes) x + 1)

@@ -68,15 +68,15 @@ pub record Remembered (K : Type 0) : Type 0 where
   pub limit : ℕ
   pub places : Places
   pub accesses : ℕ
-  pub questions : ℕ
+  pub comparisons : ℕ
 
 abbrev pub remembered : {K : Type 0} → List (ℕ × K) → ℕ → Places → ℕ → ℕ → Remembered K
-remembered entries limit places accesses questions = record { entries = entries; limit = limit; places = places; accesses = accesses; questions = questions }
+remembered entries limit places accesses comparisons = record { entries = entries; limit = limit; places = places; accesses = accesses; comparisons = comparisons }
 
 abbrev pub remembered_code : {K : Type 0} → Coded K → Coded (Remembered K)
 remembered_code {K} k =
     code_by (List (ℕ × K) × (ℕ × (Places × (ℕ × ℕ)))) (coded× (coded_list (coded× coded_ℕ k)) (coded× coded_ℕ (coded× places_code (coded× coded_ℕ coded_ℕ))))
-    (λ h. (h.entries, (h.limit, (h.places, (h.accesses, h.questions))))) (λ q. remembered q.0 q.1.0 q.1.1.0 q.1.1.1.0 q.1.1.1.1) (λ _. refl)
+    (λ h. (h.entries, (h.limit, (h.places, (h.accesses, h.comparisons))))) (λ q. remembered q.0 q.1.0 q.1.1.0 q.1.1.1.0 q.1.1.1.1) (λ _. refl)
 
 -- the places as the index and the order have them
 abbrev pub places_from : IndexState → PlaceOrder → Places

@@ -4,7 +4,7 @@ use Rattle.std.specs.List.{filter}
 use Rattle.std.specs.Coded.{Coded, code_by, coded×, coded_ℕ, coded_list}
 use Rattle.clock2q_handles.specs.Homes.{total, capacity, no_entries, with_handle, removed}
 use Rattle.clock2q_handles.specs.Layout.{walk}
-use Rattle.clock2q_handles.specs.Positions.{relabelled}
+use Rattle.clock2q_handles.specs.Positions.{handle_replaced}
 use Rattle.clock2q_handles.specs.TableStep.{made_for}
 use Rattle.clock2q_directory.specs.Accesses.{CountedTable, most_changed}
 use mathlib.Core.Path.{refl}
@@ -86,7 +86,7 @@ left hash slot v = record v { shared = removed nat_eq v.shared hash slot; access
 -- the resident at a slot leaves, and is remembered at a place
 abbrev pub remembered_at : (hash slot place : ℕ) → IndexState → IndexState
 remembered_at hash slot place v =
-    if is_shared v then record v { shared = relabelled nat_eq v.shared hash slot (first_remembered + place); accesses = v.accesses + most_changed v.shared hash }
+    if is_shared v then record v { shared = handle_replaced nat_eq v.shared hash slot (first_remembered + place); accesses = v.accesses + most_changed v.shared hash }
     else record {
       shared = removed nat_eq v.shared hash slot;
       own = with_handle v.own hash place;

@@ -16,15 +16,15 @@ pub record KeyPlaces (K V : Type 0) : Type 0 where
   pub entries : List (Entry K V)
   pub room : ℕ
   pub writes : ℕ
-  pub questions : ℕ
+  pub comparisons : ℕ
 
 abbrev pub key_places : {K V : Type 0} → List (Entry K V) → ℕ → ℕ → ℕ → KeyPlaces K V
-key_places entries room writes questions = record { entries = entries; room = room; writes = writes; questions = questions }
+key_places entries room writes comparisons = record { entries = entries; room = room; writes = writes; comparisons = comparisons }
 
 abbrev pub keys_code : {K V : Type 0} → Coded K → Coded V → Coded (KeyPlaces K V)
 keys_code {K} {V} k v =
     code_by (List (Entry K V) × (ℕ × (ℕ × ℕ))) (coded× (coded_list (entry_code k v)) (coded× coded_ℕ (coded× coded_ℕ coded_ℕ)))
-    (λ p. (p.entries, (p.room, (p.writes, p.questions)))) (λ q. key_places q.0 q.1.0 q.1.1.0 q.1.1.1) (λ _. refl)
+    (λ p. (p.entries, (p.room, (p.writes, p.comparisons)))) (λ q. key_places q.0 q.1.0 q.1.1.0 q.1.1.1) (λ _. refl)
 
 module _ {E : Type 0} where
   -- an entry written to a place: over the one that is there, or as the next one
@@ -67,9 +67,9 @@ module _ {K V : Type 0} where
   is_key_at eq key entries place = elim (slice_get entries place) [ None ↦ false | Some e ↦ eq key e.key ]
 
 -- the number of places that are compared: those up to the first that passes the test
-abbrev pub questions_of : (ℕ → Bool) → List ℕ → ℕ
-questions_of test [] = 0
-questions_of test (place ∷ places) = suc (cond (test place) 0 (questions_of test places))
+abbrev pub comparisons_of : (ℕ → Bool) → List ℕ → ℕ
+comparisons_of test [] = 0
+comparisons_of test (place ∷ places) = suc (cond (test place) 0 (comparisons_of test places))
 
 -- the value at a place: the one that was passed, or else the one that the place had
 abbrev pub IsValueFor : {V : Type 0} → Option V → ℕ → List V → V → Type 0

@@ -4,7 +4,7 @@ ghost use Rattle.std.specs.Borrow.{sem};
 ghost use Rattle.std.specs.List.{find, AllByRecursion};
 ghost use Rattle.clock2q_handles.specs.Homes.{candidates};
 ghost use Rattle.clock2q_queues.specs.Cells.{Rises};
-ghost use Rattle.clock2q_directory.specs.Keys.{hash_at, key_at, value_at, with_value, is_key_at, questions_of};
+ghost use Rattle.clock2q_directory.specs.Keys.{hash_at, key_at, value_at, with_value, is_key_at, comparisons_of};
 ghost use Rattle.clock2q_directory.specs.Indexes.{HasHash};
 ghost use Rattle.clock2q_directory.specs.Index.{slots, places, IsWithinCapacity};
 ghost use Rattle.clock2q_directory.specs.History.{IsWholeHistory, place_of, places_looked_up, found_slot, found_place};
@@ -136,7 +136,7 @@ impl<K: Eq, V, A: Allocator> Directory<K, V, A> {
         requires made { slot < length self.old.residents.entries }
         ensures value { result ≡ is_key_at K.eq key.now self.old.residents.entries slot }
         ensures counted { self.new.residents ≡
-            record self.old.residents { questions = self.old.residents.questions + 1 } }
+            record self.old.residents { comparisons = self.old.residents.comparisons + 1 } }
         ensures kept { self.new.history ≡ self.old.history }
     {
         self.residents.key_equals(slot, key)
@@ -165,8 +165,8 @@ impl<K: Eq, V, A: Allocator> Directory<K, V, A> {
             (candidates (slots self.old.history.places.index) hash) }
         ensures counted { self.new.residents ≡
             record self.old.residents {
-              questions = self.old.residents.questions +
-                  questions_of (is_key_at K.eq key.now self.old.residents.entries)
+              comparisons = self.old.residents.comparisons +
+                  comparisons_of (is_key_at K.eq key.now self.old.residents.entries)
                   (candidates (slots self.old.history.places.index) hash);
             } }
         ensures kept { self.new.history ≡
@@ -185,12 +185,12 @@ impl<K: Eq, V, A: Allocator> Directory<K, V, A> {
         ensures kept { self.new.history ≡
             record self.old.history {
               places = places_looked_up hash self.old.history.places;
-              questions = self.new.history.questions;
+              comparisons = self.new.history.comparisons;
             } }
         ensures residents { self.new.residents ≡ self.old.residents }
-        ensures questions { Rises 0
+        ensures comparisons { Rises 0
             (length (candidates
-            (places self.old.history.places.index) hash)) self.old.history.questions self.new.history.questions }
+            (places self.old.history.places.index) hash)) self.old.history.comparisons self.new.history.comparisons }
     {
         self.history.find(hash, key)
     }
@@ -212,18 +212,18 @@ impl<K: Eq, V, A: Allocator> Directory<K, V, A> {
             find (is_key_at K.eq key.now self.old.residents.entries)
             (candidates (slots self.old.history.places.index) hash) ≡ None }
         ensures residents { self.new.residents ≡
-            record self.old.residents { questions = self.new.residents.questions } }
+            record self.old.residents { comparisons = self.new.residents.comparisons } }
         ensures kept { self.new.history ≡
             record self.old.history {
               places = places_looked_up hash self.old.history.places;
-              questions = self.new.history.questions;
+              comparisons = self.new.history.comparisons;
             } }
         ensures asked { Rises 0
             (length (candidates
-            (slots self.old.history.places.index) hash)) self.old.residents.questions self.new.residents.questions }
-        ensures questions { Rises 0
+            (slots self.old.history.places.index) hash)) self.old.residents.comparisons self.new.residents.comparisons }
+        ensures comparisons { Rises 0
             (length (candidates
-            (places self.old.history.places.index) hash)) self.old.history.questions self.new.history.questions }
+            (places self.old.history.places.index) hash)) self.old.history.comparisons self.new.history.comparisons }
     {
         self.history.lookup(hash, key, &mut self.residents)
     }
@@ -233,7 +233,7 @@ impl<K: Eq, V, A: Allocator> Directory<K, V, A> {
     pub fn charge(&mut self)
         ghost more: { ℕ }
         ensures charged { self.new.residents ≡
-            record self.old.residents { questions = self.old.residents.questions + more } }
+            record self.old.residents { comparisons = self.old.residents.comparisons + more } }
         ensures kept { self.new.history ≡ self.old.history }
     {
         self.residents.charge();

@@ -6,7 +6,7 @@ ghost use Rattle.clock2q_handles.specs.Layout.{walk};
 ghost use Rattle.clock2q_queues.specs.Cells.{Rises};
 ghost use Rattle.clock2q_queues.specs.Rings.{has};
 ghost use Rattle.clock2q_queues.specs.Order.{IsWholeOrder, used};
-ghost use Rattle.clock2q_directory.specs.Keys.{is_key_at, questions_of};
+ghost use Rattle.clock2q_directory.specs.Keys.{is_key_at, comparisons_of};
 ghost use Rattle.clock2q_directory.specs.Indexes.{IsIndex, HasHash};
 ghost use Rattle.clock2q_directory.specs.Index as known;
 ghost use Rattle.clock2q_directory.specs.Index.{emptied, index_for, is_shared, entered, left, slots_among, places_among, IsWithinCapacity};
@@ -73,7 +73,7 @@ impl<K: Eq, A: Allocator> Model for History<K, A> {
 
     ghost coded = { remembered_code K.code };
 
-    ghost view = { λ h. remembered (entries_of h.keys.entries h.order.places) h.order.limit (places_from h.index h.order) (accesses_of h.order h.keys) h.keys.questions };
+    ghost view = { λ h. remembered (entries_of h.keys.entries h.order.places) h.order.limit (places_from h.index h.order) (accesses_of h.order h.keys) h.keys.comparisons };
 
     ghost invariant = { λ h. IsHistory K.eq h.index h.order h.keys };
 }
@@ -143,18 +143,18 @@ impl<K: Eq, A: Allocator> History<K, A> {
             find (is_key_at K.eq key.now residents.old.entries)
             (candidates (known.slots self.old.places.index) hash) ≡ None }
         ensures residents { residents.new ≡
-            record residents.old { questions = residents.new.questions } }
+            record residents.old { comparisons = residents.new.comparisons } }
         ensures kept { self.new ≡
             record self.old {
               places = places_looked_up hash self.old.places;
-              questions = self.new.questions;
+              comparisons = self.new.comparisons;
             } }
         ensures asked { Rises 0
             (length (candidates
-            (known.slots self.old.places.index) hash)) residents.old.questions residents.new.questions }
-        ensures questions { Rises 0
+            (known.slots self.old.places.index) hash)) residents.old.comparisons residents.new.comparisons }
+        ensures comparisons { Rises 0
             (length (candidates
-            (known.places self.old.places.index) hash)) self.old.questions self.new.questions }
+            (known.places self.old.places.index) hash)) self.old.comparisons self.new.comparisons }
     {
         let found = self.search(hash, key, residents);
         self.index.charge_lookup(hash);
@@ -177,8 +177,8 @@ impl<K: Eq, A: Allocator> History<K, A> {
             (candidates (known.slots self.old.places.index) hash) }
         ensures counted { residents.new ≡
             record residents.old {
-              questions = residents.old.questions +
-                  questions_of (is_key_at K.eq key.now residents.old.entries)
+              comparisons = residents.old.comparisons +
+                  comparisons_of (is_key_at K.eq key.now residents.old.entries)
                   (candidates (known.slots self.old.places.index) hash);
             } }
         ensures kept { self.new ≡
@@ -198,11 +198,11 @@ impl<K: Eq, A: Allocator> History<K, A> {
         ensures kept { self.new ≡
             record self.old {
               places = places_looked_up hash self.old.places;
-              questions = self.new.questions;
+              comparisons = self.new.comparisons;
             } }
-        ensures questions { Rises 0
+        ensures comparisons { Rises 0
             (length (candidates
-            (known.places self.old.places.index) hash)) self.old.questions self.new.questions }
+            (known.places self.old.places.index) hash)) self.old.comparisons self.new.comparisons }
     {
         let found = self.search_places(hash, key);
         self.index.charge_lookup(hash);
@@ -225,14 +225,14 @@ impl<K: Eq, A: Allocator> History<K, A> {
             find (is_key_at K.eq key.now residents.old.entries)
             (candidates (known.slots self.old.places.index) hash) ≡ None }
         ensures residents { residents.new ≡
-            record residents.old { questions = residents.new.questions } }
-        ensures kept { self.new ≡ record self.old { questions = self.new.questions } }
+            record residents.old { comparisons = residents.new.comparisons } }
+        ensures kept { self.new ≡ record self.old { comparisons = self.new.comparisons } }
         ensures asked { Rises 0
             (length (candidates
-            (known.slots self.old.places.index) hash)) residents.old.questions residents.new.questions }
-        ensures questions { Rises 0
+            (known.slots self.old.places.index) hash)) residents.old.comparisons residents.new.comparisons }
+        ensures comparisons { Rises 0
             (length (candidates
-            (known.places self.old.places.index) hash)) self.old.questions self.new.questions }
+            (known.places self.old.places.index) hash)) self.old.comparisons self.new.comparisons }
     {
         if self.index.is_shared() {
             return look_among(self.index.handles(hash), key, residents, &mut self.keys);
@@ -246,10 +246,10 @@ impl<K: Eq, A: Allocator> History<K, A> {
         requires hash { HasHash K.eq hash key.now self.old.entries }
         ensures place { result ≡
             place_of (K.eq key.now) (map (λ e. e.1) self.old.entries) self.old.places.taken }
-        ensures kept { self.new ≡ record self.old { questions = self.new.questions } }
-        ensures questions { Rises 0
+        ensures kept { self.new ≡ record self.old { comparisons = self.new.comparisons } }
+        ensures comparisons { Rises 0
             (length (candidates
-            (known.places self.old.places.index) hash)) self.old.questions self.new.questions }
+            (known.places self.old.places.index) hash)) self.old.comparisons self.new.comparisons }
     {
         if self.index.is_shared() {
             return self.keys.find_remembered(self.index.handles(hash), key);
@@ -273,14 +273,14 @@ impl<K: Eq, A: Allocator> History<K, A> {
             find (is_key_at K.eq key.now residents.old.entries)
             (candidates (known.slots self.old.places.index) hash) ≡ None }
         ensures residents { residents.new ≡
-            record residents.old { questions = residents.new.questions } }
-        ensures kept { self.new ≡ record self.old { questions = self.new.questions } }
+            record residents.old { comparisons = residents.new.comparisons } }
+        ensures kept { self.new ≡ record self.old { comparisons = self.new.comparisons } }
         ensures asked { Rises 0
             (length (candidates
-            (known.slots self.old.places.index) hash)) residents.old.questions residents.new.questions }
-        ensures questions { Rises 0
+            (known.slots self.old.places.index) hash)) residents.old.comparisons residents.new.comparisons }
+        ensures comparisons { Rises 0
             (length (candidates
-            (known.places self.old.places.index) hash)) self.old.questions self.new.questions }
+            (known.places self.old.places.index) hash)) self.old.comparisons self.new.comparisons }
     {
         if let Some(slot) = residents.find(self.index.handles(hash), key) {
             return Found::Resident(slot);
@@ -406,13 +406,13 @@ fn look_among<K: Eq, V, A: Allocator>(
         first_known (is_key_at K.eq key.now residents.old.entries)
         (is_key_at K.eq key.now remembered.old.entries) handles.entry.left }
     ensures residents { residents.new ≡
-        record residents.old { questions = residents.new.questions } }
+        record residents.old { comparisons = residents.new.comparisons } }
     ensures remembered { remembered.new ≡
-        record remembered.old { questions = remembered.new.questions } }
+        record remembered.old { comparisons = remembered.new.comparisons } }
     ensures asked { Rises 0
-        (length (slots_among handles.entry.left)) residents.old.questions residents.new.questions }
-    ensures questions { Rises 0
-        (length (places_among handles.entry.left)) remembered.old.questions remembered.new.questions }
+        (length (slots_among handles.entry.left)) residents.old.comparisons residents.new.comparisons }
+    ensures comparisons { Rises 0
+        (length (places_among handles.entry.left)) remembered.old.comparisons remembered.new.comparisons }
 {
     while let Some(handle) = handles.peek() {
         if handle < REMEMBERED {
@@ -422,7 +422,7 @@ fn look_among<K: Eq, V, A: Allocator>(
         } else if remembered.key_equals(handle - REMEMBERED, key) {
             return Found::Remembered(handle - REMEMBERED);
         }
-        handles.pass();
+        handles.advance();
     }
     Found::Absent
 }

@@ -150,7 +150,7 @@ impl<A: Allocator> Index<A> {
         requires held { has slot (candidates (slots self.old) hash) ≡ true }
         ensures left { self.new ≡ left hash slot self.old }
     {
-        self.shared.remove_held(hash, slot);
+        self.shared.remove_existing(hash, slot);
     }
 
     /// Replaces the slot of a resident that leaves with the place at which it is remembered.
@@ -163,9 +163,9 @@ impl<A: Allocator> Index<A> {
         ensures remembered { self.new ≡ remembered_at hash slot place self.old }
     {
         if self.is_shared() {
-            self.shared.relabel(hash, slot, REMEMBERED + place);
+            self.shared.replace_handle(hash, slot, REMEMBERED + place);
         } else {
-            self.shared.remove_held(hash, slot);
+            self.shared.remove_existing(hash, slot);
             self.own.insert(hash, place);
         }
     }
@@ -178,9 +178,9 @@ impl<A: Allocator> Index<A> {
         ensures forgotten { self.new ≡ forgotten_at hash place self.old }
     {
         if self.is_shared() {
-            self.shared.remove_held(hash, REMEMBERED + place);
+            self.shared.remove_existing(hash, REMEMBERED + place);
         } else {
-            self.own.remove_held(hash, place);
+            self.own.remove_existing(hash, place);
         }
     }
 

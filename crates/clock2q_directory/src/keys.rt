@@ -74,17 +74,17 @@ impl<K: Drop, V: Drop, A: Allocator> Keys<K, V, A> {
 }
 
 impl<K: Eq, V, A: Allocator> Keys<K, V, A> {
-    ghost use Rattle.clock2q_directory.specs.Keys.{is_key_at, questions_of};
+    ghost use Rattle.clock2q_directory.specs.Keys.{is_key_at, comparisons_of};
 
     /// Returns true if `key` equals the key at a place, and counts the comparison.
     pub fn key_equals(&mut self, place: u32, key: &K) -> bool
         requires used { place < length self.old.entries }
         ensures value { result ≡ is_key_at K.eq key.now self.old.entries place }
-        ensures counted { self.new ≡ record self.old { questions = self.old.questions + 1 } }
+        ensures counted { self.new ≡ record self.old { comparisons = self.old.comparisons + 1 } }
     {
         let mut asked = Count::new();
         let is_key = self.is_counting_in(place, key, &mut asked);
-        self.add_questions(&asked);
+        self.add_comparisons(&asked);
         is_key
     }
 
@@ -97,14 +97,14 @@ impl<K: Eq, V, A: Allocator> Keys<K, V, A> {
             find (is_key_at K.eq key.now self.old.entries) (slots_among handles.entry.left) }
         ensures counted { self.new ≡
             record self.old {
-              questions = self.old.questions +
-                  questions_of (is_key_at K.eq key.now self.old.entries)
+              comparisons = self.old.comparisons +
+                  comparisons_of (is_key_at K.eq key.now self.old.entries)
                   (slots_among handles.entry.left);
             } }
     {
         let mut asked = Count::new();
         let found = self.find_counting_in(handles, key, &mut asked);
-        self.add_questions(&asked);
+        self.add_comparisons(&asked);
         found
     }
 
@@ -117,8 +117,8 @@ impl<K: Eq, V, A: Allocator> Keys<K, V, A> {
             find (is_key_at K.eq key.now self.old.entries) (places_among handles.entry.left) }
         ensures counted { self.new ≡
             record self.old {
-              questions = self.old.questions +
-                  questions_of (is_key_at K.eq key.now self.old.entries)
+              comparisons = self.old.comparisons +
+                  comparisons_of (is_key_at K.eq key.now self.old.entries)
                   (places_among handles.entry.left);
             } }
     {
@@ -147,7 +147,7 @@ impl<K: Eq, V, A: Allocator> Keys<K, V, A> {
             find (is_key_at K.eq key.now self.now.entries) (slots_among handles.entry.left) }
         ensures counted { asked.new.total ≡
             asked.old.total +
-            questions_of (is_key_at K.eq key.now self.now.entries)
+            comparisons_of (is_key_at K.eq key.now self.now.entries)
             (slots_among handles.entry.left) }
     {
         while let Some(handle) = handles.peek() {
@@ -156,7 +156,7 @@ impl<K: Eq, V, A: Allocator> Keys<K, V, A> {
                     return Some(handle);
                 }
             }
-            handles.pass();
+            handles.advance();
         }
         None
     }

@@ -10,4 +10,4 @@ pub mod PuttingAndTaking
 pub mod Wrapping
 pub mod Insertions
 pub mod FewEntries
-pub mod Relabelling
+pub mod Replacement

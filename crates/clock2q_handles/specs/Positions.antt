@@ -22,8 +22,8 @@ module _ {E : Type 0} where
   with_first test e (y ∷ ys) = cond (test y) (e ∷ ys) (y ∷ with_first test e ys)
 
 -- the first entry of x's home that `remove` of v would remove gets the handle w
-abbrev pub relabelled : {H : Type 0} → (H → H → Bool) → List (List (ℕ × H)) → ℕ → H → H → List (List (ℕ × H))
-relabelled eq homes x v w = with_list homes x (with_first (is_entry_of eq x v) (top x, w) (listed homes x))
+abbrev pub handle_replaced : {H : Type 0} → (H → H → Bool) → List (List (ℕ × H)) → ℕ → H → H → List (List (ℕ × H))
+handle_replaced eq homes x v w = with_list homes x (with_first (is_entry_of eq x v) (top x, w) (listed homes x))
 
 -- what contracts see of a gap: the slot where a walk ends, and what it looks for there
 pub record GapValue : Type 0 where

@@ -71,7 +71,7 @@ impl<'a, H: Copy + Eq + Default> Candidates<'a, H> {
         }
     }
 
-    /// Returns the next candidate and stays at it until [`pass`](Candidates::pass) or
+    /// Returns the next candidate and stays at it until [`advance`](Candidates::advance) or
     /// [`next`](Iterator::next) moves on. It is for callers that mostly accept the first candidate:
     /// what comes after it is computed only if it is passed.
     #[inline(always)]
@@ -103,7 +103,7 @@ impl<'a, H: Copy + Eq + Default> Candidates<'a, H> {
 
     /// Moves past the candidate that [`peek`](Candidates::peek) is at. It reads no slot.
     #[inline(always)]
-    pub fn pass(&mut self)
+    pub fn advance(&mut self)
         requires stands { self.old.stands ≡ true }
         ensures some { 0 < length self.old.left }
         ensures left { self.new.left ≡ drop 1 self.old.left }
@@ -225,7 +225,7 @@ impl<'a, H: Copy + Eq + Default> Iterator for Candidates<'a, H> {
         let Some(handle) = self.peek() else {
             return None;
         };
-        self.pass();
+        self.advance();
         Some(handle)
     }
 }

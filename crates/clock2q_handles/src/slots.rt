@@ -123,7 +123,7 @@ impl<H: Copy + Default, A: Allocator> Slots<H, A> {
     /// Returns the slot of the first candidate of `hash` that equals `handle`, given that there is
     /// one.
     #[inline(always)]
-    pub(super) fn find_held(&self, hash: u64, handle: H, reads: &mut Count) -> usize
+    pub(super) fn find_existing(&self, hash: u64, handle: H, reads: &mut Count) -> usize
     where
         H: PartialEq,
         requires tidy { IsTidy self.now.slots }

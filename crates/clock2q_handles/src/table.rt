@@ -6,8 +6,8 @@ ghost use Rattle.std.specs.Prelude.{◌≡◌, ◌≢◌, Err, ◌^◌, ◌<◌,
 mod clearing;
 mod growth;
 mod insertion;
-mod relabelling;
 mod removal;
+mod replacement;
 mod searching;
 
 use crate::candidates::Candidates;

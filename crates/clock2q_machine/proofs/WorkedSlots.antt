@@ -20,9 +20,9 @@ removed_one_by_one : replies 3 (Put 1 1 ∷ Put 2 2 ∷ Put 3 3 ∷ Retain (fals
     ≡ Value None ∷ Value None ∷ Value None ∷ Done ∷ Number 2 ∷ Done ∷ Number 0 ∷ Slot 2 3 ∷ []
 removed_one_by_one = refl
 
-questions_go_by_slot : answers eqb (Get 1 ∷ Put 21 21 ∷ Retain (false ∷ true ∷ false ∷ []) ∷ Contains 1 ∷ Contains 2 ∷ Contains 21 ∷ Len ∷ []) (state 20 (puts 1 20))
+comparisons_go_by_slot : answers eqb (Get 1 ∷ Put 21 21 ∷ Retain (false ∷ true ∷ false ∷ []) ∷ Contains 1 ∷ Contains 2 ∷ Contains 21 ∷ Len ∷ []) (state 20 (puts 1 20))
     ≡ Value (Some 1) ∷ Value None ∷ Done ∷ Flag false ∷ Flag true ∷ Flag false ∷ Number 18 ∷ []
-questions_go_by_slot = refl
+comparisons_go_by_slot = refl
 
 the_last_value_repeats : replies 3 (Prefill (7 ∷ []) ∷ SlotFor 1 9 ∷ SlotFor 2 9 ∷ SlotFor 3 9 ∷ Len ∷ []) ≡ Done ∷ Slot 0 7 ∷ Slot 1 7 ∷ Slot 2 7 ∷ Number 3 ∷ []
 the_last_value_repeats = refl

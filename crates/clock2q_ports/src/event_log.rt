@@ -2,7 +2,7 @@
 ghost use Rattle.std.specs.Prelude.{◌≡◌};
 ghost use Rattle.clock2q_ports.specs.Ports.{Traffic, no_traffic, traffic_after};
 
-use clock2q_count::Told;
+use clock2q_count::GhostValue;
 use std::marker::Model;
 
 /// The effect of one call of a device.
@@ -42,7 +42,7 @@ impl Model for TrafficModel {
 /// The effect of all calls of a device. It takes no memory, and no code can read it.
 #[derive(Drop)]
 pub(super) struct EventLog {
-    pub(super) traffic: Told<TrafficModel>,
+    pub(super) traffic: GhostValue<TrafficModel>,
 }
 
 impl EventLog {
@@ -50,7 +50,7 @@ impl EventLog {
         ensures { result.traffic.value ≡ no_traffic }
     {
         EventLog {
-            traffic: Told::new(&()),
+            traffic: GhostValue::new(&()),
         }
     }
 

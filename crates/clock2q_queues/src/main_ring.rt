@@ -109,7 +109,7 @@ impl MainRing {
     }
 
     /// Moves the hand on from its slot, whose bit is clear. That slot is then the last one.
-    pub(crate) fn pass<A: Allocator>(&mut self, links: &mut Links<A>, slot: u32)
+    pub(crate) fn advance<A: Allocator>(&mut self, links: &mut Links<A>, slot: u32)
         requires whole { IsMainRing links.old self.old }
         requires first { slice_get (main_entries links.old self.old) 0 ≡ Some (slot, false) }
         ensures whole { IsMainRing links.new self.new }

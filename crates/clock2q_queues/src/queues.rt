@@ -252,7 +252,7 @@ impl<A: Allocator> Queues<A> {
         ensures accesses { self.new.accesses ≡ self.old.accesses + inspections self.old.main }
     {
         let victim = self.main.select(&mut self.links);
-        self.main.pass(&mut self.links, victim);
+        self.main.advance(&mut self.links, victim);
         victim
     }
 

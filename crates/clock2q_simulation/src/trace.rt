@@ -6,7 +6,7 @@ ghost use Rattle.clock2q_simulation.specs.Trace.{AreNumbers, AreUsed, sampled_ke
 use crate::known_keys::KnownKeys;
 use crate::sample::{Sample, is_sampled};
 use clock2q_cache::DefaultHashBuilder;
-use clock2q_count::Told;
+use clock2q_count::GhostValue;
 use std::alloc::{AllocError, Allocator, Global};
 use std::hash::BuildHasher;
 use std::marker::Model;
@@ -42,7 +42,7 @@ pub struct Trace<A: Allocator> {
     numbers: Vec<u32, A>,
     different: usize,
     sample: Option<Sample>,
-    keys: Told<Keys>,
+    keys: GhostValue<Keys>,
 }
 
 impl<A: Allocator> Model for Trace<A> {
@@ -93,7 +93,7 @@ pub struct GrowingTrace<S: BuildHasher = DefaultHashBuilder, A: Allocator = Glob
     numbers: Vec<u32, A>,
     known: KnownKeys<S, A>,
     sample: Option<Sample>,
-    keys: Told<Keys>,
+    keys: GhostValue<Keys>,
 }
 
 impl<S: BuildHasher, A: Allocator> Model for GrowingTrace<S, A> {
@@ -137,7 +137,7 @@ impl<S: BuildHasher, A: Allocator + Copy> GrowingTrace<S, A> {
             numbers: Vec::new(alloc),
             known: KnownKeys::new(alloc, hasher),
             sample,
-            keys: Told::new(&()),
+            keys: GhostValue::new(&()),
         }
     }
 

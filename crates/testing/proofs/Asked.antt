@@ -42,8 +42,8 @@ module _ {M : Type 1} {𝓤 : Ura M} (𝓛 : Logic 𝓤) (at_mem : Memory → SP
   at_gives_back κ q c n = (((κ, tt), (q, tt), tt, (record { ref_ptr = c; now = counts }, (n, tt)), (vptr c.0 c.1 ∷ [], (vint w64 n ∷ [], tt))), tt)
 
   -- an answer, and the token of the lifetime
-  abbrev pub Told : Lft → Share → Val → SProp 𝓤
-  Told κ q v = ex 𝓤 (λ (refused : Bool). guard 𝓤 (v ≡ vbool refused) (𝓛.A.lft κ q))
+  abbrev pub GhostValue : Lft → Share → Val → SProp 𝓤
+  GhostValue κ q v = ex 𝓤 (λ (refused : Bool). guard 𝓤 (v ≡ vbool refused) (𝓛.A.lft κ q))
 
 module _ {M : Type 1} {𝓤 : Ura M} (𝓛 : Logic 𝓤) (at_mem : Memory → SProp 𝓤) (run : Routine → Fun 𝓤) (κ : Lft) (q : Share) (c : ℕ × ℕ) (n : ℕ) where
   open 𝓛 use {H, A}
@@ -54,7 +54,7 @@ module _ {M : Type 1} {𝓤 : Ura M} (𝓛 : Logic 𝓤) (at_mem : Memory → SP
       move ! (1 ∷ []) $ feq_i ! (List Val) (vptr c.0 c.1 ∷ []) (vptr c.0 c.1 ∷ []) refl $ fjoin ! $ fjoin ! $
       nothing ! $ move ! (2 ∷ []) $ join ! $ join ! $ nothing ! $ move ! (1 ∷ []) $ done !
 
-  pub Refuses-gives : (v : Val) → ent 𝓤 ((Refuses 𝓛 at_mem run).post (at_refuses 𝓛 at_mem run κ q c n) v) (H.⇛ (Told 𝓛 at_mem run κ q v))
+  pub Refuses-gives : (v : Val) → ent 𝓤 ((Refuses 𝓛 at_mem run).post (at_refuses 𝓛 at_mem run κ q c n) v) (H.⇛ (GhostValue 𝓛 at_mem run κ q v))
   Refuses-gives v =
       qed 𝓛 (raw ((Refuses 𝓛 at_mem run).post (at_refuses 𝓛 at_mem run κ q c n) v) ∷ []) ∵ updating ! $
       use1 𝓛 (later (some (λ (refused : Bool). ((‵ (flft κ q) ⊛ ‵ ftrue) ⊛ ‵ (bool.own_val refused (v ∷ []))) ⊛ some (λ (ws : Unit {0} × (Unit {0} × Unit {0})). ‵ (fsep ftrue (fsep ftrue ftrue)) ⊛ ‵ ftrue)))) (id⊢ 𝓤 _) $ await ! tt $ pick ! (λ refused.

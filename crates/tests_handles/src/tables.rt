@@ -156,7 +156,7 @@ fn put_among_few(table: &mut Table<usize>, hash: u64, handle: usize) -> bool {
     if table.len() >= table.capacity() || table.len() >= FEWEST_OF_MANY {
         return false;
     }
-    table.insert_among_few(hash, handle);
+    table.insert_infallible(hash, handle);
     true
 }
 

@@ -21,11 +21,11 @@ fn looks_up<'a>(
     cache: &Counting<'a>,
     counts: &'a Counts,
     id: u64,
-    questions: u64,
+    comparisons: u64,
 ) -> Result<(), Fail> {
     let found = cache.peek(&counts.key(id)).is_some();
-    same_at(found, questions > 0, id)?;
-    same_at(counts.asked_and_hashed(), (questions, 1), id)
+    same_at(found, comparisons > 0, id)?;
+    same_at(counts.asked_and_hashed(), (comparisons, 1), id)
 }
 
 /// Removing a key that isn't resident asks this many keys.
@@ -33,10 +33,10 @@ fn removes_none<'a>(
     cache: &mut Counting<'a>,
     counts: &'a Counts,
     id: u64,
-    questions: u64,
+    comparisons: u64,
 ) -> Result<(), Fail> {
     same_at(remove(cache, counts, id), false, id)?;
-    same_at(counts.asked_and_hashed(), (questions, 1), id)
+    same_at(counts.asked_and_hashed(), (comparisons, 1), id)
 }
 
 /// A cache of twenty keys, no two of which hash alike.
@@ -48,12 +48,12 @@ fn of_twenty<'a>(alloc: Global) -> Result<Counting<'a>, Fail> {
 /// Looks up and removes keys while such a cache is filled.
 fn at_most_one_is_asked<'a>(cache: &mut Counting<'a>, counts: &'a Counts) -> Result<(), Fail> {
     fill(cache, counts, 1, 21);
-    for (id, questions) in [(20, 1), (21, 0)] {
-        looks_up(cache, counts, id, questions)?;
+    for (id, comparisons) in [(20, 1), (21, 0)] {
+        looks_up(cache, counts, id, comparisons)?;
     }
     fill(cache, counts, 21, 25);
-    for (id, questions) in [(25, 0), (22, 1)] {
-        removes_none(cache, counts, id, questions)?;
+    for (id, comparisons) in [(25, 0), (22, 1)] {
+        removes_none(cache, counts, id, comparisons)?;
     }
     Ok(())
 }
@@ -83,9 +83,9 @@ fn each_asks(
     wanted: [(u64, u64); 3],
 ) -> Result<(), Fail> {
     for call in calls {
-        for (id, questions) in wanted {
+        for (id, comparisons) in wanted {
             let asked = asked_by(alloc, spread, *call, id)?;
-            same_at(asked, (questions, 1), (call, id))?;
+            same_at(asked, (comparisons, 1), (call, id))?;
         }
     }
     Ok(())
@@ -126,7 +126,7 @@ fn is_found_at<'a>(cache: &mut Counting<'a>, counts: &'a Counts, slot: usize, id
 fn hints_ask<'a>(cache: &mut Counting<'a>, counts: &'a Counts) -> Result<(), Fail> {
     same(remove(cache, counts, 2), true)?;
     let _ = counts.asked_and_hashed();
-    for (slot, id, questions) in [
+    for (slot, id, comparisons) in [
         (0, 3, 1),
         (0, 1, 1),
         (1, 2, 0),
@@ -135,7 +135,7 @@ fn hints_ask<'a>(cache: &mut Counting<'a>, counts: &'a Counts) -> Result<(), Fai
     ] {
         let found = is_found_at(cache, counts, slot, id);
         same_at(found, slot == 0 && id == 3, (slot, id))?;
-        same_at(counts.asked_and_hashed(), (questions, 0), (slot, id))?;
+        same_at(counts.asked_and_hashed(), (comparisons, 0), (slot, id))?;
     }
     Ok(())
 }

@@ -86,7 +86,7 @@ module _ {hashes : ℕ} {h : Remembered ℕ} {r : KeyPlaces ℕ (Unit {0})} (k :
 
 -- the remembered keys, the slots and the residents are the same
 same_resident : {key hashes : ℕ} {h h' : Remembered ℕ} {r r' : KeyPlaces ℕ (Unit {0})} → HasResident key hashes h r
-    → h'.entries ≡ h.entries → slots h'.places.index ≡ slots h.places.index → most_beside h' ≡ most_beside h → r' ≡ record r { questions = r'.questions } → HasResident key hashes h' r'
+    → h'.entries ≡ h.entries → slots h'.places.index ≡ slots h.places.index → most_beside h' ≡ most_beside h → r' ≡ record r { comparisons = r'.comparisons } → HasResident key hashes h' r'
 same_resident {key} {hashes} {h} {h'} {r} {r'} k same there beside keys =
     let entries = ap (λ (z : KeyPlaces ℕ (Unit {0})). z.entries) keys in
     record {
@@ -97,20 +97,20 @@ same_resident {key} {hashes} {h} {h'} {r} {r'} k same there beside keys =
 
 -- a lookup changes nothing but the count of comparisons and what the index read
 pub kept_resident : {key hashes x : ℕ} {h h' : Remembered ℕ} {r r' : KeyPlaces ℕ (Unit {0})} → HasResident key hashes h r
-    → h' ≡ record h { places = places_looked_up x h.places; questions = h'.questions } → r' ≡ record r { questions = r'.questions } → HasResident key hashes h' r'
+    → h' ≡ record h { places = places_looked_up x h.places; comparisons = h'.comparisons } → r' ≡ record r { comparisons = r'.comparisons } → HasResident key hashes h' r'
 kept_resident {h = h} {h' = h'} {r = r} {r' = r'} k same keys =
     same_resident {h = h} {h' = h'} {r = r} {r' = r'} k (ap (λ (z : Remembered ℕ). z.entries) same) (ap (λ (z : Remembered ℕ). slots z.places.index) same) (ap (λ (z : Remembered ℕ). most_beside z) same) keys
 
 -- a lookup among the residents alone
-pub looked_resident : {key hashes x questions : ℕ} {h h' : Remembered ℕ} {r r' : KeyPlaces ℕ (Unit {0})} → HasResident key hashes h r
-    → h' ≡ record h { places = places_looked_up x h.places } → r' ≡ record r { questions = questions } → HasResident key hashes h' r'
+pub looked_resident : {key hashes x comparisons : ℕ} {h h' : Remembered ℕ} {r r' : KeyPlaces ℕ (Unit {0})} → HasResident key hashes h r
+    → h' ≡ record h { places = places_looked_up x h.places } → r' ≡ record r { comparisons = comparisons } → HasResident key hashes h' r'
 looked_resident {h = h} {h' = h'} {r = r} {r' = r'} k same asked =
     same_resident {h = h} {h' = h'} {r = r} {r' = r'} k (ap (λ (z : Remembered ℕ). z.entries) same) (ap (λ (z : Remembered ℕ). slots z.places.index) same) (ap (λ (z : Remembered ℕ). most_beside z) same)
     (rw asked refl)
 
 -- a comparison of a resident's key changes nothing but what was asked
-pub asked_resident : {key hashes questions : ℕ} {h h' : Remembered ℕ} {r r' : KeyPlaces ℕ (Unit {0})} → HasResident key hashes h r
-    → h' ≡ h → r' ≡ record r { questions = questions } → HasResident key hashes h' r'
+pub asked_resident : {key hashes comparisons : ℕ} {h h' : Remembered ℕ} {r r' : KeyPlaces ℕ (Unit {0})} → HasResident key hashes h r
+    → h' ≡ h → r' ≡ record r { comparisons = comparisons } → HasResident key hashes h' r'
 asked_resident {h = h} {h' = h'} {r = r} {r' = r'} k same asked = same_resident {h = h} {h' = h'} {r = r} {r' = r'} k (rw same refl) (rw same refl) (rw same refl) (rw asked refl)
 
 -- a slot with a hash was made

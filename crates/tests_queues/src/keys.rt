@@ -67,7 +67,7 @@ fn put(keys: &mut Keys<u64, ()>, index: &mut Table<u32>, hash: u64, key: u64)
 fn place_of(keys: &mut Keys<u64, ()>, index: &Table<u32>, hash: u64, key: u64) -> Option<u32>
     requires indexed { (places : List ℕ) × IsIndex index.now.homes keys.old.entries places }
     ensures has { IfSome result (λ place. is_key_at nat_eq key keys.old.entries place ≡ true) }
-    ensures same { keys.new ≡ record keys.old { questions = keys.new.questions } }
+    ensures same { keys.new ≡ record keys.old { comparisons = keys.new.comparisons } }
 {
     let mut asked = Count::new();
     let found = keys.find_counting_in(index.get(hash), &key, &mut asked);

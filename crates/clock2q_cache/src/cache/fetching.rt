@@ -1,6 +1,6 @@
 //! Calls that look a key up and, if it is not resident, insert it with what a closure returns.
 use crate::cache::Cache;
-use clock2q_count::Told;
+use clock2q_count::GhostValue;
 use clock2q_directory::history::Found;
 use std::alloc::Allocator;
 use std::hash::{BuildHasher, Hash};
@@ -109,7 +109,7 @@ impl<K: Hash + Eq + Drop, V: Drop, S: BuildHasher, A: Allocator> Cache<K, V, S, 
     /// # Cost
     ///
     /// That of [`put`](Cache::put), and that of `make` if it is called. If the key isn't resident,
-    /// it is looked up twice. Contracts don't see what the call spent: its counts of questions and
+    /// it is looked up twice. Contracts don't see what the call spent: its counts of comparisons and
     /// of accesses to links are raised to the bounds.
     pub fn get_or_insert_mut<F: FnOnce() -> V>(&mut self, key: K, make: F) -> (usize, &mut V)
         requires { slice_get self.old.machine.values
@@ -137,24 +137,24 @@ impl<K: Hash + Eq + Drop, V: Drop, S: BuildHasher, A: Allocator> Cache<K, V, S, 
 
     /// Returns two numbers only for contracts. The proof of the call picks them, and they may
     /// depend on the cache and the key.
-    fn most(&self, key: &K) -> Told<(usize, usize)>
+    fn most(&self, key: &K) -> GhostValue<(usize, usize)>
         ghost picked: { ℕ × ℕ }
         ensures picked { result.value ≡ picked }
     {
         let _ = key;
-        Told::new(&())
+        GhostValue::new(&())
     }
 
-    /// Raises the counts of link accesses and of questions by the amounts that the proof of the
+    /// Raises the counts of link accesses and of comparisons by the amounts that the proof of the
     /// call picks, which may depend on `most`.
-    fn charge(&mut self, most: &Told<(usize, usize)>)
+    fn charge(&mut self, most: &GhostValue<(usize, usize)>)
         ghost more: { ℕ × ℕ }
         ensures charged { self.new ≡
             record self.old {
               counts = record self.old.counts {
                 accesses = self.old.counts.accesses +
                     more.0;
-                questions = self.old.counts.questions + more.1;
+                comparisons = self.old.counts.comparisons + more.1;
               };
             } }
     {

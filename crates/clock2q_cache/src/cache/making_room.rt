@@ -28,7 +28,7 @@ impl<K: Hash + Eq + Copy, V: Drop, S: BuildHasher, A: Allocator> Cache<K, V, S, 
     ///
     /// # Cost
     ///
-    /// No hash and no question. At most 21 more accesses to links than inspections by the hand, and
+    /// No hash and no comparison. At most 21 more accesses to links than inspections by the hand, and
     /// at most two changes of the index: one under the hash of the key that leaves, and one under
     /// that of the oldest remembered key.
     pub fn evict(&mut self) -> Option<(K, usize)>

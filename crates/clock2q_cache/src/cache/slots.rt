@@ -29,7 +29,7 @@ impl<K: Hash + Eq, V, S: BuildHasher, A: Allocator> Cache<K, V, S, A> {
     ///
     /// # Cost
     ///
-    /// No hash and no question. It reads each candidate up to the one that it returns.
+    /// No hash and no comparison. It reads each candidate up to the one that it returns.
     pub fn slot_with_hash(&self, hash: u64, nth: usize) -> Option<usize>
         ensures slot { result ≡
             slice_get (slots_with_hash K.Hash S.BuildHasher S.Hasher.Hasher hash self.now) nth }
@@ -44,7 +44,7 @@ impl<K: Hash + Eq, V, S: BuildHasher, A: Allocator> Cache<K, V, S, A> {
     ///
     /// # Cost
     ///
-    /// No hash, no question, and no access to a link.
+    /// No hash, no comparison, and no access to a link.
     pub fn hit_slot(&mut self, slot: usize) -> bool
         ensures found { IsTrue result ↔ IsSome (resident_at self.old.machine slot) }
         ensures machine { IfSome (resident_at self.old.machine slot)
@@ -66,7 +66,7 @@ impl<K: Hash + Eq, V, S: BuildHasher, A: Allocator> Cache<K, V, S, A> {
     ///
     /// # Cost
     ///
-    /// No hash and no question. At most eight accesses to links, and one change of the index.
+    /// No hash and no comparison. At most eight accesses to links, and one change of the index.
     pub fn remove_slot(&mut self, slot: usize) -> bool
         ensures found { IsTrue result ↔ IsSome (resident_at self.old.machine slot) }
         ensures machine { IfSome (resident_at self.old.machine slot)
@@ -148,7 +148,7 @@ impl<K: Hash + Eq + Drop, V: Drop, S: BuildHasher, A: Allocator> Cache<K, V, S, 
     ///
     /// # Cost
     ///
-    /// One hash of the key, and at most one question to each candidate in the history. If the key
+    /// One hash of the key, and at most one comparison to each candidate in the history. If the key
     /// is inserted, that of [`put`](Cache::put), and one more walk of the index, the first, which
     /// `costs` leaves out.
     pub fn slot_with_hash_or_insert(&mut self, key: K, value: V) -> (usize, bool)

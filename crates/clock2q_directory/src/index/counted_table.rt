@@ -2,12 +2,12 @@
 ghost use Rattle.std.specs.List.{list_any};
 ghost use Rattle.std.specs.Prelude.{◌≡◌, ℕ, ◌+◌, ◌^◌, ◌<◌, ◌≤◌, nat_eq, true, length, IfOk};
 ghost use Rattle.clock2q_handles.specs.Homes.{candidates, capacity, is_entry_of, listed, no_entries, removed, total, with_handle};
-ghost use Rattle.clock2q_handles.specs.Positions.{relabelled};
+ghost use Rattle.clock2q_handles.specs.Positions.{handle_replaced};
 ghost use Rattle.clock2q_handles.specs.Layout.{walk};
 ghost use Rattle.clock2q_handles.specs.TableStep.{IsBelowCapacity, made_for};
 ghost use Rattle.clock2q_directory.specs.Accesses.{CountedTable as Counted, counted, most_changed};
 
-use clock2q_count::{Count, Told};
+use clock2q_count::{Count, GhostValue};
 use clock2q_handles::{Candidates, Table};
 use std::alloc::{AllocError, Allocator, Global};
 use std::marker::Model;
@@ -98,13 +98,13 @@ impl<A: Allocator> CountedTable<A> {
             (self.old.accesses + most_changed self.old.homes hash) }
     {
         let most = self.most(hash);
-        self.table.insert_among_few(hash, handle);
+        self.table.insert_infallible(hash, handle);
         self.charge(&most);
     }
 
     /// Removes a handle that is there under a hash.
     #[inline(always)]
-    pub(super) fn remove_held(&mut self, hash: u64, handle: u32)
+    pub(super) fn remove_existing(&mut self, hash: u64, handle: u32)
         requires held { list_any (is_entry_of nat_eq hash handle)
             (listed self.old.homes hash) ≡ true }
         ensures removed { self.new ≡
@@ -112,21 +112,21 @@ impl<A: Allocator> CountedTable<A> {
             (self.old.accesses + most_changed self.old.homes hash) }
     {
         let most = self.most(hash);
-        self.table.remove_held(hash, handle);
+        self.table.remove_existing(hash, handle);
         self.charge(&most);
     }
 
     /// Replaces a handle that is there under a hash.
     #[inline(always)]
-    pub(super) fn relabel(&mut self, hash: u64, handle: u32, new: u32)
+    pub(super) fn replace_handle(&mut self, hash: u64, handle: u32, new: u32)
         requires held { list_any (is_entry_of nat_eq hash handle)
             (listed self.old.homes hash) ≡ true }
-        ensures relabelled { self.new ≡
-            counted (relabelled nat_eq self.old.homes hash handle new)
+        ensures handle_replaced { self.new ≡
+            counted (handle_replaced nat_eq self.old.homes hash handle new)
             (self.old.accesses + most_changed self.old.homes hash) }
     {
         let most = self.most(hash);
-        self.table.relabel(hash, handle, new);
+        self.table.replace_handle(hash, handle, new);
         self.charge(&most);
     }
 
@@ -141,17 +141,17 @@ impl<A: Allocator> CountedTable<A> {
 
     /// Returns a number only for contracts. The proof of the call picks it, and it may depend on
     /// the table and the hash.
-    fn most(&self, hash: u64) -> Told<usize>
+    fn most(&self, hash: u64) -> GhostValue<usize>
         ghost picked: { ℕ }
         ensures picked { result.value ≡ picked }
     {
         let _ = hash;
-        Told::new(&())
+        GhostValue::new(&())
     }
 
     /// Raises the number of accesses by an amount that the proof of the call picks, which may
     /// depend on `most`.
-    fn charge(&mut self, most: &Told<usize>)
+    fn charge(&mut self, most: &GhostValue<usize>)
         ghost more: { ℕ }
         ensures charged { self.new ≡ counted self.old.homes (self.old.accesses + more) }
     {

@@ -30,7 +30,7 @@ impl<K, V, A: Allocator> Keys<K, V, A> {
                     more -= 1;
                 }
             }
-            handles.pass();
+            handles.advance();
         }
         None
     }

@@ -35,7 +35,7 @@ pub struct Entry<K, V> {
 pub struct Keys<K, V, A: Allocator = Global> {
     entries: Vec<Entry<K, V>, A>,
     writes: Count,
-    questions: Count,
+    comparisons: Count,
 }
 
 impl<K, V, A: Allocator> Model for Keys<K, V, A> {
@@ -46,7 +46,7 @@ impl<K, V, A: Allocator> Model for Keys<K, V, A> {
 
     ghost coded = { keys_code K.code V.code };
 
-    ghost view = { λ k. key_places k.entries.items (vec_capacity k.entries) k.writes.total k.questions.total };
+    ghost view = { λ k. key_places k.entries.items (vec_capacity k.entries) k.writes.total k.comparisons.total };
 }
 
 impl<K, V, A: Allocator> Keys<K, V, A> {
@@ -65,7 +65,7 @@ impl<K, V, A: Allocator> Keys<K, V, A> {
         Ok(Keys {
             entries: Vec::with_capacity(alloc, room)?,
             writes: Count::new(),
-            questions: Count::new(),
+            comparisons: Count::new(),
         })
     }
 
@@ -176,19 +176,19 @@ impl<K: Eq, V, A: Allocator> Keys<K, V, A> {
     }
 
     /// Adds comparisons that were counted elsewhere.
-    pub(super) fn add_questions(&mut self, asked: &Count)
+    pub(super) fn add_comparisons(&mut self, asked: &Count)
         ensures added { self.new ≡
-            record self.old { questions = self.old.questions + asked.now.total } }
+            record self.old { comparisons = self.old.comparisons + asked.now.total } }
     {
-        self.questions.raise(asked);
+        self.comparisons.raise(asked);
     }
 
     /// Raises the count of comparisons by an amount that the proof of the call picks. A caller that
     /// has to state the count exactly raises it to its bound with this.
     pub fn charge(&mut self)
         ghost more: { ℕ }
-        ensures charged { self.new ≡ record self.old { questions = self.old.questions + more } }
+        ensures charged { self.new ≡ record self.old { comparisons = self.old.comparisons + more } }
     {
-        self.questions.raise(&());
+        self.comparisons.raise(&());
     }
 }

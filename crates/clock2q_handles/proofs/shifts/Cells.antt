@@ -111,9 +111,9 @@ module _ {H : Type 0} where
 
 module _ {H : Type 0} where
   -- a handle that is written alone
-  pub relabelled_cells : (ms : List Metadata) (vs : List H) (n : ℕ) (v : H) → length vs ≡ length ms → n < length ms
+  pub handle_replaced_cells : (ms : List Metadata) (vs : List H) (n : ℕ) (v : H) → length vs ≡ length ms → n < length ms
       → cells ms (set vs n v) ≡ set (cells ms vs) n (cell (mark_of (slot_at (cells ms vs) n)) v)
-  relabelled_cells ms vs n v same within =
+  handle_replaced_cells ms vs n v same within =
       let z : Metadata = record { word = 0 } in
       ap (λ x. cells x (set vs n v)) (sym (set-get_or ms n z)) ∙ set-cells ms vs n (get_or ms n z) v same ∙ ap (λ m. set (cells ms vs) n (cell m v)) (mark_read_or ms vs n z same within)
 

@@ -3,7 +3,7 @@ use Rattle.std.proofs.Common.{◌≡◌, ℕ, zero, suc, ◌+◌, ◌*◌, ◌%�
 use Rattle.std.proofs.lemmas.Bool.{cases_lt, cases_eq}
 use Rattle.clock2q_handles.specs.Homes.{top, capacity, listed, count, total, with_list, without_first, is_entry_of, removed}
 use Rattle.clock2q_handles.specs.Layout.{Placed, window, spill, spill_of, slot_at, layout, walk, occupied, run}
-use Rattle.clock2q_handles.specs.Positions.{with_first, relabelled}
+use Rattle.clock2q_handles.specs.Positions.{with_first, handle_replaced}
 use Rattle.clock2q_handles.proofs.layout.Spill.{Roomy, window-le, spill-lt}
 use Rattle.clock2q_handles.proofs.layout.Tiles.{IsGap}
 use Rattle.clock2q_handles.proofs.layout.Laid.{none-gap}
@@ -127,13 +127,13 @@ module _ {H : Type 0} (eq : H → H → Bool) (homes : List (List (ℕ × H))) (
   pub removed-run : (y : ℕ) → run (layout (removed eq homes x v)) y ≤ run (layout homes) y
   removed-run = run-fewer homes (removed eq homes x v) room (length-with_list homes x less) removed_count
 
-  -- relabelling an entry
+  -- replacement an entry
   module _ (w : H) where
     abbrev as_long : List (ℕ × H)
     as_long = with_first (is_entry_of eq x v) (top x, w) (listed homes x)
 
     abbrev others : List (List (ℕ × H))
-    others = relabelled eq homes x v w
+    others = handle_replaced eq homes x v w
 
     as_many : length others ≡ length homes
     as_many = length-with_list homes x as_long
@@ -147,13 +147,13 @@ module _ {H : Type 0} (eq : H → H → Bool) (homes : List (List (ℕ × H))) (
     no_fewer : 0 < length others → (n : ℕ) → count homes n ≤ count others n
     no_fewer some n = omega (arith, same_count (omega (arith, some, as_many)) n)
 
-    pub relabelled-room : total others ≤ capacity (length others)
-    relabelled-room = room-fewer homes others room as_many no_more
+    pub handle_replaced-room : total others ≤ capacity (length others)
+    handle_replaced-room = room-fewer homes others room as_many no_more
 
     -- changes no run
-    pub relabelled-run : (y : ℕ) → run (layout others) y ≡ run (layout homes) y
-    relabelled-run y = omega (arith, run-fewer homes others room as_many no_more y, run-fewer others homes relabelled-room (sym as_many) no_fewer y)
+    pub handle_replaced-run : (y : ℕ) → run (layout others) y ≡ run (layout homes) y
+    handle_replaced-run y = omega (arith, run-fewer homes others room as_many no_more y, run-fewer others homes handle_replaced-room (sym as_many) no_fewer y)
 
     -- nor a walk
-    pub relabelled-walk : (y : ℕ) → walk others y ≡ walk homes y
-    relabelled-walk y = omega (arith, walk-fewer homes others room as_many no_more y, walk-fewer others homes relabelled-room (sym as_many) no_fewer y)
+    pub handle_replaced-walk : (y : ℕ) → walk others y ≡ walk homes y
+    handle_replaced-walk y = omega (arith, walk-fewer homes others room as_many no_more y, walk-fewer others homes handle_replaced-room (sym as_many) no_fewer y)

@@ -134,7 +134,7 @@ impl<H: Copy + Default, A: Allocator> Slots<H, A> {
 
     /// Writes the handle of a slot.
     #[inline(always)]
-    pub(crate) fn relabel_at(&mut self, slot: usize, handle: H)
+    pub(crate) fn replace_handle_at(&mut self, slot: usize, handle: H)
         requires { slot < length self.old.slots }
         ensures { self.new
             ≡ slots_value

@@ -154,7 +154,7 @@ impl<H: Copy + Eq + Default, A: Allocator> Table<H, A> {
     /// does, in a table with so few entries that no run becomes too long. It is for callers whose
     /// contracts bound the number of entries, which it doesn't check.
     #[inline(always)]
-    pub fn insert_among_few(&mut self, hash: u64, handle: H)
+    pub fn insert_infallible(&mut self, hash: u64, handle: H)
         requires room { IsBelowCapacity self.old.homes }
         requires few { total self.old.homes + 1 < 2 ^ 24 }
         ensures put { self.new.homes ≡ with_handle self.old.homes hash handle }

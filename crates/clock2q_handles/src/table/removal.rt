@@ -42,7 +42,7 @@ impl<H: Copy + Eq + Default, A: Allocator> Table<H, A> {
     /// # Cost
     ///
     /// That of [remove](Table::remove).
-    pub fn remove_held(&mut self, hash: u64, handle: H)
+    pub fn remove_existing(&mut self, hash: u64, handle: H)
         requires held { list_any (is_entry_of H.PartialEq.eq hash handle)
             (listed self.old.homes hash) ≡ true }
         ensures removed { self.new.homes ≡ removed H.PartialEq.eq self.old.homes hash handle }
@@ -51,7 +51,7 @@ impl<H: Copy + Eq + Default, A: Allocator> Table<H, A> {
         ensures laid { IsLaidOut self.new }
         ensures shorter { (x : ℕ) → walk self.new.homes x ≤ walk self.old.homes x }
     {
-        let held = self.slots.find_held(hash, handle, &mut self.reads);
+        let held = self.slots.find_existing(hash, handle, &mut self.reads);
         self.slots.take_out(held, &mut self.reads);
         self.len -= 1;
     }

@@ -21,7 +21,7 @@ loop-preserved g c =
       subst (λ z. FillsUp g.F.FnMut c.args.make (λ k. hash_of g.S.BuildHasher g.S.Hasher.Hasher c.args.hasher.now (g.K.Hash.hash_input k))
           (c.loop.counter + 1) c.args.directory.now.residents.entries z c.make.new.self) (sym pushed) (FillsUp-more c.loop.invariant.1 c.hash_of-hash.ensures c.make.ensures),
       ap (λ (z : KeyPlaces _ _). z.room) c.prepare.ensures.prepared ∙ c.loop.invariant.2,
-      ap (λ (z : KeyPlaces _ _). z.questions) c.prepare.ensures.prepared ∙ c.loop.invariant.3,
+      ap (λ (z : KeyPlaces _ _). z.comparisons) c.prepare.ensures.prepared ∙ c.loop.invariant.3,
       c.prepare.ensures.kept ∙ c.loop.invariant.4,
     )
 

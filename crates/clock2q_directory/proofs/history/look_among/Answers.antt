@@ -19,7 +19,7 @@ pub returns-then-key_equals-clause-asked : goal.returns-then-key_equals-clause-a
 returns-then-key_equals-clause-asked g c =
     let it = sym c.if-key_equals.true ∙ c.key_equals.ensures.value ∙ ap (λ r. is_key_at g.K.PartialEq.eq c.args.key.now r.entries c.in-Some.handle) c.loop-handle.invariant.1.0 in
     let on = looks-next _ _ c.loop-handle.invariant.0 c.in-Some.ensures.candidate in
-    let counted = ap (λ r. r.questions) c.key_equals.ensures.counted in
+    let counted = ap (λ r. r.comparisons) c.key_equals.ensures.counted in
     (omega (arith, on.asked_from, counted), omega (arith, (resident-found _ _ on c.if-handle-lt-REMEMBERED.true it).1, counted))
 
 pub key_equals-requires-else-handle-lt-REMEMBERED : goal.key_equals-requires-else-handle-lt-REMEMBERED
@@ -32,13 +32,13 @@ returns-then-key_equals-2-clause-found g c =
     let it = sym c.if-key_equals-2.true ∙ is.value ∙ ap (λ r. is_key_at g.K.PartialEq.eq c.args.key.now r.entries (c.in-Some.handle - first_remembered)) c.loop-handle.invariant.1.1 in
     (place-found _ _ (looks-next _ _ c.loop-handle.invariant.0 c.in-Some.ensures.candidate) c.if-handle-lt-REMEMBERED.false it).0
 
-pub returns-then-key_equals-2-clause-questions : goal.returns-then-key_equals-2-clause-questions
-returns-then-key_equals-2-clause-questions g c =
+pub returns-then-key_equals-2-clause-comparisons : goal.returns-then-key_equals-2-clause-comparisons
+returns-then-key_equals-2-clause-comparisons g c =
     let is = c.key_equals-else-handle-lt-REMEMBERED.ensures in
     let it = sym c.if-key_equals-2.true ∙ is.value ∙ ap (λ r. is_key_at g.K.PartialEq.eq c.args.key.now r.entries (c.in-Some.handle - first_remembered)) c.loop-handle.invariant.1.1 in
     let on = looks-next _ _ c.loop-handle.invariant.0 c.in-Some.ensures.candidate in
-    let counted = ap (λ r. r.questions) is.counted in
-    (omega (arith, on.questions_from, counted), omega (arith, (place-found _ _ on c.if-handle-lt-REMEMBERED.false it).2, counted))
+    let counted = ap (λ r. r.comparisons) is.counted in
+    (omega (arith, on.comparisons_from, counted), omega (arith, (place-found _ _ on c.if-handle-lt-REMEMBERED.false it).2, counted))
 
 pub returns-clause-found : goal.returns-clause-found
 returns-clause-found g c =

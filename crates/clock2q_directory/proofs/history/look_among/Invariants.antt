@@ -6,8 +6,8 @@ use Rattle.clock2q_directory.proofs.history.look_among.Given as goal
 abbrev pub invariant-loop-handle : goal.invariant-loop-handle
 invariant-loop-handle g l =
     LooksOn (is_key_at g.K.PartialEq.eq l.fn.key l.fn.residents.entries) (is_key_at g.K.PartialEq.eq l.fn.key l.fn.remembered.entries) l.fn.handles.left l.handles.left
-    (length l.fn.residents.entries) (length l.fn.remembered.entries) l.fn.residents.questions l.residents.questions l.fn.remembered.questions l.remembered.questions
-    × ((l.residents ≡ record l.fn.residents { questions = l.residents.questions }) × (l.remembered ≡ record l.fn.remembered { questions = l.remembered.questions }))
+    (length l.fn.residents.entries) (length l.fn.remembered.entries) l.fn.residents.comparisons l.residents.comparisons l.fn.remembered.comparisons l.remembered.comparisons
+    × ((l.residents ≡ record l.fn.residents { comparisons = l.residents.comparisons }) × (l.remembered ≡ record l.fn.remembered { comparisons = l.remembered.comparisons }))
 
 abbrev pub decreases-loop-handle : goal.decreases-loop-handle
 decreases-loop-handle g l = length l.handles.left

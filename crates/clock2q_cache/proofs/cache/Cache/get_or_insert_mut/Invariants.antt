@@ -8,4 +8,4 @@ ghost-most g a = (
 )
 
 abbrev pub ghost-charge : goal.ghost-charge
-ghost-charge g a = (a.most.now.value.0 - a.self.now.counts.accesses, a.most.now.value.1 - a.self.now.counts.questions)
+ghost-charge g a = (a.most.now.value.0 - a.self.now.counts.accesses, a.most.now.value.1 - a.self.now.counts.comparisons)

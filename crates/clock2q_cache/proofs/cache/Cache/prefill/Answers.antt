@@ -43,4 +43,4 @@ returns-clause-costs g c values =
     rw (← c.self.view_is, c.fill.ensures.history)
     (prefill-costs _ machine refl
     (made-spends c.self.inside.queues c.self.inside.directory.history c.self.inside.directory.residents
-    c.fill.new.directory.residents c.fill.ensures.questions))
+    c.fill.new.directory.residents c.fill.ensures.comparisons))

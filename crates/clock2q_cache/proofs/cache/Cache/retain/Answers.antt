@@ -13,7 +13,7 @@ pub loop-slot-init : goal.loop-slot-init
 loop-slot-init g c = (
   retains-none g.F.FnMut c.args.keep c.args.self.now.machine c.requires.callable,
   refl,
-  record { inspections = omega arith; accesses = (omega arith, omega arith); questions = (omega arith, omega arith) },
+  record { inspections = omega arith; accesses = (omega arith, omega arith); comparisons = (omega arith, omega arith) },
   omega arith,
   left-none c.len.ensures.within,
 )

@@ -61,7 +61,7 @@ try_get_or_insert_with_spec 𝓤 𝓛 𝓜 𝓡 wired K V S A H F E LK LV LS LA 
     let Unchanged : R.Denot → Found.Denot → Type 0 = Slot-machine K' V' S' A' H' members build hasher heap key post r.now in
     let Counts : R.Denot → Found.Denot → Type 0 = Slot-counts K' V' S' A' H' members build hasher heap key post r.now in
     let Index : R.Denot → Found.Denot → Type 0 = Slot-index K' V' S' A' H' members build hasher heap key post r.now in
-    let Questions : R.Denot → Found.Denot → Type 0 = Slot-asked K' V' S' A' H' members build hasher heap key post r.now in
+    let Comparisons : R.Denot → Found.Denot → Type 0 = Slot-asked K' V' S' A' H' members build hasher heap key post r.now in
     let At-slot : R.Denot → Found.Denot → Out.Denot → Type 0 = Lent K' V' S' A' H' members build hasher heap key post r.now in
     let Value : R.Denot → Out.Denot → Type 0 = Has-value K' V' S' A' H' members build hasher heap key post r.now in
     let Error : R.Denot → Out.Denot → Type 0 = Is-err K' V' S' A' H' members build hasher heap key post r.now in
@@ -105,13 +105,13 @@ try_get_or_insert_with_spec 𝓤 𝓛 𝓜 𝓡 wired K V S A H F E LK LV LS LA 
     (and_then ! (get ! refl) (and_then ! (get ! refl) (and_then ! (get ! refl) (no_more !)))) (λ v.
     use1 𝓛 (later (some (λ (x : Found.Denot). ((‵ (flft α (right q)) ⊛ rest) ⊛ ‵ (Found.own_val x (v ∷ []))) ⊛ some (λ (ws : Lasts T y.0.0 y.0.3). ‵ (lasts T y.0.0 y.0.3 ws) ⊛
     raw (fact 𝓤 (Fetched ws.0 x)) ⊛ raw (fact 𝓤 (Made ws.0 x)) ⊛ raw (fact 𝓤 (Failed ws.0 x)) ⊛ raw (fact 𝓤 (Absent ws.0 x)) ⊛
-    raw (fact 𝓤 (Unchanged ws.0 x)) ⊛ raw (fact 𝓤 (ws.0.hasher ≡ r.now.hasher)) ⊛ raw (fact 𝓤 (Counts ws.0 x)) ⊛ raw (fact 𝓤 (Index ws.0 x)) ⊛ raw (fact 𝓤 (Questions ws.0 x)))))) (id⊢ 𝓤 _) $
+    raw (fact 𝓤 (Unchanged ws.0 x)) ⊛ raw (fact 𝓤 (ws.0.hasher ≡ r.now.hasher)) ⊛ raw (fact 𝓤 (Counts ws.0 x)) ⊛ raw (fact 𝓤 (Index ws.0 x)) ⊛ raw (fact 𝓤 (Comparisons ws.0 x)))))) (id⊢ 𝓤 _) $
     await ! tt $ pick ! (λ x. split ! $ split ! $ split ! $ move ! (2 ∷ []) $ peeks ! Found (Is Found) (shows 𝓛 Found) x (v ∷ []) (λ is.
     let fits = ((Found-laws.lawful 𝓛).typed x (v ∷ []) is).0 in lands_as ! refl refl fits $
     -- [what was found; the loan's token; the other tokens; the last values; what is kept]
     move ! (3 ∷ []) $ pick ! (λ ws. let n : R.Denot = ws.0 in let r' : MutBor R.Denot = record r { now = n } in
     split ! $ move ! (1 ∷ []) $ learns ! (Fetched n x) (λ is_fetched. learns ! (Made n x) (λ is_made. learns ! (Failed n x) (λ is_err. learns ! (Absent n x) (λ is_absent.
-    learns ! (Unchanged n x) (λ is_machine. learns ! (n.hasher ≡ r.now.hasher) (λ is_hasher. learns ! (Counts n x) (λ is_counts. learns ! (Index n x) (λ is_index. heard ! (Questions n x) (λ is_asked. fsplit ! $ fsplit ! $
+    learns ! (Unchanged n x) (λ is_machine. learns ! (n.hasher ≡ r.now.hasher) (λ is_hasher. learns ! (Counts n x) (λ is_counts. learns ! (Index n x) (λ is_index. heard ! (Comparisons n x) (λ is_asked. fsplit ! $ fsplit ! $
     -- [the loan's last value; its borrow; the others; what was found; the loan's token; the other tokens; what is kept]
     move ! (4 ∷ 6 ∷ 0 ∷ []) $ use3 𝓛 (later (‵ ((MutRef (named 0) κ R).own_val r' (mut_vals r)) ⊛ ‵ (flft κ q))) (comes_within 𝓛 R κ q r p n) $ await ! tt $ split ! $
     -- [self; κ; the loan's borrow; the others; what was found; the other tokens]

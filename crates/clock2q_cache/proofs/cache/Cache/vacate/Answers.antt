@@ -51,9 +51,9 @@ pub returns-clause-counts : goal.returns-clause-counts
 returns-clause-counts g c =
     let l = c.leave.ensures.left.becomes in
     let links = ap (λ (z : Remembered _). z.accesses) l in
-    let asked = ap (λ (z : Remembered _). z.questions) l in
+    let asked = ap (λ (z : Remembered _). z.comparisons) l in
     rw (← c.self.view_is, c.leave.ensures.kept) (record {
       inspections = omega (arith, ap (λ (z : QueueState). z.inspections) c.leave-2.ensures.queues);
       accesses = (omega (arith, c.leave-2.ensures.accesses.0, links), omega (arith, c.leave-2.ensures.accesses.1, links));
-      questions = (omega (arith, asked), omega (arith, asked));
+      comparisons = (omega (arith, asked), omega (arith, asked));
     })

@@ -1,6 +1,6 @@
 use Rattle.std.proofs.Common.{◌+◌, ◌<◌, length, sym, ap, ◌∙◌, subst}
 use Rattle.std.specs.List.{find, AllByRecursion}
-use Rattle.clock2q_directory.specs.Keys.{is_key_at, questions_of}
+use Rattle.clock2q_directory.specs.Keys.{is_key_at, comparisons_of}
 use Rattle.clock2q_directory.proofs.Looking.{slots-shown}
 use Rattle.clock2q_directory.proofs.history.History.find_resident.Goals as goal
 
@@ -22,5 +22,5 @@ pub returns-clause-counted : goal.returns-clause-counted
 returns-clause-counted g c =
     let i = c.self.inside in
     c.find-found.ensures.counted
-    ∙ ap (λ z. record c.args.residents.now { questions = c.args.residents.now.questions + questions_of (is_key_at g.K.PartialEq.eq c.args.key.now c.args.residents.now.entries) z })
+    ∙ ap (λ z. record c.args.residents.now { comparisons = c.args.residents.now.comparisons + comparisons_of (is_key_at g.K.PartialEq.eq c.args.key.now c.args.residents.now.entries) z })
     (slots-shown i.index i.order i.keys c.self.view_is c.args.hash c.handles.ensures.handles)

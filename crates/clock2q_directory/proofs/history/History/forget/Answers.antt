@@ -75,7 +75,7 @@ returns-clause-forgotten g c =
     let f = forgets g.K.PartialEq.eq g.met.K.Eq.laws c.args.hash c.args.key.now i.index i.order i.keys c.self.invariant hashed c.in-Some.place found
     c.forget.new.self c.unlink.new.self i.keys c.forget.ensures.forgotten e.whole e.order refl in
     f.shown ∙ ap (λ (z : Remembered _). remembered (forgotten g.K.PartialEq.eq c.args.key.now z.entries) z.limit
-    (places_from c.forget.new.self c.unlink.new.self) (accesses_of c.unlink.new.self i.keys) z.questions) c.self.view_is
+    (places_from c.forget.new.self c.unlink.new.self) (accesses_of c.unlink.new.self i.keys) z.comparisons) c.self.view_is
 
 pub returns-clause-accesses : goal.returns-clause-accesses
 returns-clause-accesses g c =

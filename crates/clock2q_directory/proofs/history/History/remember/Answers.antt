@@ -67,7 +67,7 @@ returns-clause-pushed g c =
     c.write.new.self c.make_place-place.result c.self.invariant some c.make_place-place.ensures.made
     c.write.ensures.written c.requires.below held c.remember.ensures.remembered c.make_place-place.ensures.whole absent in
     r.shown ∙ ap (λ (z : Remembered _). remembered (take z.limit ((c.args.hash, c.args.key) ∷ z.entries)) z.limit
-    (places_from c.remember.new.self c.make_place-place.new.order) (accesses_of c.make_place-place.new.order c.write.new.self) z.questions) c.self.view_is
+    (places_from c.remember.new.self c.make_place-place.new.order) (accesses_of c.make_place-place.new.order c.write.new.self) z.comparisons) c.self.view_is
 
 pub returns-clause-accesses : goal.returns-clause-accesses
 returns-clause-accesses g c =

@@ -4,7 +4,7 @@ use Rattle.clock2q_handles.specs.Homes.{candidates}
 use Rattle.clock2q_directory.specs.Index as known
 use Rattle.clock2q_directory.specs.Index.{is_shared, places_among}
 use Rattle.clock2q_directory.specs.Keys.{is_key_at}
-use Rattle.clock2q_directory.proofs.Looking.{IsFirst, first-known, shared-places, slots-shown, places-shown, questions-shown, place-shown}
+use Rattle.clock2q_directory.proofs.Looking.{IsFirst, first-known, shared-places, slots-shown, places-shown, comparisons-shown, place-shown}
 use Rattle.clock2q_directory.proofs.Views.{candidates-places}
 use Rattle.clock2q_directory.proofs.history.History.search.Given.{Over}
 use Rattle.clock2q_directory.proofs.history.History.search.Goals.{After-look_among}
@@ -49,9 +49,9 @@ returns-then-is_shared-clause-asked g c =
     let n = ap length (slots-shown i.index i.order i.keys c.self.view_is c.args.hash c.handles.ensures.handles) in
     (omega (arith, c.look_among.ensures.asked.0), omega (arith, c.look_among.ensures.asked.1, n))
 
-pub returns-then-is_shared-clause-questions : goal.returns-then-is_shared-clause-questions
-returns-then-is_shared-clause-questions g c =
+pub returns-then-is_shared-clause-comparisons : goal.returns-then-is_shared-clause-comparisons
+returns-then-is_shared-clause-comparisons g c =
     let i = c.self.inside in
-    let before = questions-shown i.index i.order i.keys c.self.view_is c.args.hash in
+    let before = comparisons-shown i.index i.order i.keys c.self.view_is c.args.hash in
     let n = ap length (places g c) in
-    (omega (arith, c.look_among.ensures.questions.0, before), omega (arith, c.look_among.ensures.questions.1, before, places-shown i.index i.order i.keys c.self.view_is c.args.hash, n))
+    (omega (arith, c.look_among.ensures.comparisons.0, before), omega (arith, c.look_among.ensures.comparisons.1, before, places-shown i.index i.order i.keys c.self.view_is c.args.hash, n))

@@ -2,8 +2,8 @@ use Rattle.std.proofs.Common.{◌≡◌, true, false, ap, sym, ◌∙◌, arith}
 use Rattle.std.specs.List.{find}
 use Rattle.clock2q_directory.specs.Index.{is_shared, slots_among, places_among}
 use Rattle.clock2q_directory.specs.Keys.{KeyPlaces, is_key_at}
-use Rattle.clock2q_directory.proofs.Lookups.{questions-within}
-use Rattle.clock2q_directory.proofs.Looking.{shared-places, own-places, own-there, places-shown, questions-shown, place-shown}
+use Rattle.clock2q_directory.proofs.Lookups.{comparisons-within}
+use Rattle.clock2q_directory.proofs.Looking.{shared-places, own-places, own-there, places-shown, comparisons-shown, place-shown}
 use Rattle.clock2q_directory.proofs.Views.{candidates-places}
 use Rattle.clock2q_directory.proofs.history.History.search_places.Goals as goal
 
@@ -19,14 +19,14 @@ returns-then-is_shared-clause-place g c =
     let at = place-shown i.index i.order i.keys c.self.view_is c.args.hash g.met.K.Eq.laws c.self.invariant c.args.key.now c.requires.hash in
     c.find_remembered.ensures.found ∙ ap (λ z. find (is_key_at g.K.PartialEq.eq c.args.key.now i.keys.entries) z) places ∙ sym at
 
-pub returns-then-is_shared-clause-questions : goal.returns-then-is_shared-clause-questions
-returns-then-is_shared-clause-questions g c =
+pub returns-then-is_shared-clause-comparisons : goal.returns-then-is_shared-clause-comparisons
+returns-then-is_shared-clause-comparisons g c =
     let i = c.self.inside in
     let shared : is_shared i.index ≡ true = sym c.is_shared.ensures.shared ∙ c.if-is_shared.true in
     let places = ap places_among c.handles.ensures.handles ∙ sym (candidates-places i.index c.args.hash shared) in
-    let most = questions-within (is_key_at g.K.PartialEq.eq c.args.key.now i.keys.entries) _ places (places-shown i.index i.order i.keys c.self.view_is c.args.hash) in
-    let asked = ap (λ (z : KeyPlaces _ _). z.questions) c.find_remembered.ensures.counted in
-    let before = questions-shown i.index i.order i.keys c.self.view_is c.args.hash in
+    let most = comparisons-within (is_key_at g.K.PartialEq.eq c.args.key.now i.keys.entries) _ places (places-shown i.index i.order i.keys c.self.view_is c.args.hash) in
+    let asked = ap (λ (z : KeyPlaces _ _). z.comparisons) c.find_remembered.ensures.counted in
+    let before = comparisons-shown i.index i.order i.keys c.self.view_is c.args.hash in
     (omega (arith, asked, before), omega (arith, asked, before, most))
 
 pub find-requires : goal.find-requires
@@ -40,12 +40,12 @@ returns-clause-place g c =
     let at = place-shown i.index i.order i.keys c.self.view_is c.args.hash g.met.K.Eq.laws c.self.invariant c.args.key.now c.requires.hash in
     c.find.ensures.found ∙ ap (λ z. find (is_key_at g.K.PartialEq.eq c.args.key.now i.keys.entries) z) places ∙ sym at
 
-pub returns-clause-questions : goal.returns-clause-questions
-returns-clause-questions g c =
+pub returns-clause-comparisons : goal.returns-clause-comparisons
+returns-clause-comparisons g c =
     let i = c.self.inside in
     let own : is_shared i.index ≡ false = sym c.is_shared.ensures.shared ∙ c.if-is_shared.false in
     let places = ap slots_among c.own_places.ensures.places ∙ own-places c.self.invariant c.args.hash own in
-    let most = questions-within (is_key_at g.K.PartialEq.eq c.args.key.now i.keys.entries) _ places (places-shown i.index i.order i.keys c.self.view_is c.args.hash) in
-    let asked = ap (λ (z : KeyPlaces _ _). z.questions) c.find.ensures.counted in
-    let before = questions-shown i.index i.order i.keys c.self.view_is c.args.hash in
+    let most = comparisons-within (is_key_at g.K.PartialEq.eq c.args.key.now i.keys.entries) _ places (places-shown i.index i.order i.keys c.self.view_is c.args.hash) in
+    let asked = ap (λ (z : KeyPlaces _ _). z.comparisons) c.find.ensures.counted in
+    let before = comparisons-shown i.index i.order i.keys c.self.view_is c.args.hash in
     (omega (arith, asked, before), omega (arith, asked, before, most))

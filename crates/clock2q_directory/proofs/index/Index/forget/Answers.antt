@@ -8,16 +8,16 @@ use Rattle.clock2q_directory.proofs.Charging.{cost_first, cost_second}
 use Rattle.clock2q_directory.proofs.Sorted.{held_place, held_own}
 use Rattle.clock2q_directory.proofs.index.Index.forget.Goals as goal
 
-pub remove_held-requires : goal.remove_held-requires
-remove_held-requires g c =
+pub remove_existing-requires : goal.remove_existing-requires
+remove_existing-requires g c =
     let i = c.self.inside in
     let v = index_state i.shared.homes i.own.homes in
     let shared : is_shared v ≡ true = ap is_shared c.self.view_is ∙ sym c.is_shared.ensures.shared ∙ c.if-is_shared.true in
     let held = subst (λ z. has c.args.place (candidates (places z) c.args.hash) ≡ true) (sym c.self.view_is) c.requires.held in
     record { held = held_place v c.args.hash c.args.place shared held }
 
-pub remove_held-requires-else-is_shared : goal.remove_held-requires-else-is_shared
-remove_held-requires-else-is_shared g c =
+pub remove_existing-requires-else-is_shared : goal.remove_existing-requires-else-is_shared
+remove_existing-requires-else-is_shared g c =
     let i = c.self.inside in
     let v = index_state i.shared.homes i.own.homes in
     let own : is_shared v ≡ false = ap is_shared c.self.view_is ∙ sym c.is_shared.ensures.shared ∙ c.if-is_shared.false in
@@ -32,7 +32,7 @@ returns-then-is_shared g c =
     let shared : is_shared (index_of i.shared i.own) ≡ true = ap is_shared c.self.view_is ∙ sym c.is_shared.ensures.shared ∙ c.if-is_shared.true in
     let is : forgotten_at c.args.hash c.args.place (index_of i.shared i.own) ≡ record { shared = homes; own = i.own.homes; accesses = i.shared.accesses + i.own.accesses + m } = rw shared refl in
     record {
-      forgotten = ap (λ t. index_of t i.own) c.remove_held.ensures.removed ∙ ap (λ n. record { shared = homes; own = i.own.homes; accesses = n }) (cost_first i.shared.accesses m i.own.accesses)
+      forgotten = ap (λ t. index_of t i.own) c.remove_existing.ensures.removed ∙ ap (λ n. record { shared = homes; own = i.own.homes; accesses = n }) (cost_first i.shared.accesses m i.own.accesses)
           ∙ sym is ∙ ap (λ z. forgotten_at c.args.hash c.args.place z) c.self.view_is;
     }
 
@@ -44,7 +44,7 @@ returns-else-is_shared g c =
     let own : is_shared (index_of i.shared i.own) ≡ false = ap is_shared c.self.view_is ∙ sym c.is_shared.ensures.shared ∙ c.if-is_shared.false in
     let is : forgotten_at c.args.hash c.args.place (index_of i.shared i.own) ≡ record { shared = i.shared.homes; own = others; accesses = i.shared.accesses + i.own.accesses + n } = rw own refl in
     record {
-      forgotten = ap (λ t. index_of i.shared t) c.remove_held-else-is_shared.ensures.removed
+      forgotten = ap (λ t. index_of i.shared t) c.remove_existing-else-is_shared.ensures.removed
           ∙ ap (λ k. record { shared = i.shared.homes; own = others; accesses = k })
           (cost_second i.shared.accesses i.own.accesses n)
           ∙ sym is ∙ ap (λ z. forgotten_at c.args.hash c.args.place z) c.self.view_is;

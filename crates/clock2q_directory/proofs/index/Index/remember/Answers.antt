@@ -1,7 +1,7 @@
 use Rattle.std.proofs.Common.{◌≡◌, true, false, refl, sym, ap, ◌∙◌, subst}
 use Rattle.std.specs.Prelude.{nat_eq, ◌+◌}
 use Rattle.clock2q_handles.specs.Homes.{candidates, removed, with_handle}
-use Rattle.clock2q_handles.specs.Positions.{relabelled}
+use Rattle.clock2q_handles.specs.Positions.{handle_replaced}
 use Rattle.clock2q_queues.specs.Rings.{has}
 use Rattle.clock2q_directory.specs.Accesses.{CountedTable, most_changed}
 use Rattle.clock2q_directory.specs.Index.{index_state, index_of, is_shared, slots, remembered_at, first_remembered, HasPlaceRoom}
@@ -10,14 +10,14 @@ use Rattle.clock2q_directory.proofs.Views.{held_entry}
 use Rattle.clock2q_directory.proofs.Sorted.{place_fits, place_is_few, sorted-remembered}
 use Rattle.clock2q_directory.proofs.index.Index.remember.Goals as goal
 
-pub relabel-requires : goal.relabel-requires
-relabel-requires g c =
+pub replace_handle-requires : goal.replace_handle-requires
+replace_handle-requires g c =
     let i = c.self.inside in
     let held = subst (λ z. has c.args.slot (candidates (slots z) c.args.hash) ≡ true) (sym c.self.view_is) c.requires.held in
     record { held = held_entry (index_state i.shared.homes i.own.homes) c.args.hash c.args.slot held }
 
-pub remove_held-requires : goal.remove_held-requires
-remove_held-requires g c =
+pub remove_existing-requires : goal.remove_existing-requires
+remove_existing-requires g c =
     let i = c.self.inside in
     let held = subst (λ z. has c.args.slot (candidates (slots z) c.args.hash) ≡ true) (sym c.self.view_is) c.requires.held in
     record { held = held_entry (index_state i.shared.homes i.own.homes) c.args.hash c.args.slot held }
@@ -41,8 +41,8 @@ insert-requires-clause-room g c =
 pub invariant_of-self-else-is_shared : goal.invariant_of-self-else-is_shared
 invariant_of-self-else-is_shared g c =
     let i = c.self.inside in
-    sorted-remembered (index_state i.shared.homes i.own.homes) c.remove_held.new.self.homes c.insert.new.self.homes c.args.hash c.args.slot c.args.place
-    c.requires.below c.self.invariant (ap (λ (t : CountedTable). t.homes) c.remove_held.ensures.removed) (ap (λ (t : CountedTable). t.homes) c.insert.ensures.put)
+    sorted-remembered (index_state i.shared.homes i.own.homes) c.remove_existing.new.self.homes c.insert.new.self.homes c.args.hash c.args.slot c.args.place
+    c.requires.below c.self.invariant (ap (λ (t : CountedTable). t.homes) c.remove_existing.ensures.removed) (ap (λ (t : CountedTable). t.homes) c.insert.ensures.put)
 
 pub returns-then-is_shared : goal.returns-then-is_shared
 returns-then-is_shared g c =
@@ -50,13 +50,13 @@ returns-then-is_shared g c =
     let shared : is_shared (index_of i.shared i.own) ≡ true = ap is_shared c.self.view_is ∙ sym c.is_shared.ensures.shared ∙ c.if-is_shared.true in
     let is : remembered_at c.args.hash c.args.slot c.args.place (index_of i.shared i.own)
     ≡ record (index_of i.shared i.own) {
-      shared = relabelled nat_eq i.shared.homes c.args.hash c.args.slot
+      shared = handle_replaced nat_eq i.shared.homes c.args.hash c.args.slot
           (first_remembered + c.args.place);
       accesses = i.shared.accesses + i.own.accesses + most_changed i.shared.homes c.args.hash;
     } = rw shared refl in
     record {
-      remembered = ap (λ t. index_of t i.own) c.relabel.ensures.relabelled
-          ∙ ap (λ n. record { shared = relabelled nat_eq i.shared.homes c.args.hash c.args.slot (first_remembered + c.args.place); own = i.own.homes; accesses = n })
+      remembered = ap (λ t. index_of t i.own) c.replace_handle.ensures.handle_replaced
+          ∙ ap (λ n. record { shared = handle_replaced nat_eq i.shared.homes c.args.hash c.args.slot (first_remembered + c.args.place); own = i.own.homes; accesses = n })
           (cost_first i.shared.accesses (most_changed i.shared.homes c.args.hash) i.own.accesses)
           ∙ sym is ∙ ap (λ z. remembered_at c.args.hash c.args.slot c.args.place z) c.self.view_is;
     }
@@ -72,7 +72,7 @@ returns-else-is_shared g c =
     let is : remembered_at c.args.hash c.args.slot c.args.place (index_of i.shared i.own) ≡
     record { shared = homes; own = others; accesses = i.shared.accesses + i.own.accesses + m + n } = rw own refl in
     record {
-      remembered = ap (λ t. index_of t c.insert.new.self) c.remove_held.ensures.removed
+      remembered = ap (λ t. index_of t c.insert.new.self) c.remove_existing.ensures.removed
           ∙ ap (λ t. record { shared = homes; own = t.homes; accesses = i.shared.accesses + m + t.accesses }) c.insert.ensures.put
           ∙ ap (λ k. record { shared = homes; own = others; accesses = k }) (cost_both i.shared.accesses m i.own.accesses n)
           ∙ sym is ∙ ap (λ z. remembered_at c.args.hash c.args.slot c.args.place z) c.self.view_is;

@@ -9,8 +9,8 @@ use Rattle.clock2q_directory.proofs.Views.{held_entry}
 use Rattle.clock2q_directory.proofs.Sorted.{sorted-left}
 use Rattle.clock2q_directory.proofs.index.Index.remove_slot.Goals as goal
 
-pub remove_held-requires : goal.remove_held-requires
-remove_held-requires g c =
+pub remove_existing-requires : goal.remove_existing-requires
+remove_existing-requires g c =
     let i = c.self.inside in
     let held = subst (λ z. has c.args.slot (candidates (slots z) c.args.hash) ≡ true) (sym c.self.view_is) c.requires.held in
     record { held = held_entry (index_state i.shared.homes i.own.homes) c.args.hash c.args.slot held }
@@ -18,12 +18,12 @@ remove_held-requires g c =
 pub invariant_of-self : goal.invariant_of-self
 invariant_of-self g c =
     let i = c.self.inside in
-    sorted-left (index_state i.shared.homes i.own.homes) c.remove_held.new.self.homes c.args.hash c.args.slot c.requires.below c.self.invariant (ap (λ (t : CountedTable). t.homes) c.remove_held.ensures.removed)
+    sorted-left (index_state i.shared.homes i.own.homes) c.remove_existing.new.self.homes c.args.hash c.args.slot c.requires.below c.self.invariant (ap (λ (t : CountedTable). t.homes) c.remove_existing.ensures.removed)
 
 pub returns : goal.returns
 returns g c =
     let i = c.self.inside in
     record {
-      left = ap (λ t. index_of t i.own) c.remove_held.ensures.removed ∙ ap (λ n. record { shared = removed nat_eq i.shared.homes c.args.hash c.args.slot; own = i.own.homes; accesses = n })
+      left = ap (λ t. index_of t i.own) c.remove_existing.ensures.removed ∙ ap (λ n. record { shared = removed nat_eq i.shared.homes c.args.hash c.args.slot; own = i.own.homes; accesses = n })
           (cost_first i.shared.accesses (most_changed i.shared.homes c.args.hash) i.own.accesses) ∙ ap (λ z. left c.args.hash c.args.slot z) c.self.view_is;
     }

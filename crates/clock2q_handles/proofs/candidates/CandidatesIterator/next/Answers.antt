@@ -11,8 +11,8 @@ returns-in_default-clause-steps g c =
 pub returns-clause-steps : goal.returns-clause-steps
 returns-clause-steps g c =
     let p = c.in-Some.ensures in
-    let q = c.pass.ensures in
-    let first : c.args.self.now.left ≡ c.in-Some.handle ∷ c.pass.new.self.left =
+    let q = c.advance.ensures in
+    let first : c.args.self.now.left ≡ c.in-Some.handle ∷ c.advance.new.self.left =
     first_is c.args.self.now.left c.in-Some.handle p.candidate ∙ ap (λ hs. c.in-Some.handle ∷ hs) (sym (q.left ∙ ap (λ hs. drop 1 hs) p.left)) in
     (first, omega (arith, p.again, q.reads, q.unread), tt, omega (arith, p.handle, q.handles, ap length first))
 

@@ -1,7 +1,7 @@
 use Rattle.std.proofs.Common.{ap, drop, sym, ◌∙◌, arith}
 use Rattle.std.specs.List.{find}
 use Rattle.clock2q_directory.specs.Index.{slots_among}
-use Rattle.clock2q_directory.specs.Keys.{is_key_at, questions_of}
+use Rattle.clock2q_directory.specs.Keys.{is_key_at, comparisons_of}
 use Rattle.clock2q_directory.proofs.Looking.{asked-slot}
 use Rattle.clock2q_directory.proofs.Lookups.{asked-found, is_empty}
 use Rattle.clock2q_directory.proofs.keys.store.Keys.find_counting_in.Goals as goal
@@ -27,4 +27,4 @@ returns-clause-found g c =
 pub returns-clause-counted : goal.returns-clause-counted
 returns-clause-counted g c =
     let test = is_key_at g.K.PartialEq.eq c.args.key.now c.args.self.now.entries in
-    omega (arith, c.loop-handle.invariant.questions, ap (λ hs. questions_of test (slots_among hs)) (is_empty c.in_default.ensures.candidate))
+    omega (arith, c.loop-handle.invariant.comparisons, ap (λ hs. comparisons_of test (slots_among hs)) (is_empty c.in_default.ensures.candidate))

@@ -6,5 +6,5 @@ use Rattle.clock2q_directory.proofs.keys.store.Keys.find_remembered.Given as goa
 
 abbrev pub invariant-loop-handle : goal.invariant-loop-handle
 invariant-loop-handle g l =
-    Asked (is_key_at g.K.PartialEq.eq l.fn.key l.fn.self.entries) l.fn.self.questions (length l.fn.self.entries) (places_among l.fn.handles.left) l.self.questions (places_among l.handles.left)
-    × (l.self ≡ record l.fn.self { questions = l.self.questions })
+    Asked (is_key_at g.K.PartialEq.eq l.fn.key l.fn.self.entries) l.fn.self.comparisons (length l.fn.self.entries) (places_among l.fn.handles.left) l.self.comparisons (places_among l.handles.left)
+    × (l.self ≡ record l.fn.self { comparisons = l.self.comparisons })

@@ -8,7 +8,7 @@ returns-then-place-len g c = record {
   written =
       let old = c.args.self.now in
       c.push.ensures.pushed
-      ∙ ap (λ z. key_places z old.room (old.writes + 1) old.questions)
+      ∙ ap (λ z. key_places z old.room (old.writes + 1) old.comparisons)
       (sym (written-push c.args.place (entry c.args.hash c.args.key c.args.value) old.entries (c.if-place-len.true ∙ c.len.ensures.len)));
 }
 
@@ -16,7 +16,7 @@ pub returns-else-place-len : goal.returns-else-place-len
 returns-else-place-len g c = record {
   written =
       let old = c.args.self.now in
-      c.replace_value.ensures.replaced ∙ ap (λ (z : KeyPlaces _ _). key_places (with_value c.args.place c.args.value z.entries) z.room z.writes z.questions) c.replace.ensures.replaced
-      ∙ ap (λ z. key_places z old.room (old.writes + 1) old.questions)
+      c.replace_value.ensures.replaced ∙ ap (λ (z : KeyPlaces _ _). key_places (with_value c.args.place c.args.value z.entries) z.room z.writes z.comparisons) c.replace.ensures.replaced
+      ∙ ap (λ z. key_places z old.room (old.writes + 1) old.comparisons)
       (written-replaced c.args.place c.args.hash c.args.key c.args.value old.entries (omega (arith, c.requires.next, c.if-place-len.false, c.len.ensures.len)));
 }

@@ -1,0 +1,8 @@
+-- It owns nothing, so any thread may share it.
+use denote.RattleType.{RattleType}
+use denote.Param.Send.{IsSync, part_keyless}
+use Rattle.clock2q_count.specs.contracts.ghost_value.GhostValue.{the_row}
+use Rattle.clock2q_count.proofs.ghost_value.GhostValue.TheSendSync.Send.{send}
+
+pub sync : (T : RattleType) → IsSync (the_row T)
+sync T = record { shared = λ d b o κ q. part_keyless (the_row T) (send T) q d b o }

@@ -1,0 +1,241 @@
+-- An entry replaced by another of the same displacement: every walk goes as before, and its home's list has the other in its place.
+use Rattle.std.proofs.Common.{◌≡◌, ℕ, zero, suc, ◌+◌, ◌-◌, ◌%◌, ◌<◌, ◌≤◌, inl, inr, refl, ap, sym, ◌∙◌, subst, arith, Bool, true, false, cond, ◌||◌, ◌&&◌, ◌==◌, List, [], ◌∷◌, ◌++◌, length}
+use Rattle.std.proofs.Common.{get_or, set, get_or-set_same, get_or-set_other, length-set, ext_get_or, mod-eq_of_lt, Option, Some, None}
+use Rattle.std.specs.List.{list_any}
+use lib.Dec.{T, eqb→eq}
+use Rattle.std.proofs.lemmas.Bool.{cases_lt, cases_eq}
+use Rattle.std.proofs.lemmas.Nat.{mod_below}
+use Rattle.clock2q_handles.specs.Homes.{top, capacity, listed, count, total, with_list, is_entry_of}
+use Rattle.clock2q_handles.specs.Layout.{Placed, placed, slot_at, reach, at_home, met, entries, homes_of, spill, spill_of, IsTidy}
+use Rattle.clock2q_handles.specs.Slots.{cell, mark_of, IsSlotCount}
+use Rattle.clock2q_handles.specs.Table.{IsTable}
+use Rattle.clock2q_handles.specs.Found.{FindsAt}
+use Rattle.clock2q_handles.specs.Positions.{StandsAt, GapValue, gap_of, gap_value, with_entry, with_first, handle_replaced}
+use Rattle.clock2q_handles.proofs.layout.Periods.{rems-differ}
+use Rattle.clock2q_handles.proofs.layout.Laid.{at_home-other, met-same}
+use Rattle.clock2q_handles.proofs.shifts.Steps.{past_home}
+use Rattle.clock2q_handles.proofs.walks.Cursors.{rem-plus}
+use Rattle.clock2q_handles.proofs.layout.TidyLayout.{length-homes_of, listed-homes_of, tidy-total}
+use Rattle.clock2q_handles.proofs.shifts.Changes.{length-with_list, listed-with_same, listed-with_other, read-split}
+use Rattle.clock2q_handles.proofs.walks.Positions.{some_homes, position_at, slot_near, here_within, here_stands, here_index, here_with, standing}
+
+-- homes that are equally far from the same slot are the same
+home_same : (m h x d : ℕ) → 0 < m → (h + d) % m ≡ (x + d) % m → h % m ≡ x % m
+home_same m h x d some e =
+    let l = mod_below h m some in
+    let u = mod_below x m some in
+    let same : (h % m + d) % m ≡ (x % m + d) % m = rem-plus m h d ∙ e ∙ sym (rem-plus m x d) in
+    elim (cases_lt (h % m) (x % m)) [
+      | inl below ↦ absurd (rems-differ m (h % m + d) (x % m + d) (omega (arith, below)) (omega (arith, u)) same)
+      | inr from ↦ elim (cases_lt (x % m) (h % m)) [
+        | inl above ↦ absurd (rems-differ m (x % m + d) (h % m + d) (omega (arith, above)) (omega (arith, l)) (sym same))
+        | inr upto ↦ omega (arith, from, upto)
+      ]
+    ]
+
+module _ {E : Type 0} where
+  met-alike : (A B : ℕ → Option (Placed E)) (g h d k : ℕ) → ((j : ℕ) → d ≤ j → j < d + k → at_home (A (g + j)) j ≡ at_home (B (h + j)) j) → met A g d k ≡ met B h d k
+  met-alike A B g h d zero alike = refl
+  met-alike A B g h d (suc k) alike =
+      ap (λ xs. xs ++ met A g (suc d) k) (alike d (omega arith) (omega arith))
+      ∙ ap (λ xs. at_home (B (h + d)) d ++ xs) (met-alike A B g h (suc d) k (λ j from upto. alike j (omega arith) (omega arith)))
+
+  entries-set : (slots : List (Option (Placed E))) (n : ℕ) (p q : Placed E) → get_or slots n None ≡ Some p → length (entries (set slots n (Some q))) ≡ length (entries slots)
+  entries-set [] n p q is = absurd (cc)
+  entries-set (None ∷ slots) zero p q is = absurd (cc)
+  entries-set (Some s ∷ slots) zero p q is = refl
+  entries-set (None ∷ slots) (suc n) p q is = entries-set slots n p q is
+  entries-set (Some s ∷ slots) (suc n) p q is = ap suc (entries-set slots n p q is)
+
+  -- the first that passes is replaced
+  later_with : (test : E → Bool) (x e e' : E) (xs ys : List E) (b : Bool) → (list_any test xs ≡ false → with_first test e' (xs ++ e ∷ ys) ≡ xs ++ e' ∷ ys)
+      → (b || list_any test xs) ≡ false → cond b (e' ∷ xs ++ e ∷ ys) (x ∷ with_first test e' (xs ++ e ∷ ys)) ≡ x ∷ xs ++ e' ∷ ys
+  later_with test x e e' xs ys true rest none = absurd (cc)
+  later_with test x e e' xs ys false rest none = ap (λ zs. x ∷ zs) (rest none)
+
+  pub with_first-at : (test : E → Bool) (xs ys : List E) (e e' : E) → list_any test xs ≡ false → test e ≡ true → with_first test e' (xs ++ e ∷ ys) ≡ xs ++ e' ∷ ys
+  with_first-at test [] ys e e' none is = ap (λ b. cond b (e' ∷ ys) (e ∷ with_first test e' ys)) is
+  with_first-at test (x ∷ xs) ys e e' none is = later_with test x e e' xs ys (test x) (λ n. with_first-at test xs ys e e' n is) none
+
+  module _ (slots : List (Option (Placed E))) (tidy : IsTidy slots) (some : 0 < length slots) (x d n : ℕ) (e e' : E)
+      (here : slot_at slots (x + d) ≡ Some (placed d e)) (at : n ≡ (x + d) % length slots) where
+    abbrev others : List (Option (Placed E))
+    others = set slots n (Some (placed d e'))
+
+    len : length others ≡ length slots
+    len = length-set slots n (Some (placed d e'))
+
+    within : n < length slots
+    within = omega (arith, at, mod_below (x + d) (length slots) some)
+
+    was : get_or slots n None ≡ Some (placed d e)
+    was = ap (λ k. get_or slots k None) at ∙ here
+
+    now_at : (k : ℕ) → k % length slots ≡ n → slot_at others k ≡ Some (placed d e')
+    now_at k is = ap (λ m. get_or others (k % m) None) len ∙ ap (λ j. get_or others j None) is ∙ get_or-set_same slots n (Some (placed d e')) None within
+
+    was_at : (k : ℕ) → k % length slots ≡ n → slot_at slots k ≡ Some (placed d e)
+    was_at k is = ap (λ j. get_or slots j None) is ∙ was
+
+    away : (k : ℕ) → (k % length slots ≡ n → ⊥) → slot_at others k ≡ slot_at slots k
+    away k other = ap (λ m. get_or others (k % m) None) len ∙ get_or-set_other slots n (k % length slots) (Some (placed d e')) None other
+
+    -- each slot reaches as far as before
+    pub same-reach : (k : ℕ) → reach (slot_at others k) ≡ reach (slot_at slots k)
+    same-reach k = elim (cases_eq (k % length slots) n) [
+      | inl is ↦ ap reach (now_at k is) ∙ sym (ap reach (was_at k is))
+      | inr other ↦ ap reach (away k other)
+    ]
+
+    -- and shows the same of every home but that of x
+    same-home : (h j : ℕ) → ((h + j) % length slots ≡ n → j ≡ d → ⊥) → at_home (slot_at others (h + j)) j ≡ at_home (slot_at slots (h + j)) j
+    same-home h j other = elim (cases_eq ((h + j) % length slots) n) [
+      | inl is ↦ at_home-other (slot_at others (h + j)) j (λ r. other is (omega (arith, r, ap reach (now_at (h + j) is))))
+          ∙ sym (at_home-other (slot_at slots (h + j)) j (λ r. other is (omega (arith, r, ap reach (was_at (h + j) is)))))
+      | inr off ↦ ap (λ o. at_home o j) (away (h + j) off)
+    ]
+
+    as_many : length (entries others) ≡ length (entries slots)
+    as_many = entries-set slots n (placed d e) (placed d e') was
+
+    pub handle_replaced-tidy : IsTidy others
+    handle_replaced-tidy = record {
+      ordered = record { next = λ k. omega (arith, tidy.ordered.next k, same-reach k, same-reach (suc k)) };
+      room = omega (arith, tidy.room, as_many, ap capacity len);
+    }
+
+    pub handle_replaced-total : total (homes_of others) ≡ total (homes_of slots)
+    handle_replaced-total = tidy-total others handle_replaced-tidy ∙ as_many ∙ sym (tidy-total slots tidy)
+
+    -- the list of its home
+    abbrev before : List E
+    before = met (slot_at slots) x 0 d
+
+    abbrev after : List E
+    after = met (slot_at slots) x (suc d) (length slots - suc d)
+
+    close : d < length slots
+    close = here_within slots tidy some x d e here
+
+    own_list : listed (homes_of others) x ≡ before ++ e' ∷ after
+    own_list =
+        let inside : d < length others = omega (arith, close, len) in
+        let first : met (slot_at others) x 0 d ≡ before = met-alike (slot_at others) (slot_at slots) x x 0 d (λ j from upto. same-home x j (λ _ q. omega (arith, q, upto))) in
+        let last : met (slot_at others) x (suc d) (length slots - suc d) ≡ after =
+        met-alike (slot_at others) (slot_at slots) x x (suc d) (length slots - suc d) (λ j from upto. same-home x j (λ _ q. omega (arith, q, from))) in
+        read-split others x d e' inside (now_at (x + d) (sym at)) ∙ ap (λ xs. xs ++ e' ∷ met (slot_at others) x (suc d) (length others - suc d)) first
+        ∙ ap (λ m. before ++ e' ∷ met (slot_at others) x (suc d) (m - suc d)) len ∙ ap (λ ys. before ++ e' ∷ ys) last
+
+    other_list : (h : ℕ) → (h % length slots ≡ x % length slots → ⊥) → listed (homes_of others) h ≡ listed (homes_of slots) h
+    other_list h other =
+        listed-homes_of others h ∙ ap (met (slot_at others) h 0) len
+        ∙ met-alike (slot_at others) (slot_at slots) h h 0 (length slots) (λ j from upto. same-home h j (λ is q.
+        other (home_same (length slots) h x d some (ap (λ k. (h + k) % length slots) (sym q) ∙ is ∙ at))))
+        ∙ sym (listed-homes_of slots h)
+
+    abbrev listed_so : List (List E)
+    listed_so = with_list (homes_of slots) x (before ++ e' ∷ after)
+
+    lists_len : length (homes_of others) ≡ length (homes_of slots)
+    lists_len = length-homes_of others ∙ len ∙ sym (length-homes_of slots)
+
+    same_list : (h : ℕ) → listed (homes_of others) h ≡ listed listed_so h
+    same_list h = elim (cases_eq (h % length slots) (x % length slots)) [
+      | inl is ↦
+          let m = length-homes_of slots in
+          let own : h % length (homes_of others) ≡ x % length (homes_of others) = ap (λ k. h % k) (length-homes_of others ∙ len) ∙ is ∙ ap (λ k. x % k) (sym (length-homes_of others ∙ len)) in
+          ap (λ k. get_or (homes_of others) k []) own ∙ own_list
+          ∙ sym (listed-with_same (homes_of slots) x h (before ++ e' ∷ after) (omega (arith, some, m)) (ap (λ k. h % k) m ∙ is ∙ ap (λ k. x % k) (sym m)))
+      | inr other ↦
+          let m = length-homes_of slots in
+          other_list h other ∙ sym (listed-with_other (homes_of slots) x h (before ++ e' ∷ after) (λ q. other (ap (λ k. h % k) (sym m) ∙ q ∙ ap (λ k. x % k) m)))
+    ]
+
+    pub handle_replaced-homes : homes_of others ≡ listed_so
+    handle_replaced-homes =
+        let so : length listed_so ≡ length (homes_of slots) = length-with_list (homes_of slots) x (before ++ e' ∷ after) in
+        ext_get_or [] (homes_of others) listed_so (lists_len ∙ sym so) (λ h l.
+        let a : h % length (homes_of others) ≡ h = mod-eq_of_lt l in
+        let b : h % length listed_so ≡ h = mod-eq_of_lt (omega (arith, l, lists_len, so)) in
+        ap (λ k. get_or (homes_of others) k []) (sym a) ∙ same_list h ∙ ap (λ k. get_or listed_so k []) b)
+
+  -- replacing an entry by another changes no count
+  module _ (homes : List (List E)) (x i : ℕ) (e' : E) (some : 0 < length homes) where
+    with_entry-count : (h : ℕ) → count (with_entry homes x i e') h ≡ count homes h
+    with_entry-count h = elim (cases_eq (h % length homes) (x % length homes)) [
+      | inl is ↦ ap length (listed-with_same homes x h (set (listed homes x) i e') some is) ∙ length-set (listed homes x) i e' ∙ ap (λ k. length (get_or homes k [])) (sym is)
+      | inr other ↦ ap length (listed-with_other homes x h (set (listed homes x) i e') other)
+    ]
+
+abbrev gap_at : ℕ → ℕ → ℕ → ℕ → GapValue
+gap_at y s c m = gap_value ((y + s + c) % m) (Some (s + c, top y))
+
+module _ {H : Type 0} (homes : List (List (ℕ × H))) (x i : ℕ) (e' : ℕ × H) (some : 0 < length homes) where
+  -- so each hash's gap stays where it was
+  pub with_entry-gap : (y : ℕ) → gap_of (with_entry homes x i e') y ≡ gap_of homes y
+  with_entry-gap y =
+      let new = with_entry homes x i e' in
+      let len : length new ≡ length homes = length-with_list homes x (set (listed homes x) i e') in
+      let spills : spill_of new y ≡ spill_of homes y = ap (λ c. spill c (length new) y) (λ k n. with_entry-count homes x i e' some n k) ∙ ap (λ m. spill (count homes) m y) len in
+      let counts : count new y ≡ count homes y = with_entry-count homes x i e' some y in
+      ap (λ s. gap_at y s (count new y) (length new)) spills ∙ ap (λ c. gap_at y (spill_of homes y) c (length new)) counts ∙ ap (gap_at y (spill_of homes y) (count homes y)) len
+
+and_parts : (a b : Bool) → (a && b) ≡ true → a ≡ true
+and_parts true b both = refl
+and_parts false b both = absurd (cc)
+
+-- what replacement results in: the same lists, but for one entry, in the slots that the lists determine
+pub record Replacement {H : Type 0} (v : H) (slots others : List (Option (Placed (ℕ × H)))) (n len : ℕ) : Type 0 where
+  pub homes : (x i : ℕ) (e : ℕ × H) → StandsAt (homes_of slots) x i e n → homes_of others ≡ with_entry (homes_of slots) x i (e.0, v)
+  pub table : IsTable others len
+
+pub replacement : {H : Type 0} (v : H) (slots : List (Option (Placed (ℕ × H)))) (x i n len : ℕ) (e : ℕ × H) → IsTable slots len → StandsAt (homes_of slots) x i e n
+    → Replacement v slots (set slots n (cell (mark_of (slot_at slots n)) v)) n len
+replacement v slots x i n len e table stands =
+    let some : 0 < length slots = omega (arith, some_homes (homes_of slots) x i e stands.entry, length-homes_of slots) in
+    let d : ℕ = spill_of (homes_of slots) x + i in
+    let here : slot_at slots (x + d) ≡ Some (placed d e) = standing slots table.tidy some x i n e stands in
+    let at : n ≡ (x + d) % length slots = position_at slots x i n e stands in
+    let there : slot_at slots n ≡ Some (placed d e) = slot_near slots (x + d) n at ∙ here in
+    let written : set slots n (cell (mark_of (slot_at slots n)) v) ≡ set slots n (Some (placed d (e.0, v))) = ap (λ o. set slots n (cell (mark_of o) v)) there in
+    record {
+      homes = λ y j f is.
+          let c : ℕ = spill_of (homes_of slots) y + j in
+          let own : slot_at slots (y + c) ≡ Some (placed c f) = standing slots table.tidy some y j n f is in
+          let on : n ≡ (y + c) % length slots = position_at slots y j n f is in
+          let mark : set slots n (cell (mark_of (slot_at slots n)) v) ≡ set slots n (Some (placed c (f.0, v))) = ap (λ o. set slots n (cell (mark_of o) v)) (slot_near slots (y + c) n on ∙ own) in
+          ap homes_of mark ∙ handle_replaced-homes slots table.tidy some y c n f (f.0, v) own on
+          ∙ here_with slots table.tidy some y c f own j (f.0, v) (here_index slots table.tidy some y c f own j refl);
+      table = subst (λ s. IsTable s len) (sym written) (record {
+        tidy = handle_replaced-tidy slots table.tidy some x d n e (e.0, v) here at;
+        counted = table.counted ∙ sym (handle_replaced-total slots table.tidy some x d n e (e.0, v) here at);
+        slot_count = subst IsSlotCount (sym (length-set slots n (Some (placed d (e.0, v))))) table.slot_count;
+        near = λ k. omega (arith, table.near k, same-reach slots table.tidy some x d n e (e.0, v) here at k);
+      });
+    }
+
+-- the first entry that passes, as an entry of its home
+pub first_entry : {H : Type 0} (eq : H → H → Bool) (x s : ℕ) (v w : H) (slots : List (Option (Placed (ℕ × H)))) (len : ℕ) → IsTable slots len
+    → FindsAt (is_entry_of eq x v) slots (x % length slots) s
+    → (i : ℕ) × (e : ℕ × H) × StandsAt (homes_of slots) x i e s × (with_entry (homes_of slots) x i (e.0, w) ≡ handle_replaced eq (homes_of slots) x v w)
+first_entry eq x s v w slots len table found =
+    let test = is_entry_of eq x v in
+    let some : 0 < length slots = omega (arith, found.within) in
+    let d : ℕ = found.distance in
+    let e = found.finds.entry in
+    let past = past_home slots (length slots) (x % length slots) x refl refl in
+    let here : slot_at slots (x + d) ≡ Some (placed d e) = sym (past d) ∙ found.finds.here in
+    let before = met (slot_at slots) x 0 d in
+    let after = met (slot_at slots) x (suc d) (length slots - suc d) in
+    let none : list_any test before ≡ false =
+    ap (list_any test) (sym (met-same (slot_at slots) (slot_at slots) (x % length slots) x 0 d (λ j _ _. past j))) ∙ found.finds.none_before in
+    let parts = and_parts (e.0 == top x) (eq e.1 v) found.finds.passes in
+    let mark : e.0 ≡ top x = eqb→eq e.0 (top x) (subst T (sym parts) tt) in
+    let first : with_first test (top x, w) (listed (homes_of slots) x) ≡ before ++ (top x, w) ∷ after =
+    ap (with_first test (top x, w)) (read-split slots x d e (here_within slots table.tidy some x d e here) here) ∙ with_first-at test before after e (top x, w) none found.finds.passes in (
+      length before,
+      e,
+      here_stands slots table.tidy some x d e here s (found.slot ∙ rem-plus (length slots) x d),
+      sym (here_with slots table.tidy some x d e here (length before) (e.0, w) refl) ∙ ap (λ f. with_list (homes_of slots) x (before ++ (f, w) ∷ after)) mark
+          ∙ ap (with_list (homes_of slots) x) (sym first),
+    )
