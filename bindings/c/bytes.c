@@ -209,6 +209,17 @@ clock2q_found (clock2q_bytes_remove)(clock2q_bytes *handle, const void *key, siz
     return look.found;
 }
 
+bool (clock2q_bytes_evict)(clock2q_bytes *handle, clock2q_bytes_place *place) {
+    struct cache *cache = handle->at;
+    clock2q_found evicted = clock2q_tokens_evict(&cache->slots);
+    if (!evicted.is_found) return false;
+    give_back(cache, cache->left);
+    cache->left = cache->keys[evicted.slot];
+    cache->keys[evicted.slot] = NULL;
+    *place = (clock2q_bytes_place){.slot = evicted.slot, .left = shown(cache->left)};
+    return true;
+}
+
 clock2q_bytes_key (clock2q_bytes_key_at)(clock2q_bytes *handle, size_t slot) {
     struct cache *cache = handle->at;
     return shown(slot < clock2q_tokens_capacity(&cache->slots) ? cache->keys[slot] : NULL);

@@ -78,6 +78,8 @@ class page_cache {
     clock2q_found peek(std::uint64_t key) noexcept { return clock2q_peek_key(&handle_, key); }
     // Takes the slot of a key away, or forgets the key, and returns true if it had one.
     bool erase(std::uint64_t key) noexcept { return clock2q_remove(&handle_, key); }
+    // Takes the slot away from the key that is to leave next, and returns where it was, as clock2q_evict_key does.
+    clock2q_place evict() noexcept { return clock2q_evict_key(&handle_); }
     // Takes all slots away, and forgets all keys.
     void clear() noexcept { clock2q_clear(&handle_); }
     // Returns how many keys have a slot.
@@ -124,6 +126,8 @@ class token_cache {
     bool hit(std::size_t slot) noexcept { return clock2q_tokens_hit(&handle_, slot); }
     // Takes the slot away from its key, and returns true if it has one.
     bool erase(std::size_t slot) noexcept { return clock2q_tokens_remove(&handle_, slot); }
+    // Takes the slot away from the key that is to leave next, and returns the slot, if any key has one.
+    clock2q_found evict() noexcept { return clock2q_tokens_evict(&handle_); }
     // Takes all slots away, and forgets all keys.
     void clear() noexcept { clock2q_tokens_clear(&handle_); }
     // Returns how many keys have a slot.
@@ -473,6 +477,10 @@ template <class Key, class Value, class Hash = std::hash<Key>, class Equal = std
         return before - from.size();
     }
 
+    // Takes out the entry that would have to leave next for a new key, and returns it, or none. Its key is remembered as
+    // those that leave for others are. `while (cache.size() > n) cache.evict();` makes room.
+    node_type evict() noexcept { return node_type(state_ == nullptr ? nullptr : state_->evict()); }
+
     // Takes all entries out, and forgets all keys. Takes time in proportion to the capacity.
     void clear() noexcept {
         if (state_ != nullptr) state_->clear();
@@ -580,6 +588,16 @@ template <class Key, class Value, class Hash = std::hash<Key>, class Equal = std
             version++;
             nodes.remove(gone);
             slots.erase(gone->slot);
+        }
+
+        // Takes the node out that is to leave next, and returns it or null.
+        node *evict() noexcept {
+            clock2q_found found = slots.evict();
+            if (!found.is_found) return nullptr;
+            version++;
+            node *gone = nodes.at(found.slot);
+            nodes.remove(gone);
+            return gone;
         }
 
         void clear() noexcept {

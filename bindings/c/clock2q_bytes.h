@@ -12,7 +12,8 @@
  *     clock2q_bytes_free(&files);
  *
  * A key is any bytes, also none; its length counts, and a zero among them doesn't end it. A key is copied
- * once, when it enters, and the copy is freed when the key is removed or the next one after it left enters.
+ * once, when it enters, and the copy is freed when the key is removed, or at the next entry or eviction after
+ * it left.
  *
  * Keys are hashed with SipHash-1-3 and a random secret of each cache, so strangers may choose them. There
  * are at most sixteen keys of one hash of 64 bits: the next takes the slot of one of them.
@@ -45,7 +46,7 @@ typedef struct {
 typedef struct {
     size_t slot;            /* below the capacity */
     bool has_entered;       /* whether the key had no slot before */
-    clock2q_bytes_key left; /* the key that lost the slot to it, until the next one enters; or none */
+    clock2q_bytes_key left; /* the key that lost the slot, until the next one enters or is evicted; or none */
 } clock2q_bytes_place;
 
 /* Returns a hash of a key, which is the same for equal keys. It doesn't call the cache. */
@@ -78,6 +79,11 @@ clock2q_found clock2q_bytes_peek(clock2q_bytes *cache, const void *key, size_t l
 /* Takes the slot of a key away, and returns which it was. A key that has none is forgotten, if it was
  * remembered and no other key of its hash has one. Needs a cache. */
 clock2q_found clock2q_bytes_remove(clock2q_bytes *cache, const void *key, size_t length);
+
+/* Takes the slot away from the key that is to leave next, writes the slot and the key as clock2q_bytes_enter
+ * writes those of a key that left, and returns true. Returns false, with `place` as it was, if there is no
+ * key. Needs a cache. */
+bool clock2q_bytes_evict(clock2q_bytes *cache, clock2q_bytes_place *place);
 
 /* Returns the key that has a slot, until a call takes the slot away from it, or none; any number will do.
  * Needs a cache. */
@@ -116,6 +122,7 @@ static inline clock2q_bytes clock2q_bytes_checked_value(clock2q_bytes cache) {
 #define clock2q_bytes_peek(cache, key, length) clock2q_bytes_peek(clock2q_bytes_checked(cache, true), key, length)
 #define clock2q_bytes_remove(cache, key, length) \
     clock2q_bytes_remove(clock2q_bytes_checked(cache, true), key, length)
+#define clock2q_bytes_evict(cache, place) clock2q_bytes_evict(clock2q_bytes_checked(cache, true), place)
 #define clock2q_bytes_key_at(cache, slot) clock2q_bytes_key_at(clock2q_bytes_checked(cache, true), slot)
 #define clock2q_bytes_clear(cache) clock2q_bytes_clear(clock2q_bytes_checked(cache, true))
 #define clock2q_bytes_len(cache) clock2q_bytes_len(clock2q_bytes_checked(cache, true))

@@ -44,7 +44,7 @@ setup(
         # Not for the limited API: calls of `cached` are vectorcalls, which it has from Python 3.12 on.
         Extension(
             "clock2q._extension",
-            sources=[f"extension/{name}.c" for name in ("module", "pairs", "cache", "cached", "pages")],
+            sources=[f"extension/{name}.c" for name in ("module", "pairs", "evicting", "cache", "cached", "pages")],
             depends=["extension/pairs.h"],
             extra_compile_args=["-std=c11", "-fvisibility=hidden"],
             extra_link_args=["-Wl,--exclude-libs,ALL"],

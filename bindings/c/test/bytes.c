@@ -143,6 +143,18 @@ static bool removes(struct run *run, long number) {
     return agrees;
 }
 
+static bool evicts(struct run *run) {
+    clock2q_bytes_place place = {.slot = 77};
+    uint64_t code = 0;
+    long slot = 77;
+    bool expected = model_evict(&run->model, &code, &slot);
+    if (clock2q_bytes_evict(&run->cache, &place) != expected || (long)place.slot != slot) return false;
+    if (!expected) return true;
+    long number = run->keys[slot];
+    run->keys[slot] = NOWHERE;
+    return !place.has_entered && number != NOWHERE && run->codes[slot] == code && is_shown(place.left, number);
+}
+
 static bool lists_keys(struct run *run) {
     for (size_t slot = 0; slot < run->model.capacity; slot++) {
         if (!is_shown(clock2q_bytes_key_at(&run->cache, slot), run->keys[slot])) return false;
@@ -169,7 +181,8 @@ static bool call_agrees(struct run *run) {
     if (kind < 40) return enters(run, number);
     if (kind < 56) return finds(run, number);
     if (kind < 60) return removes(run, number);
-    if (kind < 63) return draw() % 16 != 0 || lists_keys(run);
+    if (kind < 62) return draw() % 16 != 0 || lists_keys(run);
+    if (kind < 63) return evicts(run);
     return draw() % 64 != 0 || clears(run);
 }
 

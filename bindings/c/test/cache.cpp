@@ -141,6 +141,15 @@ template <class Hash> struct model {
         return slots.erase(slot_of[key]);
     }
 
+    // Returns the key that leaves.
+    std::optional<std::uint64_t> evict() {
+        clock2q_found found = slots.evict();
+        if (!found.is_found) return {};
+        std::optional<std::uint64_t> left = std::exchange(key_at[found.slot], {});
+        forget(left);
+        return left;
+    }
+
     void clear() {
         slots.clear();
         map.clear();
@@ -171,6 +180,11 @@ static bool agrees_on_call(counted_cache<Hash> &tried, model<Hash> &wanted, std:
     switch (draw % 16) {
     case 0: return tried.erase(key) == (wanted.erase(key) ? 1 : 0);
     case 1: {
+        if (value % 4 == 0) {
+            auto gone = wanted.evict();
+            auto left = tried.evict();
+            return gone ? left && left.key().number == *gone : left.empty();
+        }
         auto left = tried.extract(key);
         return wanted.erase(key) ? left && left.key().number == key && left.mapped().number == before : left.empty();
     }
@@ -493,7 +507,7 @@ static void moved_from() {
     auto two = std::move(one);
     must(one.size() == 0 && one.capacity() == 0 && one.begin() == one.end() && one.hits() == 0, "it is empty");
     must(one.find("a") == one.end() && std::as_const(one).find("a") == one.cend() && one.count("a") == 0, "nor by find");
-    must(!one.get("a") && !one.peek("a") && !one.contains("a") && !one.erase("a") && !one.extract("a"), "nothing is found");
+    must(!one.evict() && !one.get("a") && !one.peek("a") && !one.contains("a") && !one.erase("a") && !one.extract("a"), "nothing is found");
     std::string key = text_of(1), value = text_of(2);
     must_throw<std::length_error>([&] { one.put(std::move(key), std::move(value)); }, "put");
     must_throw<std::length_error>([&] { one.push(std::move(key), std::move(value)); }, "push");
@@ -536,6 +550,9 @@ static void pages() {
     swap(one, two);
     must(one.contains(7) && one.peek(7).slot == place.slot && !one.peek(8).is_found && one.size() == 1 && one.capacity() == 2 && two.capacity() == 3, "it goes along");
     must(one.erase(7) && !one.erase(7) && one.size() == 0, "it is erased");
+    std::size_t slot = one.enter(8).slot;
+    place = one.evict();
+    must(place.evicted && place.last == 8 && place.slot == slot && !one.evict().evicted, "it is evicted");
     one.enter(8);
     one.clear();
     must(!one.contains(8), "all are");

@@ -10,13 +10,32 @@ static PyObject *missing_of_type(Cache *self) {
     return method;
 }
 
+/* Reads the weigher and the most that weights may be together: both, or neither. Returns -1 with an exception if
+ * they can't be had. */
+static int read_weights(PyObject *weigher, PyObject *max_weight, Py_ssize_t *number) {
+    if ((weigher == Py_None) != (max_weight == Py_None) || (weigher != Py_None && !PyCallable_Check(weigher))) {
+        PyErr_SetString(PyExc_TypeError, "weigher is a function, and comes with max_weight");
+        return -1;
+    }
+    if (weigher == Py_None) return 0;
+    *number = PyNumber_AsSsize_t(max_weight, PyExc_OverflowError);
+    if (*number == -1 && PyErr_Occurred()) return -1;
+    if (*number >= 0) return 0;
+    PyErr_SetString(PyExc_ValueError, "max_weight is 0 or more");
+    return -1;
+}
+
 static int cache_init(Cache *self, PyObject *args, PyObject *keywords) {
-    static char *names[] = {"maxsize", NULL};
-    Py_ssize_t maxsize;
-    if (!PyArg_ParseTupleAndKeywords(args, keywords, "n:Cache", names, &maxsize)) return -1;
+    static char *names[] = {"maxsize", "weigher", "max_weight", NULL};
+    Py_ssize_t maxsize, most = 0;
+    PyObject *weigher = Py_None, *max_weight = Py_None;
+    if (!PyArg_ParseTupleAndKeywords(args, keywords, "n|OO:Cache", names, &maxsize, &weigher, &max_weight)) return -1;
+    if (read_weights(weigher, max_weight, &most) < 0) return -1;
     if (may_make_slots(self->slots.at != NULL, maxsize, "maxsize") < 0) return -1;
     if (made_slots(clock2q_tokens_new(&self->slots, (size_t)maxsize)) < 0) return -1;
-    self->maxsize = (size_t)maxsize;
+    self->capacity = self->maxsize = (size_t)maxsize;
+    self->weigher = weigher == Py_None ? NULL : Py_NewRef(weigher);
+    self->max_weight = (uint64_t)most;
     PyObject *method = missing_of_type(self);
     if (method == NULL && !PyErr_ExceptionMatches(PyExc_AttributeError)) return -1;
     PyErr_Clear();
@@ -27,6 +46,7 @@ static int cache_init(Cache *self, PyObject *args, PyObject *keywords) {
 
 static int cache_traverse(Cache *self, visitproc visit, void *arg) {
     Py_VISIT(Py_TYPE(self));
+    Py_VISIT(self->weigher);
     for (size_t slot = 0; slot < self->reached; slot++) {
         Py_VISIT(self->pairs[slot].key);
         Py_VISIT(self->pairs[slot].value);
@@ -36,6 +56,7 @@ static int cache_traverse(Cache *self, visitproc visit, void *arg) {
 
 static int cache_tp_clear(Cache *self) {
     clear_pairs(self);
+    Py_CLEAR(self->weigher);
     return 0;
 }
 
@@ -45,6 +66,7 @@ static void cache_dealloc(Cache *self) {
     if (self->weak_references != NULL) PyObject_ClearWeakRefs((PyObject *)self);
     clock2q_tokens_free(&self->slots);
     clear_pairs(self);
+    Py_CLEAR(self->weigher);
     PyTypeObject *type = Py_TYPE(self);
     type->tp_free(self);
     Py_DECREF(type);
@@ -174,17 +196,6 @@ static PyObject *cache_pop(Cache *self, PyObject *const *args, Py_ssize_t count,
     return found == ABSENT ? Py_XNewRef(otherwise) : NULL;
 }
 
-/* Finds a slot that has a pair. Returns false if none has. Emptying a cache looks at each slot once. */
-static int next_pair(Cache *self, size_t *slot) {
-    for (size_t seen = 0; seen < self->reached; seen++) {
-        if (self->popped >= self->reached) self->popped = 0;
-        *slot = self->popped;
-        if (self->pairs[*slot].key != NULL) return 1;
-        self->popped++;
-    }
-    return 0;
-}
-
 /* Raises a KeyError, whose traceback doesn't show the exception that is being handled, as MutableMapping's. */
 static PyObject *nothing_to_pop(void) {
     PyObject *error = PyObject_CallFunction(PyExc_KeyError, "s", "popitem(): the cache is empty");
@@ -197,34 +208,25 @@ static PyObject *nothing_to_pop(void) {
 
 static PyObject *cache_popitem(Cache *self, PyObject *unused) {
     (void)unused;
-    size_t slot;
-    for (int tries = 0; tries < MOST_TRIES; tries++) {
-        PyObject *item = PyTuple_New(2); /* first, since the collector may run other code here */
-        if (item == NULL) return NULL;
-        if (!next_pair(self, &slot)) {
-            Py_DECREF(item);
-            return nothing_to_pop();
-        }
-        PyObject *key = Py_NewRef(self->pairs[slot].key);
-        uint64_t hash, version = self->version;
-        int failed = hash_of(key, &hash);
-        if (failed == 0 && version == self->version) {
-            if (is_slot_of(self, hash, slot)) {
-                pair left = take_pair(self, slot);
-                PyTuple_SET_ITEM(item, 0, left.key);
-                PyTuple_SET_ITEM(item, 1, left.value);
-                Py_DECREF(key);
-                return item;
-            }
-            PyErr_SetString(PyExc_RuntimeError, "the hash of a key has changed");
-            failed = -1;
-        }
+    PyObject *item = PyTuple_New(2); /* first, since the collector may run other code here */
+    pair left;
+    if (item == NULL) return NULL;
+    if (!evict_pair(self, &left).is_found) {
         Py_DECREF(item);
-        Py_DECREF(key);
-        if (failed < 0) return NULL;
+        return nothing_to_pop();
     }
-    too_many_tries();
-    return NULL;
+    PyTuple_SET_ITEM(item, 0, left.key);
+    PyTuple_SET_ITEM(item, 1, left.value);
+    return item;
+}
+
+static PyObject *cache_resize(Cache *self, PyObject *number) {
+    Py_ssize_t maxsize = PyNumber_AsSsize_t(number, PyExc_ValueError);
+    if (maxsize == -1 && PyErr_Occurred()) return NULL;
+    if (maxsize < 1 || (size_t)maxsize > self->capacity)
+        return PyErr_Format(PyExc_ValueError, "maxsize is from 1 to %zu, with which the cache was made", self->capacity);
+    if (resize_pairs(self, (size_t)maxsize) < 0) return NULL;
+    Py_RETURN_NONE;
 }
 
 static PyObject *cache_clear(Cache *self, PyObject *unused) {
@@ -291,8 +293,10 @@ static PyMethodDef cache_methods[] = {
     {"pop", WITH_DEFAULT(cache_pop),
      "pop($self, /, key, default=<raise KeyError>)\n--\n\nRemove a key and return its value, or the default if there is no key."},
     {"popitem", (PyCFunction)cache_popitem, METH_NOARGS,
-     "popitem($self, /)\n--\n\nRemove and return some (key, value) pair; raise KeyError if there is none.\n\n"
-     "It need not be the pair that would leave next."},
+     "popitem($self, /)\n--\n\nRemove and return the (key, value) pair that would leave next; raise KeyError if there is none."},
+    {"resize", (PyCFunction)cache_resize, METH_O,
+     "resize($self, maxsize, /)\n--\n\nHold at most maxsize keys from now on, of as many as the cache was made for.\n\n"
+     "The pairs that are too many leave, in the order of popitem."},
     {"clear", (PyCFunction)cache_clear, METH_NOARGS,
      "clear($self, /)\n--\n\nRemove all pairs and forget their keys; hits and misses stay."},
     {"_pairs", (PyCFunction)cache_pairs, METH_NOARGS, "_pairs($self, /)\n--\n\nReturn a list of all (key, value) pairs."},
@@ -306,8 +310,21 @@ static PyMemberDef cache_members[] = {
     {"__weaklistoffset__", T_PYSSIZET, offsetof(Cache, weak_references), READONLY, NULL},
     {NULL, 0, 0, 0, NULL}};
 
+static PyObject *cache_weight(Cache *self, void *unused) {
+    (void)unused;
+    return self->weigher == NULL ? Py_NewRef(Py_None) : PyLong_FromUnsignedLongLong(self->weight);
+}
+
+static PyObject *cache_max_weight(Cache *self, void *unused) {
+    (void)unused;
+    return self->weigher == NULL ? Py_NewRef(Py_None) : PyLong_FromUnsignedLongLong(self->max_weight);
+}
+
 static PyGetSetDef cache_properties[] = {
-    {"currsize", (getter)cache_currsize, NULL, "How many keys it holds.", NULL}, {NULL, NULL, NULL, NULL, NULL}};
+    {"currsize", (getter)cache_currsize, NULL, "How many keys it holds.", NULL},
+    {"weight", (getter)cache_weight, NULL, "What its pairs weigh together, or None without a weigher.", NULL},
+    {"max_weight", (getter)cache_max_weight, NULL, "The most that they may weigh together, or None.", NULL},
+    {NULL, NULL, NULL, NULL, NULL}};
 
 static PyType_Slot cache_type_slots[] = {{Py_tp_init, cache_init},
                                          {Py_tp_dealloc, cache_dealloc},

@@ -21,23 +21,34 @@ int made_slots(uint32_t status) {
     return -1;
 }
 
-/* Makes room for pairs. */
-static int make_pairs(Cache *cache) {
+int make_pairs(Cache *cache) {
     if (cache->slots.at == NULL) {
         PyErr_SetString(PyExc_RuntimeError, "Cache.__init__ wasn't called");
         return -1;
     }
-    cache->pairs = PyMem_Calloc(cache->maxsize, sizeof *cache->pairs);
-    if (cache->pairs != NULL) return 0;
-    PyErr_NoMemory();
-    return -1;
+    pair *pairs = PyMem_Calloc(cache->capacity, sizeof *pairs);
+    uint64_t *weights = cache->weigher == NULL ? NULL : PyMem_Calloc(cache->capacity, sizeof *weights);
+    if (pairs == NULL || (weights == NULL && cache->weigher != NULL)) {
+        PyMem_Free(pairs);
+        PyErr_NoMemory();
+        return -1;
+    }
+    cache->pairs = pairs;
+    cache->weights = weights;
+    return 0;
 }
 
-/* Replaces the value at the slot of a key. */
-static void replace_value(Cache *cache, size_t slot, PyObject *value) {
+void set_weight(Cache *cache, size_t slot, uint64_t weight) {
+    if (cache->weights == NULL) return;
+    cache->weight = cache->weight - cache->weights[slot] + weight;
+    cache->weights[slot] = weight;
+}
+
+void replace_value(Cache *cache, size_t slot, PyObject *value, uint64_t weight) {
     PyObject *left = cache->pairs[slot].value;
     clock2q_tokens_hit(&cache->slots, slot);
     cache->pairs[slot].value = Py_NewRef(value);
+    set_weight(cache, slot, weight);
     cache->version++;
     Py_DECREF(left);
 }
@@ -52,13 +63,13 @@ static size_t enter_beside(Cache *cache, uint64_t hash, pair *gave_way) {
     return clock2q_tokens_enter(&cache->slots, clock2q_spread(hash), ++cache->number);
 }
 
-/* Stores a pair whose key has no slot. A pair that loses its slot is replaced before other code runs. */
-static void add_pair(Cache *cache, PyObject *key, uint64_t hash, PyObject *value) {
+void add_pair(Cache *cache, PyObject *key, uint64_t hash, PyObject *value, uint64_t weight) {
     pair gave_way = {NULL, NULL};
     clock2q_admitted place = clock2q_tokens_admit(&cache->slots, clock2q_spread(hash));
     if (!place.has_entered) place.slot = enter_beside(cache, hash, &gave_way);
     pair left = cache->pairs[place.slot];
     cache->pairs[place.slot] = (pair){Py_NewRef(key), Py_NewRef(value)};
+    set_weight(cache, place.slot, weight);
     if (place.slot >= cache->reached) cache->reached = place.slot + 1;
     cache->version++;
     Py_XDECREF(left.key);
@@ -68,30 +79,25 @@ static void add_pair(Cache *cache, PyObject *key, uint64_t hash, PyObject *value
 }
 
 int store_pair(Cache *cache, PyObject *key, uint64_t hash, PyObject *value) {
+    if (cache->weigher != NULL || cache->maxsize < cache->capacity) return store_within(cache, key, hash, value);
     for (int tries = 0; tries < MOST_TRIES; tries++) {
         if (cache->pairs == NULL && make_pairs(cache) < 0) return -1;
         size_t slot;
         outcome found = look_at_pairs(cache, key, hash, &slot);
         if (found == FAILED) return -1;
         if (found == CHANGED) continue;
-        if (found == PRESENT) replace_value(cache, slot, value);
-        else add_pair(cache, key, hash, value);
+        if (found == PRESENT) replace_value(cache, slot, value, 0);
+        else add_pair(cache, key, hash, value, 0);
         return 0;
     }
     return too_many_tries();
-}
-
-int is_slot_of(Cache *cache, uint64_t hash, size_t slot) {
-    for (size_t nth = 0;; nth++) {
-        clock2q_found alike = clock2q_tokens_seek(&cache->slots, clock2q_spread(hash), nth);
-        if (!alike.is_found || alike.slot == slot) return alike.is_found;
-    }
 }
 
 pair take_pair(Cache *cache, size_t slot) {
     pair left = cache->pairs[slot];
     clock2q_tokens_remove(&cache->slots, slot);
     cache->pairs[slot] = (pair){NULL, NULL};
+    set_weight(cache, slot, 0);
     cache->version++;
     return left;
 }
@@ -100,8 +106,11 @@ void clear_pairs(Cache *cache) {
     pair *pairs = cache->pairs;
     size_t reached = cache->reached;
     if (cache->slots.at != NULL) clock2q_tokens_clear(&cache->slots);
+    PyMem_Free(cache->weights);
     cache->pairs = NULL;
-    cache->reached = cache->popped = 0;
+    cache->weights = NULL;
+    cache->reached = 0;
+    cache->weight = 0;
     cache->version++;
     for (size_t slot = 0; slot < reached; slot++) {
         Py_XDECREF(pairs[slot].key);

@@ -22,12 +22,16 @@ typedef struct {
     PyObject_HEAD
     clock2q_tokens slots; /* none before __init__ */
     uint64_t number;  /* the last of a token, of those that aren't 0 */
-    pair *pairs;      /* `maxsize` of them, each at the slot of its key; NULL until one is stored */
-    size_t maxsize;   /* 0 before __init__ */
+    pair *pairs;      /* `capacity` of them, each at the slot of its key; NULL until one is stored */
+    size_t capacity;  /* how many slots there are; 0 before __init__ */
+    size_t maxsize;   /* how many pairs there are at most */
     size_t reached;   /* above the highest slot that has had a pair */
-    size_t popped;    /* where popitem looks first */
     uint64_t version; /* how often a pair was stored, replaced or removed */
     uint64_t hits, misses;
+    PyObject *weigher;   /* or NULL; then there are no weights */
+    uint64_t *weights;   /* by slot, 0 if there is no pair */
+    uint64_t weight;     /* their sum */
+    uint64_t max_weight; /* the most that it may be */
     PyObject *weak_references;
     char has_missing; /* whether the type had __missing__ when the cache was made */
 } Cache;
@@ -83,11 +87,32 @@ static inline outcome find_pair(Cache *cache, PyObject *key, uint64_t hash, size
     return too_many_tries();
 }
 
-/* Whether a slot is that of a key with this hash. */
-int is_slot_of(Cache *cache, uint64_t hash, size_t slot);
-
-/* Stores a value for a key. Returns -1 with an exception, and the cache as it was, if that fails. */
+/* Stores a value for a key. Returns -1 with an exception, and the cache as it was, if that fails; only if there
+ * is no memory, some pairs may have left. */
 int store_pair(Cache *cache, PyObject *key, uint64_t hash, PyObject *value);
+
+/* The same for a cache whose pairs have weights, or are to be fewer than its slots: more than one may leave for this
+ * one, all at once. They are dropped last. */
+int store_within(Cache *cache, PyObject *key, uint64_t hash, PyObject *value);
+
+/* Makes room for pairs. Returns -1 with an exception if that fails. */
+int make_pairs(Cache *cache);
+
+/* Replaces the value at the slot of a key. */
+void replace_value(Cache *cache, size_t slot, PyObject *value, uint64_t weight);
+
+/* Stores a pair whose key has no slot. A pair that loses its slot is replaced before other code runs. */
+void add_pair(Cache *cache, PyObject *key, uint64_t hash, PyObject *value, uint64_t weight);
+
+/* Sets the weight of the pair at a slot, if pairs have weights. */
+void set_weight(Cache *cache, size_t slot, uint64_t weight);
+
+/* Takes out the pair that is to leave next, and returns the slot that it had, if there is one. The caller drops it. */
+clock2q_found evict_pair(Cache *cache, pair *left);
+
+/* Has at most `maxsize` pairs be there, for which there are slots. Returns -1 with an exception if there is no
+ * memory. */
+int resize_pairs(Cache *cache, size_t maxsize);
 
 /* Takes out the pair at a slot. The caller drops it. */
 pair take_pair(Cache *cache, size_t slot);

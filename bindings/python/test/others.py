@@ -13,16 +13,12 @@ import unittest
 import clock2q
 
 ORDER = "it counts the misses of LRU"
-WEIGHTS = "values have no sizes here"
 PICKLED = "a cache isn't pickled"
 EMPTY = "a cache has room for one key at least"
 TYPES = "1 and 1.0 alone are two keys, as functools has it"
 
 LEFT_OUT = {
     "Functools.test_lru_method": f"{ORDER}, at maxsize 2",
-    "CachetoolsCache.test_getsizeof_param": WEIGHTS,
-    "CachetoolsCache.test_getsizeof_subclass": WEIGHTS,
-    "CachetoolsCache.test_missing_getsizeof": WEIGHTS,
     "CachetoolsCache.test_pickle": PICKLED,
     "CachetoolsCache.test_pickle_maxsize": PICKLED,
     "CachetoolsFunctions.test_decorator": TYPES,
@@ -71,7 +67,16 @@ def cachetools_tests(folder):
     from tests import test_cached, test_cachedmethod, test_func
 
     class Sized(clock2q.Cache):
+        """Its maxsize is both the most keys and the most that they weigh."""
+
         getsizeof = staticmethod(lambda value: 1)
+
+        def __init__(self, maxsize, getsizeof=None):
+            weigh = getsizeof or self.getsizeof
+            super().__init__(maxsize, lambda key, value: weigh(value), maxsize)
+            self.getsizeof = weigh
+
+        currsize = clock2q.Cache.weight
 
     # The class begins its own repr.
     Sized.__name__ = "Cache"

@@ -52,21 +52,24 @@ class UserCodeTest(unittest.TestCase):
     def test_hashes_that_raise(self):
         key = UnhashableNow(1)
         self.cache[key] = 1
-        for call in [*self.calls(key), self.cache.popitem]:
+        for call in self.calls(key):
             UnhashableNow.is_broken = True
             with self.assertRaises(ZeroDivisionError):
                 call()
             UnhashableNow.is_broken = False
             self.assertEqual(dict(self.cache.items()), {key: 1})
 
+    def test_popitem_needs_no_hash(self):
+        key = UnhashableNow(1)
+        self.cache[key] = 1
+        UnhashableNow.is_broken = True
+        self.assertEqual((self.cache.popitem(), len(self.cache)), ((key, 1), 0))
+
     def test_a_hash_that_changes(self):
         key = Key(1)
         self.cache[key] = 1
         key.number = 2
-        with self.assertRaises(RuntimeError):
-            self.cache.popitem()
-        key.number = 1
-        self.assertEqual(self.cache.popitem(), (key, 1))
+        self.assertEqual((self.cache.popitem(), len(self.cache)), ((key, 1), 0))
 
     def test_comparisons_that_change_the_cache_once(self):
         cache = self.cache

@@ -78,6 +78,14 @@ impl<K: Hash + Eq, V, S: BuildHasher> LruCache<K, V, S> {
         self.0.remove_entry(key)
     }
 
+    fn pop_lru(&mut self) -> Option<(K, V)> {
+        self.0.evict()
+    }
+
+    fn resize(&mut self, capacity: usize) {
+        self.0.resize(capacity).expect("it was as large when it was made")
+    }
+
     fn cap(&self) -> usize {
         self.0.capacity()
     }

@@ -58,10 +58,14 @@ class ValuesView(abc.ValuesView):
 
 
 class Cache(_extension.Cache, abc.MutableMapping):
-    """Cache(maxsize): a mapping of at most maxsize keys, from 1 to MAX_CAPACITY.
+    """Cache(maxsize, weigher=None, max_weight=None): a mapping of at most maxsize keys, from 1 to MAX_CAPACITY.
 
     When a new key comes to a full cache, the replacement chooses one that leaves. All memory but that of
     keys and values is taken when the cache is made and when the first pair is stored.
+
+    weigher(key, value) returns what a pair weighs, an int from 0, and is called once before it is stored. Pairs
+    leave until all weigh at most max_weight together. ValueError is raised for a pair that alone is heavier,
+    and the cache is as it was.
 
     [], get and setdefault count hits and misses. `in` and peek count neither, but the replacement takes
     them for a use of the key. Iteration is over what was there when it began, and uses no key. `cache[key]`

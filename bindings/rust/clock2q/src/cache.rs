@@ -19,7 +19,7 @@ use std::hash::{BuildHasher, Hash};
 /// `Eq`, `Hash`, closures and `Drop` run only while the cache is whole: if one of them panics, it is as it
 /// was before or after the call. Keys and values that leave are dropped last, unless they are returned.
 ///
-/// All memory is taken when a cache is made. No other call takes any.
+/// All memory is taken when a cache is made. No other call takes any, but [`resize`](Cache::resize).
 ///
 /// # Threads
 ///
@@ -125,7 +125,8 @@ impl<K, V, S> Cache<K, V, S> {
         self.len() == 0
     }
 
-    /// Returns how many keys there can be.
+    /// Returns how many keys there can be: as many as asked for last, when the cache was made or
+    /// [resized](Cache::resize).
     pub fn capacity(&self) -> usize {
         self.store.capacity()
     }
@@ -147,6 +148,24 @@ impl<K, V, S> Cache<K, V, S> {
     /// Returns the hasher.
     pub fn hasher(&self) -> &S {
         &self.hasher
+    }
+
+    /// Removes the pair that would have to leave next for a new key, and returns it; nothing if there is none.
+    /// Its key is remembered as those of pairs that left for others are.
+    pub fn evict(&mut self) -> Option<(K, V)> {
+        self.store.evict().map(|(_, pair)| pair)
+    }
+
+    /// Has the cache hold `capacity` keys at most. Pairs leave as by [`evict`](Cache::evict) until there are no
+    /// more, are kept in a vector until then, and are dropped; later a key may take the place of two, of which
+    /// [`push`](Cache::push) returns one. The cache keeps its memory, and as many slots for new keys.
+    ///
+    /// # Errors
+    ///
+    /// [`Refused::Capacity`] if it is 0, or above the capacity with which the cache was made. Nothing has changed
+    /// then.
+    pub fn resize(&mut self, capacity: usize) -> Result<(), Refused> {
+        self.store.resize(capacity)
     }
 
     /// Removes all keys, and forgets those that left.

@@ -1,7 +1,8 @@
 //! Caches of fixed capacity with Clock2Q+ replacement, proved up to the C calls under them.
 //!
-//! A [`Cache`] is a map of any hashable keys, and [`sync::Cache`] one that threads share. A
-//! [`PageCache`] gives numbers slots, for arrays of the caller's. [`sys`] has the C calls.
+//! A [`Cache`] is a map of any hashable keys, a [`WeightedCache`] one whose pairs have weights, and
+//! [`sync::Cache`] one that threads share. A [`PageCache`] gives numbers slots, for arrays of the caller's.
+//! [`sys`] has the C calls.
 //!
 //! ```
 //! use clock2q::Cache;
@@ -24,12 +25,14 @@ mod slots;
 mod store;
 pub mod sync;
 pub mod sys;
+mod weighted;
 
 pub use cache::Cache;
 pub use entry::{Entry, OccupiedEntry, VacantEntry};
 pub use iter::{Drain, IntoIter, Iter, IterMut, Keys, Values, ValuesMut};
 pub use pages::{PageCache, Place};
 pub use refused::Refused;
+pub use weighted::WeightedCache;
 
 /// The largest capacity.
 pub const MAX_CAPACITY: usize = sys::CLOCK2Q_MAX_CAPACITY;

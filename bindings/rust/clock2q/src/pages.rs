@@ -139,6 +139,13 @@ impl PageCache {
         unsafe { sys::clock2q_remove(self.handle(), key) }
     }
 
+    /// Takes the slot away from the key that would lose it next, and returns the key and the slot. It is
+    /// remembered as those that lost their slots to others are.
+    pub fn evict(&mut self) -> Option<(u64, usize)> {
+        let place = unsafe { sys::clock2q_evict_key(self.handle()) };
+        place.evicted.then_some((place.last, place.slot))
+    }
+
     /// Takes all slots away, and forgets all keys.
     pub fn clear(&mut self) {
         unsafe { sys::clock2q_clear(self.handle()) }

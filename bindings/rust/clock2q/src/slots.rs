@@ -105,6 +105,13 @@ impl Slots {
         unsafe { sys::clock2q_tokens_remove(&mut self.cache, slot) };
     }
 
+    /// Takes the slot away from the key that would lose it next, and returns it.
+    pub(crate) fn evict(&mut self) -> Option<usize> {
+        // SAFETY: as above.
+        let left = unsafe { sys::clock2q_tokens_evict(&mut self.cache) };
+        left.is_found.then_some(left.slot)
+    }
+
     /// Forgets a key that has no slot, unless one of its hash has.
     pub(crate) fn forget(&mut self, hash: u64) {
         // SAFETY: as above.

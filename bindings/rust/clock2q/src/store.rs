@@ -56,6 +56,8 @@ const MOST_ALIKE: usize = 16;
 pub(crate) struct Store<K, V> {
     slots: Slots,
     pub(crate) entries: Entries<K, V>,
+    /// How many pairs there are at most, or `usize::MAX` if one at each slot.
+    limit: usize,
     pub(crate) hits: u64,
     pub(crate) misses: u64,
 }
@@ -65,6 +67,7 @@ impl<K, V> Store<K, V> {
         Ok(Store {
             entries: Entries::new(slots.capacity())?,
             slots,
+            limit: usize::MAX,
             hits: 0,
             misses: 0,
         })
@@ -73,6 +76,7 @@ impl<K, V> Store<K, V> {
     /// Makes one of this capacity and these shares, without pairs, that has counted as much.
     pub(crate) fn empty_one(&self) -> Result<Store<K, V>, Refused> {
         let mut store = Store::new(self.slots.empty_one()?)?;
+        store.limit = self.limit;
         store.hits = self.hits;
         store.misses = self.misses;
         Ok(store)
@@ -80,7 +84,23 @@ impl<K, V> Store<K, V> {
 
     #[inline]
     pub(crate) fn capacity(&self) -> usize {
-        self.slots.capacity()
+        self.slots.capacity().min(self.limit)
+    }
+
+    /// Has as many pairs at most from now on, for which there are slots. Those above leave.
+    pub(crate) fn resize(&mut self, limit: usize) -> Result<(), Refused> {
+        if limit == 0 || limit > self.slots.capacity() {
+            return Err(Refused::Capacity);
+        }
+        let mut left = Vec::new();
+        while self.entries.len() > limit {
+            left.extend(self.evict());
+        }
+        self.limit = match limit < self.slots.capacity() {
+            true => limit,
+            false => usize::MAX,
+        };
+        Ok(())
     }
 
     pub(crate) fn clear(&mut self) {
@@ -95,8 +115,11 @@ impl<K, V> Store<K, V> {
     }
 
     /// Stores a pair whose key isn't here, and returns its slot and the pair that left for it.
-    #[inline]
+    #[inline(always)]
     pub(crate) fn admit(&mut self, hash: u64, key: K, value: V) -> (usize, Option<(K, V)>) {
+        if self.entries.len() >= self.limit {
+            return self.admit_to_fewer(hash, key, value);
+        }
         match self.slots.admit(hash) {
             Some(slot) => (slot, self.entries.put(slot, hash, key, value)),
             None => self.admit_beside(hash, key, value),
@@ -111,6 +134,34 @@ impl<K, V> Store<K, V> {
         let slot = self.slots.enter_beside(hash);
         let left = self.entries.put(slot, hash, key, value);
         (slot, left.or(gave_way))
+    }
+
+    /// Does so in place of another pair though there are slots, since there may not be more pairs. If two
+    /// leave, one of them is dropped.
+    #[cold]
+    #[inline(never)]
+    fn admit_to_fewer(&mut self, hash: u64, key: K, value: V) -> (usize, Option<(K, V)>) {
+        let gone = match self.entries.last_of_many(hash, MOST_ALIKE) {
+            Some(slot) => self.remove_at(slot),
+            None => self.evict().map(|(_, pair)| pair),
+        };
+        let slot = match self.slots.admit(hash) {
+            Some(slot) => slot,
+            None => self.slots.enter_beside(hash),
+        };
+        let left = self.entries.put(slot, hash, key, value);
+        (slot, left.or(gone))
+    }
+
+    /// Records a hit of the pair at a slot.
+    pub(crate) fn hit(&mut self, slot: usize) {
+        self.slots.hit(slot);
+    }
+
+    /// Removes the pair that would leave next, and returns the slot that it had.
+    pub(crate) fn evict(&mut self) -> Option<(usize, (K, V))> {
+        let slot = self.slots.evict()?;
+        Some((slot, self.entries.take(slot)?))
     }
 
     /// Removes the pair at a slot.

@@ -115,6 +115,17 @@ impl<S: BuildHasher + Default> Beside<S> {
         }
     }
 
+    fn evict(&mut self) {
+        let len = self.cache.len();
+        match self.cache.evict() {
+            Some((key, value)) => {
+                assert_eq!(self.cache.len(), len - 1);
+                self.leaves(&key, value);
+            }
+            None => assert_eq!(len, 0),
+        }
+    }
+
     fn retain(&mut self, bound: u64) {
         let kept: HashMap<String, u64> = self
             .cache
@@ -134,6 +145,7 @@ impl<S: BuildHasher + Default> Beside<S> {
             12..=23 => self.store(&key, number),
             24..=35 => self.look_up_or_store(&key, number),
             36..=38 => self.remove(&key),
+            _ if draws.below(4) == 0 => self.evict(),
             _ if draws.below(60) == 0 => self.cache.clear(),
             _ if draws.below(4) == 0 => self.retain(draws.below(17)),
             _ => assert!(self.cache.iter_mut().all(|(_, value)| *value < u64::MAX)),
@@ -226,6 +238,10 @@ fn keys_leave_as_their_hashes_do() {
                 80..=97 => {
                     cache.get_or_insert_with(key, || number as u64);
                     pages.enter(key);
+                }
+                98 if number % 2 == 0 => {
+                    let left = pages.evict().map(|(key, _)| key);
+                    assert_eq!(cache.evict().map(|(key, _)| key), left);
                 }
                 98 => {
                     cache.retain(|kept, _| kept % 8 != key % 8);

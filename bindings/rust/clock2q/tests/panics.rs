@@ -142,6 +142,8 @@ fn call<S: std::hash::BuildHasher>(
             }
         }
         12 => cache.drain().take(number as usize % 3).for_each(drop),
+        13 => drop(cache.evict()),
+        14 => drop(cache.resize(1 + number as usize % 30)),
         _ => cache.clear(),
     }
 }
@@ -156,7 +158,7 @@ fn survives<S: std::hash::BuildHasher + Default>(drops_panic: bool) {
         let mut draws = Draws(7);
         let mut panics = 0;
         for _ in 0..CALLS / 40 {
-            let kind = draws.below(200).saturating_sub(186).max(draws.below(12));
+            let kind = draws.below(200).saturating_sub(184).max(draws.below(12));
             let number = draws.below(1000);
             if draws.below(3) == 0 {
                 watch.left.set(Some(draws.below(8)));

@@ -1,0 +1,96 @@
+/* Pairs that leave without a new key in their slots: the next of all, those above a smaller size, and those that make
+ * room for a heavy one. */
+#include "pairs.h"
+
+/* A value, and what the weigher said of it with its key. */
+typedef struct {
+    PyObject *value;
+    uint64_t weight;
+} pair_to_store;
+
+clock2q_found evict_pair(Cache *cache, pair *left) {
+    clock2q_found evicted = {0, false};
+    if (cache->pairs != NULL) evicted = clock2q_tokens_evict(&cache->slots);
+    if (!evicted.is_found) return evicted;
+    *left = cache->pairs[evicted.slot];
+    cache->pairs[evicted.slot] = (pair){NULL, NULL};
+    set_weight(cache, evicted.slot, 0);
+    cache->version++;
+    return evicted;
+}
+
+/* Takes out the pair that is to leave next, of some, and adds it to a list, which runs no other code. Writes the slot
+ * that it had. Returns -1 with an exception if there is no memory. */
+static int evict_to(Cache *cache, PyObject *list, size_t *slot) {
+    pair left = {NULL, NULL};
+    *slot = evict_pair(cache, &left).slot;
+    int failed = PyList_Append(list, left.key) < 0 || PyList_Append(list, left.value) < 0;
+    Py_DECREF(left.key);
+    Py_DECREF(left.value);
+    return failed ? -1 : 0;
+}
+
+int resize_pairs(Cache *cache, size_t maxsize) {
+    int failed = 0;
+    size_t slot;
+    PyObject *list = PyList_New(0);
+    if (list == NULL) return -1;
+    cache->maxsize = maxsize;
+    while (!failed && clock2q_tokens_len(&cache->slots) > maxsize) failed = evict_to(cache, list, &slot) < 0;
+    Py_DECREF(list);
+    return failed ? -1 : 0;
+}
+
+/* Whether others have to leave before a pair is stored: one of a key that has a slot, or of a new one. */
+static int is_too_much(Cache *cache, outcome found, size_t slot, uint64_t weight) {
+    if (cache->weights != NULL) {
+        uint64_t own = found == PRESENT ? cache->weights[slot] : 0;
+        if (cache->weight - own > cache->max_weight - weight) return 1;
+    }
+    return found == ABSENT && cache->maxsize < cache->capacity && clock2q_tokens_len(&cache->slots) >= cache->maxsize;
+}
+
+/* Stores a pair after a look-up has found its key or not. Those that have to leave first go to a list. */
+static int store_after(Cache *cache, PyObject *key, uint64_t hash, pair_to_store stored, outcome found, size_t slot,
+                       PyObject *list) {
+    if (found == PRESENT) clock2q_tokens_hit(&cache->slots, slot);
+    while (is_too_much(cache, found, slot, stored.weight)) {
+        size_t gone;
+        if (evict_to(cache, list, &gone) < 0) return -1;
+        if (gone == slot) found = ABSENT; /* the key has left for its own new value */
+    }
+    if (found == PRESENT) replace_value(cache, slot, stored.value, stored.weight);
+    else add_pair(cache, key, hash, stored.value, stored.weight);
+    return 0;
+}
+
+/* Asks for the weight of a pair, and writes it. Returns -1 with an exception if there is none, or it is too heavy. */
+static int weigh(Cache *cache, PyObject *key, PyObject *value, uint64_t *weight) {
+    PyObject *said = PyObject_CallFunctionObjArgs(cache->weigher, key, value, NULL);
+    Py_ssize_t number = said == NULL ? -1 : PyNumber_AsSsize_t(said, NULL); /* a number beyond is clipped, and too large */
+    Py_XDECREF(said);
+    if (number == -1 && PyErr_Occurred()) return -1;
+    if (number < 0 || (uint64_t)number > cache->max_weight) {
+        PyErr_SetString(PyExc_ValueError, number < 0 ? "a weight is below 0" : "value too large");
+        return -1;
+    }
+    *weight = (uint64_t)number;
+    return 0;
+}
+
+/* The list is made before the look-up, since the collector may run other code then. */
+int store_within(Cache *cache, PyObject *key, uint64_t hash, PyObject *value) {
+    pair_to_store stored = {value, 0};
+    if (cache->weigher != NULL && weigh(cache, key, value, &stored.weight) < 0) return -1;
+    PyObject *list = PyList_New(0);
+    if (list == NULL) return -1;
+    outcome found = CHANGED;
+    size_t slot = SIZE_MAX;
+    for (int tries = 0; tries < MOST_TRIES && found == CHANGED; tries++) {
+        found = cache->pairs == NULL && make_pairs(cache) < 0 ? FAILED : look_at_pairs(cache, key, hash, &slot);
+    }
+    if (found == CHANGED) found = too_many_tries();
+    int failed = found == FAILED || store_after(cache, key, hash, stored, found, found == PRESENT ? slot : SIZE_MAX, list) < 0;
+    Py_DECREF(list);
+    return failed ? -1 : 0;
+}
