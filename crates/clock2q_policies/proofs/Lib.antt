@@ -19,3 +19,5 @@ pub mod Curve
 pub mod IndexTrees
 pub mod Awaited
 pub mod AwaitedSteps
+pub mod ByteHolding
+pub mod WorkedBytes

@@ -8,3 +8,5 @@ pub mod CountTree
 pub mod LastAccesses
 pub mod IndexTree
 pub mod Awaited
+pub mod ByteCaches
+pub mod ByteResidents

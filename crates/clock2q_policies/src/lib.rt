@@ -1,9 +1,10 @@
 //! Policies of caches, replayed over keys that are numbers: which accesses of a trace hit, and how
-//! many. The hits of LRU and FIFO are proved to be those of a list, for LRU also at many capacities
-//! at once, and those of Belady's optimum are proved too; those of the policies in [`tested`] are
-//! tested.
+//! many. The hits of LRU and FIFO are proved to be those of a list, in caches for a number of keys and
+//! for a number of bytes, for LRU also at many capacities at once, and those of Belady's optimum are
+//! proved too; those of the policies in [`tested`] are tested.
 #![tactic(auto)]
 
+mod byte_caches;
 mod count_tree;
 mod index_tree;
 mod last_accesses;
@@ -12,6 +13,7 @@ mod optimal;
 mod plain;
 pub mod tested;
 
+pub use byte_caches::byte_outcomes;
 pub use lru_curve::lru_hits_at;
 pub use optimal::{optimal_hits, optimal_outcomes};
 pub use plain::{PlainPolicy, plain_hits, plain_outcomes};

@@ -1,4 +1,5 @@
 mod Amounts
+mod Bytes
 mod FieldByField
 mod KeyBytes
 mod KnownKeys

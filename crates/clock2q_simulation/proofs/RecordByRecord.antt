@@ -13,11 +13,11 @@ use Rattle.clock2q_ports.specs.Lines.{lines_of}
 use Rattle.clock2q_ports.proofs.Lines.{lines_of-ended, lines_of-last, lines_of-empty}
 use Rattle.clock2q_ports.specs.Ports.{Traffic, traffic_after, one_if}
 use Rattle.clock2q_simulation.specs.declared.error.SimulationError.{SimulationError}
-use Rattle.clock2q_simulation.specs.declared.error.SimulationError.TheVariants.{Argument, NotText, NoCapacity, UnusedShares, Shares, Capacity, Memory, Open, Read, Line, Record, Write}
+use Rattle.clock2q_simulation.specs.declared.error.SimulationError.TheVariants.{Argument, NotText, NoCapacity, UnusedShares, Shares, Capacity, Memory, Open, Read, Line, Size, Record, Write}
 use Rattle.clock2q_simulation.specs.declared.format.TraceFormat.{TraceFormat}
 use Rattle.clock2q_simulation.specs.declared.format.TraceFormat.TheVariants.{Lines, Csv, OracleGeneral}
-use Rattle.clock2q_simulation.specs.Formats.{column_of, consed, field, id_of, keys_after, keys_in}
-use Rattle.clock2q_simulation.specs.Reading.{AreRead, HasNoEnd, IsBad, IsBegun, IsGivenUp, IsNoTrace, IsOfLines, IsWhole, ReadsTrace, Takes, between, joined_keys}
+use Rattle.clock2q_simulation.specs.Formats.{Access, access_in, accesses_after, accesses_in, accesses_of, consed, record_of, unsized}
+use Rattle.clock2q_simulation.specs.Reading.{AreRead, HasNoEnd, IsBad, IsBegun, IsGivenUp, IsNoTrace, IsOfLines, IsWhole, ReadsTrace, Takes, between, joined}
 
 -- a line and its end come first of the lines
 pub ended-lines : (line next : List ℕ) → HasNoEnd line → lines_of (line ++ 10 ∷ next) ≡ line ∷ lines_of next
@@ -37,25 +37,26 @@ pub no-line : HasNoEnd []
 no-line = λ k d l. absurd (omega (arith, l))
 
 -- keys, and one more before those of the rest
-pub joined-more : (keys : List (List ℕ)) (key : List ℕ) (rest : Option (List (List ℕ))) → joined_keys keys (consed (Some key) rest) ≡ joined_keys (keys ++ key ∷ []) rest
+pub joined-more : (keys : List Access) (key : Access) (rest : Option (List Access)) → joined keys (consed (Some key) rest) ≡ joined (keys ++ key ∷ []) rest
 joined-more keys key None = refl
 joined-more keys key (Some rest) = ap Some (sym (append_assoc keys (key ∷ []) rest))
 
-pub joined-none : (keys : List (List ℕ)) (rest : Option (List (List ℕ))) → joined_keys keys rest ≡ None → rest ≡ None
+pub joined-none : (keys : List Access) (rest : Option (List Access)) → joined keys rest ≡ None → rest ≡ None
 joined-none keys None e = refl
 joined-none keys (Some rest) e = absurd (cc)
 
-pub joined-nothing : (rest : Option (List (List ℕ))) → joined_keys [] rest ≡ rest
+pub joined-nothing : (rest : Option (List Access)) → joined [] rest ≡ rest
 joined-nothing None = refl
 joined-nothing (Some rest) = refl
 
-pub joined-twice : (keys more : List (List ℕ)) (rest : Option (List (List ℕ))) → joined_keys keys (joined_keys more rest) ≡ joined_keys (keys ++ more) rest
+pub joined-twice : (keys more : List Access) (rest : Option (List Access)) → joined keys (joined more rest) ≡ joined (keys ++ more) rest
 joined-twice keys more None = refl
 joined-twice keys more (Some rest) = ap Some (sym (append_assoc keys more rest))
 
 -- what a refusal of records says, from something that implies it
 pub bad-by : (refusal : SimulationError) {P Q : Type 0} → (P → Q) → IsBad refusal P → IsBad refusal Q
 bad-by (Line _ _) f b = f b
+bad-by (Size _ _) f b = f b
 bad-by (Record _) f b = f b
 bad-by Memory f b = b
 bad-by Open f b = b
@@ -85,122 +86,131 @@ module _ (part next : List ℕ) (h : length part ≡ 24) where
       let rest : drop 24 (part ++ next) ≡ next = ap (λ k. drop k (part ++ next)) (sym h) ∙ drop-append_seam part next in
       rw (first, rest) refl
 
-  pub piece-first : (keys : List (List ℕ)) (count counted : ℕ) → joined_keys keys (keys_after OracleGeneral count (part ++ next)) ≡ joined_keys (keys ++ id_of part ∷ []) (keys_after OracleGeneral counted next)
+  pub piece-first : (keys : List Access) (count counted : ℕ) → joined keys (accesses_after OracleGeneral count (part ++ next)) ≡ joined (keys ++ record_of part ∷ []) (accesses_after OracleGeneral counted next)
   piece-first keys count counted =
       let long : length (part ++ next) ≡ 24 + length next = length-append part next ∙ ap (λ n. n + length next) h in
       let left : length (part ++ next) % 24 ≡ length next % 24 = omega (arith, long) in
       let many : length (part ++ next) / 24 ≡ suc (length next / 24) = omega (arith, long) in
-      ap (λ n. joined_keys keys (cond (eqb n 0) (Some (map id_of (first_chunks 24 (length (part ++ next) / 24) (part ++ next)))) None)) left
-      ∙ ap (λ n. joined_keys keys (cond (eqb (length next % 24) 0) (Some (map id_of (first_chunks 24 n (part ++ next)))) None)) many
-      ∙ ap (λ rs. joined_keys keys (cond (eqb (length next % 24) 0) (Some (map id_of rs)) None)) (whole-first (length next / 24))
-      ∙ cases (eqb (length next % 24) 0) (map id_of (first_chunks 24 (length next / 24) next))
+      ap (λ n. joined keys (cond (eqb n 0) (Some (map record_of (first_chunks 24 (length (part ++ next) / 24) (part ++ next)))) None)) left
+      ∙ ap (λ n. joined keys (cond (eqb (length next % 24) 0) (Some (map record_of (first_chunks 24 n (part ++ next)))) None)) many
+      ∙ ap (λ rs. joined keys (cond (eqb (length next % 24) 0) (Some (map record_of rs)) None)) (whole-first (length next / 24))
+      ∙ cases (eqb (length next % 24) 0) (map record_of (first_chunks 24 (length next / 24) next))
     where
-      cases : (b : Bool) (ids : List (List ℕ)) → joined_keys keys (cond b (Some (id_of part ∷ ids)) None) ≡ joined_keys (keys ++ id_of part ∷ []) (cond b (Some ids) None)
+      cases : (b : Bool) (ids : List Access) → joined keys (cond b (Some (record_of part ∷ ids)) None) ≡ joined (keys ++ record_of part ∷ []) (cond b (Some ids) None)
       cases false ids = refl
-      cases true ids = ap Some (sym (append_assoc keys (id_of part ∷ []) ids))
+      cases true ids = ap Some (sym (append_assoc keys (record_of part ∷ []) ids))
 
--- the format csv, with its keys in a column
-abbrev pub IsCsv : ℕ → TraceFormat → Type 0
-IsCsv column Lines = ⊥
-IsCsv column (Csv other) = non_zero_usize_get other ≡ column
-IsCsv column OracleGeneral = ⊥
+-- the format csv, with its keys and perhaps its sizes in columns
+abbrev pub IsCsv : ℕ → Option ℕ → TraceFormat → Type 0
+IsCsv column sizes Lines = ⊥
+IsCsv column sizes (Csv other more) = (non_zero_usize_get other ≡ column) × (option_map non_zero_usize_get more ≡ sizes)
+IsCsv column sizes OracleGeneral = ⊥
 
-module _ (keys more : List (List ℕ)) (count counted : ℕ) (part : List ℕ) where
+module _ (keys more : List Access) (count counted : ℕ) (part : List ℕ) where
   -- a record that ends, and what its key does to those so far
   abbrev pub Ends : TraceFormat → Type 0
-  Ends format = (next : List ℕ) → joined_keys keys (keys_after format count (part ++ (between format ++ next))) ≡ joined_keys more (keys_after format counted next)
+  Ends format = (next : List ℕ) → joined keys (accesses_after format count (part ++ (between format ++ next))) ≡ joined more (accesses_after format counted next)
 
-  pub line-ends : (format : TraceFormat) → format ≡ Lines → IsWhole format part → more ≡ keys ++ part ∷ [] → Ends format
+  pub line-ends : (format : TraceFormat) → format ≡ Lines → IsWhole format part → more ≡ keys ++ unsized part ∷ [] → Ends format
   line-ends Lines e whole m next =
-      ap (λ ls. joined_keys keys (Some ls)) (ended-lines part next whole) ∙ joined-more keys part (Some (lines_of next)) ∙ ap (λ ks. joined_keys ks (Some (lines_of next))) (sym m)
-  line-ends (Csv column) e whole m next = absurd (cc)
+      ap (λ ls. joined keys (Some (map unsized ls))) (ended-lines part next whole) ∙ joined-more keys (unsized part) (Some (map unsized (lines_of next)))
+      ∙ ap (λ ks. joined ks (Some (map unsized (lines_of next)))) (sym m)
+  line-ends (Csv column sizes) e whole m next = absurd (cc)
   line-ends OracleGeneral e whole m next = absurd (cc)
 
-  pub header-ends : (format : TraceFormat) (column : ℕ) → IsCsv column format → IsWhole format part → count ≡ 0 → 0 < counted → more ≡ keys → Ends format
-  header-ends Lines column e whole z some m next = absurd e
-  header-ends OracleGeneral column e whole z some m next = absurd e
-  header-ends (Csv other) column e whole z some m next =
+  pub header-ends : (format : TraceFormat) (column : ℕ) (sizes : Option ℕ) → IsCsv column sizes format → IsWhole format part → count ≡ 0 → 0 < counted → more ≡ keys → Ends format
+  header-ends Lines column sizes e whole z some m next = absurd e
+  header-ends OracleGeneral column sizes e whole z some m next = absurd e
+  header-ends (Csv other others) column sizes e whole z some m next =
       let first : drop (1 - count) (lines_of (part ++ 10 ∷ next)) ≡ lines_of next = rw (z, ended-lines part next whole) refl in
       let none : 1 - counted ≡ 0 = omega arith in
-      ap (λ ls. joined_keys keys (column_of (non_zero_usize_get other) ls)) first ∙ rw (m, none) refl
+      ap (λ ls. joined keys (accesses_of (non_zero_usize_get other) (option_map non_zero_usize_get others) ls)) first ∙ rw (m, none) refl
 
-  pub fields-end : (format : TraceFormat) (column : ℕ) (key : List ℕ) → IsCsv column format → IsWhole format part → 0 < count → 0 < counted → field column part ≡ Some key → more ≡ keys ++ key ∷ [] → Ends format
-  fields-end Lines column key e whole so some f m next = absurd e
-  fields-end OracleGeneral column key e whole so some f m next = absurd e
-  fields-end (Csv other) column key e whole so some f m next =
+  pub fields-end : (format : TraceFormat) (column : ℕ) (sizes : Option ℕ) (key : Access) → IsCsv column sizes format → IsWhole format part → 0 < count → 0 < counted
+      → access_in column sizes part ≡ Some key → more ≡ keys ++ key ∷ [] → Ends format
+  fields-end Lines column sizes key e whole so some f m next = absurd e
+  fields-end OracleGeneral column sizes key e whole so some f m next = absurd e
+  fields-end (Csv other others) column sizes key e whole so some f m next =
+      let c = non_zero_usize_get other in
+      let s = option_map non_zero_usize_get others in
       let before : 1 - count ≡ 0 = omega arith in
       let after : 1 - counted ≡ 0 = omega arith in
-      let at : field (non_zero_usize_get other) part ≡ Some key = ap (λ c. field c part) e ∙ f in
-      ap (λ n. joined_keys keys (column_of (non_zero_usize_get other) (drop n (lines_of (part ++ 10 ∷ next))))) before
-      ∙ ap (λ ls. joined_keys keys (column_of (non_zero_usize_get other) ls)) (ended-lines part next whole)
-      ∙ ap (λ k. joined_keys keys (consed k (column_of (non_zero_usize_get other) (lines_of next)))) at
-      ∙ joined-more keys key (column_of (non_zero_usize_get other) (lines_of next))
+      let at : access_in c s part ≡ Some key = ap (λ d. access_in d s part) e.0 ∙ ap (λ d. access_in column d part) e.1 ∙ f in
+      ap (λ n. joined keys (accesses_of c s (drop n (lines_of (part ++ 10 ∷ next))))) before
+      ∙ ap (λ ls. joined keys (accesses_of c s ls)) (ended-lines part next whole)
+      ∙ ap (λ k. joined keys (consed k (accesses_of c s (lines_of next)))) at
+      ∙ joined-more keys key (accesses_of c s (lines_of next))
       ∙ rw (m, after) refl
 
-  pub no-field-ends : (format : TraceFormat) (column : ℕ) → IsCsv column format → IsWhole format part → 0 < count → field column part ≡ None
-      → (next : List ℕ) → keys_after format count (part ++ (between format ++ next)) ≡ None
-  no-field-ends Lines column e whole so f next = absurd e
-  no-field-ends OracleGeneral column e whole so f next = absurd e
-  no-field-ends (Csv other) column e whole so f next =
+  pub no-field-ends : (format : TraceFormat) (column : ℕ) (sizes : Option ℕ) → IsCsv column sizes format → IsWhole format part → 0 < count → access_in column sizes part ≡ None
+      → (next : List ℕ) → accesses_after format count (part ++ (between format ++ next)) ≡ None
+  no-field-ends Lines column sizes e whole so f next = absurd e
+  no-field-ends OracleGeneral column sizes e whole so f next = absurd e
+  no-field-ends (Csv other others) column sizes e whole so f next =
+      let c = non_zero_usize_get other in
+      let s = option_map non_zero_usize_get others in
       let before : 1 - count ≡ 0 = omega arith in
-      let at : field (non_zero_usize_get other) part ≡ None = ap (λ c. field c part) e ∙ f in
-      ap (λ n. column_of (non_zero_usize_get other) (drop n (lines_of (part ++ 10 ∷ next)))) before
-      ∙ ap (column_of (non_zero_usize_get other)) (ended-lines part next whole)
-      ∙ ap (λ k. consed k (column_of (non_zero_usize_get other) (lines_of next))) at
+      let at : access_in c s part ≡ None = ap (λ d. access_in d s part) e.0 ∙ ap (λ d. access_in column d part) e.1 ∙ f in
+      ap (λ n. accesses_of c s (drop n (lines_of (part ++ 10 ∷ next)))) before
+      ∙ ap (accesses_of c s) (ended-lines part next whole)
+      ∙ ap (λ k. consed k (accesses_of c s (lines_of next))) at
 
-  pub piece-ends : (format : TraceFormat) → format ≡ OracleGeneral → IsWhole format part → more ≡ keys ++ id_of part ∷ [] → Ends format
+  pub piece-ends : (format : TraceFormat) → format ≡ OracleGeneral → IsWhole format part → more ≡ keys ++ record_of part ∷ [] → Ends format
   piece-ends Lines e whole m next = absurd (cc)
-  piece-ends (Csv column) e whole m next = absurd (cc)
-  piece-ends OracleGeneral e whole m next = piece-first part next whole keys count counted ∙ ap (λ ks. joined_keys ks (keys_after OracleGeneral counted next)) (sym m)
+  piece-ends (Csv column sizes) e whole m next = absurd (cc)
+  piece-ends OracleGeneral e whole m next = piece-first part next whole keys count counted ∙ ap (λ ks. joined ks (accesses_after OracleGeneral counted next)) (sym m)
 
 -- a whole record is begun, and one of 24 bytes isn't of lines
 pub whole-line : (format : TraceFormat) (part : List ℕ) → IsOfLines format → IsBegun format part → IsWhole format part
 whole-line Lines part l h = h
-whole-line (Csv column) part l h = h
+whole-line (Csv column sizes) part l h = h
 whole-line OracleGeneral part l h = absurd l
 
 pub begun-line : (format : TraceFormat) (part : List ℕ) → IsOfLines format → HasNoEnd part → IsBegun format part
 begun-line Lines part l h = h
-begun-line (Csv column) part l h = h
+begun-line (Csv column sizes) part l h = h
 begun-line OracleGeneral part l h = absurd l
 
 pub line-begun : (format : TraceFormat) (part : List ℕ) → IsOfLines format → IsBegun format part → HasNoEnd part
 line-begun Lines part l h = h
-line-begun (Csv column) part l h = h
+line-begun (Csv column sizes) part l h = h
 line-begun OracleGeneral part l h = absurd l
 
 pub after-line : (format : TraceFormat) → IsOfLines format → between format ≡ 10 ∷ []
 after-line Lines l = refl
-after-line (Csv column) l = refl
+after-line (Csv column sizes) l = refl
 after-line OracleGeneral l = absurd l
 
 -- nothing of a record
 pub none-begun : (format : TraceFormat) → IsBegun format []
 none-begun Lines = no-line
-none-begun (Csv column) = no-line
+none-begun (Csv column sizes) = no-line
 none-begun OracleGeneral = omega arith
 
 -- the last line is as if it had its end
-pub last-ends : (format : TraceFormat) (part : List ℕ) (count : ℕ) → IsOfLines format → IsBegun format part → 0 < length part → keys_after format count part ≡ keys_after format count (part ++ (between format ++ []))
+pub last-ends : (format : TraceFormat) (part : List ℕ) (count : ℕ) → IsOfLines format → IsBegun format part → 0 < length part → accesses_after format count part ≡ accesses_after format count (part ++ (between format ++ []))
 last-ends format part count l h some = cases format l h where
   same : HasNoEnd part → lines_of part ≡ lines_of (part ++ 10 ∷ [])
   same h = last-line part h some ∙ sym (ended-lines part [] h ∙ ap (λ ls. part ∷ ls) (lines_of-empty [] refl))
 
-  cases : (format : TraceFormat) → IsOfLines format → IsBegun format part → keys_after format count part ≡ keys_after format count (part ++ (between format ++ []))
-  cases Lines l h = ap Some (same h)
-  cases (Csv column) l h = ap (λ ls. column_of (non_zero_usize_get column) (drop (1 - count) ls)) (same h)
+  cases : (format : TraceFormat) → IsOfLines format → IsBegun format part → accesses_after format count part ≡ accesses_after format count (part ++ (between format ++ []))
+  cases Lines l h = ap (λ ls. Some (map unsized ls)) (same h)
+  cases (Csv column sizes) l h = ap (λ ls. accesses_of (non_zero_usize_get column) (option_map non_zero_usize_get sizes) (drop (1 - count) ls)) (same h)
   cases OracleGeneral l h = absurd l
 
 -- nothing is left
-pub none-left : (format : TraceFormat) (count : ℕ) → keys_after format count [] ≡ Some []
-none-left Lines count = ap Some (lines_of-empty [] refl)
-none-left (Csv column) count = ap (λ ls. column_of (non_zero_usize_get column) (drop (1 - count) ls)) (lines_of-empty [] refl) ∙ ap (column_of (non_zero_usize_get column)) (drop_all (1 - count) [] (omega arith))
+pub none-left : (format : TraceFormat) (count : ℕ) → accesses_after format count [] ≡ Some []
+none-left Lines count = ap (λ ls. Some (map unsized ls)) (lines_of-empty [] refl)
+none-left (Csv column sizes) count =
+    let c = non_zero_usize_get column in
+    let z = option_map non_zero_usize_get sizes in
+    ap (λ ls. accesses_of c z (drop (1 - count) ls)) (lines_of-empty [] refl) ∙ ap (accesses_of c z) (drop_all (1 - count) [] (omega arith))
 none-left OracleGeneral count = refl
 
 -- part of a record is left
-pub part-left : (format : TraceFormat) (part : List ℕ) (count : ℕ) → format ≡ OracleGeneral → IsBegun format part → 0 < length part → keys_after format count part ≡ None
+pub part-left : (format : TraceFormat) (part : List ℕ) (count : ℕ) → format ≡ OracleGeneral → IsBegun format part → 0 < length part → accesses_after format count part ≡ None
 part-left Lines part count e h some = absurd (cc)
-part-left (Csv column) part count e h some = absurd (cc)
+part-left (Csv column sizes) part count e h some = absurd (cc)
 part-left OracleGeneral part count e h some =
     let below : length part < 24 = h in
     let left : (length part % 24 ≡ 0) → ⊥ = λ z. omega (arith, below, some, z) in
@@ -215,12 +225,12 @@ went-on old xs ys stopped failed =
     cc
 
 -- what was read from a source so far: the keys so far, and those of what has come of the next record and of what follows
-pub record IsReadUpTo (old new : Traffic) (left remain : Option (List ℕ)) (format : TraceFormat) (keys : List (List ℕ)) (count : ℕ) (line : List ℕ) : Type 0 where
+pub record IsReadUpTo (old new : Traffic) (left remain : Option (List ℕ)) (format : TraceFormat) (keys : List Access) (count : ℕ) (line : List ℕ) : Type 0 where
   pub begun : IsBegun format line
   pub input : List ℕ
   pub given : new ≡ traffic_after old input false false
   pub consumed : Consumes left remain input
-  pub same : (next : List ℕ) → keys_in format (input ++ next) ≡ joined_keys keys (keys_after format count (line ++ next))
+  pub same : (next : List ℕ) → accesses_in format (input ++ next) ≡ joined keys (accesses_after format count (line ++ next))
 
 Consumes-twice : (a b c : Option (List ℕ)) (xs ys : List ℕ) → Consumes a b xs → Consumes b c ys → Consumes a c (xs ++ ys)
 Consumes-twice None b c xs ys p q = tt
@@ -242,21 +252,21 @@ read-none old left format = record {
   input = [];
   given = none;
   consumed = Consumes-none left;
-  same = λ next. sym (joined-nothing (keys_after format 0 next));
+  same = λ next. sym (joined-nothing (accesses_after format 0 next));
 } where
   none : old ≡ traffic_after old [] false false
   none = sym (rw (append-nil old.bytes, zero_more old.stops, zero_more old.failures) refl)
 
-module _ (old mid new : Traffic) (left some remain : Option (List ℕ)) (format : TraceFormat) (keys : List (List ℕ)) (count : ℕ) (line bytes : List ℕ) (is : IsReadUpTo old mid left some format keys count line) where
+module _ (old mid new : Traffic) (left some remain : Option (List ℕ)) (format : TraceFormat) (keys : List Access) (count : ℕ) (line bytes : List ℕ) (is : IsReadUpTo old mid left some format keys count line) where
   -- the bytes of one more read
-  pub read-more : (more : List (List ℕ)) (counted : ℕ) (rest : List ℕ) → new ≡ traffic_after mid bytes false false → Consumes some remain bytes → Takes format keys count line bytes more counted rest
+  pub read-more : (more : List Access) (counted : ℕ) (rest : List ℕ) → new ≡ traffic_after mid bytes false false → Consumes some remain bytes → Takes format keys count line bytes more counted rest
       → IsReadUpTo old new left remain format more counted rest
   read-more more counted rest given consumed takes = record {
     begun = takes.begun;
     input = is.input ++ bytes;
     given = given ∙ ap (λ t. traffic_after t bytes false false) is.given ∙ went-on old is.input bytes false false;
     consumed = Consumes-twice left some remain is.input bytes is.consumed consumed;
-    same = λ next. ap (keys_in format) (append_assoc is.input bytes next) ∙ is.same (bytes ++ next) ∙ takes.same next;
+    same = λ next. ap (accesses_in format) (append_assoc is.input bytes next) ∙ is.same (bytes ++ next) ∙ takes.same next;
   }
 
   -- a read after which nothing was added
@@ -264,42 +274,43 @@ module _ (old mid new : Traffic) (left some remain : Option (List ℕ)) (format 
   read-given stopped failed given = given ∙ ap (λ t. traffic_after t bytes stopped failed) is.given ∙ went-on old is.input bytes stopped failed
 
   -- a read of bytes that end no trace
-  pub read-bad : new ≡ traffic_after mid bytes false false → ((next : List ℕ) → keys_after format count (line ++ (bytes ++ next)) ≡ None) → IsNoTrace old new left remain format
+  pub read-bad : new ≡ traffic_after mid bytes false false → ((next : List ℕ) → accesses_after format count (line ++ (bytes ++ next)) ≡ None) → IsNoTrace old new left remain format
   read-bad given bad = record {
     bytes = is.input ++ bytes;
     ended = false;
     given = read-given false false given;
-    bad = λ next _. ap (keys_in format) (append_assoc is.input bytes next) ∙ is.same (bytes ++ next) ∙ ap (joined_keys keys) (bad next);
+    bad = λ next _. ap (accesses_in format) (append_assoc is.input bytes next) ∙ is.same (bytes ++ next) ∙ ap (joined keys) (bad next);
   }
 
 -- the end was reached
-module _ (old mid new : Traffic) (left some remain : Option (List ℕ)) (format : TraceFormat) (keys : List (List ℕ)) (count : ℕ) (line : List ℕ) (is : IsReadUpTo old mid left some format keys count line) where
+module _ (old mid new : Traffic) (left some remain : Option (List ℕ)) (format : TraceFormat) (keys : List Access) (count : ℕ) (line : List ℕ) (is : IsReadUpTo old mid left some format keys count line) where
   ended-given : new ≡ traffic_after mid [] true false → new ≡ traffic_after old is.input true false
   ended-given given =
       given ∙ ap (λ t. traffic_after t [] true false) is.given ∙ went-on old is.input [] true false ∙ ap (λ bs. traffic_after old bs true false) (append-nil is.input)
 
-  pub read-whole : (all : List (List ℕ)) → new ≡ traffic_after mid [] true false → Consumes some remain [] → IsAtEnd remain → joined_keys keys (keys_after format count line) ≡ Some all
+  pub read-whole : (all : List Access) → new ≡ traffic_after mid [] true false → Consumes some remain [] → IsAtEnd remain → joined keys (accesses_after format count line) ≡ Some all
       → AreRead old new left remain format all
   read-whole all given consumed at_end e = record {
     input = is.input;
     given = ended-given given;
     consumed = subst (Consumes left remain) (append-nil is.input) (Consumes-twice left some remain is.input [] is.consumed consumed);
     at_end = at_end;
-    keys = ap (keys_in format) (sym (append-nil is.input)) ∙ is.same [] ∙ ap (λ l. joined_keys keys (keys_after format count l)) (append-nil line) ∙ e;
+    accesses = ap (accesses_in format) (sym (append-nil is.input)) ∙ is.same [] ∙ ap (λ l. joined keys (accesses_after format count l)) (append-nil line) ∙ e;
   }
 
-  pub read-badly : new ≡ traffic_after mid [] true false → keys_after format count line ≡ None → IsNoTrace old new left remain format
+  pub read-badly : new ≡ traffic_after mid [] true false → accesses_after format count line ≡ None → IsNoTrace old new left remain format
   read-badly given bad = record {
     bytes = is.input;
     ended = true;
     given = ended-given given;
-    bad = λ next none. ap (λ n. keys_in format (is.input ++ n)) (none refl) ∙ is.same [] ∙ ap (λ l. joined_keys keys (keys_after format count l)) (append-nil line) ∙ ap (joined_keys keys) bad;
+    bad = λ next none. ap (λ n. accesses_in format (is.input ++ n)) (none refl) ∙ is.same [] ∙ ap (λ l. joined keys (accesses_after format count l)) (append-nil line) ∙ ap (joined keys) bad;
   }
 
 -- a refusal of records, as one of reading
 pub given-up : (old new : Traffic) (left remain : Option (List ℕ)) (format : TraceFormat) (refusal : SimulationError) {P : Type 0} → ((bytes : List ℕ) × (stopped : Bool) × (new ≡ traffic_after old bytes stopped false))
     → (P → IsNoTrace old new left remain format) → IsBad refusal P → IsGivenUp old new left remain format refusal
 given-up old new left remain format (Line _ _) m f b = f b
+given-up old new left remain format (Size _ _) m f b = f b
 given-up old new left remain format (Record _) m f b = f b
 given-up old new left remain format Memory m f b = m
 given-up old new left remain format Open m f b = b
@@ -317,57 +328,57 @@ rest-at : (bytes : List ℕ) (i : ℕ) (next : List ℕ) → i < length bytes �
 rest-at bytes i next h = ap (λ xs. xs ++ next) (drop_more bytes i 0 h)
 
 -- a byte that ends a line
-pub byte-ends : (format : TraceFormat) (keys more : List (List ℕ)) (count counted : ℕ) (part rest bytes : List ℕ) (i : ℕ) → i < length bytes → IsOfLines format → get_or bytes i 0 ≡ 10 → rest ≡ []
+pub byte-ends : (format : TraceFormat) (keys more : List Access) (count counted : ℕ) (part rest bytes : List ℕ) (i : ℕ) → i < length bytes → IsOfLines format → get_or bytes i 0 ≡ 10 → rest ≡ []
     → Ends keys more count counted part format
-    → (next : List ℕ) → joined_keys keys (keys_after format count (part ++ (drop i bytes ++ next))) ≡ joined_keys more (keys_after format counted (rest ++ (drop (i + 1) bytes ++ next)))
+    → (next : List ℕ) → joined keys (accesses_after format count (part ++ (drop i bytes ++ next))) ≡ joined more (accesses_after format counted (rest ++ (drop (i + 1) bytes ++ next)))
 byte-ends format keys more count counted part rest bytes i h lined e none ends next =
     let after = drop (i + 1) bytes ++ next in
     let here : drop i bytes ++ next ≡ between format ++ after = rest-at bytes i next h ∙ ap (λ b. b ∷ after) e ∙ ap (λ xs. xs ++ after) (sym (after-line format lined)) in
-    ap (λ xs. joined_keys keys (keys_after format count (part ++ xs))) here ∙ ends after ∙ ap (λ xs. joined_keys more (keys_after format counted (xs ++ after))) (sym none)
+    ap (λ xs. joined keys (accesses_after format count (part ++ xs))) here ∙ ends after ∙ ap (λ xs. joined more (accesses_after format counted (xs ++ after))) (sym none)
 
 -- a byte of a record
-pub byte-more : (format : TraceFormat) (keys : List (List ℕ)) (count : ℕ) (part longer bytes : List ℕ) (i : ℕ) → i < length bytes → longer ≡ part ++ get_or bytes i 0 ∷ []
-    → (next : List ℕ) → joined_keys keys (keys_after format count (part ++ (drop i bytes ++ next))) ≡ joined_keys keys (keys_after format count (longer ++ (drop (i + 1) bytes ++ next)))
+pub byte-more : (format : TraceFormat) (keys : List Access) (count : ℕ) (part longer bytes : List ℕ) (i : ℕ) → i < length bytes → longer ≡ part ++ get_or bytes i 0 ∷ []
+    → (next : List ℕ) → joined keys (accesses_after format count (part ++ (drop i bytes ++ next))) ≡ joined keys (accesses_after format count (longer ++ (drop (i + 1) bytes ++ next)))
 byte-more format keys count part longer bytes i h e next =
     let after = drop (i + 1) bytes ++ next in
     let same : part ++ (drop i bytes ++ next) ≡ longer ++ after =
     ap (λ xs. part ++ xs) (rest-at bytes i next h) ∙ sym (append_assoc part (get_or bytes i 0 ∷ []) after) ∙ ap (λ xs. xs ++ after) (sym e) in
-    ap (λ xs. joined_keys keys (keys_after format count xs)) same
+    ap (λ xs. joined keys (accesses_after format count xs)) same
 
 -- no byte is left
-pub bytes-done : (format : TraceFormat) (keys : List (List ℕ)) (count : ℕ) (part bytes : List ℕ) (i : ℕ) → length bytes ≤ i
-    → (next : List ℕ) → joined_keys keys (keys_after format count (part ++ (drop i bytes ++ next))) ≡ joined_keys keys (keys_after format count (part ++ next))
-bytes-done format keys count part bytes i h next = ap (λ xs. joined_keys keys (keys_after format count (part ++ (xs ++ next)))) (drop_all i bytes h)
+pub bytes-done : (format : TraceFormat) (keys : List Access) (count : ℕ) (part bytes : List ℕ) (i : ℕ) → length bytes ≤ i
+    → (next : List ℕ) → joined keys (accesses_after format count (part ++ (drop i bytes ++ next))) ≡ joined keys (accesses_after format count (part ++ next))
+bytes-done format keys count part bytes i h next = ap (λ xs. joined keys (accesses_after format count (part ++ (xs ++ next)))) (drop_all i bytes h)
 
 -- a line end after a line that is bad
-pub byte-bad : (format now : TraceFormat) (first keys : List (List ℕ)) (start count : ℕ) (begun part bytes : List ℕ) (i : ℕ) → i < length bytes → now ≡ format → IsOfLines format → get_or bytes i 0 ≡ 10
-    → ((next : List ℕ) → joined_keys first (keys_after format start (begun ++ (bytes ++ next))) ≡ joined_keys keys (keys_after format count (part ++ (drop i bytes ++ next))))
-    → ((next : List ℕ) → keys_after now count (part ++ (between now ++ next)) ≡ None)
-    → (next : List ℕ) → keys_after format start (begun ++ (bytes ++ next)) ≡ None
+pub byte-bad : (format now : TraceFormat) (first keys : List Access) (start count : ℕ) (begun part bytes : List ℕ) (i : ℕ) → i < length bytes → now ≡ format → IsOfLines format → get_or bytes i 0 ≡ 10
+    → ((next : List ℕ) → joined first (accesses_after format start (begun ++ (bytes ++ next))) ≡ joined keys (accesses_after format count (part ++ (drop i bytes ++ next))))
+    → ((next : List ℕ) → accesses_after now count (part ++ (between now ++ next)) ≡ None)
+    → (next : List ℕ) → accesses_after format start (begun ++ (bytes ++ next)) ≡ None
 byte-bad format now first keys start count begun part bytes i h e lined ten same none next =
     let after = drop (i + 1) bytes ++ next in
     let here : drop i bytes ++ next ≡ between format ++ after = rest-at bytes i next h ∙ ap (λ b. b ∷ after) ten ∙ ap (λ xs. xs ++ after) (sym (after-line format lined)) in
-    let bad : keys_after format count (part ++ (between format ++ after)) ≡ None = ap (λ f. keys_after f count (part ++ (between f ++ after))) (sym e) ∙ none after in
-    joined-none first (keys_after format start (begun ++ (bytes ++ next)))
-    (same next ∙ ap (λ xs. joined_keys keys (keys_after format count (part ++ xs))) here ∙ ap (joined_keys keys) bad)
+    let bad : accesses_after format count (part ++ (between format ++ after)) ≡ None = ap (λ f. accesses_after f count (part ++ (between f ++ after))) (sym e) ∙ none after in
+    joined-none first (accesses_after format start (begun ++ (bytes ++ next)))
+    (same next ∙ ap (λ xs. joined keys (accesses_after format count (part ++ xs))) here ∙ ap (joined keys) bad)
 
 after-piece : (format : TraceFormat) → format ≡ OracleGeneral → between format ≡ []
 after-piece Lines e = absurd (cc)
-after-piece (Csv column) e = absurd (cc)
+after-piece (Csv column sizes) e = absurd (cc)
 after-piece OracleGeneral e = refl
 
 -- the last byte of a record that is bad
-pub piece-bad : (format now : TraceFormat) (first keys : List (List ℕ)) (start count counted : ℕ) (begun part longer bytes : List ℕ) (i : ℕ) → i < length bytes → now ≡ format → format ≡ OracleGeneral → counted ≡ count
+pub piece-bad : (format now : TraceFormat) (first keys : List Access) (start count counted : ℕ) (begun part longer bytes : List ℕ) (i : ℕ) → i < length bytes → now ≡ format → format ≡ OracleGeneral → counted ≡ count
     → longer ≡ part ++ get_or bytes i 0 ∷ []
-    → ((next : List ℕ) → joined_keys first (keys_after format start (begun ++ (bytes ++ next))) ≡ joined_keys keys (keys_after format count (part ++ (drop i bytes ++ next))))
-    → ((next : List ℕ) → keys_after now counted (longer ++ (between now ++ next)) ≡ None)
-    → (next : List ℕ) → keys_after format start (begun ++ (bytes ++ next)) ≡ None
+    → ((next : List ℕ) → joined first (accesses_after format start (begun ++ (bytes ++ next))) ≡ joined keys (accesses_after format count (part ++ (drop i bytes ++ next))))
+    → ((next : List ℕ) → accesses_after now counted (longer ++ (between now ++ next)) ≡ None)
+    → (next : List ℕ) → accesses_after format start (begun ++ (bytes ++ next)) ≡ None
 piece-bad format now first keys start count counted begun part longer bytes i h e pieces c l same none next =
     let after = drop (i + 1) bytes ++ next in
-    let bad : keys_after format count (longer ++ after) ≡ None =
-    ap (λ n. keys_after format n (longer ++ after)) (sym c) ∙ ap (λ xs. keys_after format counted (longer ++ (xs ++ after))) (sym (after-piece format pieces))
-    ∙ ap (λ f. keys_after f counted (longer ++ (between f ++ after))) (sym e) ∙ none after in
-    joined-none first (keys_after format start (begun ++ (bytes ++ next))) (same next ∙ byte-more format keys count part longer bytes i h l next ∙ ap (joined_keys keys) bad)
+    let bad : accesses_after format count (longer ++ after) ≡ None =
+    ap (λ n. accesses_after format n (longer ++ after)) (sym c) ∙ ap (λ xs. accesses_after format counted (longer ++ (xs ++ after))) (sym (after-piece format pieces))
+    ∙ ap (λ f. accesses_after f counted (longer ++ (between f ++ after))) (sym e) ∙ none after in
+    joined-none first (accesses_after format start (begun ++ (bytes ++ next))) (same next ∙ byte-more format keys count part longer bytes i h l next ∙ ap (joined keys) bad)
 
 -- a list without elements
 pub no-elements : (bytes : List ℕ) → eqb (length bytes) 0 ≡ true → bytes ≡ []
@@ -375,15 +386,15 @@ no-elements [] e = refl
 no-elements (byte ∷ bytes) e = absurd (omega (arith, eqb-true (length (byte ∷ bytes)) 0 e))
 
 -- a trace before its first byte
-pub read-new : (old : Traffic) (left : Option (List ℕ)) (format : TraceFormat) (keys : List (List ℕ)) (count : ℕ) (part : List ℕ) → keys ≡ [] → count ≡ 0 → part ≡ [] → IsReadUpTo old old left left format keys count part
+pub read-new : (old : Traffic) (left : Option (List ℕ)) (format : TraceFormat) (keys : List Access) (count : ℕ) (part : List ℕ) → keys ≡ [] → count ≡ 0 → part ≡ [] → IsReadUpTo old old left left format keys count part
 read-new old left format keys count part p q r = rw (p, q, r) (read-none old left format)
 
 -- a trace after its last byte
-module _ (old mid new : Traffic) (left some remain : Option (List ℕ)) (format now : TraceFormat) (keys : List (List ℕ)) (count : ℕ) (line : List ℕ) (is : IsReadUpTo old mid left some format keys count line) where
-  pub finished : {X : Type 0} (view : X → List (List ℕ)) (result : Result X SimulationError) → now ≡ format → new ≡ traffic_after mid [] true false → Consumes some remain [] → IsAtEnd remain
-      → IfOk result (λ trace. joined_keys keys (keys_after now count line) ≡ Some (view trace)) → IfErr result (λ refusal. IsBad refusal (keys_after now count line ≡ None)) → ReadsTrace old new left remain format view result
+module _ (old mid new : Traffic) (left some remain : Option (List ℕ)) (format now : TraceFormat) (keys : List Access) (count : ℕ) (line : List ℕ) (is : IsReadUpTo old mid left some format keys count line) where
+  pub finished : {X : Type 0} (view : X → List Access) (result : Result X SimulationError) → now ≡ format → new ≡ traffic_after mid [] true false → Consumes some remain [] → IsAtEnd remain
+      → IfOk result (λ trace. joined keys (accesses_after now count line) ≡ Some (view trace)) → IfErr result (λ refusal. IsBad refusal (accesses_after now count line ≡ None)) → ReadsTrace old new left remain format view result
   finished view (Ok trace) e given consumed at_end ok bad =
-      read-whole old mid new left some remain format keys count line is (view trace) given consumed at_end (ap (λ f. joined_keys keys (keys_after f count line)) (sym e) ∙ ok)
+      read-whole old mid new left some remain format keys count line is (view trace) given consumed at_end (ap (λ f. joined keys (accesses_after f count line)) (sym e) ∙ ok)
   finished view (Err refusal) e given consumed at_end ok bad =
       given-up old new left remain format refusal (is.input, true, ended-given old mid new left some remain format keys count line is given)
-      (λ (none : keys_after now count line ≡ None). read-badly old mid new left some remain format keys count line is given (ap (λ f. keys_after f count line) (sym e) ∙ none)) bad
+      (λ (none : accesses_after now count line ≡ None). read-badly old mid new left some remain format keys count line is given (ap (λ f. accesses_after f count line) (sym e) ∙ none)) bad

@@ -85,8 +85,8 @@ module _ (shares : Option ChosenShares) (numbers : List ℕ) (room : ℕ) (polic
 
 -- Lists, element by element.
 
-abbrev pub hits_of : Policy → ℕ → Hits
-hits_of policy hits = record { policy = policy; hits = hits }
+abbrev pub hits_of : Policy → ℕ → ℕ → Hits
+hits_of policy hits bytes = record { policy = policy; hits = hits; bytes = bytes }
 
 pub mapped-more : {X Y : Type 0} (f : X → Y) (xs : List X) (i : ℕ) (x : X) (old new : List Y) → i < length xs → x ≡ get_or xs i x → old ≡ map f (take i xs)
     → new ≡ old ++ f x ∷ [] → new ≡ map f (take (i + 1) xs)
@@ -107,20 +107,20 @@ module _ {A : Type 0} (compared : List Policy) (shares : Option ChosenShares) (n
       → All (λ replay. last ≤ length replay.outcomes.items) seen
   all_within replays seen last same are within = subst (λ rs. All (λ replay. last ≤ length replay.outcomes.items) rs) (sym same) (λ k d l. omega (arith, within, (are.each k d l).long))
 
-  policies_same : (first last : ℕ) (replays : List (Replayed A)) → map (λ h. h.policy) (map (counted first last) replays) ≡ map (λ replay. replay.policy) replays
-  policies_same first last [] = refl
-  policies_same first last (replay ∷ replays) = ap (λ policies. replay.policy ∷ policies) (policies_same first last replays)
+  policies_same : (first last : ℕ) (sizes : List ℕ) (replays : List (Replayed A)) → map (λ h. h.policy) (map (counted first last sizes) replays) ≡ map (λ replay. replay.policy) replays
+  policies_same first last sizes [] = refl
+  policies_same first last sizes (replay ∷ replays) = ap (λ policies. replay.policy ∷ policies) (policies_same first last sizes replays)
 
   -- the hits of replays from one access up to another are a row
-  pub row_is : 0 < room → (replays seen : List (Replayed A)) (first last : ℕ) (row : Row A) → seen ≡ replays → AreReplays compared shares numbers room replays → first ≤ last → last ≤ length numbers
-      → row.hits.items ≡ map (counted first last) seen → non_zero_usize_get row.capacity ≡ room → row.accesses ≡ last - first → IsRow compared shares first (take last numbers) room row
-  row_is some replays seen first last row same are order within hits capacity accesses =
-      let items : row.hits.items ≡ map (counted first last) replays = hits ∙ ap (map (counted first last)) same in
+  pub row_is : 0 < room → (replays seen : List (Replayed A)) (first last : ℕ) (sizes : List ℕ) (row : Row A) → seen ≡ replays → AreReplays compared shares numbers room replays → first ≤ last → last ≤ length numbers
+      → row.hits.items ≡ map (counted first last sizes) seen → non_zero_usize_get row.capacity ≡ room → row.accesses ≡ last - first → IsRow compared shares first (take last numbers) room row
+  row_is some replays seen first last sizes row same are order within hits capacity accesses =
+      let items : row.hits.items ≡ map (counted first last sizes) replays = hits ∙ ap (map (counted first last sizes)) same in
       record {
         capacity = capacity;
         accesses = accesses ∙ ap (λ n. n - first) (sym (length-take-le last numbers within));
-        policies = ap (map (λ h. h.policy)) items ∙ policies_same first last replays ∙ are.policies;
+        policies = ap (map (λ h. h.policy)) items ∙ policies_same first last sizes replays ∙ are.policies;
         hits = subst (All (λ h. AreHitsAfter first shares (take last numbers) room h.policy h.hits)) (sym items)
-            (all_mapped (λ h. AreHitsAfter first shares (take last numbers) room h.policy h.hits) (counted first last) replays
+            (all_mapped (λ h. AreHitsAfter first shares (take last numbers) room h.policy h.hits) (counted first last sizes) replays
             (λ k d l. between_are shares numbers room some (get_or replays k d).policy (get_or replays k d).outcomes.items (are.each k d l) first last order));
       }

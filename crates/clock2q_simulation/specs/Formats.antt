@@ -1,5 +1,6 @@
--- The keys of a trace's text, in each format.
-use Rattle.std.specs.Prelude.{ℕ, ◌-◌, ◌/◌, ◌%◌, ◌==◌, if◌then◌else◌, List, [], ◌∷◌, length, take, drop, map, slice_get, Option, Some, None}
+-- The keys and sizes of a trace's text, in each format.
+use Rattle.std.specs.Prelude.{ℕ, ◌-◌, ◌/◌, ◌%◌, Bool, true, false, ◌==◌, if◌then◌else◌, List, [], ◌∷◌, length, take, drop, map, get_or, slice_get, Option, Some, None, is_some}
+use Rattle.std.specs.Int.{w32, from_le_bytes}
 use Rattle.std.specs.NonZero.{non_zero_usize_get}
 use Rattle.std.specs.Option.{option_map, option_and_then}
 use Rattle.std.specs.Simd.{first_chunks}
@@ -8,7 +9,19 @@ use Rattle.clock2q_simulation.specs.declared.csv.Place.{Place}
 use Rattle.clock2q_simulation.specs.declared.csv.Place.TheVariants.{Start, Plain, Quoted, Closed}
 use Rattle.clock2q_simulation.specs.declared.format.TraceFormat.{TraceFormat}
 use Rattle.clock2q_simulation.specs.declared.format.TraceFormat.TheVariants.{Lines, Csv, OracleGeneral}
-use Rattle.clock2q_simulation.specs.Amounts.{ends_in, front}
+use Rattle.clock2q_simulation.specs.Amounts.{ends_in, front, number_in}
+
+-- an access: the key and the size of its record
+pub record Access : Type 0 where
+  pub key : List ℕ
+  pub size : ℕ
+
+abbrev pub access : List ℕ → ℕ → Access
+access key size = record { key = key; size = size }
+
+-- an access whose record has no size has size 1
+abbrev pub unsized : List ℕ → Access
+unsized key = access key 1
 
 -- a byte more at the beginning of the first field, and an empty field more before the others
 abbrev pub lengthened : ℕ → List (List ℕ) → List (List ℕ)
@@ -44,25 +57,50 @@ fields_of line = fields_from Start (without_return line)
 abbrev pub field : ℕ → List ℕ → Option (List ℕ)
 field column line = option_and_then (λ fields. slice_get fields (column - 1)) (fields_of line)
 
--- what each line has in a column, if each has something there
-abbrev pub consed : Option (List ℕ) → Option (List (List ℕ)) → Option (List (List ℕ))
-consed (Some key) (Some keys) = Some (key ∷ keys)
+-- the size in a column of a line, as digits, if its lines have one
+abbrev pub size_in : Option ℕ → List ℕ → Option ℕ
+size_in None line = Some 1
+size_in (Some column) line = option_and_then number_in (field column line)
+
+-- the access of a line, by the columns of its key and of its size, if the line has both
+abbrev pub access_with : Option (List ℕ) → Option ℕ → Option Access
+access_with (Some key) (Some size) = Some (access key size)
+access_with _ _ = None
+
+abbrev pub access_in : ℕ → Option ℕ → List ℕ → Option Access
+access_in column sizes line = access_with (field column line) (size_in sizes line)
+
+-- the accesses of lines, if each has one
+abbrev pub consed : Option Access → Option (List Access) → Option (List Access)
+consed (Some first) (Some accesses) = Some (first ∷ accesses)
 consed _ _ = None
 
-abbrev pub column_of : ℕ → List (List ℕ) → Option (List (List ℕ))
-column_of column [] = Some []
-column_of column (line ∷ lines) = consed (field column line) (column_of column lines)
+abbrev pub accesses_of : ℕ → Option ℕ → List (List ℕ) → Option (List Access)
+accesses_of column sizes [] = Some []
+accesses_of column sizes (line ∷ lines) = consed (access_in column sizes line) (accesses_of column sizes lines)
 
--- the bytes of the id in a record of oracleGeneral: a time of 4 bytes, an id of 8, a size of 4, a next access of 8
+-- a record of oracleGeneral: a time of 4 bytes, an id of 8, a size of 4, a next access of 8, little endian
 abbrev pub id_of : List ℕ → List ℕ
 id_of part = take 8 (drop 4 part)
 
--- the keys of what is left of a text of which some records were read; the first line of csv is a header
-abbrev pub keys_after : TraceFormat → ℕ → List ℕ → Option (List (List ℕ))
-keys_after Lines count text = Some (lines_of text)
-keys_after (Csv column) count text = column_of (non_zero_usize_get column) (drop (1 - count) (lines_of text))
-keys_after OracleGeneral count text = if length text % 24 == 0 then Some (map id_of (first_chunks 24 (length text / 24) text)) else None
+abbrev pub size_of : List ℕ → ℕ
+size_of part = from_le_bytes w32 (get_or part 12 0 ∷ get_or part 13 0 ∷ get_or part 14 0 ∷ get_or part 15 0 ∷ [])
 
--- the keys of a text
-abbrev pub keys_in : TraceFormat → List ℕ → Option (List (List ℕ))
-keys_in format text = keys_after format 0 text
+abbrev pub record_of : List ℕ → Access
+record_of part = access (id_of part) (size_of part)
+
+-- the accesses of what is left of a text of which some records were read; the first line of csv is a header
+abbrev pub accesses_after : TraceFormat → ℕ → List ℕ → Option (List Access)
+accesses_after Lines count text = Some (map unsized (lines_of text))
+accesses_after (Csv column sizes) count text = accesses_of (non_zero_usize_get column) (option_map non_zero_usize_get sizes) (drop (1 - count) (lines_of text))
+accesses_after OracleGeneral count text = if length text % 24 == 0 then Some (map record_of (first_chunks 24 (length text / 24) text)) else None
+
+-- the accesses of a text
+abbrev pub accesses_in : TraceFormat → List ℕ → Option (List Access)
+accesses_in format text = accesses_after format 0 text
+
+-- whether the records of a format have sizes
+abbrev pub has_sizes : TraceFormat → Bool
+has_sizes Lines = false
+has_sizes (Csv column sizes) = is_some sizes
+has_sizes OracleGeneral = true

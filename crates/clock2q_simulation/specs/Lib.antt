@@ -1,5 +1,6 @@
 pub mod Amounts
 pub mod BestShares
+pub mod Bytes
 pub mod ChosenShares
 pub mod Fields
 pub mod Formats

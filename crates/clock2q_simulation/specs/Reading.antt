@@ -5,10 +5,10 @@ use Rattle.std.specs.Option.{option_map}
 use Rattle.std.specs.Io.KnownBytes.{Consumes, IsAtEnd}
 use Rattle.clock2q_ports.specs.Ports.{Traffic, traffic_after}
 use Rattle.clock2q_simulation.specs.declared.error.SimulationError.{SimulationError}
-use Rattle.clock2q_simulation.specs.declared.error.SimulationError.TheVariants.{Argument, NotText, NoCapacity, UnusedShares, Shares, Capacity, Memory, Open, Read, Line, Record, Write}
+use Rattle.clock2q_simulation.specs.declared.error.SimulationError.TheVariants.{Argument, NotText, NoCapacity, UnusedShares, Shares, Capacity, Memory, Open, Read, Line, Size, Record, Write}
 use Rattle.clock2q_simulation.specs.declared.format.TraceFormat.{TraceFormat}
 use Rattle.clock2q_simulation.specs.declared.format.TraceFormat.TheVariants.{Lines, Csv, OracleGeneral}
-use Rattle.clock2q_simulation.specs.Formats.{keys_after, keys_in}
+use Rattle.clock2q_simulation.specs.Formats.{Access, accesses_after, accesses_in}
 
 -- no byte of the line is a line end
 abbrev pub HasNoEnd : List ℕ → Type 0
@@ -17,40 +17,41 @@ HasNoEnd line = All (λ byte. (byte == 10) ≡ false) line
 -- some bytes are the beginning of a record, and may be all of it but for a line end
 abbrev pub IsBegun : TraceFormat → List ℕ → Type 0
 IsBegun Lines part = HasNoEnd part
-IsBegun (Csv _) part = HasNoEnd part
+IsBegun (Csv _ _) part = HasNoEnd part
 IsBegun OracleGeneral part = length part < 24
 
 -- some bytes are a whole record, but for a line end
 abbrev pub IsWhole : TraceFormat → List ℕ → Type 0
 IsWhole Lines part = HasNoEnd part
-IsWhole (Csv _) part = HasNoEnd part
+IsWhole (Csv _ _) part = HasNoEnd part
 IsWhole OracleGeneral part = length part ≡ 24
 
 -- what is between two records
 abbrev pub between : TraceFormat → List ℕ
 between Lines = 10 ∷ []
-between (Csv _) = 10 ∷ []
+between (Csv _ _) = 10 ∷ []
 between OracleGeneral = []
 
 -- a format of lines
 abbrev pub IsOfLines : TraceFormat → Type 0
 IsOfLines Lines = Unit {0}
-IsOfLines (Csv _) = Unit {0}
+IsOfLines (Csv _ _) = Unit {0}
 IsOfLines OracleGeneral = ⊥
 
--- keys with those of the rest after them
-abbrev pub joined_keys : List (List ℕ) → Option (List (List ℕ)) → Option (List (List ℕ))
-joined_keys keys more = option_map (λ rest. keys ++ rest) more
+-- accesses with those of the rest after them
+abbrev pub joined : List Access → Option (List Access) → Option (List Access)
+joined accesses more = option_map (λ rest. accesses ++ rest) more
 
--- after some bytes, the keys so far, with those of what has come of the next record and of whatever follows, are those
+-- after some bytes, the accesses so far, with those of what has come of the next record and of whatever follows, are those
 -- from before with the bytes
-pub record Takes (format : TraceFormat) (keys : List (List ℕ)) (count : ℕ) (part bytes : List ℕ) (more : List (List ℕ)) (counted : ℕ) (rest : List ℕ) : Type 0 where
+pub record Takes (format : TraceFormat) (accesses : List Access) (count : ℕ) (part bytes : List ℕ) (more : List Access) (counted : ℕ) (rest : List ℕ) : Type 0 where
   pub begun : IsBegun format rest
-  pub same : (next : List ℕ) → joined_keys keys (keys_after format count (part ++ (bytes ++ next))) ≡ joined_keys more (keys_after format counted (rest ++ next))
+  pub same : (next : List ℕ) → joined accesses (accesses_after format count (part ++ (bytes ++ next))) ≡ joined more (accesses_after format counted (rest ++ next))
 
 -- a refusal of records says that a record is bad, or that memory ran out
 abbrev pub IsBad : SimulationError → Type 0 → Type 0
 IsBad (Line _ _) bad = bad
+IsBad (Size _ _) bad = bad
 IsBad (Record _) bad = bad
 IsBad Memory bad = Unit {0}
 IsBad Open bad = ⊥
@@ -64,26 +65,27 @@ IsBad UnusedShares bad = ⊥
 IsBad (Shares _) bad = ⊥
 
 module _ (old new : Traffic) (left remain : Option (List ℕ)) (format : TraceFormat) where
-  -- the whole input was read, once up to its end, and the keys are those of its records
-  pub record AreRead (known : List (List ℕ)) : Type 0 where
+  -- the whole input was read, once up to its end, and the accesses are those of its records
+  pub record AreRead (known : List Access) : Type 0 where
     pub input : List ℕ
     pub given : new ≡ traffic_after old input true false
     pub consumed : Consumes left remain input
     pub at_end : IsAtEnd remain
-    pub keys : keys_in format input ≡ Some known
+    pub accesses : accesses_in format input ≡ Some known
 
   -- the bytes that were read are no trace of the format, and nothing that may follow them makes one of them
   pub record IsNoTrace : Type 0 where
     pub bytes : List ℕ
     pub ended : Bool
     pub given : new ≡ traffic_after old bytes ended false
-    pub bad : (next : List ℕ) → (ended ≡ true → next ≡ []) → keys_in format (bytes ++ next) ≡ None
+    pub bad : (next : List ℕ) → (ended ≡ true → next ≡ []) → accesses_in format (bytes ++ next) ≡ None
 
   -- reading was given up: memory ran out, the source failed, or a record is bad
   abbrev pub IsGivenUp : SimulationError → Type 0
   IsGivenUp Memory = (bytes : List ℕ) × (stopped : Bool) × (new ≡ traffic_after old bytes stopped false)
   IsGivenUp Read = (bytes : List ℕ) × (new ≡ traffic_after old bytes false true)
   IsGivenUp (Line _ _) = IsNoTrace
+  IsGivenUp (Size _ _) = IsNoTrace
   IsGivenUp (Record _) = IsNoTrace
   IsGivenUp Open = ⊥
   IsGivenUp Write = ⊥
@@ -94,6 +96,6 @@ module _ (old new : Traffic) (left remain : Option (List ℕ)) (format : TraceFo
   IsGivenUp UnusedShares = ⊥
   IsGivenUp (Shares _) = ⊥
 
-  abbrev pub ReadsTrace : {X : Type 0} → (X → List (List ℕ)) → Result X SimulationError → Type 0
-  ReadsTrace keys (Ok trace) = AreRead (keys trace)
-  ReadsTrace keys (Err refusal) = IsGivenUp refusal
+  abbrev pub ReadsTrace : {X : Type 0} → (X → List Access) → Result X SimulationError → Type 0
+  ReadsTrace accesses (Ok trace) = AreRead (accesses trace)
+  ReadsTrace accesses (Err refusal) = IsGivenUp refusal

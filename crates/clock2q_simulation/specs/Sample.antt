@@ -6,6 +6,7 @@ use Rattle.clock2q_simulation.specs.declared.amount.Unit.{Unit as Counted}
 use Rattle.clock2q_simulation.specs.declared.amount.Unit.TheVariants.{Keys, Millionths}
 use Rattle.clock2q_simulation.specs.declared.sample.Sample.{Sample}
 use Rattle.clock2q_simulation.specs.Amounts.{amount, keys_by, most_keys}
+use Rattle.clock2q_simulation.specs.Formats.{Access}
 
 -- a number multiplied, in 64 bits
 abbrev pub multiplied : ℕ → ℕ
@@ -32,10 +33,10 @@ abbrev pub is_sampled : Option Sample → List ℕ → Bool
 is_sampled None key = true
 is_sampled (Some sample) key = is_in_sample sample key
 
--- the keys that are in a sample, or all of them without one
-abbrev pub sampled : Option Sample → List (List ℕ) → List (List ℕ)
-sampled None keys = keys
-sampled (Some sample) keys = filter (is_in_sample sample) keys
+-- the accesses whose keys are in a sample, or all of them without one
+abbrev pub sampled : Option Sample → List Access → List Access
+sampled None accesses = accesses
+sampled (Some sample) accesses = filter (λ access. is_in_sample sample access.key) accesses
 
 -- the capacity for the keys of a sample that a capacity for all keys becomes: the same part of it, and of a trace's keys
 -- the same percentage

@@ -13,21 +13,22 @@ use Rattle.clock2q_simulation.specs.declared.sample.Sample.{Sample}
 use Rattle.clock2q_simulation.specs.declared.shares.ChosenShares.{ChosenShares}
 use Rattle.clock2q_simulation.specs.declared.window.Windows.{Windows}
 use Rattle.clock2q_simulation.specs.BestShares.{AreAskedBest}
+use Rattle.clock2q_simulation.specs.Formats.{Access}
 use Rattle.clock2q_simulation.specs.Rows.{AreRows}
 use Rattle.clock2q_simulation.specs.Sample.{scaled}
 use Rattle.clock2q_simulation.specs.Trace.{Numbered}
 use Rattle.clock2q_simulation.specs.Windows.{AreAskedWindows}
 
 module _ (given gives : Traffic) (left remain : Option (List ℕ)) (format : TraceFormat) where
-  -- the whole input was read, as the keys of its records
+  -- the whole input was read, as the accesses of its records
   pub record IsRead : Type 0 where
-    pub keys : List (List ℕ)
-    pub read : AreRead given gives left remain format keys
+    pub accesses : List Access
+    pub read : AreRead given gives left remain format accesses
 
-  -- the rows, the windows and the best shares are those of a trace with the keys that were read
+  -- the rows, the windows and the best shares are those of a trace with the accesses that were read
   pub record IsReplayed {A : Type 0} (sample : Option Sample) (policies : List Policy) (shares : Option ChosenShares) (skipped : ℕ) (window : Option NonZeroUsize) (is_best : Bool) (tried : List ChosenShares) (capacities : List Amount) (made : List (Row A)) (all : List (Windows A)) (most : List BestShares) : Type 0 where
     pub trace : Numbered
-    pub read : AreRead given gives left remain format trace.keys
+    pub read : AreRead given gives left remain format trace.accesses
     pub sampled : trace.sample ≡ sample
     pub rows : AreRows policies shares skipped trace (map (scaled sample) capacities) made
     pub windows : AreAskedWindows policies shares trace.numbers skipped window made all

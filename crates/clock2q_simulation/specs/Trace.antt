@@ -1,22 +1,34 @@
 -- A trace as contracts see it.
-use Rattle.std.specs.Prelude.{◌≡◌, ℕ, ◌<◌, ◌≤◌, ◌^◌, ◌↔◌, List, [], length, get_or, slice_get, Option, Some}
+use Rattle.std.specs.Prelude.{◌≡◌, ℕ, ◌<◌, ◌≤◌, ◌^◌, ◌↔◌, Bool, if◌then◌else◌, List, [], length, map, get_or, slice_get, Option, Some}
 use Rattle.std.specs.List.{Contains}
 use Rattle.clock2q_policies.specs.Policies.{AreBelow}
 use Rattle.clock2q_simulation.specs.declared.sample.Sample.{Sample}
+use Rattle.clock2q_simulation.specs.Formats.{Access}
 use Rattle.clock2q_simulation.specs.KnownKeys.{AreApart}
 use Rattle.clock2q_simulation.specs.Sample.{sampled}
 
--- the keys in order, each as its bytes; the sample that is taken of them, if one is; the number of each key in it, and
--- the number of different ones
+-- the accesses in order; the sample that is taken of them, if one is; whether their sizes are kept; the number of each
+-- key in the sample, and the number of different ones
 pub record Numbered : Type 0 where
-  pub keys : List (List ℕ)
+  pub accesses : List Access
   pub sample : Option Sample
+  pub is_sized : Bool
   pub numbers : List ℕ
   pub different : ℕ
 
 -- the keys that have a number
+abbrev pub keys_of : List Access → List (List ℕ)
+keys_of accesses = map (λ access. access.key) accesses
+
 abbrev pub sampled_keys : Numbered → List (List ℕ)
-sampled_keys trace = sampled trace.sample trace.keys
+sampled_keys trace = keys_of (sampled trace.sample trace.accesses)
+
+-- the sizes of their accesses, if they are kept
+abbrev pub kept_sizes : Bool → List Access → List ℕ
+kept_sizes is_sized accesses = if is_sized then map (λ access. access.size) accesses else []
+
+abbrev pub sizes_of : Numbered → List ℕ
+sizes_of trace = kept_sizes trace.is_sized (sampled trace.sample trace.accesses)
 
 -- there is a number for each key; equal keys have the same one, and different keys different ones
 pub record AreNumbers (keys : List (List ℕ)) (numbers : List ℕ) : Type 0 where
@@ -40,3 +52,13 @@ pub record IsNumbering (known : List (List ℕ)) (numbers : List ℕ) (keys : Li
   pub long : length numbers ≡ length keys
   pub each : (place : ℕ) → place < length keys → slice_get known (get_or numbers place 0) ≡ Some (get_or keys place [])
   pub used : AreUsed numbers (length known)
+
+-- the numbers of the keys of accesses, and the sizes that are kept
+pub record IsKept (accesses : List Access) (is_sized : Bool) (numbers sizes : List ℕ) (different : ℕ) : Type 0 where
+  pub numbered : AreNumbersOf (keys_of accesses) numbers different
+  pub kept : sizes ≡ kept_sizes is_sized accesses
+
+-- the same while keys are added
+pub record IsGrowing (accesses : List Access) (is_sized : Bool) (known : List (List ℕ)) (numbers sizes : List ℕ) : Type 0 where
+  pub numbered : IsNumbering known numbers (keys_of accesses)
+  pub kept : sizes ≡ kept_sizes is_sized accesses

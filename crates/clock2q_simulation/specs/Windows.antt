@@ -11,6 +11,7 @@ use Rattle.clock2q_simulation.specs.declared.shares.ChosenShares.{ChosenShares}
 use Rattle.clock2q_simulation.specs.declared.row.Replayed.{Replayed}
 use Rattle.clock2q_simulation.specs.declared.window.Window.{Window}
 use Rattle.clock2q_simulation.specs.declared.window.Windows.{Windows}
+use Rattle.clock2q_simulation.specs.Bytes.{hit_between}
 use Rattle.clock2q_simulation.specs.Rows.{IsReplay, IsRow}
 
 -- windows follow one another from an access up to another
@@ -18,9 +19,13 @@ abbrev pub AreInTurn : {A : Type 0} → ℕ → List (Window A) → ℕ → Type
 AreInTurn first [] last = first ≡ last
 AreInTurn first (window ∷ windows) last = (window.first ≡ first) × AreInTurn (first + window.row.accesses) windows last
 
--- the hits of a replay from one access up to another
-abbrev pub counted : {A : Type 0} → ℕ → ℕ → Replayed A → Hits
-counted first last replay = record { policy = replay.policy; hits = hit_count (take last replay.outcomes.items) - hit_count (take first replay.outcomes.items) }
+-- the hits of a replay from one access up to another, and their bytes
+abbrev pub counted : {A : Type 0} → ℕ → ℕ → List ℕ → Replayed A → Hits
+counted first last sizes replay = record {
+  policy = replay.policy;
+  hits = hit_count (take last replay.outcomes.items) - hit_count (take first replay.outcomes.items);
+  bytes = hit_between first last replay.outcomes.items sizes;
+}
 
 module _ {A : Type 0} (compared : List Policy) (shares : Option ChosenShares) (numbers : List ℕ) where
   -- there is a replay for each policy, in order

@@ -22,6 +22,7 @@ pub(crate) enum Valued {
     Window,
     Format,
     Column,
+    SizeColumn,
     Sample,
 }
 
@@ -42,6 +43,8 @@ impl Valued {
             Some(Valued::Format)
         } else if name == "--column" {
             Some(Valued::Column)
+        } else if name == "--size-column" {
+            Some(Valued::SizeColumn)
         } else if name == "--sample" {
             Some(Valued::Sample)
         } else {
@@ -92,6 +95,7 @@ impl<A: Allocator> Chosen<A> {
             Valued::Window => self.window.is_some(),
             Valued::Format => self.trace_format.has_name(),
             Valued::Column => self.trace_format.has_column(),
+            Valued::SizeColumn => self.trace_format.has_size_column(),
             Valued::Sample => self.sample.is_some(),
         };
         if is_repeated {
@@ -117,6 +121,7 @@ impl<A: Allocator + Copy> Chosen<A> {
             Valued::Window => self.window = Some(length_of(value, index)?),
             Valued::Format => self.trace_format.take_name(value, index)?,
             Valued::Column => self.trace_format.take_column(value, index)?,
+            Valued::SizeColumn => self.trace_format.take_size_column(value, index)?,
             Valued::Sample => self.sample = Some(sample_of(value, index)?),
         }
         Ok(())

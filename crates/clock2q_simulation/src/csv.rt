@@ -1,9 +1,13 @@
 //! A line of comma-separated values.
-ghost use Rattle.std.specs.Prelude.{◌≡◌, ◌∷◌, ℕ, List, [], IfOk, OnOk, MatchBool, Some, None};
+ghost use Rattle.std.specs.Prelude.{◌≡◌, ◌∷◌, ℕ, List, [], IfErr, IfOk, OnOk, MatchBool, Some, None};
 ghost use Rattle.std.specs.NonZero.{non_zero_usize_get};
-ghost use Rattle.clock2q_simulation.specs.Formats.{field, fields_from, without_return};
+ghost use Rattle.std.specs.Option.{option_map};
+ghost use Rattle.clock2q_simulation.specs.Formats.{field, fields_from, size_in, without_return};
 ghost use Rattle.clock2q_simulation.specs.Fields.{IsEarly, after_step, found_in};
+ghost use Rattle.clock2q_simulation.specs.Reading.{IsBad};
 
+use crate::amount::number_of;
+use crate::error::SimulationError;
 use std::alloc::{AllocError, Allocator};
 use std::num::NonZeroUsize;
 
@@ -117,6 +121,29 @@ impl<A: Allocator> ColumnReader<A> {
             }
         }
         Ok(self.left <= 1 && self.place.may_end())
+    }
+
+    /// Reads the size in a column of a line, or returns 1 without a column. `number` is the line's
+    /// number.
+    pub(crate) fn read_size(
+        &mut self,
+        line: &[u8],
+        column: Option<NonZeroUsize>,
+        number: usize,
+    ) -> Result<usize, SimulationError>
+        ensures size { IfOk result (λ size. size_in (option_map non_zero_usize_get column) line.now ≡ Some size) }
+        ensures bad { IfErr result (λ refusal. IsBad refusal (size_in (option_map non_zero_usize_get column) line.now ≡ None)) }
+    {
+        let Some(column) = column else {
+            return Ok(1);
+        };
+        if !self.read(line, column)? {
+            return Err(SimulationError::Line(number, column.get()));
+        }
+        match number_of(&self.key) {
+            Some(size) => Ok(size),
+            None => Err(SimulationError::Size(number, column.get())),
+        }
     }
 
     /// Takes the next byte of the line. Returns false if it can't be there.

@@ -33,10 +33,18 @@ fn write_names<A: Allocator>(
     if options.window.is_some() {
         text.push_str(",first")?;
     }
-    text.push_str(",accesses")?;
+    let is_sized = options.trace_format.has_sizes();
+    text.push_str(if is_sized {
+        ",accesses,bytes"
+    } else {
+        ",accesses"
+    })?;
     for policy in options.policies.iter() {
         let name = policy.name();
         write!(text, ",{name}_hits,{name}_ratio")?;
+        if is_sized {
+            write!(text, ",{name}_hit_bytes,{name}_byte_ratio")?;
+        }
     }
     if options.best_shares {
         text.push_str(",best_hits,best_ratio,best_shares")?;
@@ -60,7 +68,7 @@ fn write_rows<A: Allocator>(
     for (index, row) in outcome.rows.iter().enumerate() {
         let capacity = outcome.capacity_of(row.capacity);
         let best = outcome.best_shares.get(index);
-        write_row(text, capacity, row, None, best, name)?;
+        write_row(text, capacity, row, outcome.is_sized, None, best, name)?;
     }
     Ok(())
 }
@@ -72,7 +80,7 @@ fn write_all_windows<A: Allocator>(
 ) -> Result<(), AllocError> {
     for windows in outcome.windows.iter() {
         let capacity = outcome.capacity_of(windows.capacity);
-        write_windows(text, capacity, windows, name)?;
+        write_windows(text, capacity, windows, outcome.is_sized, name)?;
     }
     Ok(())
 }
@@ -81,21 +89,23 @@ fn write_windows<A: Allocator>(
     text: &mut String<A>,
     capacity: usize,
     windows: &Windows<A>,
+    is_sized: bool,
     name: Option<&str>,
 ) -> Result<(), AllocError> {
     for window in windows.windows.iter() {
         let first = Some(window.first);
-        write_row(text, capacity, &window.row, first, None, name)?;
+        write_row(text, capacity, &window.row, is_sized, first, None, name)?;
     }
     Ok(())
 }
 
-/// Writes a row, with the first access of its window, the best shares and the name of its trace if
+/// Writes a row, with or without bytes, and with the first access of its window, the best shares and the name of its trace if
 /// they are given.
 fn write_row<A: Allocator>(
     text: &mut String<A>,
     capacity: usize,
     row: &Row<A>,
+    is_sized: bool,
     first: Option<usize>,
     best: Option<&BestShares>,
     name: Option<&str>,
@@ -104,7 +114,7 @@ fn write_row<A: Allocator>(
     if let Some(first) = first {
         write!(text, ",{first}")?;
     }
-    write_ratios(text, row)?;
+    write_ratios(text, row, is_sized)?;
     if let Some(best) = best {
         let ratio = row.ratio(best.hits);
         write!(text, ",{},{ratio:.4},\"", best.hits)?;
@@ -117,11 +127,22 @@ fn write_row<A: Allocator>(
     text.push('\n')
 }
 
-fn write_ratios<A: Allocator>(text: &mut String<A>, row: &Row<A>) -> Result<(), AllocError> {
+fn write_ratios<A: Allocator>(
+    text: &mut String<A>,
+    row: &Row<A>,
+    is_sized: bool,
+) -> Result<(), AllocError> {
     write!(text, ",{}", row.accesses)?;
+    if is_sized {
+        write!(text, ",{}", row.bytes)?;
+    }
     for hits in row.hits.iter() {
         let ratio = row.ratio(hits.hits);
         write!(text, ",{},{ratio:.4}", hits.hits)?;
+        if is_sized {
+            let ratio = row.byte_ratio(hits.bytes);
+            write!(text, ",{},{ratio:.4}", hits.bytes)?;
+        }
     }
     Ok(())
 }

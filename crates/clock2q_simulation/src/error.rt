@@ -72,6 +72,9 @@ pub enum ArgumentError {
     /// It asks for a column, and no argument for the format csv.
     #[error("a column of keys, which only --format=csv has")]
     UnusedColumn,
+    /// It asks for a column of sizes, and no argument for the format csv.
+    #[error("a column of sizes, which only --format=csv has")]
+    UnusedSizes,
     /// It isn't a part of all keys.
     #[error("not a part of the keys (0.000001 to 0.999999, or 1% to 100%)")]
     NotSample,
@@ -124,9 +127,13 @@ pub enum SimulationError {
     #[error("clock2q-simulate: read failed")]
     Read,
     /// A line of a trace isn't comma-separated values, or has too few: its number and the column of
-    /// the keys, both counted from 1.
+    /// the keys or of the sizes, both counted from 1.
     #[error("line {0}: not comma-separated values with a column {1}")]
     Line(usize, usize),
+    /// A line of a trace has something else than a size in the column of the sizes: its number and
+    /// the column, both counted from 1.
+    #[error("line {0}: not a size in bytes, as 4096, in column {1}")]
+    Size(usize, usize),
     /// A trace ends inside a record, which begins after this many bytes.
     #[error("offset {0}: less than the 24 bytes of a record")]
     Record(usize),
@@ -151,6 +158,7 @@ impl SimulationError {
             | SimulationError::UnusedShares
             | SimulationError::Shares(_)
             | SimulationError::Line(_, _)
+            | SimulationError::Size(_, _)
             | SimulationError::Record(_) => 2,
             SimulationError::Memory | SimulationError::Capacity(_) => 3,
             SimulationError::Open | SimulationError::Read | SimulationError::Write => 4,
@@ -235,7 +243,12 @@ impl fmt::Display for ErrorReport<'_> {
                 let name = argument_at(self.arguments, index);
                 write!(f, "clock2q-simulate: {name}: read failed")
             }
-            (refusal @ (SimulationError::Line(_, _) | SimulationError::Record(_)), trace) => {
+            (
+                refusal @ (SimulationError::Line(_, _)
+                | SimulationError::Size(_, _)
+                | SimulationError::Record(_)),
+                trace,
+            ) => {
                 let name = trace.map_or(STANDARD_INPUT, |index| argument_at(self.arguments, index));
                 write!(f, "clock2q-simulate: {name}: {refusal}")
             }

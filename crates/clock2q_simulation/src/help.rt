@@ -21,6 +21,7 @@ range such as 10..1k or 0.1%..50% adds 20, 50, 100 and so on between its ends.
   --policies=NAMES  compares these policies (--help policies)
   --format=FORMAT   reads lines, csv or oracleGeneral (--help formats)
   --column=N        takes the keys of csv from this column, 1 for the first
+  --size-column=N   takes their sizes in bytes from this one (--help formats)
   --shares=SHARES   gives Clock2Q+ other shares than small=10%,window=50%: the
                     small queue's of the capacity and the window's of the queue
   --best-shares     prints the shares that hit most of 18 tried, and their gain
@@ -42,11 +43,16 @@ The formats of traces, for --format:
   csv            comma-separated values: the keys are in the column --column=N,
                  1 for the first. The first line is a header, which is skipped.
                  A value may be between quotes, with each quote in it doubled,
-                 but has no line end.
+                 but has no line end. The column --size-column=N has the size of
+                 each access in bytes, as 4096.
   oracleGeneral  libCacheSim's records of 24 bytes, little endian: a time of 4
                  bytes, the key of 8, a size of 4, a next access of 8
 
-    ./clock2q-simulate --format=csv --column=2 10% trace.csv
+With sizes each policy has a second figure: the bytes of its hits as a part of
+the bytes asked for. Each access counts with its own size. OPT has the most
+hits, not the most bytes.
+
+    ./clock2q-simulate --format=csv --column=2 --size-column=3 10% trace.csv
     zcat trace.gz | ./clock2q-simulate 1k -
     zstdcat oracle.zst | ./clock2q-simulate --format=oracleGeneral 0.1% -
 

@@ -38,12 +38,12 @@ fn write_outcome<A: Allocator>(
         text.push_str(if index > 0 { ",\n" } else { "\n" })?;
         let capacity = outcome.capacity_of(row.capacity);
         write!(text, "    {{\"capacity\": {capacity}, ")?;
-        write_policies(text, row)?;
+        write_policies(text, row, outcome.is_sized)?;
         if let Some(best) = outcome.best_shares.get(index) {
             write_best_shares(text, row, best)?;
         }
         if let Some(windows) = outcome.windows.get(index) {
-            write_windows(text, windows)?;
+            write_windows(text, windows, outcome.is_sized)?;
         }
         text.push('}')?;
     }
@@ -60,22 +60,32 @@ fn write_figures<A: Allocator>(
     if let Some(sample) = outcome.sample {
         write!(text, ", \"sample\": \"{}\"", sample.part())?;
     }
+    write!(text, ", \"accesses\": {}", summary.accesses)?;
+    if outcome.is_sized {
+        write!(text, ", \"bytes\": {}", summary.bytes)?;
+    }
     write!(
         text,
-        ", \"accesses\": {}, \"keys\": {}, \"keys_once\": {}, \"skipped\": {}",
-        summary.accesses,
+        ", \"keys\": {}, \"keys_once\": {}, \"skipped\": {}",
         summary.keys,
         summary.keys_once,
         skipped.min(summary.accesses)
     )
 }
 
-/// Writes the hits and the hit ratio of each policy.
-fn write_policies<A: Allocator>(text: &mut String<A>, row: &Row<A>) -> Result<(), AllocError> {
+/// Writes the hits and the hit ratio of each policy, and those of bytes if there are sizes.
+fn write_policies<A: Allocator>(
+    text: &mut String<A>,
+    row: &Row<A>,
+    is_sized: bool,
+) -> Result<(), AllocError> {
+    if is_sized {
+        write!(text, "\"bytes\": {}, ", row.bytes)?;
+    }
     text.push_str("\"policies\": {")?;
     for (index, hits) in row.hits.iter().enumerate() {
         text.push_str(if index > 0 { ", " } else { "" })?;
-        write_hits(text, *hits, row.ratio(hits.hits))?;
+        write_hits(text, row, *hits, is_sized)?;
     }
     text.push('}')
 }
@@ -96,36 +106,52 @@ fn write_best_shares<A: Allocator>(
 fn write_windows<A: Allocator>(
     text: &mut String<A>,
     windows: &Windows<A>,
+    is_sized: bool,
 ) -> Result<(), AllocError> {
     text.push_str(", \"windows\": [")?;
     for (index, window) in windows.windows.iter().enumerate() {
         text.push_str(if index > 0 { ",\n" } else { "\n" })?;
-        write_window(text, window)?;
+        write_window(text, window, is_sized)?;
     }
     text.push_str("\n    ]")
 }
 
-fn write_window<A: Allocator>(text: &mut String<A>, window: &Window<A>) -> Result<(), AllocError> {
+fn write_window<A: Allocator>(
+    text: &mut String<A>,
+    window: &Window<A>,
+    is_sized: bool,
+) -> Result<(), AllocError> {
     let (first, accesses) = (window.first, window.row.accesses);
     write!(
         text,
         "      {{\"first\": {first}, \"accesses\": {accesses}, "
     )?;
-    write_policies(text, &window.row)?;
+    write_policies(text, &window.row, is_sized)?;
     text.push('}')
 }
 
 fn write_hits<A: Allocator>(
     text: &mut String<A>,
+    row: &Row<A>,
     hits: Hits,
-    ratio: f64,
+    is_sized: bool,
 ) -> Result<(), AllocError> {
     let name = hits.policy.name();
+    let ratio = row.ratio(hits.hits);
     write!(
         text,
-        "\"{name}\": {{\"hits\": {}, \"ratio\": {ratio:.4}}}",
+        "\"{name}\": {{\"hits\": {}, \"ratio\": {ratio:.4}",
         hits.hits
-    )
+    )?;
+    if is_sized {
+        let ratio = row.byte_ratio(hits.bytes);
+        write!(
+            text,
+            ", \"hit_bytes\": {}, \"byte_ratio\": {ratio:.4}",
+            hits.bytes
+        )?;
+    }
+    text.push('}')
 }
 
 /// Writes a string between quotes.

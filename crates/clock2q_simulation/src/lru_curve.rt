@@ -14,7 +14,8 @@ use std::num::NonZeroUsize;
 const LEAST_CAPACITIES: usize = 10;
 
 /// Returns the hits of LRU at each capacity after the skipped accesses. There are none if it isn't
-/// among the policies, or if a replay at each capacity costs less.
+/// among the policies, if a replay at each capacity costs less, or if the trace has sizes, whose sums
+/// need the replays.
 ///
 /// # Errors
 ///
@@ -33,7 +34,8 @@ pub(crate) fn lru_curve<A: Allocator + Copy>(
     ensures hits { IfOk result (λ hits. AreLruHits skipped trace.now.numbers capacities.now hits.items) }
     ensures devices { IfErr result IsOfNoDevice }
 {
-    if capacities.len() < LEAST_CAPACITIES || !policies.contains(&Policy::LeastRecentlyUsed) {
+    let is_asked = policies.contains(&Policy::LeastRecentlyUsed);
+    if capacities.len() < LEAST_CAPACITIES || !is_asked || trace.has_sizes() {
         return Ok(Vec::new(alloc));
     }
     let Ok(keys) = u32::try_from(trace.key_count()) else {

@@ -40,6 +40,8 @@ pub struct Outcome<'a, A: Allocator> {
     pub summary: Summary,
     /// The sample of its keys that was replayed, unless it was all of them.
     pub sample: Option<Sample>,
+    /// True if its accesses have sizes.
+    pub is_sized: bool,
     /// The hits at each capacity, in the order of the capacities. With a sample they are those of
     /// caches as much smaller.
     pub rows: Vec<Row<A>, A>,
@@ -120,6 +122,7 @@ pub fn replay_source<'a, R: Source, P: Write, S: BuildHasher + Drop, A: Allocato
         name,
         summary,
         sample: options.sample,
+        is_sized: trace.has_sizes(),
         rows,
         windows,
         best_shares,

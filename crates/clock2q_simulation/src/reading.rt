@@ -1,5 +1,6 @@
 //! A trace read from a source.
 ghost use Rattle.std.specs.Prelude.{◌≡◌, IfOk, None};
+ghost use Rattle.clock2q_simulation.specs.Formats.{has_sizes};
 ghost use Rattle.clock2q_simulation.specs.Reading.{ReadsTrace};
 
 use crate::error::SimulationError;
@@ -22,13 +23,14 @@ const BLOCK: usize = 65536;
 ///
 /// # Errors
 ///
-/// `Read` if a read fails, `Line` or `Record` if what was read isn't in the format, and `Memory` if
-/// a request for memory is refused. What was read is dropped then.
+/// `Read` if a read fails, `Line`, `Size` or `Record` if what was read isn't in the format, and
+/// `Memory` if a request for memory is refused. What was read is dropped then.
 ///
 /// # Cost
 ///
 /// That of [`GrowingTrace::push`](crate::GrowingTrace::push) for each record. Memory in proportion
-/// to the number of records and to the bytes of the different keys.
+/// to the number of records and to the bytes of the different keys; 8 bytes more a record if the
+/// format has sizes.
 pub fn read_trace<R: Source, W: Write, S: BuildHasher + Drop, A: Allocator + Copy>(
     alloc: A,
     hasher: S,
@@ -37,8 +39,9 @@ pub fn read_trace<R: Source, W: Write, S: BuildHasher + Drop, A: Allocator + Cop
     reader: &mut R,
     progress: &mut Progress<W>,
 ) -> Result<Trace<A>, SimulationError>
-    ensures read { ReadsTrace (R.given reader.old) (R.given reader.new) (R.remaining reader.old) (R.remaining reader.new) format (λ trace. trace.keys) result }
+    ensures read { ReadsTrace (R.given reader.old) (R.given reader.new) (R.remaining reader.old) (R.remaining reader.new) format (λ trace. trace.accesses) result }
     ensures whole { IfOk result (λ trace. trace.sample ≡ None) }
+    ensures sized { IfOk result (λ trace. trace.is_sized ≡ has_sizes format) }
 {
     read_sample(alloc, hasher, None, name, format, reader, progress)
 }
@@ -62,8 +65,9 @@ pub fn read_sample<R: Source, W: Write, S: BuildHasher + Drop, A: Allocator + Co
     reader: &mut R,
     progress: &mut Progress<W>,
 ) -> Result<Trace<A>, SimulationError>
-    ensures read { ReadsTrace (R.given reader.old) (R.given reader.new) (R.remaining reader.old) (R.remaining reader.new) format (λ trace. trace.keys) result }
+    ensures read { ReadsTrace (R.given reader.old) (R.given reader.new) (R.remaining reader.old) (R.remaining reader.new) format (λ trace. trace.accesses) result }
     ensures sample { IfOk result (λ trace. trace.sample ≡ sample) }
+    ensures sized { IfOk result (λ trace. trace.is_sized ≡ has_sizes format) }
 {
     let mut records = Records::new(alloc, hasher, sample, format);
     let mut block = [0u8; BLOCK];

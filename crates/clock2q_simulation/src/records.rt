@@ -1,8 +1,9 @@
 //! The records of a trace, put together from blocks of bytes.
 ghost use Rattle.std.specs.NonZero.{non_zero_usize_get};
+ghost use Rattle.std.specs.Option.{option_map};
 ghost use Rattle.std.specs.Prelude.{◌≡◌, ◌<◌, ◌∷◌, ◌++◌, ℕ, List, [], IfErr, IfOk, OnOk, None, Some, length};
-ghost use Rattle.clock2q_simulation.specs.Formats.{field, keys_after};
-ghost use Rattle.clock2q_simulation.specs.Reading.{IsBad, IsBegun, IsOfLines, IsWhole, Takes, between, joined_keys};
+ghost use Rattle.clock2q_simulation.specs.Formats.{Access, access_in, accesses_after, has_sizes, record_of};
+ghost use Rattle.clock2q_simulation.specs.Reading.{IsBad, IsBegun, IsOfLines, IsWhole, Takes, between, joined};
 
 use crate::csv::ColumnReader;
 use crate::error::SimulationError;
@@ -16,7 +17,7 @@ use std::num::NonZeroUsize;
 /// The number of bytes of a record of `OracleGeneral`.
 const RECORD: usize = 24;
 
-/// The keys so far, and the beginning of a record that has not ended yet.
+/// The accesses so far, and the beginning of a record that has not ended yet.
 #[derive(Drop)]
 pub(crate) struct Records<S: BuildHasher, A: Allocator> {
     pub(crate) format: TraceFormat,
@@ -25,8 +26,9 @@ pub(crate) struct Records<S: BuildHasher, A: Allocator> {
     pub(crate) begun: Vec<u8, A>,
     /// The number of records that have ended.
     pub(crate) count: usize,
-    // Reads the keys of lines of fields.
-    reader: ColumnReader<A>,
+    // Read the keys and the sizes of lines of fields.
+    keys: ColumnReader<A>,
+    sizes: ColumnReader<A>,
 }
 
 impl<S: BuildHasher, A: Allocator + Copy> Records<S, A> {
@@ -38,17 +40,19 @@ impl<S: BuildHasher, A: Allocator + Copy> Records<S, A> {
         format: TraceFormat,
     ) -> Records<S, A>
         ensures format { result.format ≡ format }
-        ensures keys { result.trace.keys ≡ [] }
+        ensures accesses { result.trace.accesses ≡ [] }
         ensures sample { result.trace.sample ≡ sample }
+        ensures sized { result.trace.is_sized ≡ has_sizes format }
         ensures begun { result.begun.items ≡ [] }
         ensures count { result.count ≡ 0 }
     {
         Records {
             format,
-            trace: GrowingTrace::with_sample(alloc, hasher, sample),
+            trace: GrowingTrace::with_sizes(alloc, hasher, sample, format.has_sizes()),
             begun: Vec::new(alloc),
             count: 0,
-            reader: ColumnReader::new(alloc),
+            keys: ColumnReader::new(alloc),
+            sizes: ColumnReader::new(alloc),
         }
     }
 }
@@ -59,11 +63,12 @@ impl<S: BuildHasher + Drop, A: Allocator + Copy> Records<S, A> {
         requires begun { IsBegun self.old.format self.old.begun.items }
         ensures format { self.new.format ≡ self.old.format }
         ensures sample { self.new.trace.sample ≡ self.old.trace.sample }
-        ensures taken { OnOk result (Takes self.old.format self.old.trace.keys self.old.count self.old.begun.items bytes.now self.new.trace.keys self.new.count self.new.begun.items) }
-        ensures bad { IfErr result (λ refusal. IsBad refusal ((next : List ℕ) → keys_after self.old.format self.old.count (self.old.begun.items ++ (bytes.now ++ next)) ≡ None)) }
+        ensures sized { self.new.trace.is_sized ≡ self.old.trace.is_sized }
+        ensures taken { OnOk result (Takes self.old.format self.old.trace.accesses self.old.count self.old.begun.items bytes.now self.new.trace.accesses self.new.count self.new.begun.items) }
+        ensures bad { IfErr result (λ refusal. IsBad refusal ((next : List ℕ) → accesses_after self.old.format self.old.count (self.old.begun.items ++ (bytes.now ++ next)) ≡ None)) }
     {
         match self.format {
-            TraceFormat::Lines | TraceFormat::Csv(_) => self.take_lines(bytes),
+            TraceFormat::Lines | TraceFormat::Csv(..) => self.take_lines(bytes),
             TraceFormat::OracleGeneral => self.take_pieces(bytes),
         }
     }
@@ -74,8 +79,9 @@ impl<S: BuildHasher + Drop, A: Allocator + Copy> Records<S, A> {
         requires begun { IsBegun self.old.format self.old.begun.items }
         ensures format { self.new.format ≡ self.old.format }
         ensures sample { self.new.trace.sample ≡ self.old.trace.sample }
-        ensures taken { OnOk result (Takes self.old.format self.old.trace.keys self.old.count self.old.begun.items bytes.now self.new.trace.keys self.new.count self.new.begun.items) }
-        ensures bad { IfErr result (λ refusal. IsBad refusal ((next : List ℕ) → keys_after self.old.format self.old.count (self.old.begun.items ++ (bytes.now ++ next)) ≡ None)) }
+        ensures sized { self.new.trace.is_sized ≡ self.old.trace.is_sized }
+        ensures taken { OnOk result (Takes self.old.format self.old.trace.accesses self.old.count self.old.begun.items bytes.now self.new.trace.accesses self.new.count self.new.begun.items) }
+        ensures bad { IfErr result (λ refusal. IsBad refusal ((next : List ℕ) → accesses_after self.old.format self.old.count (self.old.begun.items ++ (bytes.now ++ next)) ≡ None)) }
     {
         for byte in bytes {
             if *byte == b'\n' {
@@ -93,8 +99,9 @@ impl<S: BuildHasher + Drop, A: Allocator + Copy> Records<S, A> {
         requires begun { IsBegun self.old.format self.old.begun.items }
         ensures format { self.new.format ≡ self.old.format }
         ensures sample { self.new.trace.sample ≡ self.old.trace.sample }
-        ensures taken { OnOk result (Takes self.old.format self.old.trace.keys self.old.count self.old.begun.items bytes.now self.new.trace.keys self.new.count self.new.begun.items) }
-        ensures bad { IfErr result (λ refusal. IsBad refusal ((next : List ℕ) → keys_after self.old.format self.old.count (self.old.begun.items ++ (bytes.now ++ next)) ≡ None)) }
+        ensures sized { self.new.trace.is_sized ≡ self.old.trace.is_sized }
+        ensures taken { OnOk result (Takes self.old.format self.old.trace.accesses self.old.count self.old.begun.items bytes.now self.new.trace.accesses self.new.count self.new.begun.items) }
+        ensures bad { IfErr result (λ refusal. IsBad refusal ((next : List ℕ) → accesses_after self.old.format self.old.count (self.old.begun.items ++ (bytes.now ++ next)) ≡ None)) }
     {
         for byte in bytes {
             self.push(*byte)?;
@@ -119,59 +126,87 @@ impl<S: BuildHasher + Drop, A: Allocator + Copy> Records<S, A> {
         }
     }
 
-    /// Ends the record: adds its key, unless it is a header.
+    /// Ends the record: adds its access, unless it is a header.
     fn end_record(&mut self) -> Result<(), SimulationError>
         requires whole { IsWhole self.old.format self.old.begun.items }
         ensures format { self.new.format ≡ self.old.format }
         ensures sample { self.new.trace.sample ≡ self.old.trace.sample }
+        ensures sized { self.new.trace.is_sized ≡ self.old.trace.is_sized }
         ensures begun { OnOk result (self.new.begun.items ≡ []) }
-        ensures ended { OnOk result ((next : List ℕ) → joined_keys self.old.trace.keys (keys_after self.old.format self.old.count (self.old.begun.items ++ (between self.old.format ++ next))) ≡ joined_keys self.new.trace.keys (keys_after self.old.format self.new.count next)) }
-        ensures bad { IfErr result (λ refusal. IsBad refusal ((next : List ℕ) → keys_after self.old.format self.old.count (self.old.begun.items ++ (between self.old.format ++ next)) ≡ None)) }
+        ensures ended { OnOk result ((next : List ℕ) → joined self.old.trace.accesses (accesses_after self.old.format self.old.count (self.old.begun.items ++ (between self.old.format ++ next))) ≡ joined self.new.trace.accesses (accesses_after self.old.format self.new.count next)) }
+        ensures bad { IfErr result (λ refusal. IsBad refusal ((next : List ℕ) → accesses_after self.old.format self.old.count (self.old.begun.items ++ (between self.old.format ++ next)) ≡ None)) }
     {
-        self.add_key()?;
+        self.add_access()?;
         self.count = self.count.saturating_add(1);
         self.begun.clear();
         Ok(())
     }
 
-    /// Adds the key of the record, unless it is a header.
-    fn add_key(&mut self) -> Result<(), SimulationError>
+    /// Adds the access of the record, unless it is a header.
+    fn add_access(&mut self) -> Result<(), SimulationError>
         requires whole { IsWhole self.old.format self.old.begun.items }
         ensures format { self.new.format ≡ self.old.format }
         ensures sample { self.new.trace.sample ≡ self.old.trace.sample }
+        ensures sized { self.new.trace.is_sized ≡ self.old.trace.is_sized }
         ensures count { self.new.count ≡ self.old.count }
-        ensures ended { OnOk result ((counted : ℕ) → 0 < counted → (next : List ℕ) → joined_keys self.old.trace.keys (keys_after self.old.format self.old.count (self.old.begun.items ++ (between self.old.format ++ next))) ≡ joined_keys self.new.trace.keys (keys_after self.old.format counted next)) }
-        ensures bad { IfErr result (λ refusal. IsBad refusal ((next : List ℕ) → keys_after self.old.format self.old.count (self.old.begun.items ++ (between self.old.format ++ next)) ≡ None)) }
+        ensures ended { OnOk result ((counted : ℕ) → 0 < counted → (next : List ℕ) → joined self.old.trace.accesses (accesses_after self.old.format self.old.count (self.old.begun.items ++ (between self.old.format ++ next))) ≡ joined self.new.trace.accesses (accesses_after self.old.format counted next)) }
+        ensures bad { IfErr result (λ refusal. IsBad refusal ((next : List ℕ) → accesses_after self.old.format self.old.count (self.old.begun.items ++ (between self.old.format ++ next)) ≡ None)) }
     {
         match self.format {
-            TraceFormat::Csv(_) if self.count == 0 => Ok(()),
-            TraceFormat::Csv(column) => self.add_field(column),
+            TraceFormat::Csv(..) if self.count == 0 => Ok(()),
+            TraceFormat::Csv(column, size_column) => self.add_fields(column, size_column),
             TraceFormat::Lines => Ok(self.trace.push(&self.begun)?),
-            TraceFormat::OracleGeneral => Ok(self.trace.push(&self.begun[4..12])?),
+            TraceFormat::OracleGeneral => self.add_piece(),
         }
     }
 
-    /// Adds the key of a line of fields.
-    fn add_field(&mut self, column: NonZeroUsize) -> Result<(), SimulationError>
-        ensures key { OnOk result ((key : List ℕ) × (field (non_zero_usize_get column) self.old.begun.items ≡ Some key) × (self.new.trace.keys ≡ self.old.trace.keys ++ key ∷ [])) }
+    /// Adds the access of a record of one length.
+    fn add_piece(&mut self) -> Result<(), SimulationError>
+        requires whole { length self.old.begun.items ≡ 24 }
+        ensures added { OnOk result (self.new.trace.accesses ≡ self.old.trace.accesses ++ record_of self.old.begun.items ∷ []) }
         ensures count { self.new.count ≡ self.old.count }
         ensures format { self.new.format ≡ self.old.format }
         ensures sample { self.new.trace.sample ≡ self.old.trace.sample }
-        ensures bad { IfErr result (λ refusal. IsBad refusal (field (non_zero_usize_get column) self.old.begun.items ≡ None)) }
+        ensures sized { self.new.trace.is_sized ≡ self.old.trace.is_sized }
+        ensures memory { IfErr result (λ refusal. refusal ≡ SimulationError.Memory) }
     {
-        if !self.reader.read(&self.begun, column)? {
-            let line = self.count.saturating_add(1);
+        let part = self.begun.as_slice();
+        let size = u32::from_le_bytes([part[12], part[13], part[14], part[15]]);
+        match self.trace.push_sized(&part[4..12], size as usize) {
+            Ok(()) => Ok(()),
+            Err(_) => Err(SimulationError::Memory),
+        }
+    }
+
+    /// Adds the access of a line of fields.
+    fn add_fields(
+        &mut self,
+        column: NonZeroUsize,
+        size_column: Option<NonZeroUsize>,
+    ) -> Result<(), SimulationError>
+        ensures access { OnOk result ((access : Access) × (access_in (non_zero_usize_get column) (option_map non_zero_usize_get size_column) self.old.begun.items ≡ Some access)
+            × (self.new.trace.accesses ≡ self.old.trace.accesses ++ access ∷ [])) }
+        ensures count { self.new.count ≡ self.old.count }
+        ensures format { self.new.format ≡ self.old.format }
+        ensures sample { self.new.trace.sample ≡ self.old.trace.sample }
+        ensures sized { self.new.trace.is_sized ≡ self.old.trace.is_sized }
+        ensures bad { IfErr result (λ refusal. IsBad refusal (access_in (non_zero_usize_get column) (option_map non_zero_usize_get size_column) self.old.begun.items ≡ None)) }
+    {
+        let line = self.count.saturating_add(1);
+        if !self.keys.read(&self.begun, column)? {
             return Err(SimulationError::Line(line, column.get()));
         }
-        Ok(self.trace.push(&self.reader.key)?)
+        let size = self.sizes.read_size(&self.begun, size_column, line)?;
+        Ok(self.trace.push_sized(&self.keys.key, size)?)
     }
 
     /// Ends the last record: a line, even without its line end, or nothing of a record of bytes.
     pub(crate) fn finish(self) -> Result<Trace<A>, SimulationError>
         requires begun { IsBegun self.format self.begun.items }
         ensures sample { IfOk result (λ trace. trace.sample ≡ self.trace.sample) }
-        ensures keys { IfOk result (λ trace. joined_keys self.trace.keys (keys_after self.format self.count self.begun.items) ≡ Some trace.keys) }
-        ensures bad { IfErr result (λ refusal. IsBad refusal (keys_after self.format self.count self.begun.items ≡ None)) }
+        ensures sized { IfOk result (λ trace. trace.is_sized ≡ self.trace.is_sized) }
+        ensures accesses { IfOk result (λ trace. joined self.trace.accesses (accesses_after self.format self.count self.begun.items) ≡ Some trace.accesses) }
+        ensures bad { IfErr result (λ refusal. IsBad refusal (accesses_after self.format self.count self.begun.items ≡ None)) }
     {
         let mut records = self;
         if !records.begun.is_empty() {
@@ -185,11 +220,12 @@ impl<S: BuildHasher + Drop, A: Allocator + Copy> Records<S, A> {
         requires begun { IsBegun self.old.format self.old.begun.items }
         requires some { 0 < length self.old.begun.items }
         ensures sample { self.new.trace.sample ≡ self.old.trace.sample }
-        ensures keys { OnOk result (joined_keys self.old.trace.keys (keys_after self.old.format self.old.count self.old.begun.items) ≡ Some self.new.trace.keys) }
-        ensures bad { IfErr result (λ refusal. IsBad refusal (keys_after self.old.format self.old.count self.old.begun.items ≡ None)) }
+        ensures sized { self.new.trace.is_sized ≡ self.old.trace.is_sized }
+        ensures accesses { OnOk result (joined self.old.trace.accesses (accesses_after self.old.format self.old.count self.old.begun.items) ≡ Some self.new.trace.accesses) }
+        ensures bad { IfErr result (λ refusal. IsBad refusal (accesses_after self.old.format self.old.count self.old.begun.items ≡ None)) }
     {
         match self.format {
-            TraceFormat::Lines | TraceFormat::Csv(_) => self.end_record(),
+            TraceFormat::Lines | TraceFormat::Csv(..) => self.end_record(),
             TraceFormat::OracleGeneral => {
                 let offset = self.count.saturating_mul(RECORD);
                 Err(SimulationError::Record(offset))

@@ -2,15 +2,18 @@
 ghost use Rattle.std.specs.Prelude.{◌≡◌, ◌-◌, ◌≤◌, IfErr, IfOk, IfSome, length, take};
 ghost use Rattle.std.specs.NonZero.{non_zero_usize_get};
 ghost use Rattle.clock2q_policies.specs.Policies.{hit_count};
+ghost use Rattle.clock2q_simulation.specs.Bytes.{AreBytes, HasBytes};
 ghost use Rattle.clock2q_simulation.specs.LruCurve.{lru_hits_after};
 ghost use Rattle.clock2q_simulation.specs.Rows.{AreHitsAfter, IsReplay, IsRow};
 ghost use Rattle.clock2q_simulation.specs.SimulationError.{IsOfNoDevice};
+ghost use Rattle.clock2q_simulation.specs.Trace.{sizes_of};
 
 use crate::error::SimulationError;
 use crate::policy::{Policy, policy_outcomes};
 use crate::shares::ChosenShares;
+use crate::sums::{asked_bytes, hit_bytes};
 use crate::trace::Trace;
-use std::alloc::{AllocError, Allocator};
+use std::alloc::Allocator;
 use std::num::{NonZeroUsize, nearest_usize_to_f64};
 
 /// The number of accesses that hit with a policy.
@@ -27,6 +30,8 @@ pub struct Hits {
     pub policy: Policy,
     /// The number of counted accesses that hit.
     pub hits: usize,
+    /// The sum of their sizes, or 0 if the trace has no sizes.
+    pub bytes: usize,
 }
 
 /// The hits of a trace in a cache of each policy.
@@ -46,6 +51,8 @@ pub struct Row<A: Allocator> {
     pub capacity: NonZeroUsize,
     /// The number of counted accesses: those of the trace without the skipped ones.
     pub accesses: usize,
+    /// The sum of their sizes, or 0 if the trace has no sizes.
+    pub bytes: usize,
     /// The hits with each policy.
     pub hits: Vec<Hits, A>,
 }
@@ -58,11 +65,20 @@ impl<A: Allocator> Row<A> {
         }
         nearest_usize_to_f64(hits) / nearest_usize_to_f64(self.accesses)
     }
+
+    /// Returns the byte hit ratio: `bytes` divided by the sum of the sizes, or 0 if that is 0.
+    pub fn byte_ratio(&self, bytes: usize) -> f64 {
+        if self.bytes == 0 {
+            return 0.0;
+        }
+        nearest_usize_to_f64(bytes) / nearest_usize_to_f64(self.bytes)
+    }
 }
 
 /// Replays a trace in a new cache of each policy, in the order of the policies. Clock2Q+ has the
 /// chosen shares, or the usual ones. The first `skipped` accesses warm the caches and aren't
-/// counted.
+/// counted. If the trace has sizes, their sums are counted too: each access has its own, and each
+/// cache has room for a number of keys all the same.
 ///
 /// # Errors
 ///
@@ -80,6 +96,7 @@ pub fn replay<A: Allocator + Copy>(
     trace: &Trace<A>,
 ) -> Result<Row<A>, SimulationError>
     ensures row { IfOk result (IsRow policies.now shares skipped trace.now.numbers (non_zero_usize_get capacity)) }
+    ensures bytes { IfOk result (HasBytes shares trace.now.numbers (sizes_of trace.now) (non_zero_usize_get capacity) skipped (length trace.now.numbers)) }
     ensures devices { IfErr result IsOfNoDevice }
 {
     replay_with_lru(alloc, capacity, policies, shares, skipped, trace, None)
@@ -98,21 +115,28 @@ pub(crate) fn replay_with_lru<A: Allocator + Copy>(
 ) -> Result<Row<A>, SimulationError>
     requires lru { IfSome lru (λ hits. hits ≡ lru_hits_after skipped trace.now.numbers (non_zero_usize_get capacity)) }
     ensures row { IfOk result (IsRow policies.now shares skipped trace.now.numbers (non_zero_usize_get capacity)) }
+    ensures bytes { IfOk result (HasBytes shares trace.now.numbers (sizes_of trace.now) (non_zero_usize_get capacity) skipped (length trace.now.numbers)) }
     ensures devices { IfErr result IsOfNoDevice }
 {
     let mut hits = Vec::new(alloc);
     for policy in policies {
-        hits.push(hits_with(alloc, *policy, capacity, shares, skipped, trace, lru)?)
-            .map_err(AllocError::from)?;
+        let counted = hits_with(alloc, *policy, capacity, shares, skipped, trace, lru)?;
+        match hits.push(counted) {
+            Ok(()) => {}
+            Err(_) => return Err(SimulationError::Memory),
+        }
     }
+    let accesses = trace.numbers().len();
     Ok(Row {
         capacity,
-        accesses: trace.numbers().len().saturating_sub(skipped),
+        accesses: accesses.saturating_sub(skipped),
+        bytes: asked_bytes(trace.sizes(), skipped, accesses),
         hits,
     })
 }
 
-/// Counts the hits with one policy after the skipped accesses, unless it is LRU and they are given.
+/// Counts the hits with one policy after the skipped accesses, unless it is LRU, they are given, and
+/// there are no sizes.
 pub(crate) fn hits_with<A: Allocator + Copy>(
     alloc: A,
     policy: Policy,
@@ -125,17 +149,30 @@ pub(crate) fn hits_with<A: Allocator + Copy>(
     requires lru { IfSome lru (λ hits. hits ≡ lru_hits_after skipped trace.now.numbers (non_zero_usize_get capacity)) }
     ensures policy { IfOk result (λ h. h.policy ≡ policy) }
     ensures hits { IfOk result (λ h. AreHitsAfter skipped shares trace.now.numbers (non_zero_usize_get capacity) h.policy h.hits) }
+    ensures bytes { IfOk result (λ h. AreBytes shares trace.now.numbers (sizes_of trace.now) (non_zero_usize_get capacity) skipped (length trace.now.numbers) h.policy h.bytes) }
     ensures devices { IfErr result IsOfNoDevice }
 {
     if let (Policy::LeastRecentlyUsed, Some(hits)) = (policy, lru) {
-        return Ok(Hits { policy, hits });
+        if !trace.has_sizes() {
+            let bytes = 0;
+            return Ok(Hits {
+                policy,
+                hits,
+                bytes,
+            });
+        }
     }
     let accesses = trace.numbers().len();
     let replay = replay_with(alloc, policy, capacity, shares, trace)?;
     let first = skipped.min(accesses);
     let hits = hits_between(&replay.outcomes, first, accesses);
+    let bytes = hit_bytes(&replay.outcomes, trace.sizes(), skipped, accesses);
     let policy = replay.policy;
-    Ok(Hits { policy, hits })
+    Ok(Hits {
+        policy,
+        hits,
+        bytes,
+    })
 }
 
 /// Whether each access of a trace hits with a policy, in order.

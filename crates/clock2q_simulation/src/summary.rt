@@ -1,6 +1,9 @@
 //! The numbers of accesses and keys of a trace.
 ghost use Rattle.std.specs.Prelude.{◌≡◌, IfOk, length};
+ghost use Rattle.clock2q_simulation.specs.Bytes.{asked_between};
+ghost use Rattle.clock2q_simulation.specs.Trace.{sizes_of};
 
+use crate::sums::asked_bytes;
 use crate::trace::Trace;
 use std::alloc::{AllocError, Allocator};
 
@@ -20,6 +23,8 @@ pub struct Summary {
     pub keys: usize,
     /// The number of these keys that are accessed once.
     pub keys_once: usize,
+    /// The sum of the sizes of the accesses, or 0 if the trace has no sizes.
+    pub bytes: usize,
 }
 
 impl Summary {
@@ -37,6 +42,7 @@ impl Summary {
 pub fn summary_of<A: Allocator + Copy>(alloc: A, trace: &Trace<A>) -> Result<Summary, AllocError>
     ensures accesses { IfOk result (λ summary. summary.accesses ≡ length trace.now.numbers) }
     ensures keys { IfOk result (λ summary. summary.keys ≡ trace.now.different) }
+    ensures bytes { IfOk result (λ summary. summary.bytes ≡ asked_between 0 (length trace.now.numbers) (sizes_of trace.now)) }
 {
     let mut uses = vec![in alloc; 0u8; trace.key_count()]?;
     for number in trace.numbers() {
@@ -48,5 +54,6 @@ pub fn summary_of<A: Allocator + Copy>(alloc: A, trace: &Trace<A>) -> Result<Sum
         accesses: trace.numbers().len(),
         keys: trace.key_count(),
         keys_once: uses.iter().filter(|uses| **uses == 1).count(),
+        bytes: asked_bytes(trace.sizes(), 0, trace.numbers().len()),
     })
 }

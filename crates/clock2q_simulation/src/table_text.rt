@@ -26,7 +26,13 @@ pub(crate) fn table_text<A: Allocator>(
         }
         _ => write_all_figures(&mut text, outcomes)?,
     }
-    writeln!(text, "hits in percent, the best of a row with *")?;
+    let is_sized = outcomes.iter().any(|outcome| outcome.is_sized);
+    text.push_str(if is_sized {
+        "hits and their bytes"
+    } else {
+        "hits"
+    })?;
+    writeln!(text, " in percent, the best of a row with *")?;
     write_headings(&mut text, options, outcomes.len() > 1)?;
     for outcome in outcomes {
         write_rows(&mut text, outcome, outcomes.len() > 1)?;
@@ -56,15 +62,20 @@ fn write_figures<A: Allocator>(
         accesses,
         keys,
         keys_once,
+        bytes,
     } = outcome.summary;
     if let Some(sample) = outcome.sample {
         write!(text, "a sample of {} of the keys: ", sample.part())?;
     }
     let accesses_plural = if accesses == 1 { "" } else { "es" };
     let keys_plural = if keys == 1 { "" } else { "s" };
+    write!(text, "{accesses} access{accesses_plural}")?;
+    if outcome.is_sized {
+        write!(text, " of {bytes} bytes")?;
+    }
     write!(
         text,
-        "{accesses} access{accesses_plural}, {keys} key{keys_plural}, {keys_once} asked for once"
+        ", {keys} key{keys_plural}, {keys_once} asked for once"
     )
 }
 
@@ -79,6 +90,9 @@ fn write_headings<A: Allocator>(
     }
     for policy in options.policies.iter() {
         write!(text, "{:>9}", policy.heading())?;
+        if options.trace_format.has_sizes() {
+            write!(text, "{:>9}", "bytes")?;
+        }
     }
     if options.best_shares {
         write!(text, "{:>9}{:>9}  shares", "best", "gain")?;
@@ -105,7 +119,7 @@ fn write_rows<A: Allocator>(
     for (index, row) in outcome.rows.iter().enumerate() {
         let capacity = outcome.capacity_of(row.capacity);
         let best = outcome.best_shares.get(index);
-        write_row(text, capacity, row, None, best, name)?;
+        write_row(text, capacity, row, outcome.is_sized, None, best, name)?;
     }
     Ok(())
 }
@@ -117,7 +131,7 @@ fn write_all_windows<A: Allocator>(
 ) -> Result<(), AllocError> {
     for windows in outcome.windows.iter() {
         let capacity = outcome.capacity_of(windows.capacity);
-        write_windows(text, capacity, windows, name)?;
+        write_windows(text, capacity, windows, outcome.is_sized, name)?;
     }
     Ok(())
 }
@@ -126,21 +140,23 @@ fn write_windows<A: Allocator>(
     text: &mut String<A>,
     capacity: usize,
     windows: &Windows<A>,
+    is_sized: bool,
     name: Option<&str>,
 ) -> Result<(), AllocError> {
     for window in windows.windows.iter() {
         let first = Some(window.first);
-        write_row(text, capacity, &window.row, first, None, name)?;
+        write_row(text, capacity, &window.row, is_sized, first, None, name)?;
     }
     Ok(())
 }
 
-/// Writes a row, with the first access of its window, the best shares and the name of its trace if
+/// Writes a row, with or without bytes, and with the first access of its window, the best shares and the name of its trace if
 /// they are given.
 fn write_row<A: Allocator>(
     text: &mut String<A>,
     capacity: usize,
     row: &Row<A>,
+    is_sized: bool,
     first: Option<usize>,
     best: Option<&BestShares>,
     name: Option<&str>,
@@ -149,7 +165,7 @@ fn write_row<A: Allocator>(
     if let Some(first) = first {
         write!(text, "{first:>11}")?;
     }
-    write_percents(text, row)?;
+    write_percents(text, row, is_sized)?;
     if let Some(best) = best {
         let width = if name.is_some() { 21 } else { 0 };
         write_best_shares(text, row, best, width)?;
@@ -160,21 +176,34 @@ fn write_row<A: Allocator>(
     text.push('\n')
 }
 
-fn write_percents<A: Allocator>(text: &mut String<A>, row: &Row<A>) -> Result<(), AllocError> {
-    let best = best_of(row);
+fn write_percents<A: Allocator>(
+    text: &mut String<A>,
+    row: &Row<A>,
+    is_sized: bool,
+) -> Result<(), AllocError> {
+    let best = best_of(row, Counted::Hits);
+    let best_bytes = best_of(row, Counted::Bytes);
     for hits in row.hits.iter() {
+        let is_real = is_real(hits);
         let percent = row.ratio(hits.hits) * 100.0;
-        if best == Some(hits.hits) && hits.policy != Policy::Optimal {
-            write_best(text, percent)?;
-        } else {
-            write!(text, "{percent:>9.2}")?;
+        write_percent(text, percent, is_real && best == Some(hits.hits))?;
+        if is_sized {
+            let percent = row.byte_ratio(hits.bytes) * 100.0;
+            write_percent(text, percent, is_real && best_bytes == Some(hits.bytes))?;
         }
     }
     Ok(())
 }
 
-/// Writes a percentage with a mark before it, in a column of nine.
-fn write_best<A: Allocator>(text: &mut String<A>, percent: f64) -> Result<(), AllocError> {
+/// Writes a percentage in a column of nine, with a mark before it if it is the best.
+fn write_percent<A: Allocator>(
+    text: &mut String<A>,
+    percent: f64,
+    is_best: bool,
+) -> Result<(), AllocError> {
+    if !is_best {
+        return write!(text, "{percent:>9.2}");
+    }
     let spaces = if percent >= 99.995 {
         "  "
     } else if percent >= 9.995 {
@@ -203,13 +232,29 @@ fn write_best_shares<A: Allocator>(
     Ok(())
 }
 
-/// Returns the most hits of the policies other than the optimum, if there are several of them and
-/// not all hit equally often.
-fn best_of<A: Allocator>(row: &Row<A>) -> Option<usize> {
+/// What is counted.
+#[derive(Clone, Copy)]
+enum Counted {
+    Hits,
+    Bytes,
+}
+
+impl Counted {
+    fn of(self, hits: &Hits) -> usize {
+        match self {
+            Counted::Hits => hits.hits,
+            Counted::Bytes => hits.bytes,
+        }
+    }
+}
+
+/// Returns the most hits, or bytes, of the policies other than the optimum, if there are several of
+/// them and not all have equally many.
+fn best_of<A: Allocator>(row: &Row<A>, counted: Counted) -> Option<usize> {
     let others = row.hits.iter().filter(|hits| is_real(hits));
-    let most = others.map(|hits| hits.hits).max()?;
+    let most = others.map(|hits| counted.of(hits)).max()?;
     let least = row.hits.iter().filter(|hits| is_real(hits));
-    (least.map(|hits| hits.hits).min()? < most).then_some(most)
+    (least.map(|hits| counted.of(hits)).min()? < most).then_some(most)
 }
 
 fn is_real(hits: &Hits) -> bool {

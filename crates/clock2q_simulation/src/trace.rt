@@ -1,7 +1,8 @@
 //! A trace: keys of any bytes, identified by numbers.
-ghost use Rattle.std.specs.Prelude.{◌≡◌, ◌≤◌, ◌^◌, [], ◌∷◌, ◌++◌, None, OnOk, OnErr, length};
+ghost use Rattle.std.specs.Prelude.{◌≡◌, ◌≤◌, ◌^◌, [], ◌∷◌, ◌++◌, ◌<◌, false, true, if◌then◌else◌, None, OnOk, OnErr, length, vec_len, vec_capacity};
 ghost use Rattle.clock2q_policies.specs.Policies.{AreBelow};
-ghost use Rattle.clock2q_simulation.specs.Trace.{AreNumbers, AreUsed, sampled_keys};
+ghost use Rattle.clock2q_simulation.specs.Formats.{access, unsized};
+ghost use Rattle.clock2q_simulation.specs.Trace.{AreNumbers, AreUsed, sampled_keys, sizes_of};
 
 use crate::known_keys::KnownKeys;
 use crate::sample::{Sample, is_sampled};
@@ -11,20 +12,21 @@ use std::alloc::{AllocError, Allocator, Global};
 use std::hash::BuildHasher;
 use std::marker::Model;
 
-/// The keys of a trace, as a type for contracts alone: no value of it is ever made.
+/// The accesses of a trace, as a type for contracts alone: no value of it is ever made.
 #[derive(Drop)]
-struct Keys;
+struct Accesses;
 
-impl Model for Keys {
-    ghost use Rattle.std.specs.Prelude.{ℕ, List, []};
+impl Model for Accesses {
+    ghost use Rattle.std.specs.Prelude.{List, []};
+    ghost use Rattle.clock2q_simulation.specs.Formats.{Access};
 
-    ghost Value = { List (List ℕ) };
+    ghost Value = { List Access };
 
     ghost view = { λ _. [] };
 }
 
 /// The keys of a trace in order, or those in a sample, each identified by a number: equal keys by
-/// the same one, and different keys by different ones.
+/// the same one, and different keys by different ones. It has their sizes too, if they are kept.
 ///
 /// # Example
 ///
@@ -40,20 +42,23 @@ impl Model for Keys {
 #[derive(Drop)]
 pub struct Trace<A: Allocator> {
     numbers: Vec<u32, A>,
+    // The size of each access, or none.
+    sizes: Vec<usize, A>,
+    is_sized: bool,
     different: usize,
     sample: Option<Sample>,
-    keys: GhostValue<Keys>,
+    accesses: GhostValue<Accesses>,
 }
 
 impl<A: Allocator> Model for Trace<A> {
     ghost use Rattle.clock2q_simulation.specs.Sample.{sampled};
-    ghost use Rattle.clock2q_simulation.specs.Trace.{Numbered, AreNumbersOf};
+    ghost use Rattle.clock2q_simulation.specs.Trace.{Numbered, IsKept};
 
     ghost Value = { Numbered };
 
-    ghost view = { λ t. record { keys = t.keys.value; sample = t.sample; numbers = t.numbers.items; different = t.different } };
+    ghost view = { λ t. record { accesses = t.accesses.value; sample = t.sample; is_sized = t.is_sized; numbers = t.numbers.items; different = t.different } };
 
-    ghost invariant = { λ t. AreNumbersOf (sampled t.sample t.keys.value) t.numbers.items t.different };
+    ghost invariant = { λ t. IsKept (sampled t.sample t.accesses.value) t.is_sized t.numbers.items t.sizes.items t.different };
 }
 
 impl<A: Allocator> Trace<A> {
@@ -64,6 +69,20 @@ impl<A: Allocator> Trace<A> {
         ensures below { AreBelow self.now.different result.now }
     {
         &self.numbers
+    }
+
+    /// Returns the sizes of the accesses in bytes, in order, or nothing if they aren't kept.
+    pub fn sizes(&self) -> &[usize]
+        ensures sizes { result.now ≡ sizes_of self.now }
+    {
+        &self.sizes
+    }
+
+    /// Returns true if the sizes of the accesses are kept.
+    pub fn has_sizes(&self) -> bool
+        ensures sized { result ≡ self.now.is_sized }
+    {
+        self.is_sized
     }
 
     /// Returns the number of different keys.
@@ -91,27 +110,29 @@ impl<A: Allocator> Trace<A> {
 #[derive(Drop)]
 pub struct GrowingTrace<S: BuildHasher = DefaultHashBuilder, A: Allocator = Global> {
     numbers: Vec<u32, A>,
+    sizes: Vec<usize, A>,
+    is_sized: bool,
     known: KnownKeys<S, A>,
     sample: Option<Sample>,
-    keys: GhostValue<Keys>,
+    accesses: GhostValue<Accesses>,
 }
 
 impl<S: BuildHasher, A: Allocator> Model for GrowingTrace<S, A> {
     ghost use Rattle.std.specs.Prelude.{length};
     ghost use Rattle.clock2q_simulation.specs.Sample.{sampled};
-    ghost use Rattle.clock2q_simulation.specs.Trace.{Numbered, IsNumbering};
+    ghost use Rattle.clock2q_simulation.specs.Trace.{Numbered, IsGrowing};
 
     ghost Value = { Numbered };
 
-    ghost view = { λ t. record { keys = t.keys.value; sample = t.sample; numbers = t.numbers.items; different = length t.known } };
+    ghost view = { λ t. record { accesses = t.accesses.value; sample = t.sample; is_sized = t.is_sized; numbers = t.numbers.items; different = length t.known } };
 
-    ghost invariant = { λ t. IsNumbering t.known t.numbers.items (sampled t.sample t.keys.value) };
+    ghost invariant = { λ t. IsGrowing (sampled t.sample t.accesses.value) t.is_sized t.known t.numbers.items t.sizes.items };
 }
 
 impl<A: Allocator + Copy> GrowingTrace<DefaultHashBuilder, A> {
     /// Returns a trace without keys, whose hasher has a fixed seed ([`DefaultHashBuilder`]).
     pub fn new(alloc: A) -> GrowingTrace<DefaultHashBuilder, A>
-        ensures empty { result.keys ≡ [] }
+        ensures empty { result.accesses ≡ [] }
         ensures whole { result.sample ≡ None }
     {
         GrowingTrace::with_hasher(alloc, DefaultHashBuilder::new())
@@ -122,7 +143,7 @@ impl<S: BuildHasher, A: Allocator + Copy> GrowingTrace<S, A> {
     /// Returns a trace without keys, with the caller's hasher: use a `RandomState` if strangers
     /// choose the keys. The numbers don't depend on it.
     pub fn with_hasher(alloc: A, hasher: S) -> GrowingTrace<S, A>
-        ensures empty { result.keys ≡ [] }
+        ensures empty { result.accesses ≡ [] }
         ensures whole { result.sample ≡ None }
     {
         GrowingTrace::with_sample(alloc, hasher, None)
@@ -130,18 +151,35 @@ impl<S: BuildHasher, A: Allocator + Copy> GrowingTrace<S, A> {
 
     /// Returns a trace without keys, which of those added to it keeps those in a sample.
     pub fn with_sample(alloc: A, hasher: S, sample: Option<Sample>) -> GrowingTrace<S, A>
-        ensures empty { result.keys ≡ [] }
+        ensures empty { result.accesses ≡ [] }
         ensures sample { result.sample ≡ sample }
+    {
+        GrowingTrace::with_sizes(alloc, hasher, sample, false)
+    }
+
+    /// Does what [`GrowingTrace::with_sample`] does. The trace keeps the sizes of its accesses if
+    /// `is_sized` is true: 8 bytes for each.
+    pub fn with_sizes(
+        alloc: A,
+        hasher: S,
+        sample: Option<Sample>,
+        is_sized: bool,
+    ) -> GrowingTrace<S, A>
+        ensures empty { result.accesses ≡ [] }
+        ensures sample { result.sample ≡ sample }
+        ensures sized { result.is_sized ≡ is_sized }
     {
         GrowingTrace {
             numbers: Vec::new(alloc),
+            sizes: Vec::new(alloc),
+            is_sized,
             known: KnownKeys::new(alloc, hasher),
             sample,
-            keys: GhostValue::new(&()),
+            accesses: GhostValue::new(&()),
         }
     }
 
-    /// Adds a key at the end, unless it isn't in the sample.
+    /// Adds a key at the end, of size 1, unless it isn't in the sample.
     ///
     /// # Errors
     ///
@@ -153,19 +191,50 @@ impl<S: BuildHasher, A: Allocator + Copy> GrowingTrace<S, A> {
     ///
     /// One lookup of the key among the different ones before it, and one insertion if it is new.
     pub fn push(&mut self, key: &[u8]) -> Result<(), AllocError>
-        ensures added { OnOk result (self.new.keys ≡ self.old.keys ++ key.now ∷ []) }
+        ensures added { OnOk result (self.new.accesses ≡ self.old.accesses ++ unsized key.now ∷ []) }
         ensures sample { self.new.sample ≡ self.old.sample }
+        ensures sized { self.new.is_sized ≡ self.old.is_sized }
+        ensures refused { OnErr result (self.new ≡ self.old) }
+    {
+        self.push_sized(key, 1)
+    }
+
+    /// Does what [`GrowingTrace::push`] does, with a size in bytes.
+    ///
+    /// # Errors
+    ///
+    /// Those of [`GrowingTrace::push`].
+    ///
+    /// # Cost
+    ///
+    /// That of [`GrowingTrace::push`].
+    pub fn push_sized(&mut self, key: &[u8], size: usize) -> Result<(), AllocError>
+        ensures added { OnOk result (self.new.accesses ≡ self.old.accesses ++ access key.now size ∷ []) }
+        ensures sample { self.new.sample ≡ self.old.sample }
+        ensures sized { self.new.is_sized ≡ self.old.is_sized }
         ensures refused { OnErr result (self.new ≡ self.old) }
     {
         if !is_sampled(self.sample, key) {
-            self.keys.set(&key);
+            self.accesses.set(&(key, size));
             return Ok(());
         }
         self.numbers.reserve(1)?;
+        self.sizes.reserve(usize::from(self.is_sized))?;
         let number = self.known.number_of(key)?;
         self.numbers.push_reserved(number);
-        self.keys.set(&key);
+        keep_size(&mut self.sizes, self.is_sized, size);
+        self.accesses.set(&(key, size));
         Ok(())
+    }
+}
+
+/// Adds a size in reserved memory, if sizes are kept.
+fn keep_size<A: Allocator>(sizes: &mut Vec<usize, A>, is_kept: bool, size: usize)
+    requires room { is_kept ≡ true → vec_len sizes.old < vec_capacity sizes.old }
+    ensures kept { sizes.new.items ≡ (if is_kept then sizes.old.items ++ size ∷ [] else sizes.old.items) }
+{
+    if is_kept {
+        sizes.push_reserved(size);
     }
 }
 
@@ -183,15 +252,19 @@ impl<S: BuildHasher + Drop, A: Allocator> GrowingTrace<S, A> {
     {
         let GrowingTrace {
             numbers,
+            sizes,
+            is_sized,
             known,
             sample,
-            keys,
+            accesses,
         } = self;
         Trace {
             numbers,
+            sizes,
+            is_sized,
             different: known.len(),
             sample,
-            keys,
+            accesses,
         }
     }
 }

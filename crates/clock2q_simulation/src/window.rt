@@ -2,6 +2,7 @@
 ghost use Rattle.std.specs.Prelude.{◌≡◌, ◌-◌, ◌≤◌, IfErr, IfOk, length, map};
 ghost use Rattle.std.specs.NonZero.{non_zero_usize_get};
 ghost use Rattle.std.specs.List.{All};
+ghost use Rattle.clock2q_simulation.specs.Bytes.{asked_between};
 ghost use Rattle.clock2q_simulation.specs.SimulationError.{IsOfNoDevice};
 ghost use Rattle.clock2q_simulation.specs.Windows.{counted, AreAllWindows, AreReplays, AreWindows};
 
@@ -9,6 +10,7 @@ use crate::error::SimulationError;
 use crate::policy::Policy;
 use crate::row::{Hits, Replayed, Row, hits_between, replay_with};
 use crate::shares::ChosenShares;
+use crate::sums::{asked_bytes, hit_bytes};
 use crate::trace::Trace;
 use std::alloc::Allocator;
 use std::num::NonZeroUsize;
@@ -113,7 +115,7 @@ pub fn windows_of<A: Allocator + Copy>(
     while first < accesses {
         let count = size.get().min(accesses - first);
         let last = first + count;
-        let row = row_between(alloc, capacity, &replays, first, last)?;
+        let row = row_between(alloc, capacity, &replays, trace.sizes(), first, last)?;
         match windows.push(Window { first, row }) {
             Ok(()) => {}
             Err(_) => return Err(SimulationError::Memory),
@@ -150,12 +152,14 @@ fn row_between<A: Allocator + Copy>(
     alloc: A,
     capacity: NonZeroUsize,
     replays: &[Replayed<A>],
+    sizes: &[usize],
     first: usize,
     last: usize,
 ) -> Result<Row<A>, SimulationError>
     requires order { first ≤ last }
     requires within { All (λ replay. last ≤ length replay.outcomes.items) replays.now }
-    ensures hits { IfOk result (λ row. row.hits.items ≡ map (counted first last) replays.now) }
+    ensures hits { IfOk result (λ row. row.hits.items ≡ map (counted first last sizes.now) replays.now) }
+    ensures bytes { IfOk result (λ row. row.bytes ≡ asked_between first last sizes.now) }
     ensures capacity { IfOk result (λ row. row.capacity ≡ capacity) }
     ensures accesses { IfOk result (λ row. row.accesses ≡ last - first) }
     ensures devices { IfErr result IsOfNoDevice }
@@ -164,9 +168,11 @@ fn row_between<A: Allocator + Copy>(
     for replay in replays {
         let policy = replay.policy;
         let count = hits_between(&replay.outcomes, first, last);
+        let bytes = hit_bytes(&replay.outcomes, sizes, first, last);
         match hits.push(Hits {
             policy,
             hits: count,
+            bytes,
         }) {
             Ok(()) => {}
             Err(_) => return Err(SimulationError::Memory),
@@ -175,6 +181,7 @@ fn row_between<A: Allocator + Copy>(
     Ok(Row {
         capacity,
         accesses: last - first,
+        bytes: asked_bytes(sizes, first, last),
         hits,
     })
 }

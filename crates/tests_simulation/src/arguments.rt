@@ -464,7 +464,7 @@ fn amounts_show(rt: HostRuntime) -> Result<(), Fail> {
 /// The formats of traces.
 #[test]
 fn formats(rt: HostRuntime) -> Result<(), Fail> {
-    let second = TraceFormat::Csv(NonZeroUsize::new(2).ok_or("not zero")?);
+    let second = TraceFormat::Csv(NonZeroUsize::new(2).ok_or("not zero")?, None);
     for (line, wanted) in [
         ("5", TraceFormat::Lines),
         ("5 --format=lines", TraceFormat::Lines),

@@ -37,6 +37,8 @@ mod s3_fifo;
 #[cfg(test)]
 mod samples;
 #[cfg(test)]
+mod sizes;
+#[cfg(test)]
 mod texts;
 #[cfg(test)]
 mod two_q;

@@ -3,7 +3,7 @@ use Rattle.std.proofs.lemmas.Bool.{ne_eqb}
 use Rattle.std.proofs.lemmas.Result.{err_from_is_err_and}
 use Rattle.clock2q_ports.specs.Ports.{traffic_after}
 use Rattle.std.specs.Prelude.{IfOk}
-use Rattle.clock2q_simulation.specs.Formats.{keys_after}
+use Rattle.clock2q_simulation.specs.Formats.{accesses_after}
 use Rattle.clock2q_simulation.specs.Reading.{Takes}
 use Rattle.clock2q_simulation.proofs.RecordByRecord.{finished, given-up, read-bad, read-given, read-more, read-new}
 use Rattle.clock2q_simulation.proofs.reading.read_sample.Goals as goal
@@ -14,7 +14,8 @@ loop-index-init g c =
     record {
       format = made.ensures.format;
       sample = made.ensures.sample;
-      read = read-new (g.R.Source.given c.args.reader.now) (g.R.Source.remaining c.args.reader.now) c.args.format made.result.trace.keys made.result.count made.result.begun.items made.ensures.keys made.ensures.count made.ensures.begun;
+      sized = made.ensures.sized;
+      read = read-new (g.R.Source.given c.args.reader.now) (g.R.Source.remaining c.args.reader.now) c.args.format made.result.trace.accesses made.result.count made.result.begun.items made.ensures.accesses made.ensures.count made.ensures.begun;
     }
 
 pub loop-index-preserved : goal.loop-index-preserved
@@ -31,25 +32,29 @@ loop-index-preserved g c =
     let some = g.R.Source.remaining c.loop-index.reader in
     let remain = g.R.Source.remaining c.read.new.self in
     let given : new ≡ traffic_after mid bytes false false = c.in-Ok.ensures.given ∙ ap (λ b. traffic_after mid bytes b false) (ne_eqb c.in-Ok.count 0 c.if-count-eq0.false) in
-    let taken : Takes format records.trace.keys records.count records.begun.items bytes next.trace.keys next.count next.begun.items =
-    subst (λ f. Takes f records.trace.keys records.count records.begun.items bytes next.trace.keys next.count next.begun.items) c.loop-index.invariant.format c.in_ok-take.ensures.taken in
+    let taken : Takes format records.trace.accesses records.count records.begun.items bytes next.trace.accesses next.count next.begun.items =
+    subst (λ f. Takes f records.trace.accesses records.count records.begun.items bytes next.trace.accesses next.count next.begun.items) c.loop-index.invariant.format c.in_ok-take.ensures.taken in
     record {
       format = c.in_ok-take.ensures.format ∙ c.loop-index.invariant.format;
       sample = c.in_ok-take.ensures.sample ∙ c.loop-index.invariant.sample;
-      read = read-more old mid new left some remain format records.trace.keys records.count records.begun.items bytes is next.trace.keys next.count next.begun.items given c.in-Ok.ensures.bytes.0 taken;
+      sized = c.in_ok-take.ensures.sized ∙ c.loop-index.invariant.sized;
+      read = read-more old mid new left some remain format records.trace.accesses records.count records.begun.items bytes is next.trace.accesses next.count next.begun.items given c.in-Ok.ensures.bytes.0 taken;
     }
 
 pub returns-then-count-eq0-clause-sample : goal.returns-then-count-eq0-clause-sample
 returns-then-count-eq0-clause-sample g c = subst (λ sample. IfOk c.finish.result (λ trace. trace.sample ≡ sample)) c.loop-index.invariant.sample c.finish.ensures.sample
+
+pub returns-then-count-eq0-clause-sized : goal.returns-then-count-eq0-clause-sized
+returns-then-count-eq0-clause-sized g c = subst (λ sized. IfOk c.finish.result (λ trace. trace.is_sized ≡ sized)) c.loop-index.invariant.sized c.finish.ensures.sized
 
 pub returns-then-count-eq0-clause-read : goal.returns-then-count-eq0-clause-read
 returns-then-count-eq0-clause-read g c =
     let records = c.loop-index.records in
     finished (g.R.Source.given c.args.reader.now) (g.R.Source.given c.loop-index.reader) (g.R.Source.given c.read.new.self)
     (g.R.Source.remaining c.args.reader.now) (g.R.Source.remaining c.loop-index.reader) (g.R.Source.remaining c.read.new.self)
-    c.args.format records.format records.trace.keys records.count records.begun.items c.loop-index.invariant.read (λ trace. trace.keys) c.finish.result c.loop-index.invariant.format
+    c.args.format records.format records.trace.accesses records.count records.begun.items c.loop-index.invariant.read (λ trace. trace.accesses) c.finish.result c.loop-index.invariant.format
     (rw c.if-count-eq0.true at c.in-Ok.ensures.given) (rw c.if-count-eq0.true at c.in-Ok.ensures.bytes.0) (c.in-Ok.ensures.bytes.1 c.if-count-eq0.true (search rules))
-    c.finish.ensures.keys c.finish.ensures.bad
+    c.finish.ensures.accesses c.finish.ensures.bad
 
 pub returns-in_err-take-clause-read : goal.returns-in_err-take-clause-read
 returns-in_err-take-clause-read g c =
@@ -67,8 +72,8 @@ returns-in_err-take-clause-read g c =
     let p = err_from_is_err_and c.from_residual.result c.from_residual.ensures.1 in
     rw (p.1, p.2)
     (given-up old new left remain format c.in_err-take.field-0.0
-    (is.input ++ bytes, false, read-given old mid new left some remain format records.trace.keys records.count records.begun.items bytes is false false given)
-    (λ (none : (next : List ℕ) → keys_after records.format records.count (records.begun.items ++ (bytes ++ next)) ≡ None).
-    read-bad old mid new left some remain format records.trace.keys records.count records.begun.items bytes is given
-    (λ next. ap (λ f. keys_after f records.count (records.begun.items ++ (bytes ++ next))) (sym c.loop-index.invariant.format) ∙ none next))
+    (is.input ++ bytes, false, read-given old mid new left some remain format records.trace.accesses records.count records.begun.items bytes is false false given)
+    (λ (none : (next : List ℕ) → accesses_after records.format records.count (records.begun.items ++ (bytes ++ next)) ≡ None).
+    read-bad old mid new left some remain format records.trace.accesses records.count records.begun.items bytes is given
+    (λ next. ap (λ f. accesses_after f records.count (records.begun.items ++ (bytes ++ next))) (sym c.loop-index.invariant.format) ∙ none next))
     c.in_err-take.ensures.bad)

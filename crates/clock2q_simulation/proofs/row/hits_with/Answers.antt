@@ -1,5 +1,8 @@
-use Rattle.std.proofs.Common.{◌≡◌, ap, arith, length}
+use Rattle.std.proofs.Common.{◌≡◌, ◌∙◌, [], ap, sym, false, arith, length, rules}
 use Rattle.std.specs.NonZero.{non_zero_usize_get}
+use Rattle.clock2q_simulation.specs.Sample.{sampled}
+use Rattle.clock2q_simulation.specs.Trace.{kept_sizes, sizes_of}
+use Rattle.clock2q_simulation.proofs.Bytes.{known-bytes, replay-bytes}
 use Rattle.clock2q_simulation.proofs.Replaying.{after_are}
 use Rattle.clock2q_simulation.proofs.row.hits_with.Goals as goal
 
@@ -12,3 +15,16 @@ returns-clause-hits g c =
     after_are c.args.shares c.args.trace.now.numbers (non_zero_usize_get c.args.capacity) (omega (arith, c.args.capacity.ok)) c.in_ok-replay.replay.policy
     c.in_ok-replay.replay.outcomes.items c.in_ok-replay.ensures.replay c.args.skipped c.min-first.result (length c.numbers-accesses.result.now)
     c.deref.result.now c.hits_between-hits.result c.deref.ensures.value long c.min-first.ensures c.hits_between-hits.ensures.hits
+
+pub returns-clause-bytes : goal.returns-clause-bytes
+returns-clause-bytes g c =
+    replay-bytes c.args.shares c.args.trace.now.numbers (sizes_of c.args.trace.now) (non_zero_usize_get c.args.capacity) c.args.skipped c.in_ok-replay.replay.policy
+    c.in_ok-replay.replay.outcomes.items c.in_ok-replay.ensures.replay c.deref-2.result.now c.numbers-accesses.result.now c.sizes.result.now c.hit_bytes-bytes.result
+    c.deref-2.ensures.value c.numbers-accesses.ensures.numbers c.sizes.ensures.sizes c.hit_bytes-bytes.ensures.bytes
+
+pub returns-then-not-has_sizes-clause-bytes : goal.returns-then-not-has_sizes-clause-bytes
+returns-then-not-has_sizes-clause-bytes g c =
+    let trace = c.args.trace.now in
+    let unsized : trace.is_sized ≡ false = sym c.has_sizes.ensures.sized ∙ c.if-not-has_sizes.true in
+    known-bytes c.args.shares trace.numbers (sizes_of trace) (non_zero_usize_get c.args.capacity) c.args.skipped (length trace.numbers) c.args.policy (search rules)
+    (ap (λ sized. kept_sizes sized (sampled trace.sample trace.accesses)) unsized)

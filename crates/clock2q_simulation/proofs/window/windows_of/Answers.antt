@@ -20,7 +20,7 @@ loop-first-preserved g c =
     let long : length c.numbers-accesses.result.now ≡ length numbers = ap length c.numbers-accesses.ensures.numbers in
     let count : c.min-count.result ≡ min size (length numbers - first) = omega (arith, c.min-count.ensures, c.get.ensures.value, long) in
     let row = row_is c.args.policies.now c.args.shares numbers (non_zero_usize_get c.args.capacity) (omega (arith, c.args.capacity.ok)) c.in_ok-replays.replays.items
-    c.deref.result.now first (first + c.min-count.result) c.in_ok-row.row
+    c.deref.result.now first (first + c.min-count.result) c.sizes.result.now c.in_ok-row.row
     c.deref.ensures.value c.in_ok-replays.ensures.replays (omega arith) (omega (arith, c.loop-first-test.true, count, long))
     c.in_ok-row.ensures.hits (ap non_zero_usize_get c.in_ok-row.ensures.capacity) c.in_ok-row.ensures.accesses in
     let next = one_more c.args.policies.now c.args.shares numbers (non_zero_usize_get c.args.capacity) size (min c.args.skipped (length numbers)) first c.min-count.result

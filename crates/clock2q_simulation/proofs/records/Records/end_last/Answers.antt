@@ -1,6 +1,6 @@
 use Rattle.std.proofs.Common.{◌≡◌, ◌∙◌, ◌++◌, ℕ, List, [], Some, None, ap, append-nil, rules}
-use Rattle.clock2q_simulation.specs.Formats.{keys_after}
-use Rattle.clock2q_simulation.specs.Reading.{IsOfLines, between, joined_keys}
+use Rattle.clock2q_simulation.specs.Formats.{accesses_after}
+use Rattle.clock2q_simulation.specs.Reading.{IsOfLines, between, joined}
 use Rattle.clock2q_simulation.proofs.RecordByRecord.{Ends, bad-result, last-ends, none-left, ok-result}
 use Rattle.clock2q_simulation.proofs.records.Records.end_last.Goals as goal
 
@@ -9,15 +9,16 @@ returns-in-Lines g c =
     let self = c.args.self.now in
     let new = c.end_record.new.self in
     let lined : IsOfLines self.format = search rules in
-    let same : keys_after self.format self.count self.begun.items ≡ keys_after self.format self.count (self.begun.items ++ (between self.format ++ [])) =
+    let same : accesses_after self.format self.count self.begun.items ≡ accesses_after self.format self.count (self.begun.items ++ (between self.format ++ [])) =
     last-ends self.format self.begun.items self.count lined c.requires.begun c.requires.some in
     record {
       sample = c.end_record.ensures.sample;
-      keys = ok-result c.end_record.result
-          (λ (ends : Ends self.trace.keys new.trace.keys self.count new.count self.begun.items self.format).
-          ap (joined_keys self.trace.keys) same ∙ ends [] ∙ ap (joined_keys new.trace.keys) (none-left self.format new.count) ∙ ap Some (append-nil new.trace.keys))
+      sized = c.end_record.ensures.sized;
+      accesses = ok-result c.end_record.result
+          (λ (ends : Ends self.trace.accesses new.trace.accesses self.count new.count self.begun.items self.format).
+          ap (joined self.trace.accesses) same ∙ ends [] ∙ ap (joined new.trace.accesses) (none-left self.format new.count) ∙ ap Some (append-nil new.trace.accesses))
           c.end_record.ensures.ended;
       bad = bad-result c.end_record.result
-          (λ (none : (next : List ℕ) → keys_after self.format self.count (self.begun.items ++ (between self.format ++ next)) ≡ None). same ∙ none [])
+          (λ (none : (next : List ℕ) → accesses_after self.format self.count (self.begun.items ++ (between self.format ++ next)) ≡ None). same ∙ none [])
           c.end_record.ensures.bad;
     }

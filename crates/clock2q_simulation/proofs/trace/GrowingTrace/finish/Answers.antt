@@ -1,10 +1,13 @@
 use Rattle.std.proofs.Common.{sym, subst}
 use Rattle.clock2q_simulation.specs.Sample.{sampled}
-use Rattle.clock2q_simulation.specs.Trace.{AreNumbersOf}
+use Rattle.clock2q_simulation.specs.Trace.{AreNumbersOf, keys_of}
 use Rattle.clock2q_simulation.proofs.Numbering.{numbers_are}
 use Rattle.clock2q_simulation.proofs.trace.GrowingTrace.finish.Goals as goal
 
 pub invariant_of-result : goal.invariant_of-result
 invariant_of-result g c =
-    subst (AreNumbersOf (sampled c.self.inside.sample c.self.inside.keys.value) c.self.inside.numbers.items) (sym c.len.ensures.len)
-    (numbers_are c.self.inside.known c.self.inside.numbers.items (sampled c.self.inside.sample c.self.inside.keys.value) c.self.invariant)
+    let keys = keys_of (sampled c.self.inside.sample c.self.inside.accesses.value) in
+    record {
+      numbered = subst (AreNumbersOf keys c.self.inside.numbers.items) (sym c.len.ensures.len) (numbers_are c.self.inside.known c.self.inside.numbers.items keys c.self.invariant.numbered);
+      kept = c.self.invariant.kept;
+    }

@@ -3,4 +3,4 @@ use Rattle.clock2q_simulation.specs.Trace.{AreUsed}
 use Rattle.clock2q_simulation.proofs.trace.Trace.key_count.Goals as goal
 
 pub returns-clause-used : goal.returns-clause-used
-returns-clause-used g c = subst (λ numbers. AreUsed numbers c.self.inside.different) (ap (λ t. t.numbers) c.self.view_is) c.self.invariant.used
+returns-clause-used g c = subst (λ numbers. AreUsed numbers c.self.inside.different) (ap (λ t. t.numbers) c.self.view_is) c.self.invariant.numbered.used

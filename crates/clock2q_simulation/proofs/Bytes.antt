@@ -1,0 +1,73 @@
+-- Sums of sizes, one access at a time.
+use Rattle.std.proofs.Common.{◌≡◌, ℕ, ◌+◌, ◌-◌, ◌^◌, ◌<◌, ◌≤◌, Bool, true, false, cond, List, [], ◌∷◌, Option, length, take, drop, get_or, min, refl, sym, ap, ◌∙◌, arith}
+use Rattle.std.specs.List.{sum}
+use Rattle.std.proofs.lemmas.List.{drop_all, drop_more, get_or-take, length-drop, length-take, take_all}
+use Rattle.std.proofs.lemmas.List.Sums.{sum_by-drop_more}
+use Rattle.clock2q_policies.specs.declared.plain.PlainPolicy.TheVariants as plain
+use Rattle.clock2q_policies.specs.Policies.{plain_outcomes}
+use Rattle.clock2q_simulation.specs.declared.policy.Policy.{Policy}
+use Rattle.clock2q_simulation.specs.declared.policy.Policy.TheVariants.{LeastRecentlyUsed}
+use Rattle.clock2q_simulation.specs.declared.shares.ChosenShares.{ChosenShares}
+use Rattle.clock2q_simulation.specs.Bytes.{AreBytes, between, capped, hit_between, hit_bytes}
+use Rattle.clock2q_simulation.specs.Rows.{IsReplay}
+use Rattle.clock2q_simulation.proofs.Replaying.{least_recent_is}
+
+-- nothing has a size
+pub unsized_hits : (outcomes : List Bool) → hit_bytes outcomes [] ≡ 0
+unsized_hits [] = refl
+unsized_hits (hit ∷ outcomes) = refl
+
+-- the next access
+part-more : {X : Type 0} (xs : List X) (last i : ℕ) (d : X) → i < last → i < length xs → between i last xs ≡ get_or xs i d ∷ between (i + 1) last xs
+part-more xs last i d low within =
+    let long : i < length (take last xs) = omega (arith, low, within, length-take last xs) in
+    drop_more (take last xs) i d long ∙ ap (λ x. x ∷ between (i + 1) last xs) (get_or-take last xs i d low)
+
+pub hit-more : (outcomes : List Bool) (sizes : List ℕ) (last i : ℕ) → i < last → i < length outcomes → i < length sizes
+    → hit_bytes (between i last outcomes) (between i last sizes) ≡ cond (get_or outcomes i false) (get_or sizes i 0) 0 + hit_bytes (between (i + 1) last outcomes) (between (i + 1) last sizes)
+hit-more outcomes sizes last i low seen sized = rw (part-more outcomes last i false low seen, part-more sizes last i 0 low sized) refl
+
+pub sum-more : (sizes : List ℕ) (last i : ℕ) → i < last → i < length sizes → sum (between i last sizes) ≡ get_or sizes i 0 + sum (between (i + 1) last sizes)
+sum-more sizes last i low sized =
+    let long : i < length (take last sizes) = omega (arith, low, sized, length-take last sizes) in
+    sum_by-drop_more (λ x. x) (take last sizes) i 0 long ∙ ap (λ x. x + sum (between (i + 1) last sizes)) (get_or-take last sizes i 0 low)
+
+-- no access is left
+long : {X : Type 0} (xs : List X) (last i : ℕ) → length (between i last xs) ≡ min last (length xs) - i
+long xs last i = length-drop i (take last xs) ∙ ap (λ n. n - i) (length-take last xs)
+
+none : (outcomes : List Bool) (sizes : List ℕ) → min (length outcomes) (length sizes) ≡ 0 → hit_bytes outcomes sizes ≡ 0
+none [] sizes e = refl
+none (hit ∷ outcomes) [] e = refl
+none (hit ∷ outcomes) (size ∷ sizes) e = absurd (omega (arith, e))
+
+pub hit-done : (outcomes : List Bool) (sizes : List ℕ) (last i : ℕ) → min (min last (length outcomes)) (length sizes) ≤ i → hit_bytes (between i last outcomes) (between i last sizes) ≡ 0
+hit-done outcomes sizes last i past = none (between i last outcomes) (between i last sizes) (omega (arith, past, long outcomes last i, long sizes last i))
+
+pub sum-done : (sizes : List ℕ) (last i : ℕ) → min last (length sizes) ≤ i → sum (between i last sizes) ≡ 0
+sum-done sizes last i past = ap sum (drop_all i (take last sizes) (omega (arith, past, length-take last sizes)))
+
+-- Without sizes there are no bytes.
+pub no-bytes : (first last : ℕ) (outcomes : List Bool) → hit_between first last outcomes [] ≡ 0
+no-bytes first last outcomes =
+    let nothing : between first last [] ≡ [] = ap (drop first) (take_all last [] (omega arith)) ∙ drop_all first [] (omega arith) in
+    ap (λ sizes. capped (hit_bytes (between first last outcomes) sizes)) nothing ∙ ap capped (unsized_hits (between first last outcomes))
+
+pub known-bytes : (shares : Option ChosenShares) (numbers sizes : List ℕ) (room first last : ℕ) (policy : Policy) → policy ≡ LeastRecentlyUsed → sizes ≡ [] → AreBytes shares numbers sizes room first last policy 0
+known-bytes shares numbers sizes room first last policy is none =
+    let outcomes = plain_outcomes plain.LeastRecentlyUsed room numbers in
+    record {
+      outcomes = outcomes;
+      replay = least_recent_is shares numbers room policy outcomes is refl;
+      are = sym (ap (hit_between first last outcomes) none ∙ no-bytes first last outcomes);
+    }
+
+-- the bytes of a replay
+pub replay-bytes : (shares : Option ChosenShares) (numbers sizes : List ℕ) (room skipped : ℕ) (policy : Policy) (outcomes : List Bool) → IsReplay shares numbers room policy outcomes
+    → (seen : List Bool) (counted : List ℕ) (found : List ℕ) (bytes : ℕ) → seen ≡ outcomes → counted ≡ numbers → found ≡ sizes → bytes ≡ hit_between skipped (length counted) seen found
+    → AreBytes shares numbers sizes room skipped (length numbers) policy bytes
+replay-bytes shares numbers sizes room skipped policy outcomes replay seen counted found bytes s n z are = record {
+  outcomes = outcomes;
+  replay = replay;
+  are = are ∙ ap (λ ns. hit_between skipped (length ns) seen found) n ∙ ap (λ os. hit_between skipped (length numbers) os found) s ∙ ap (hit_between skipped (length numbers) outcomes) z;
+}
