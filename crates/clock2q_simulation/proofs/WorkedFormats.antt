@@ -1,19 +1,28 @@
--- The keys of small texts, computed.
-use Rattle.std.specs.Prelude.{◌≡◌, [], ◌∷◌, drop, Some, None, codes, refl}
+-- The accesses of small texts, computed.
+use Rattle.std.specs.Prelude.{◌≡◌, [], ◌∷◌, drop, map, Some, None, codes, refl}
+use Rattle.std.specs.Option.{option_map}
 use Rattle.clock2q_ports.specs.Lines.{lines_of}
 use Rattle.clock2q_simulation.specs.declared.format.TraceFormat.TheVariants.{Lines, OracleGeneral}
-use Rattle.clock2q_simulation.specs.Formats.{column_of, field, fields_of, keys_in}
+use Rattle.clock2q_simulation.specs.Formats.{Access, access, accesses_in, accesses_of, field, fields_of, unsized}
 
-lines : keys_in Lines (codes "b\na\n\nb") ≡ Some (codes "b" ∷ codes "a" ∷ [] ∷ codes "b" ∷ [])
+lines : accesses_in Lines (codes "b\na\n\nb") ≡ Some (map unsized (codes "b" ∷ codes "a" ∷ [] ∷ codes "b" ∷ []))
 unfolding lines_of
 lines = refl
 
 -- the first line is a header
-keys_of_lines : column_of 2 (drop 1 (lines_of (codes "time,key\n1,a\n2,\"b\"\n"))) ≡ Some (codes "a" ∷ codes "b" ∷ [])
+keys_of_lines : accesses_of 2 None (drop 1 (lines_of (codes "time,key\n1,a\n2,\"b\"\n"))) ≡ Some (unsized (codes "a") ∷ unsized (codes "b") ∷ [])
 unfolding lines_of
 keys_of_lines = refl
 
-no_second_value : column_of 2 (drop 1 (lines_of (codes "time,key\n1,a\n2\n"))) ≡ None
+keys_and_sizes_of_lines : accesses_of 2 (Some 1) (drop 1 (lines_of (codes "size,key\n7,a\n20,b\n"))) ≡ Some (access (codes "a") 7 ∷ access (codes "b") 20 ∷ [])
+unfolding lines_of
+keys_and_sizes_of_lines = refl
+
+size_without_a_number : accesses_of 2 (Some 1) (drop 1 (lines_of (codes "size,key\n7,a\nx,b\n"))) ≡ None
+unfolding lines_of
+size_without_a_number = refl
+
+no_second_value : accesses_of 2 None (drop 1 (lines_of (codes "time,key\n1,a\n2\n"))) ≡ None
 unfolding lines_of
 no_second_value = refl
 
@@ -46,8 +55,8 @@ quote_without_its_end : field 1 (codes "1,\"a") ≡ None
 quote_without_its_end = refl
 
 -- a record of oracleGeneral has its key in its fifth to twelfth byte
-two_records : keys_in OracleGeneral (codes "timeidentifysizenextaccstime8bytes!!sizenextaccs") ≡ Some (codes "identify" ∷ codes "8bytes!!" ∷ [])
+two_records : option_map (map (λ (a : Access). a.key)) (accesses_in OracleGeneral (codes "timeidentifysizenextaccstime8bytes!!sizenextaccs")) ≡ Some (codes "identify" ∷ codes "8bytes!!" ∷ [])
 two_records = refl
 
-part_of_a_record : keys_in OracleGeneral (codes "timeidentifysizenextaccstime") ≡ None
+part_of_a_record : accesses_in OracleGeneral (codes "timeidentifysizenextaccstime") ≡ None
 part_of_a_record = refl

@@ -96,15 +96,15 @@ same_resident {key} {hashes} {h} {h'} {r} {r'} k same there beside keys =
     }
 
 -- a lookup changes nothing but the count of comparisons and what the index read
-pub kept_resident : {key hashes x : ℕ} {h h' : Remembered ℕ} {r r' : KeyPlaces ℕ (Unit {0})} → HasResident key hashes h r
+pub kept_resident : {key hashes : ℕ} (x : ℕ) {h h' : Remembered ℕ} {r r' : KeyPlaces ℕ (Unit {0})} → HasResident key hashes h r
     → h' ≡ record h { places = places_looked_up x h.places; comparisons = h'.comparisons } → r' ≡ record r { comparisons = r'.comparisons } → HasResident key hashes h' r'
-kept_resident {h = h} {h' = h'} {r = r} {r' = r'} k same keys =
+kept_resident x {h = h} {h' = h'} {r = r} {r' = r'} k same keys =
     same_resident {h = h} {h' = h'} {r = r} {r' = r'} k (ap (λ (z : Remembered ℕ). z.entries) same) (ap (λ (z : Remembered ℕ). slots z.places.index) same) (ap (λ (z : Remembered ℕ). most_beside z) same) keys
 
 -- a lookup among the residents alone
-pub looked_resident : {key hashes x comparisons : ℕ} {h h' : Remembered ℕ} {r r' : KeyPlaces ℕ (Unit {0})} → HasResident key hashes h r
+pub looked_resident : {key hashes comparisons : ℕ} (x : ℕ) {h h' : Remembered ℕ} {r r' : KeyPlaces ℕ (Unit {0})} → HasResident key hashes h r
     → h' ≡ record h { places = places_looked_up x h.places } → r' ≡ record r { comparisons = comparisons } → HasResident key hashes h' r'
-looked_resident {h = h} {h' = h'} {r = r} {r' = r'} k same asked =
+looked_resident x {h = h} {h' = h'} {r = r} {r' = r'} k same asked =
     same_resident {h = h} {h' = h'} {r = r} {r' = r'} k (ap (λ (z : Remembered ℕ). z.entries) same) (ap (λ (z : Remembered ℕ). slots z.places.index) same) (ap (λ (z : Remembered ℕ). most_beside z) same)
     (rw asked refl)
 

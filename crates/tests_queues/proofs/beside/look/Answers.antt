@@ -17,10 +17,10 @@ find_resident-again-requires g c =
 pub key_equals-requires : goal.key_equals-requires
 key_equals-requires g c =
     let e = c.find_resident-again.ensures in
-    record { made = (is-resident (looked_resident c.requires.resident e.kept e.counted)).made }
+    record { made = (is-resident (looked_resident (c.args.key % c.args.hashes) c.requires.resident e.kept e.counted)).made }
 
 pub returns : goal.returns
 returns g c =
     let e = c.find_resident-again.ensures in
     let n = c.key_equals.ensures in
-    record { resident = asked_resident (looked_resident c.requires.resident e.kept e.counted) n.kept n.counted }
+    record { resident = asked_resident (looked_resident (c.args.key % c.args.hashes) c.requires.resident e.kept e.counted) n.kept n.counted }

@@ -19,7 +19,7 @@ lookup-found-requires g c =
 pub remember-requires : goal.remember-requires
 remember-requires g c =
     let e = c.lookup-found.ensures in
-    let k = kept_resident c.requires.resident e.kept e.residents in
+    let k = kept_resident (c.args.key % c.args.hashes) c.requires.resident e.kept e.residents in
     record {
       resident = is-resident k;
       room = within-room k;
@@ -30,4 +30,4 @@ pub returns : goal.returns
 returns g c =
     let e = c.lookup-found.ensures in
     let r = c.remember.ensures in
-    record { resident = remembered-resident (kept_resident c.requires.resident e.kept e.residents) r.index r.entries (ap (λ (z : KeyPlaces ℕ (Unit {0})). z.room) r.kept) }
+    record { resident = remembered-resident (kept_resident (c.args.key % c.args.hashes) c.requires.resident e.kept e.residents) r.index r.entries (ap (λ (z : KeyPlaces ℕ (Unit {0})). z.room) r.kept) }
