@@ -22,7 +22,7 @@ spends-more spent links keys = record {
 }
 
 module _ {K V : Type 0} (q : QueueState) (h : Remembered K) (keys keys' : KeyPlaces K V) where
-  -- a lookup asks at most as many comparisons as there are places
+  -- a lookup makes at most as many comparisons as there are places
   pub asked-spends : (test : ℕ → Bool) {places all : List ℕ} → places ≡ all
       → keys' ≡ record keys { comparisons = keys.comparisons + comparisons_of test places } → Spends 0 0 (length all) (counts_of q h keys) (counts_of q h keys')
   asked-spends test {places} same is =
@@ -30,7 +30,7 @@ module _ {K V : Type 0} (q : QueueState) (h : Remembered K) (keys keys' : KeyPla
       let most = ap (λ (z : List ℕ). length z) same in
       record { inspections = omega arith; accesses = (omega arith, omega arith); comparisons = (omega (arith, asked), omega (arith, asked, most, comparisons-most test places)) }
 
-  -- making keys asks no comparison
+  -- new keys cost no comparison
   pub made-spends : keys'.comparisons ≡ keys.comparisons → Spends 0 0 0 (counts_of q h keys) (counts_of q h keys')
   made-spends same = record { inspections = omega arith; accesses = (omega arith, omega arith); comparisons = (omega (arith, same), omega (arith, same)) }
 

@@ -1,4 +1,4 @@
--- What a call costs a cache: inspections by the hand, accesses to links, comparisons to keys, slots of the index.
+-- What a call costs a cache: inspections by the hand, accesses to links, comparisons of keys, slots of the index.
 use Rattle.std.specs.Prelude.{◌≡◌, ℕ, ◌+◌, ◌*◌, ◌≤◌, Bool, if◌then◌else◌, Option, Some, None, is_some, length, sum_by}
 use Rattle.std.specs.List.{list_any, last_or}
 use Rattle.std.specs.Option.{option_map}
@@ -15,7 +15,7 @@ use Rattle.clock2q_machine.specs.Leaving.{leaves_for}
 use Rattle.clock2q_cache.specs.CacheState.{CacheState, Counts, residents_in, remembered_in}
 use Rattle.clock2q_cache.specs.Hashes.{hash_of}
 
--- the hand made this many inspections, and at most this many links were accessed and comparisons asked
+-- the hand made this many inspections, and at most this many links were accessed and keys compared
 pub record Spends (inspected links keys : ℕ) (old new : Counts) : Type 0 where
   pub inspections : new.inspections ≡ old.inspections + inspected
   pub accesses : Rises 0 links old.accesses new.accesses

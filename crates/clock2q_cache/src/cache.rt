@@ -130,7 +130,7 @@ impl<K: Hash + Eq, V, S: BuildHasher, A: Allocator> Cache<K, V, S, A> {
     ///
     /// # Cost
     ///
-    /// One hash of the key, one walk of the index, and at most one comparison to each candidate among
+    /// One hash of the key, one walk of the index, and at most one comparison with each candidate among
     /// the residents.
     pub fn contains(&self, key: &K) -> bool
         ensures resident { IsTrue result ↔ IsSome (slot_of (K.eq key.now) self.now.machine) }
@@ -198,7 +198,7 @@ impl<K: Hash + Eq, V, S: BuildHasher, A: Allocator> Cache<K, V, S, A> {
     ///
     /// # Cost
     ///
-    /// No hash, at most one comparison, to the key at that slot, and no access to a link.
+    /// No hash, at most one comparison, with the key at that slot, and no access to a link.
     pub fn get_at(&mut self, slot: usize, key: &K) -> Option<&V>
         ensures* machine { sem 𝓛
             (LeavesMachine K.row V.row S.row A.row S.Hasher.row K.Hash S.BuildHasher S.Hasher.Hasher A.Allocator self.entry
@@ -397,7 +397,7 @@ impl<K: Hash + Eq + Drop, V: Drop, S: BuildHasher, A: Allocator> Cache<K, V, S, 
     ///
     /// # Cost
     ///
-    /// One hash of the key, one lookup in the index, and at most one comparison to each candidate
+    /// One hash of the key, one lookup in the index, and at most one comparison with each candidate
     /// among the residents and in the history. No link is accessed if the key is resident;
     /// otherwise there are at most 36 more accesses to links than inspections by the hand, and at
     /// most four changes of the index: two under the key's hash, one under that of the key that

@@ -79,8 +79,8 @@ a_peek_is_no_hit : replies_when_full 20 (Peek 1 ∷ Put 21 21 ∷ GetAt 0 21 ∷
     ≡ Value (Some 1) ∷ Value None ∷ Value (Some 21) ∷ Flag false ∷ Flag true ∷ []
 a_peek_is_no_hit = refl
 
-a_comparison_is_no_hit : replies_when_full 20 (Contains 1 ∷ Put 21 21 ∷ Contains 1 ∷ Contains 3 ∷ []) ≡ Flag true ∷ Value None ∷ Flag false ∷ Flag true ∷ []
-a_comparison_is_no_hit = refl
+a_question_is_no_hit : replies_when_full 20 (Contains 1 ∷ Put 21 21 ∷ Contains 1 ∷ Contains 3 ∷ []) ≡ Flag true ∷ Value None ∷ Flag false ∷ Flag true ∷ []
+a_question_is_no_hit = refl
 
 a_failed_fetch_is_a_hit : replies_when_full 20 (Try 1 None ∷ Put 21 21 ∷ Contains 1 ∷ Contains 3 ∷ []) ≡ Tried (Some 1) ∷ Value None ∷ Flag true ∷ Flag false ∷ []
 a_failed_fetch_is_a_hit = refl

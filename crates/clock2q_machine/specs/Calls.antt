@@ -2,7 +2,7 @@
 use Rattle.std.specs.Prelude.{ℕ, Bool, List, Option}
 
 -- `With` and `Try` have the value that a closure would return, `Try` none if it fails; `Retain` has the answers to its
--- comparisons, and `Prefill` the values made
+-- questions, and `Prefill` the values made
 pub data Call (K V : Type 0) : Type 0 where
   Put : K → V → Call K V
   Get : K → Call K V

@@ -4,7 +4,7 @@ use Rattle.std.specs.Option.{option_and_then}
 use Rattle.clock2q_machine.specs.Calls.{Call, Answer, Put, Get, Peek, Contains, GetAt, Set, With, Try, SlotFor, Remove, Retain, Clear, Evict, Prefill, Len, IsEmpty, Capacity, Value, Stored, Tried, Slot, Flag, Number, Done}
 use Rattle.clock2q_machine.specs.Machine.{Machine, resident_count, slot_of, value_of, hit, placement, stored, inserted, reused, removed, by_slot, vacated_all, leaves_now, evicted, cleared, prefilled}
 
--- the slots whose comparison was answered with false; past the end every answer is true
+-- the slots whose question was answered with false; past the end every answer is true
 abbrev pub refused_slots : List Bool → List ℕ → List ℕ
 refused_slots [] slots = []
 refused_slots (keep ∷ bits) [] = []

@@ -74,7 +74,7 @@ pub enum Reply<V> {
     Tried(Option<V>),
     /// The slot that the key has now, and the value there.
     Slot(usize, V),
-    /// The answer to a yes-or-no comparison.
+    /// The answer to a yes-or-no question.
     Flag(bool),
     /// A number of keys.
     Number(usize),

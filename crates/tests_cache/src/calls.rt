@@ -51,7 +51,7 @@ pub(crate) enum Answer {
     Done,
 }
 
-/// The answer to a comparison of `retain`, after `asked` earlier ones.
+/// The answer to a question of `retain`, after `asked` earlier ones.
 pub(crate) fn is_kept(bits: u64, count: u32, asked: u32) -> bool {
     asked >= count || bits.checked_shr(asked).unwrap_or(1) % 2 == 1
 }

@@ -22,7 +22,7 @@ impl<K: Hash + Eq, V, S: BuildHasher, A: Allocator> Cache<K, V, S, A> {
     ///
     /// # Cost
     ///
-    /// One hash of the key, and at most one comparison to each candidate. At most eight accesses to
+    /// One hash of the key, and at most one comparison with each candidate. At most eight accesses to
     /// links, one lookup in the index and one change of it, both under the key's hash, and no
     /// inspection by the hand.
     pub fn remove(&mut self, key: &K) -> bool

@@ -148,7 +148,7 @@ impl<K: Hash + Eq + Drop, V: Drop, S: BuildHasher, A: Allocator> Cache<K, V, S, 
     ///
     /// # Cost
     ///
-    /// One hash of the key, and at most one comparison to each candidate in the history. If the key
+    /// One hash of the key, and at most one comparison with each candidate in the history. If the key
     /// is inserted, that of [`put`](Cache::put), and one more walk of the index, the first, which
     /// `costs` leaves out.
     pub fn slot_with_hash_or_insert(&mut self, key: K, value: V) -> (usize, bool)
