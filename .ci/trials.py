@@ -15,7 +15,7 @@ PARTS = ("src", "specs", "proofs")
 GONE = re.compile(r"has no field|is not in scope|has no `|was not admitted")
 # What antt says of a text that it can't read.
 UNREAD = re.compile(r"is not in scope|has no field|is no name|operand is missing|expected the end|cannot continue")
-# Stands for a function whose clauses are answered together.
+# For a function whose clauses are answered together.
 ALL = "all its clauses"
 
 
@@ -54,9 +54,9 @@ class Edit:
     def __str__(self):
         return f"{self.crate}/{self.path.parent.name}/{self.name}"
 
-    def texts(self, crate):
-        """Returns the texts of the files that the edit changes in the crate's folder, by their paths."""
-        texts = {}
+    def texts(self, crate, texts=()):
+        """Returns the texts of the files that the edit changes in the crate's folder, by their paths, over those that are given."""
+        texts = dict(texts)
         for file, old, new in self.pairs:
             if file not in texts and not (crate / file).is_file():
                 raise BadEdit(f"{self}: there is no file {file}")
@@ -204,8 +204,8 @@ def is_unread(line, changed):
     return not found[2] or bool(UNREAD.search(re.sub(r"`[^`]*`", "", found[3])))
 
 
-def judge(edit, log, crate):
-    """Returns whether the edit was refused as its first line says, and what to say of it."""
+def judge(edit, log, crate, changed):
+    """Returns whether the edit was refused as its first line says, and what to say of it. `changed` are the files that the check had from edits."""
     # rt may have proved libraries below the crate first: the crate's own verdict is the last one
     verdicts = [it for it in log if it.startswith("logic=")]
     if not verdicts:
@@ -213,7 +213,6 @@ def judge(edit, log, crate):
         return False, "it doesn't compile: " + (errors or log or ["nothing was said"])[0][:300]
     if verdicts[-1].startswith("logic=proved"):
         return False, "it is proved, and so not refused"
-    changed = {file for file, _, _ in edit.pairs}
     if unread := [it for it in log if it.startswith("src/") and "error[" in it or is_unread(it, changed)]:
         return False, f"its text can't be read, so no contract was tried: {unread[0][:300]}"
     refused_at, gone = refusing(log, crate)
@@ -225,11 +224,13 @@ def judge(edit, log, crate):
     return False, f"{edit.function}, {edit.clause} isn't where it is refused: {where or 'nowhere that could be read'}"
 
 
-def try_on(copy, edit, checks, *flags):
-    """Applies the edit to a copy of its crate, checks that, and returns whether it was refused as it says, and what to say of it."""
-    edit.apply(copy)
+def try_on(copy, edits, checks, *flags):
+    """Applies the edits to a copy of their crate, checks that, and returns for each whether it was refused as it says and what to say of it, and what rt printed."""
+    for edit in edits:
+        edit.apply(copy)
     log = checks.check(copy, *flags)
-    return (*judge(edit, log, copy), log)
+    changed = {file for edit in edits for file, _, _ in edit.pairs}
+    return [judge(it, log, copy, changed) for it in edits], log
 
 
 def explain(log):
