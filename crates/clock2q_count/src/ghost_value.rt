@@ -13,10 +13,10 @@ use std::marker::{Model, PhantomData};
 ///
 /// ```
 /// struct Count {
-///     told: GhostValue<usize>,
+///     ticks: GhostValue<usize>,
 /// }
 ///
-/// self.told.set(&());
+/// self.ticks.set(&());
 /// ```
 #[derive(Drop)]
 pub struct GhostValue<T> {

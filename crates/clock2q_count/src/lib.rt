@@ -31,7 +31,7 @@ use std::marker::Model;
 /// ```
 #[derive(Drop)]
 pub struct Count {
-    told: GhostValue<usize>,
+    ticks: GhostValue<usize>,
 }
 
 impl Model for Count {
@@ -39,7 +39,7 @@ impl Model for Count {
 
     ghost Value = { Counted };
 
-    ghost view = { λ count. record { total = count.told.value } };
+    ghost view = { λ count. record { total = count.ticks.value } };
 }
 
 impl Count {
@@ -48,7 +48,7 @@ impl Count {
         ensures zero { result.total ≡ 0 }
     {
         Count {
-            told: GhostValue::new(&()),
+            ticks: GhostValue::new(&()),
         }
     }
 
@@ -56,7 +56,7 @@ impl Count {
     pub fn tick(&mut self)
         ensures ticked { self.new.total ≡ self.old.total + 1 }
     {
-        self.told.set(&());
+        self.ticks.set(&());
     }
 
     /// Raises the count to a bound that the proof of the call picks. The bound may depend on what
@@ -66,7 +66,7 @@ impl Count {
         requires reached { self.old.total ≤ bound }
         ensures raised { self.new.total ≡ bound }
     {
-        self.told.set(seen);
+        self.ticks.set(seen);
     }
 }
 

@@ -115,11 +115,11 @@ module _ {K V : Type 0} (eq : K → K → Bool) (hash slot : ℕ) (key : K) (val
     wrote : keys'.entries ≡ written place (entry hash key value) keys.entries
     wrote = ap (λ (z : KeyPlaces K V). z.entries) write
 
-    stands : slice_get keys'.entries place ≡ Some (entry hash key value)
-    stands = ap (λ z. slice_get z place) wrote ∙ slice_get-written place (entry hash key value) keys.entries m.next
+    at_place : slice_get keys'.entries place ≡ Some (entry hash key value)
+    at_place = ap (λ z. slice_get z place) wrote ∙ slice_get-written place (entry hash key value) keys.entries m.next
 
-    stands_still : (t : ℕ) → has t fewer ≡ true → slice_get keys'.entries t ≡ slice_get keys.entries t
-    stands_still t g =
+    others_kept : (t : ℕ) → has t fewer ≡ true → slice_get keys'.entries t ≡ slice_get keys.entries t
+    others_kept t g =
         let d : eqb t place ≡ false = differs t place fewer g m.absent in
         ap (λ z. slice_get z t) wrote ∙ slice_get-written_other place t (entry hash key value) keys.entries m.next (λ e. both_ways (eqb t place) d (eq-eqb t place e))
 
@@ -127,10 +127,10 @@ module _ {K V : Type 0} (eq : K → K → Bool) (hash slot : ℕ) (key : K) (val
     entries_now =
         let n : order.limit ≡ suc (order.limit - 1) = omega (arith, some) in
         let below = AllBelow-left (used order) order.places order.free h.whole.below in
-        let at : hashed_at keys'.entries place ≡ Some (hash, key) = ap (λ z. elim z [ None ↦ None | Some e ↦ Some (e.hash, e.key) ]) stands in
+        let at : hashed_at keys'.entries place ≡ Some (hash, key) = ap (λ z. elim z [ None ↦ None | Some e ↦ Some (e.hash, e.key) ]) at_place in
         ap (λ z. entries_of keys'.entries z) m.places
         ∙ entries-cons keys'.entries place (hash, key) fewer at
-        ∙ ap (λ zs. (hash, key) ∷ zs) (entries-agree keys.entries keys'.entries fewer stands_still
+        ∙ ap (λ zs. (hash, key) ∷ zs) (entries-agree keys.entries keys'.entries fewer others_kept
         ∙ entries-take keys.entries (used order) (order.limit - 1) order.places (omega (arith, h.as_many)) below)
         ∙ ap (λ z. take z ((hash, key) ∷ entries_of keys.entries order.places)) (sym n)
 
@@ -140,8 +140,8 @@ module _ {K V : Type 0} (eq : K → K → Bool) (hash slot : ℕ) (key : K) (val
     pub remembers : Remembers eq hash slot key index order keys index' order' keys'
     remembers =
         let some_slots : 0 < length (known.places index1) = rw m.as_many (elim h.some [ inl s ↦ s | inr none ↦ absurd (omega (arith, none, some)) ]) in
-        let hashes = (λ (t : ℕ) (g : has t fewer ≡ true). ap (λ z. elim z [ None ↦ None | Some e ↦ Some e.hash ]) (stands_still t g)) in
-        let at : hash_at keys'.entries place ≡ Some hash = ap (λ z. elim z [ None ↦ None | Some e ↦ Some e.hash ]) stands in
+        let hashes = (λ (t : ℕ) (g : has t fewer ≡ true). ap (λ z. elim z [ None ↦ None | Some e ↦ Some e.hash ]) (others_kept t g)) in
+        let at : hash_at keys'.entries place ≡ Some hash = ap (λ z. elim z [ None ↦ None | Some e ↦ Some e.hash ]) at_place in
         let indexed = IsIndex-remembered index1 keys.entries keys'.entries fewer hash slot place below m.indexed some_slots (still_held held) m.absent hashes at in
         let like = remembered-like index1 hash slot place in
         let shared : known.is_shared index' ≡ known.is_shared index = ap (λ z. known.is_shared z) put ∙ like.shared ∙ m.shared in

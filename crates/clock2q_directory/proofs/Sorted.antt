@@ -46,8 +46,8 @@ none-parted homes none = omega (arith, total-parted homes, none)
 -- What a call relies on
 
 -- the places' own table has room for no entry only if it has no slots
-pub tells_shared : (v : IndexState) (n : ℕ) → IsSorted v → n ≡ capacity (length v.own) → eqb n 0 ≡ is_shared v
-tells_shared v n s is = elim (cases_Bool (is_shared v)) [
+pub shared_by_capacity : (v : IndexState) (n : ℕ) → IsSorted v → n ≡ capacity (length v.own) → eqb n 0 ≡ is_shared v
+shared_by_capacity v n s is = elim (cases_Bool (is_shared v)) [
   | inl h ↦ eq-eqb n 0 (let none = eqb-true (length v.own) 0 h in omega (arith, is, none)) ∙ sym h
   | inr h ↦ ne_eqb n 0 (λ q. omega (arith, q, is, s.takes h)) ∙ sym h
 ]

@@ -31,8 +31,8 @@ sought-slot {test} {all} {nth} {bound} {more} handles {h} s is l =
     subst (λ z. Sought test all nth bound z more) (ap slots_among (begins_with is) ∙ slots-first h (drop 1 handles) l) s
 
 -- what is read there says whether the key has the hash
-pub hash-told : {K V : Type 0} (entries : List (Entry K V)) (hash place : ℕ) {h : ℕ} → hash_at entries place ≡ Some h → h ≡ hash → true ≡ has_hash entries hash place
-hash-told {K} {V} entries hash place {h} at is = of (slice_get entries place) at
+pub hash-compared : {K V : Type 0} (entries : List (Entry K V)) (hash place : ℕ) {h : ℕ} → hash_at entries place ≡ Some h → h ≡ hash → true ≡ has_hash entries hash place
+hash-compared {K} {V} entries hash place {h} at is = of (slice_get entries place) at
   where
     of : (o : Option (Entry K V)) → elim o [ None ↦ None | Some e ↦ Some e.hash ] ≡ Some h → true ≡ elim o [ None ↦ false | Some e ↦ e.hash == hash ]
     of None at = absurd (cc)

@@ -16,14 +16,14 @@ pub record CandidatesValue (H : Type 0) : Type 0 where
   pub reads : ℕ
   pub unread : ℕ
   pub handles : ℕ
-  pub stands : Bool
+  pub peeked : Bool
 
 abbrev pub candidates_value : {H : Type 0} → List H → ℕ → ℕ → ℕ → Bool → CandidatesValue H
-candidates_value left reads unread handles stands = record { left = left; reads = reads; unread = unread; handles = handles; stands = stands }
+candidates_value left reads unread handles peeked = record { left = left; reads = reads; unread = unread; handles = handles; peeked = peeked }
 
 abbrev pub candidates_code : {H : Type 0} → Coded H → Coded (CandidatesValue H)
 candidates_code {H} h =
-    code_by (List H × (ℕ × (ℕ × (ℕ × Bool)))) (coded× (coded_list h) (coded× coded_ℕ (coded× coded_ℕ (coded× coded_ℕ coded_bool)))) (λ c. (c.left, (c.reads, (c.unread, (c.handles, c.stands)))))
+    code_by (List H × (ℕ × (ℕ × (ℕ × Bool)))) (coded× (coded_list h) (coded× coded_ℕ (coded× coded_ℕ (coded× coded_ℕ coded_bool)))) (λ c. (c.left, (c.reads, (c.unread, (c.handles, c.peeked)))))
     (λ p. candidates_value p.0 p.1.0 p.1.1.0 p.1.1.1.0 p.1.1.1.1) (λ _. refl)
 
 -- a call yields the first handle that is left; the sum of what is read and what is still to be read stays the same, for slots and for handles, and at the end nothing is left to read
@@ -67,9 +67,9 @@ module _ {H : Type 0} where
   unread_at slots (Some s) n = walk (homes_of slots) (home_back slots n s.0) - s.0
 
   -- whether a walk looking for the mark in slot n has found it there
-  abbrev pub stands_at : List (Option (Placed (ℕ × H))) → Mark → ℕ → Bool
-  stands_at slots None n = false
-  stands_at slots (Some s) n = is_mark s (mark_of (slot_at slots n))
+  abbrev pub peeked_at : List (Option (Placed (ℕ × H))) → Mark → ℕ → Bool
+  peeked_at slots None n = false
+  peeked_at slots (Some s) n = is_mark s (mark_of (slot_at slots n))
 
   -- a walk for the hash has gone d slots, to slot n, and looks for the fingerprint f there
   pub record IsOnWalk (slots : List (Option (Placed (ℕ × H)))) (d f n : ℕ) : Type 0 where

@@ -80,12 +80,12 @@ module _ {E : Type 0} where
     pub apart : (h i g j : ℕ) → h < length homes → i < count homes h → g < length homes → j < count homes g → place h i ≡ place g j → (h ≡ g) × (i ≡ j)
 
   -- some entry is d or more past its home, counted circularly
-  abbrev pub StandsPast : List (List E) → (ℕ → ℕ → ℕ) → ℕ → Type 0
-  StandsPast homes place d = (h : ℕ) × (i : ℕ) × (h < length homes) × (i < count homes h) × (d ≤ (place h i + length homes - h) % length homes)
+  abbrev pub ReachesPast : List (List E) → (ℕ → ℕ → ℕ) → ℕ → Type 0
+  ReachesPast homes place d = (h : ℕ) × (i : ℕ) × (h < length homes) × (i < count homes h) × (d ≤ (place h i + length homes - h) % length homes)
 
   -- however the entries are placed, some entry is as far past its home as any in the layout
   abbrev pub IsBestPlaced : List (List E) → Type 0
-  IsBestPlaced homes = (place : ℕ → ℕ → ℕ) → IsPlacement homes place → (h i : ℕ) → h < length homes → i < count homes h → StandsPast homes place (spill_of homes h + i)
+  IsBestPlaced homes = (place : ℕ → ℕ → ℕ) → IsPlacement homes place → (h i : ℕ) → h < length homes → i < count homes h → ReachesPast homes place (spill_of homes h + i)
 
 -- how far past its home an entry in the next slot may be: one further than the entry here, or 0 after an empty slot
 abbrev pub reach : {E : Type 0} → Option (Placed E) → ℕ

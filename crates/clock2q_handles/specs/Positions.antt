@@ -8,7 +8,7 @@ use mathlib.Core.Path.{refl}
 
 module _ {E : Type 0} where
   -- entry i of the home of x is e, and is in slot n
-  pub record StandsAt (homes : List (List E)) (x i : ℕ) (e : E) (n : ℕ) : Type 0 where
+  pub record IsEntryAt (homes : List (List E)) (x i : ℕ) (e : E) (n : ℕ) : Type 0 where
     pub entry : slice_get (listed homes x) i ≡ Some e
     pub slot : n ≡ (x + spill_of homes x + i) % length homes
 

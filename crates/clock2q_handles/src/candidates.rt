@@ -31,14 +31,14 @@ pub struct Candidates<'a, H: Copy + Eq + Default> {
 }
 
 impl<'a, H: Copy + Eq + Default> Model for Candidates<'a, H> {
-    ghost use Rattle.clock2q_handles.specs.Candidates.{CandidatesValue, candidates_code, candidates_value, left_at, unread_at, stands_at, IsLookup};
+    ghost use Rattle.clock2q_handles.specs.Candidates.{CandidatesValue, candidates_code, candidates_value, left_at, unread_at, peeked_at, IsLookup};
     ghost use Rattle.clock2q_handles.specs.Slots.{sought};
 
     ghost Value = { CandidatesValue H };
 
     ghost coded = { candidates_code H.code };
 
-    ghost view = { λ c. candidates_value (left_at c.reader.slots (sought c.wanted) c.slot) c.reader.reads (unread_at c.reader.slots (sought c.wanted) c.slot) c.reader.handles (stands_at c.reader.slots (sought c.wanted) c.slot) };
+    ghost view = { λ c. candidates_value (left_at c.reader.slots (sought c.wanted) c.slot) c.reader.reads (unread_at c.reader.slots (sought c.wanted) c.slot) c.reader.handles (peeked_at c.reader.slots (sought c.wanted) c.slot) };
 
     ghost invariant = { λ c. IsLookup c.reader.slots (sought c.wanted) c.slot };
 }
@@ -78,7 +78,7 @@ impl<'a, H: Copy + Eq + Default> Candidates<'a, H> {
     pub fn peek(&mut self) -> Option<H>
         ensures candidate { result ≡ slice_get self.old.left 0 }
         ensures left { self.new.left ≡ self.old.left }
-        ensures stands { IfSome result (λ _. self.new.stands ≡ true) }
+        ensures peeked { IfSome result (λ _. self.new.peeked ≡ true) }
         ensures reads { self.old.reads ≤ self.new.reads }
         ensures within { self.new.reads ≤ self.old.reads + self.old.unread }
         ensures again { IfSome result
@@ -104,7 +104,7 @@ impl<'a, H: Copy + Eq + Default> Candidates<'a, H> {
     /// Moves past the candidate that [`peek`](Candidates::peek) is at. It reads no slot.
     #[inline(always)]
     pub fn advance(&mut self)
-        requires stands { self.old.stands ≡ true }
+        requires peeked { self.old.peeked ≡ true }
         ensures some { 0 < length self.old.left }
         ensures left { self.new.left ≡ drop 1 self.old.left }
         ensures reads { self.new.reads ≡ self.old.reads }

@@ -54,18 +54,18 @@ agree-blank m n t = get_or-same m t false ∙ sym (ap (λ (r : Record). is_linke
 -- What the bytes say
 
 -- a byte was written that says this
-pub told-set : (says : Flags → Bool) (flags : List Flags) (slot : ℕ) (f : Flags) (b : Bool) → says f ≡ b → map says (set flags slot f) ≡ set (map says flags) slot b
-told-set says flags slot f b e = map-set says flags slot f ∙ ap (λ z. set (map says flags) slot z) e
+pub mapped-set : (says : Flags → Bool) (flags : List Flags) (slot : ℕ) (f : Flags) (b : Bool) → says f ≡ b → map says (set flags slot f) ≡ set (map says flags) slot b
+mapped-set says flags slot f b e = map-set says flags slot f ∙ ap (λ z. set (map says flags) slot z) e
 
 -- a byte was written that says the same as the one before
-pub told-kept : (says : Flags → Bool) (flags : List Flags) (slot : ℕ) (was f : Flags) → was ≡ get_or flags slot was → says f ≡ says was → map says (set flags slot f) ≡ map says flags
-told-kept says flags slot was f at e = map-set_same says flags slot f was (e ∙ ap says at)
+pub mapped-kept : (says : Flags → Bool) (flags : List Flags) (slot : ℕ) (was f : Flags) → was ≡ get_or flags slot was → says f ≡ says was → map says (set flags slot f) ≡ map says flags
+mapped-kept says flags slot was f at e = map-set_same says flags slot f was (e ∙ ap says at)
 
-told-same : (says : Flags → Bool) (n : ℕ) (f : Flags) → map says (replicate n f) ≡ replicate n (says f)
-told-same says zero f = refl
-told-same says (suc n) f = ap (λ z. says f ∷ z) (told-same says n f)
+mapped-same : (says : Flags → Bool) (n : ℕ) (f : Flags) → map says (replicate n f) ≡ replicate n (says f)
+mapped-same says zero f = refl
+mapped-same says (suc n) f = ap (λ z. says f ∷ z) (mapped-same says n f)
 
 -- no byte says that a bit is set, or that a slot is in a queue
-pub told-clear : (n inspections : ℕ) (f : Flags) → is_set f ≡ false → says_linked f ≡ false
+pub mapped-clear : (n inspections : ℕ) (f : Flags) → is_set f ≡ false → says_linked f ≡ false
     → flags_shown (replicate n f) inspections ≡ flag_state (hit_bits (replicate n false) inspections) (replicate n false)
-told-clear n inspections f bit linked = rw (told-same is_set n f, told-same says_linked n f, bit, linked) refl
+mapped-clear n inspections f bit linked = rw (mapped-same is_set n f, mapped-same says_linked n f, bit, linked) refl

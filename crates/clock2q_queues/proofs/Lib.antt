@@ -3,6 +3,7 @@ pub mod Flagged
 pub mod Hand
 pub mod Hits
 pub mod Joining
+pub mod Linked
 pub mod QueuesApart
 pub mod Leaving
 pub mod Locations

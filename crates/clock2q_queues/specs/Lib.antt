@@ -1,5 +1,6 @@
 pub mod Cells
 pub mod Ends
+pub mod Link
 pub mod Links
 pub mod Flags
 pub mod MainRing

@@ -8,6 +8,7 @@
 //! there are. Constructors take all the memory that will ever be needed, and no later call can fail.
 #![tactic(auto)]
 
+mod link;
 mod links;
 mod main_ring;
 pub mod order;

@@ -8,6 +8,7 @@ ghost use Rattle.clock2q_queues.specs.Links.{LinkState, vacant, is_old, Attaches
 mod cells;
 mod flags;
 
+use crate::link::Link;
 use cells::Bits;
 pub(crate) use cells::Cells;
 use std::alloc::{AllocError, Allocator, Global};
@@ -59,7 +60,7 @@ pub(crate) const VACANT: Record = Record {
 #[derive(Drop)]
 pub(crate) struct Links<A: Allocator = Global> {
     records: Cells<Record, A>,
-    window: Cells<Option<u32>, A>,
+    window: Cells<Link, A>,
     bits: Bits<A>,
 }
 
@@ -82,7 +83,7 @@ impl<A: Allocator> Links<A> {
         ensures { IfOk result (λ l. l ≡ fresh slots window) }
     {
         let records = Vec::from_elem(alloc.clone()?, VACANT, slots as usize)?;
-        let positions = Vec::from_elem(alloc.clone()?, None, window as usize)?;
+        let positions = Vec::from_elem(alloc.clone()?, Link::nowhere(), window as usize)?;
         let bits = Bits::new(alloc, slots)?;
         Ok(Links {
             records: Cells::new(records),
@@ -194,7 +195,7 @@ impl<A: Allocator> Links<A> {
     }
 
     /// Returns the slot at a position of the window, if there is one.
-    pub(crate) fn young_at(&mut self, position: u32) -> Option<u32>
+    pub(crate) fn young_at(&mut self, position: u32) -> Link
         requires { position < length self.old.window.items }
         ensures value { result ≡ young_at self.old position }
         ensures counted { self.new ≡ record self.old { window = accessed self.old.window } }
@@ -203,7 +204,7 @@ impl<A: Allocator> Links<A> {
     }
 
     /// Puts a slot at a position of the window, or empties the position.
-    pub(crate) fn set_young_at(&mut self, position: u32, occupant: Option<u32>)
+    pub(crate) fn set_young_at(&mut self, position: u32, occupant: Link)
         requires { position < length self.old.window.items }
         ensures { self.new
             ≡ record self.old { window = written position occupant self.old.window } }
@@ -264,7 +265,7 @@ impl<A: Allocator> Links<A> {
             ≡ self.old.window.accesses + length self.old.window.items }
     {
         self.records.fill(VACANT);
-        self.window.fill(None);
+        self.window.fill(Link::nowhere());
         self.bits.clear();
     }
 }

@@ -5,6 +5,7 @@ ghost use Rattle.clock2q_queues.specs.Cells.{CellsState, Rises, written};
 ghost use Rattle.clock2q_queues.specs.Rings.{has, without};
 ghost use Rattle.clock2q_queues.specs.Order.{free_places};
 
+use crate::link::Link;
 use crate::links::{Cells, Location, Record, VACANT};
 use std::alloc::{AllocError, Allocator, Global};
 use std::marker::Model;
@@ -75,7 +76,7 @@ impl Chain {
 #[derive(Drop)]
 pub struct Order<A: Allocator = Global> {
     records: Cells<Record, A>,
-    newest: Option<u32>,
+    newest: Link,
     len: u32,
     chain: Chain,
 }
@@ -105,7 +106,7 @@ impl<A: Allocator> Order<A> {
     {
         Ok(Order {
             records: Cells::new(Vec::from_elem(alloc, VACANT, limit as usize)?),
-            newest: None,
+            newest: Link::nowhere(),
             len: 0,
             chain: Chain { head: 0, len: 0 },
         })
@@ -141,7 +142,7 @@ impl<A: Allocator> Order<A> {
         ensures accesses { Rises 1 7 self.old.accesses self.new.accesses }
     {
         let place = self.chain.take(&mut self.records).unwrap_or(self.len);
-        match self.newest {
+        match self.newest.slot() {
             None => {
                 let alone = Record {
                     previous: place,
@@ -152,7 +153,7 @@ impl<A: Allocator> Order<A> {
             }
             Some(newest) => self.records.attach(place, newest, Location::Free),
         }
-        self.newest = Some(place);
+        self.newest = Link::to(place);
         self.len += 1;
         place
     }
@@ -168,10 +169,9 @@ impl<A: Allocator> Order<A> {
               accesses = self.old.accesses + 1;
             } }
     {
-        // an order with a place has a newest one
-        let newest = self.newest.unwrap();
+        let newest = self.newest.target();
         let oldest = self.records.read(newest).previous;
-        self.newest = Some(oldest);
+        self.newest = Link::to(oldest);
         oldest
     }
 
@@ -189,8 +189,8 @@ impl<A: Allocator> Order<A> {
         let was = self.records.detach(place);
         self.chain.put(&mut self.records, place);
         self.len -= 1;
-        if self.newest == Some(place) {
-            self.newest = (self.len > 0).then_some(was.next);
+        if self.newest.slot() == Some(place) {
+            self.newest = Link::only_if(self.len > 0, was.next);
         }
     }
 
@@ -199,7 +199,7 @@ impl<A: Allocator> Order<A> {
         ensures whole { IsWholeOrder self.new }
         ensures order { self.new ≡ record self.old { places = []; free = [] } }
     {
-        self.newest = None;
+        self.newest = Link::nowhere();
         self.len = 0;
         self.chain = Chain { head: 0, len: 0 };
     }

@@ -1,5 +1,5 @@
 //! Small: the queue of the newest residents, of which the last admitted ones are young.
-ghost use Rattle.std.specs.Prelude.{◌≡◌, ℕ, ◌+◌, ◌^◌, ◌<◌, ◌≤◌, ◌==◌, true, false, not, [], ◌∷◌, length, Some, None, IfSome};
+ghost use Rattle.std.specs.Prelude.{◌≡◌, ℕ, ◌+◌, ◌-◌, ◌^◌, ◌<◌, ◌≤◌, ◌==◌, true, false, not, [], ◌∷◌, length, Some, None, IfSome};
 ghost use Rattle.std.specs.List.{filter, last_or};
 ghost use Rattle.clock2q_queues.specs.Cells.{Rises, accessed, written};
 ghost use Rattle.clock2q_queues.specs.Small.{GrowsOld, next_cursor};
@@ -7,6 +7,7 @@ ghost use Rattle.clock2q_queues.specs.Rings.{has};
 ghost use Rattle.clock2q_queues.specs.Ends.{end_after, position_freed};
 ghost use Rattle.clock2q_queues.specs.Links.{LinkState, IsBlank, IsSameBut, accesses_of, location_at, young_at};
 
+use crate::link::Link;
 use crate::links::{Links, Location, Record};
 use std::alloc::Allocator;
 
@@ -14,8 +15,8 @@ use std::alloc::Allocator;
 /// the position of the next admission.
 #[derive(Drop)]
 pub(crate) struct Small {
-    newest: Option<u32>,
-    oldest: Option<u32>,
+    newest: Link,
+    oldest: Link,
     len: usize,
     cursor: u32,
 }
@@ -29,8 +30,8 @@ impl Small {
         ensures whole { (l : LinkState) → IsBlank l → IsSmallQueue l result }
     {
         Small {
-            newest: None,
-            oldest: None,
+            newest: Link::nowhere(),
+            oldest: Link::nowhere(),
             len: 0,
             cursor: 0,
         }
@@ -49,7 +50,7 @@ impl Small {
         ensures { (l : LinkState) → IsSmallQueue l self.now
             → result ≡ last_or None (small_slots l self.now) }
     {
-        self.oldest
+        self.oldest.slot()
     }
 
     /// Admits a slot as the newest, and young. All other young slots grow older.
@@ -69,7 +70,7 @@ impl Small {
         let cursor = self.cursor;
         take_position(links, cursor, slot);
         let location = Location::SmallYoung(cursor);
-        match self.newest {
+        match self.newest.slot() {
             None => {
                 let alone = Record {
                     previous: slot,
@@ -77,11 +78,11 @@ impl Small {
                     location,
                 };
                 links.write(slot, alone);
-                self.oldest = Some(slot);
+                self.oldest = Link::to(slot);
             }
             Some(newest) => links.attach(slot, newest, location),
         }
-        self.newest = Some(slot);
+        self.newest = Link::to(slot);
         self.cursor = next_position(cursor, links.window());
         self.len += 1;
     }
@@ -103,17 +104,14 @@ impl Small {
         ensures inspections { links.new.bits.inspections ≡ links.old.bits.inspections }
         ensures accesses { Rises 5 8 (accesses_of links.old) (accesses_of links.new) }
     {
-        // a queue with a slot has an oldest one
-        let Some(slot) = self.oldest else {
-            unreachable!()
-        };
-        self.newest = Some(slot);
+        let slot = self.oldest.target();
+        self.newest = self.oldest;
         let cursor = self.cursor;
         let record = links.read(slot);
         leave_position(links, record.location);
         take_position(links, cursor, slot);
         links.set_location(slot, Location::SmallYoung(cursor));
-        self.oldest = Some(record.previous);
+        self.oldest = Link::to(record.previous);
         self.cursor = next_position(cursor, links.window());
         slot
     }
@@ -150,6 +148,7 @@ impl Small {
 /// Puts a slot at the cursor. The slot that was there, if there was one, becomes old with a clear
 /// bit.
 fn take_position<A: Allocator>(links: &mut Links<A>, cursor: u32, slot: u32)
+    requires countable { slot < 2 ^ 32 - 1 }
     requires cursor { cursor < length links.old.window.items }
     requires there { IfSome (young_at links.old cursor)
         (λ slot. slot < length links.old.records.items) }
@@ -159,8 +158,8 @@ fn take_position<A: Allocator>(links: &mut Links<A>, cursor: u32, slot: u32)
     ensures accesses { Rises 2 4 (accesses_of links.old) (accesses_of links.new) }
 {
     let there = links.young_at(cursor);
-    links.set_young_at(cursor, Some(slot));
-    if let Some(oldest) = there {
+    links.set_young_at(cursor, Link::to(slot));
+    if let Some(oldest) = there.slot() {
         links.make_old(oldest);
     }
 }
@@ -180,17 +179,18 @@ fn leave_position<A: Allocator>(links: &mut Links<A>, location: Location)
     ensures { links.new ≡ position_freed location links.old }
 {
     if let Location::SmallYoung(position) = location {
-        links.set_young_at(position, None);
+        links.set_young_at(position, Link::nowhere());
     }
 }
 
 /// Returns an end of the queue after a slot left it. If that slot was at this end, the end is now
 /// its neighbour, or `None` if no slot is left.
-fn end_after(end: Option<u32>, slot: u32, others: usize, neighbour: u32) -> Option<u32>
+fn end_after(end: Link, slot: u32, others: usize, neighbour: u32) -> Link
+    requires { neighbour < 2 ^ 32 - 1 }
     ensures { result ≡ end_after end slot others neighbour }
 {
-    if end == Some(slot) {
-        (others > 0).then_some(neighbour)
+    if end.slot() == Some(slot) {
+        Link::only_if(others > 0, neighbour)
     } else {
         end
     }

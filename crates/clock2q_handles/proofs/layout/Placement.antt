@@ -6,7 +6,7 @@ use Rattle.std.proofs.lemmas.Bool.{cases_lt}
 use Rattle.std.proofs.lemmas.Map.Steps.{length-le_from_distinct_below}
 use Rattle.std.proofs.Math.Nat.{add-mod_right}
 use Rattle.clock2q_handles.specs.Homes.{capacity, count, total}
-use Rattle.clock2q_handles.specs.Layout.{window, spill_of, IsPlacement, StandsPast, IsBestPlaced}
+use Rattle.clock2q_handles.specs.Layout.{window, spill_of, IsPlacement, ReachesPast, IsBestPlaced}
 use Rattle.clock2q_handles.proofs.layout.Spill.{spill-found}
 use Rattle.clock2q_handles.proofs.layout.Periods.{rem-same, rems-differ}
 use Rattle.clock2q_handles.proofs.layout.Reading.{count-again}
@@ -204,7 +204,7 @@ module _ {E : Type 0} (homes : List (List E)) (room : total homes < length homes
       let e : h + length homes - wide + wide ≡ h + length homes = omega (arith, wide_lt) in
       omega (arith, window-from (count homes) (h + length homes - wide) (suc wide), wide_sum, ap (count homes) e, count-again homes h)
 
-  some_past : StandsPast homes place (spill_of homes h + count homes h - 1)
+  some_past : ReachesPast homes place (spill_of homes h + count homes h - 1)
   some_past =
       elim (some_in_rows (λ t j. (place (from_home t) j + length homes - from_home t) % length homes)
       (λ t. count homes (h + length homes - wide + t)) (suc wide) (spill_of homes h + count homes h - 1)) [

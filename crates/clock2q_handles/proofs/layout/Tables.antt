@@ -84,8 +84,8 @@ module _ {H : Type 0} (slots : List (Option (Placed (ℕ × H)))) (len : ℕ) (t
       let laid = read-laid-homes slots table.tidy.ordered w.0 w.1 some in
       let i : ℕ = count homes h - 1 in
       let entry = get_some (listed homes h) i (omega (arith, long.2)) in
-      let stands = laid.standing h i entry.0 entry.1 in
-      omega (arith, long.2, long.3, ap reach stands, table.near (h + spill_of homes h + i))
+      let in_slot = laid.standing h i entry.0 entry.1 in
+      omega (arith, long.2, long.3, ap reach in_slot, table.near (h + spill_of homes h + i))
 
   -- so callers may rely on all of it
   pub table-whole : (writes reads : ℕ) → IsWhole (table_value (homes_of slots) slots writes reads)

@@ -8,12 +8,12 @@ use Rattle.clock2q_handles.specs.Homes.{top, listed, candidates_before}
 use Rattle.clock2q_handles.specs.Layout.{Placed, placed, slot_at, reach, met, homes_of, IsTidy}
 use Rattle.clock2q_handles.specs.Candidates.{left_at, left_from, matching, met_before, IsWalkFor, IsFoundAt}
 use Rattle.clock2q_handles.specs.Offers.{Offers}
-use Rattle.clock2q_handles.specs.Positions.{StandsAt}
+use Rattle.clock2q_handles.specs.Positions.{IsEntryAt}
 use Rattle.clock2q_handles.specs.Slots.{Mark}
 use Rattle.clock2q_handles.proofs.shifts.Changes.{read-split}
 use Rattle.clock2q_handles.proofs.walks.Cursors.{left_is, rem-plus}
 use Rattle.clock2q_handles.proofs.layout.Laid.{met-same}
-use Rattle.clock2q_handles.proofs.walks.Positions.{past_at, here_within, here_stands}
+use Rattle.clock2q_handles.proofs.walks.Positions.{past_at, here_within, here_entry}
 use Rattle.clock2q_handles.proofs.shifts.Steps.{past_home}
 use Rattle.clock2q_handles.proofs.walks.Yields.{met-split}
 
@@ -56,8 +56,8 @@ module _ {H : Type 0} (slots : List (Option (Placed (ℕ × H)))) (tidy : IsTidy
 
   module _ (some : 0 < length slots) (n : ℕ) (v : H) (found : IsFoundAt slots x v n) where
     -- what was found is among the entries of its home, and the candidates before it are those that the walk has met
-    pub accepted_stands : (i : ℕ) × StandsAt (homes_of slots) x i (top x, v) n × (met_before slots x found.distance ≡ candidates_before (homes_of slots) x i)
-    accepted_stands =
+    pub accepted_entry : (i : ℕ) × IsEntryAt (homes_of slots) x i (top x, v) n × (met_before slots x found.distance ≡ candidates_before (homes_of slots) x i)
+    accepted_entry =
         let d : ℕ = found.distance in
         let A = slot_at slots in
         let here : slot_at slots (x + d) ≡ Some (placed d (top x, v)) = sym (past_at slots tidy some x d n found.come.slot) ∙ found.here in
@@ -65,6 +65,6 @@ module _ {H : Type 0} (slots : List (Option (Placed (ℕ × H)))) (tidy : IsTidy
         let front : take (length before) (listed (homes_of slots) x) ≡ before =
         ap (take (length before)) (read-split slots x d (top x, v) (here_within slots tidy some x d (top x, v) here) here) ∙ take-append_seam before _ in (
           length before,
-          here_stands slots tidy some x d (top x, v) here n (found.come.slot ∙ rem-plus (length slots) x d),
+          here_entry slots tidy some x d (top x, v) here n (found.come.slot ∙ rem-plus (length slots) x d),
           ap (λ es. map (λ e. e.1) (matching x es)) (met-same A A (x % length slots) x 0 d (λ j _ _. past_home slots (length slots) (x % length slots) x refl refl j) ∙ sym front),
         )

@@ -125,9 +125,9 @@ module _ {H : Type 0} (key : H → ℕ) where
     -- a rebuild keeps each entry
     rebuilt_kept : (e : ℕ × H) → IsEntry homes e → IsEntry (rebuilt key m homes) e
     rebuilt_kept e at =
-        let stands = layout-standing homes (less (has_homes homes e at)) at.0 at.1 e at.2 in
+        let in_slot = layout-standing homes (less (has_homes homes e at)) at.0 at.1 e at.2 in
         let n : ℕ = at.0 + spill_of homes at.0 + at.1 in
-        let r = entries-to (layout homes) (n % length (layout homes)) (placed (spill_of homes at.0 + at.1) e) stands in
+        let r = entries-to (layout homes) (n % length (layout homes)) (placed (spill_of homes at.0 + at.1) e) in_slot in
         all_new (no_entries m) (entries (layout homes)) r.0 (placed (spill_of homes at.0 + at.1) e) fresh r.1
 
     -- and brings in no other
@@ -206,7 +206,7 @@ module _ {H : Type 0} where
   pub held_candidate : (key : H → ℕ) (homes : List (List (ℕ × H))) (v : H) → IsHashOf key homes → IsHeld homes v → (i : ℕ) × (slice_get (candidates homes (key v)) i ≡ Some v)
   held_candidate key homes v hashes at =
       let e = held_entry homes v at in
-      let told = hash-at key homes hashes (has_homes homes e.0 e.1) at.0 at.1 e.0 at.3 in
-      let here : slice_get (listed homes (key e.0.1)) at.1 ≡ Some e.0 = ap (λ k. slice_get (get_or homes k []) at.1) told.0 ∙ at.3 in
-      let r = passing (λ f. f.0 == top (key e.0.1)) (listed homes (key e.0.1)) at.1 e.0 here (eq-eqb e.0.0 (top (key e.0.1)) (sym told.1)) in
+      let hashed = hash-at key homes hashes (has_homes homes e.0 e.1) at.0 at.1 e.0 at.3 in
+      let here : slice_get (listed homes (key e.0.1)) at.1 ≡ Some e.0 = ap (λ k. slice_get (get_or homes k []) at.1) hashed.0 ∙ at.3 in
+      let r = passing (λ f. f.0 == top (key e.0.1)) (listed homes (key e.0.1)) at.1 e.0 here (eq-eqb e.0.0 (top (key e.0.1)) (sym hashed.1)) in
       subst (λ w. (i : ℕ) × (slice_get (candidates homes (key w)) i ≡ Some w)) e.2 r

@@ -58,6 +58,13 @@ module _ {H : Type 0} where
   set-cells (x ∷ ms) (y ∷ vs) zero m v e = refl
   set-cells (x ∷ ms) (y ∷ vs) (suc n) m v e = ap (λ c. cell (meaning x) y ∷ c) (set-cells ms vs n m v (omega (arith, e)))
 
+  -- a slot whose metadata alone is written, to be empty
+  pub set_empty : (ms : List Metadata) (vs : List H) (n : ℕ) (m : Metadata) → meaning m ≡ None → length vs ≡ length ms → cells (set ms n m) vs ≡ set (cells ms vs) n None
+  set_empty [] vs n m is e = refl
+  set_empty (x ∷ ms) [] n m is e = absurd (omega (arith, e))
+  set_empty (x ∷ ms) (y ∷ vs) zero m is e = ap (λ s. cell s y ∷ cells ms vs) is
+  set_empty (x ∷ ms) (y ∷ vs) (suc n) m is e = ap (λ c. cell (meaning x) y ∷ c) (set_empty ms vs n m is (omega (arith, e)))
+
   -- empty marks make empty slots
   pub cells-replicate : (n : ℕ) (m : Metadata) (v : H) → meaning m ≡ None → cells (replicate n m) (replicate n v) ≡ replicate n None
   cells-replicate zero m v e = refl

@@ -10,14 +10,14 @@ use Rattle.clock2q_handles.specs.Layout.{Placed, placed, slot_at, reach, at_home
 use Rattle.clock2q_handles.specs.Slots.{cell, mark_of, IsSlotCount}
 use Rattle.clock2q_handles.specs.Table.{IsTable}
 use Rattle.clock2q_handles.specs.Found.{FindsAt}
-use Rattle.clock2q_handles.specs.Positions.{StandsAt, GapValue, gap_of, gap_value, with_entry, with_first, handle_replaced}
+use Rattle.clock2q_handles.specs.Positions.{IsEntryAt, GapValue, gap_of, gap_value, with_entry, with_first, handle_replaced}
 use Rattle.clock2q_handles.proofs.layout.Periods.{rems-differ}
 use Rattle.clock2q_handles.proofs.layout.Laid.{at_home-other, met-same}
 use Rattle.clock2q_handles.proofs.shifts.Steps.{past_home}
 use Rattle.clock2q_handles.proofs.walks.Cursors.{rem-plus}
 use Rattle.clock2q_handles.proofs.layout.TidyLayout.{length-homes_of, listed-homes_of, tidy-total}
 use Rattle.clock2q_handles.proofs.shifts.Changes.{length-with_list, listed-with_same, listed-with_other, read-split}
-use Rattle.clock2q_handles.proofs.walks.Positions.{some_homes, position_at, slot_near, here_within, here_stands, here_index, here_with, standing}
+use Rattle.clock2q_handles.proofs.walks.Positions.{some_homes, position_at, slot_near, here_within, here_entry, here_index, here_with, standing}
 
 -- homes that are equally far from the same slot are the same
 home_same : (m h x d : ℕ) → 0 < m → (h + d) % m ≡ (x + d) % m → h % m ≡ x % m
@@ -186,16 +186,16 @@ and_parts false b both = absurd (cc)
 
 -- what replacement results in: the same lists, but for one entry, in the slots that the lists determine
 pub record Replacement {H : Type 0} (v : H) (slots others : List (Option (Placed (ℕ × H)))) (n len : ℕ) : Type 0 where
-  pub homes : (x i : ℕ) (e : ℕ × H) → StandsAt (homes_of slots) x i e n → homes_of others ≡ with_entry (homes_of slots) x i (e.0, v)
+  pub homes : (x i : ℕ) (e : ℕ × H) → IsEntryAt (homes_of slots) x i e n → homes_of others ≡ with_entry (homes_of slots) x i (e.0, v)
   pub table : IsTable others len
 
-pub replacement : {H : Type 0} (v : H) (slots : List (Option (Placed (ℕ × H)))) (x i n len : ℕ) (e : ℕ × H) → IsTable slots len → StandsAt (homes_of slots) x i e n
+pub replacement : {H : Type 0} (v : H) (slots : List (Option (Placed (ℕ × H)))) (x i n len : ℕ) (e : ℕ × H) → IsTable slots len → IsEntryAt (homes_of slots) x i e n
     → Replacement v slots (set slots n (cell (mark_of (slot_at slots n)) v)) n len
-replacement v slots x i n len e table stands =
-    let some : 0 < length slots = omega (arith, some_homes (homes_of slots) x i e stands.entry, length-homes_of slots) in
+replacement v slots x i n len e table entry_at =
+    let some : 0 < length slots = omega (arith, some_homes (homes_of slots) x i e entry_at.entry, length-homes_of slots) in
     let d : ℕ = spill_of (homes_of slots) x + i in
-    let here : slot_at slots (x + d) ≡ Some (placed d e) = standing slots table.tidy some x i n e stands in
-    let at : n ≡ (x + d) % length slots = position_at slots x i n e stands in
+    let here : slot_at slots (x + d) ≡ Some (placed d e) = standing slots table.tidy some x i n e entry_at in
+    let at : n ≡ (x + d) % length slots = position_at slots x i n e entry_at in
     let there : slot_at slots n ≡ Some (placed d e) = slot_near slots (x + d) n at ∙ here in
     let written : set slots n (cell (mark_of (slot_at slots n)) v) ≡ set slots n (Some (placed d (e.0, v))) = ap (λ o. set slots n (cell (mark_of o) v)) there in
     record {
@@ -217,7 +217,7 @@ replacement v slots x i n len e table stands =
 -- the first entry that passes, as an entry of its home
 pub first_entry : {H : Type 0} (eq : H → H → Bool) (x s : ℕ) (v w : H) (slots : List (Option (Placed (ℕ × H)))) (len : ℕ) → IsTable slots len
     → FindsAt (is_entry_of eq x v) slots (x % length slots) s
-    → (i : ℕ) × (e : ℕ × H) × StandsAt (homes_of slots) x i e s × (with_entry (homes_of slots) x i (e.0, w) ≡ handle_replaced eq (homes_of slots) x v w)
+    → (i : ℕ) × (e : ℕ × H) × IsEntryAt (homes_of slots) x i e s × (with_entry (homes_of slots) x i (e.0, w) ≡ handle_replaced eq (homes_of slots) x v w)
 first_entry eq x s v w slots len table found =
     let test = is_entry_of eq x v in
     let some : 0 < length slots = omega (arith, found.within) in
@@ -235,7 +235,7 @@ first_entry eq x s v w slots len table found =
     ap (with_first test (top x, w)) (read-split slots x d e (here_within slots table.tidy some x d e here) here) ∙ with_first-at test before after e (top x, w) none found.finds.passes in (
       length before,
       e,
-      here_stands slots table.tidy some x d e here s (found.slot ∙ rem-plus (length slots) x d),
+      here_entry slots table.tidy some x d e here s (found.slot ∙ rem-plus (length slots) x d),
       sym (here_with slots table.tidy some x d e here (length before) (e.0, w) refl) ∙ ap (λ f. with_list (homes_of slots) x (before ++ (f, w) ∷ after)) mark
           ∙ ap (with_list (homes_of slots) x) (sym first),
     )

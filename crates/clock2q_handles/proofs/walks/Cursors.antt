@@ -6,7 +6,7 @@ use Rattle.std.proofs.lemmas.Nat.{mod_below}
 use Rattle.std.proofs.Math.Nat.{add-mod_right}
 use Rattle.clock2q_handles.specs.Homes.{top}
 use Rattle.clock2q_handles.specs.Layout.{Placed, slot_at, reach, met, homes_of, walk, IsTidy, AreNear}
-use Rattle.clock2q_handles.specs.Candidates.{left_from, unread_from, home_back, left_at, unread_at, is_mark, stands_at, IsOnWalk, IsLookup}
+use Rattle.clock2q_handles.specs.Candidates.{left_from, unread_from, home_back, left_at, unread_at, is_mark, peeked_at, IsOnWalk, IsLookup}
 use Rattle.clock2q_handles.specs.Slots.{Mark, mark_of, mark_on, mark_reach}
 use Rattle.clock2q_handles.proofs.layout.Periods.{rem-same}
 use Rattle.clock2q_handles.proofs.layout.Reading.{slot-again}
@@ -183,9 +183,9 @@ module _ {H : Type 0} (slots : List (Option (Placed (ℕ × H)))) where
 
 -- a walk in a slot where it has found what it looks for
 module _ {H : Type 0} (slots : List (Option (Placed (ℕ × H)))) where
-  pub found_stands : (s : Mark) (n : ℕ) → IsSome s → mark_of (slot_at slots n) ≡ s → stands_at slots s n ≡ true
-  found_stands None n some is = absurd (cc)
-  found_stands (Some s) n some is = ap (λ m. is_mark s m) is ∙ and_from (s.0 == s.0) (s.1 == s.1) (eq-eqb s.0 s.0 refl) (eq-eqb s.1 s.1 refl)
+  pub found_peeked : (s : Mark) (n : ℕ) → IsSome s → mark_of (slot_at slots n) ≡ s → peeked_at slots s n ≡ true
+  found_peeked None n some is = absurd (cc)
+  found_peeked (Some s) n some is = ap (λ m. is_mark s m) is ∙ and_from (s.0 == s.0) (s.1 == s.1) (eq-eqb s.0 s.0 refl) (eq-eqb s.1 s.1 refl)
 
   this_mark : (s : ℕ × ℕ) (m : Mark) → is_mark s m ≡ true → m ≡ Some s
   this_mark s None h = absurd (cc)
@@ -193,9 +193,9 @@ module _ {H : Type 0} (slots : List (Option (Placed (ℕ × H)))) where
       let p = and_parts (s.0 == m.0) (s.1 == m.1) h in
       ap (λ z. Some (z, m.1)) (sym (eqb-true s.0 m.0 p.0)) ∙ ap (λ z. Some (s.0, z)) (sym (eqb-true s.1 m.1 p.1))
 
-  stands_found : (s : Mark) (n : ℕ) → stands_at slots s n ≡ true → IsSome s × (mark_of (slot_at slots n) ≡ s)
-  stands_found None n h = absurd (cc)
-  stands_found (Some s) n h = (refl, this_mark s (mark_of (slot_at slots n)) h)
+  peeked_found : (s : Mark) (n : ℕ) → peeked_at slots s n ≡ true → IsSome s × (mark_of (slot_at slots n) ≡ s)
+  peeked_found None n h = absurd (cc)
+  peeked_found (Some s) n h = (refl, this_mark s (mark_of (slot_at slots n)) h)
 
   -- and goes on from there
   pub record HasPassed (s s' : Mark) (n n' : ℕ) : Type 0 where
@@ -204,14 +204,14 @@ module _ {H : Type 0} (slots : List (Option (Placed (ℕ × H)))) where
     pub left : (r : H) × (left_at slots s n ≡ r ∷ left_at slots s' n')
 
   -- what is known of a slot where a walk has found something
-  pub record Stands (s : Mark) (n : ℕ) : Type 0 where
+  pub record IsCandidate (s : Mark) (n : ℕ) : Type 0 where
     pub some : IsSome s
     pub within : n < length slots
     pub far : mark_reach s ≤ reach (slot_at slots n)
 
-  pub standing : (s : Mark) (n : ℕ) → IsLookup slots s n → stands_at slots s n ≡ true → Stands s n
+  pub standing : (s : Mark) (n : ℕ) → IsLookup slots s n → peeked_at slots s n ≡ true → IsCandidate s n
   standing s n lookup h =
-      let is = stands_found s n h in
+      let is = peeked_found s n h in
       record {
         some = is.0;
         within = lookup_slot slots s n is.0 lookup;
@@ -222,9 +222,9 @@ module _ {H : Type 0} (slots : List (Option (Placed (ℕ × H)))) where
   nothing_there None some q = absurd (cc)
   nothing_there (Some s) some q = absurd (cc)
 
-  pub passed_on : (s s' : Mark) (n n' : ℕ) → IsLookup slots s n → stands_at slots s n ≡ true → s' ≡ mark_on s → n' ≡ (n + 1) % length slots → HasPassed s s' n n'
+  pub passed_on : (s s' : Mark) (n n' : ℕ) → IsLookup slots s n → peeked_at slots s n ≡ true → s' ≡ mark_on s → n' ≡ (n + 1) % length slots → HasPassed s s' n n'
   passed_on s s' n n' lookup h is at =
-      let found = stands_found s n h in
+      let found = peeked_found s n h in
       let step = lookup_steps slots s s' n n' found.0 is at lookup (standing s n lookup h).far in
       let taken : (r : H) → IfSome (slot_at slots n) (λ p. r ≡ p.entry.1) → (r : H) × (left_at slots s n ≡ r ∷ left_at slots s' n') = λ r there. (r, step.takes r found.1 there) in
       record {

@@ -6,7 +6,7 @@ use Rattle.clock2q_handles.specs.Layout.{Placed, placed, slot_at, reach, met, ho
 use Rattle.clock2q_handles.specs.Slots.{Mark, mark_reach}
 use Rattle.clock2q_handles.specs.Shifts.{HasCome}
 use Rattle.clock2q_handles.specs.Candidates.{EndsAt}
-use Rattle.clock2q_handles.specs.Positions.{StandsAt, gap_value, gap_of, with_entry}
+use Rattle.clock2q_handles.specs.Positions.{IsEntryAt, gap_value, gap_of, with_entry}
 use Rattle.clock2q_handles.proofs.layout.Reading.{slot-again}
 use Rattle.clock2q_handles.proofs.layout.Periods.{rem-same}
 use Rattle.clock2q_handles.proofs.layout.Walk.{passed, stop}
@@ -29,10 +29,10 @@ module _ {E : Type 0} where
   some_homes (es ∷ homes) x i e is = omega arith
 
   -- the slot of an entry, by its displacement
-  pub position_at : (slots : List (Option (Placed E))) (x i n : ℕ) (e : E) → StandsAt (homes_of slots) x i e n → n ≡ (x + (spill_of (homes_of slots) x + i)) % length slots
-  position_at slots x i n e stands =
+  pub position_at : (slots : List (Option (Placed E))) (x i n : ℕ) (e : E) → IsEntryAt (homes_of slots) x i e n → n ≡ (x + (spill_of (homes_of slots) x + i)) % length slots
+  position_at slots x i n e entry_at =
       let q : x + spill_of (homes_of slots) x + i ≡ x + (spill_of (homes_of slots) x + i) = omega arith in
-      stands.slot ∙ ap (λ m. (x + spill_of (homes_of slots) x + i) % m) (length-homes_of slots) ∙ ap (λ k. k % length slots) q
+      entry_at.slot ∙ ap (λ m. (x + spill_of (homes_of slots) x + i) % m) (length-homes_of slots) ∙ ap (λ k. k % length slots) q
 
   -- the contents of a slot that is counted past the last
   pub slot_near : (slots : List (Option (Placed E))) (k n : ℕ) → n ≡ k % length slots → slot_at slots n ≡ slot_at slots k
@@ -44,13 +44,13 @@ module _ {E : Type 0} where
     past_at x n s at = slot_from slots (x % length slots) n s at ∙ past_home slots (length slots) (x % length slots) x refl refl n
 
     -- entry i of the home of x is `spill + i` past it
-    pub standing : (x i n : ℕ) (e : E) → StandsAt (homes_of slots) x i e n → slot_at slots (x + (spill_of (homes_of slots) x + i)) ≡ Some (placed (spill_of (homes_of slots) x + i) e)
-    standing x i n e stands =
+    pub standing : (x i n : ℕ) (e : E) → IsEntryAt (homes_of slots) x i e n → slot_at slots (x + (spill_of (homes_of slots) x + i)) ≡ Some (placed (spill_of (homes_of slots) x + i) e)
+    standing x i n e entry_at =
         let homes = homes_of slots in
         let room : 0 < length homes = omega (arith, some, length-homes_of slots) in
         let q : x + (spill_of homes x + i) ≡ x + spill_of homes x + i = omega arith in
         ap (λ s. slot_at s (x + (spill_of homes x + i))) (tidy-layout slots tidy) ∙ ap (slot_at (layout homes)) q
-        ∙ layout-standing homes (omega (arith, tidy-room slots tidy, capacity-lt (length homes) room)) x i e stands.entry
+        ∙ layout-standing homes (omega (arith, tidy-room slots tidy, capacity-lt (length homes) room)) x i e entry_at.entry
 
     module _ (x d : ℕ) (e : E) (here : slot_at slots (x + d) ≡ Some (placed d e)) where
       -- it is within a lap
@@ -61,8 +61,8 @@ module _ {E : Type 0} where
       pub here_index : (i : ℕ) → spill_of (homes_of slots) x + i ≡ d → i ≡ length (met (slot_at slots) x 0 d)
       here_index i at = omega (arith, at, read-count slots tidy some x d (ap reach here))
 
-      pub here_stands : (s : ℕ) → s ≡ (x + d) % length slots → StandsAt (homes_of slots) x (length (met (slot_at slots) x 0 d)) e s
-      here_stands s at =
+      pub here_entry : (s : ℕ) → s ≡ (x + d) % length slots → IsEntryAt (homes_of slots) x (length (met (slot_at slots) x 0 d)) e s
+      here_entry s at =
           let before : List E = met (slot_at slots) x 0 d in
           let q : x + d ≡ x + spill_of (homes_of slots) x + length before = omega (arith, read-count slots tidy some x d (ap reach here)) in
           record {

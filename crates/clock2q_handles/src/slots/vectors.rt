@@ -245,7 +245,7 @@ fn carry<H: Copy>(
 /// Empties a slot, once the entries after it have moved back by one slot, up to an empty slot or an
 /// entry at its home. It reads as many slots as it writes.
 #[inline(always)]
-fn close<H: Copy + Default>(
+fn close<H: Copy>(
     metadata: &mut [Metadata],
     handles: &mut [H],
     mask: usize,
@@ -276,14 +276,7 @@ fn close<H: Copy + Default>(
         write(metadata, handles, writes, hole, word.one_nearer(), handle);
         hole = next;
     }
-    write(
-        metadata,
-        handles,
-        writes,
-        hole,
-        Metadata::empty(),
-        H::default(),
-    );
+    erase(metadata, handles, writes, hole);
 }
 
 /// Writes a slot in both vectors, and counts the write.
@@ -305,6 +298,21 @@ fn write<H: Copy>(
 {
     metadata[slot] = word;
     handles[slot] = handle;
+    writes.tick();
+}
+
+/// Empties a slot, and counts the write. Its handle stays in memory, but no lookup reaches it.
+fn erase<H: Copy>(metadata: &mut [Metadata], handles: &[H], writes: &mut Count, slot: usize)
+    requires pair { ArePaired metadata.old handles.now }
+    requires within { slot < length (cells metadata.old handles.now) }
+    ensures erased { cells metadata.new handles.now
+        ≡ set (cells metadata.old handles.now) slot None }
+    ensures counted { writes.new.total ≡ writes.old.total + 1 }
+    ensures pair { ArePaired metadata.new handles.now }
+    ensures len { length metadata.new ≡ length metadata.old }
+{
+    let _ = handles;
+    metadata[slot] = Metadata::empty();
     writes.tick();
 }
 

@@ -37,11 +37,13 @@ impl<H: Copy + Eq + Default, A: Allocator> Table<H, A> {
     }
 
     /// Removes the first candidate of `hash` that equals `handle`, as [remove](Table::remove) does,
-    /// given that there is one. Its walk doesn't test for an end.
+    /// given that there is one. Its walk doesn't test for an end. Out of line, so that a caller that
+    /// removes one entry to insert another has fewer registers to save.
     ///
     /// # Cost
     ///
     /// That of [remove](Table::remove).
+    #[inline(never)]
     pub fn remove_existing(&mut self, hash: u64, handle: H)
         requires held { list_any (is_entry_of H.PartialEq.eq hash handle)
             (listed self.old.homes hash) ≡ true }

@@ -1,7 +1,7 @@
 //! Searches for candidates and their positions.
 ghost use Rattle.clock2q_handles.specs.Homes.{top, candidates, candidates_before};
 ghost use Rattle.clock2q_handles.specs.Offers.{Offers, AcceptsNext, MayBeOffered, handle_in};
-ghost use Rattle.clock2q_handles.specs.Positions.{StandsAt, gap_of};
+ghost use Rattle.clock2q_handles.specs.Positions.{IsEntryAt, gap_of};
 ghost use Rattle.std.specs.Prelude.{◌≡◌, ◌<◌, ℕ, IfOk, IfErr, length};
 
 use crate::gap::Gap;
@@ -26,7 +26,7 @@ impl<H: Copy + Eq + Default, A: Allocator> Table<H, A> {
         ensures offers { (last : M) × Offers M.FnMut matches (candidates self.now.homes hash)
             (handle_in result) last }
         ensures found { IfOk result
-            (λ found. (i : ℕ) × StandsAt self.now.homes hash i (top hash, found.0) found.1
+            (λ found. (i : ℕ) × IsEntryAt self.now.homes hash i (top hash, found.0) found.1
             × AcceptsNext M.FnMut matches (candidates_before self.now.homes hash i) found.0) }
         ensures gap { IfErr result (λ gap. gap ≡ gap_of self.now.homes hash) }
     {

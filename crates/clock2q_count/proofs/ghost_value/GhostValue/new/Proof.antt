@@ -51,8 +51,8 @@ module _ (T X : RattleType) {M : Type 1} {𝓤 : Ura M} (𝓛 : Logic 𝓤) (mem
   open 𝓛 use {H}
 
   module _ (κs : Lfts 3) (qs : Shares 3) (bounds : AllOutlive (f.ended T X).signature.lifetimes (f.ended T X).signature.outlives κs) (a : Args (f.signature T X) κs) (said : T.Denot) where
-    abbrev told : RattleType.Denot (made.the_row T)
-    told = record { of = record {}; value = said }
+    abbrev valued : RattleType.Denot (made.the_row T)
+    valued = record { of = record {}; value = said }
 
     abbrev made_of : Val
     made_of = vstruct (vcons (vstruct vnil) vnil)
@@ -68,12 +68,12 @@ module _ (T X : RattleType) {M : Type 1} {𝓤 : Ura M} (𝓛 : Logic 𝓤) (mem
 
     walk : ent 𝓤 (on_entry 𝓛 (f.signature T X) κs qs a (by ∷ [], tt)) (WpFn 𝓤 H C Λ (function T X) (by ∷ []) ((walk_of 𝓛 (f.ended T X) (stayed T X) (f.clauses T X 𝓛 mem run)).post bound))
     walk =
-        let O : Fml = (made.the_row T).own_val told (made_of ∷ []) in
+        let O : Fml = (made.the_row T).own_val valued (made_of ∷ []) in
         qed 𝓛 (raw (alive 𝓛 (f.signature T X) κs qs) ∷ ‵ passed ∷ []) ∵ keep ! (0 ∷ []) $ enter ! C Λ (function T X) (by ∷ []) _ $
         alloc_all ! (λ l. pass_all ! refl ((tt, tt), tt) $ sets ! (agg ! (no_more !)) refl (tt, tt) $ sets ! (agg ! (and_then ! (get ! refl) (no_more !))) refl (tt, (tt, tt)) $
         returns ! (look_at ! 0 refl) $ free_all ! refl $
         use0 𝓛 (‵ O) (makes_shadow 𝓛 O ((λ vss. (tt, ((λ uss. (tt, tt)), tt))), tt) (((vstruct vnil ∷ [], tt), (refl, ((tt, (refl, tt)), tt))), tt)) $
-        suffices ! _ (ends_at 𝓛 (f.ended T X) (stayed T X) (f.clauses T X 𝓛 mem run) bound made_of told (tt, tt) (tt, tt)) $ says ! refl $
+        suffices ! _ (ends_at 𝓛 (f.ended T X) (stayed T X) (f.clauses T X 𝓛 mem run) bound made_of valued (tt, tt) (tt, tt)) $ says ! refl $
         nothing ! $ nothing ! $ fjoin ! $ join ! $ move ! (1 ∷ 0 ∷ []) $ join ! $ done !)
 
   walks : Walks 𝓛 (f.ended T X) (stayed T X) (WpFn 𝓤 H C Λ (function T X)) (f.clauses T X 𝓛 mem run)

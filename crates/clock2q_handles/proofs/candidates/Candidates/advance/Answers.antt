@@ -6,18 +6,18 @@ use Rattle.clock2q_handles.proofs.candidates.Candidates.advance.Goals.{After-aft
 use Rattle.clock2q_handles.proofs.candidates.Candidates.advance.Goals as goal
 
 pub after-self-inside-requires : goal.after-self-inside-requires
-after-self-inside-requires g c = (standing c.self.inside.reader.slots (sought c.self.inside.wanted) c.self.inside.slot c.self.invariant (ap (λ t. t.stands) c.self.view_is ∙ c.requires.stands)).within
+after-self-inside-requires g c = (standing c.self.inside.reader.slots (sought c.self.inside.wanted) c.self.inside.slot c.self.invariant (ap (λ t. t.peeked) c.self.view_is ∙ c.requires.peeked)).within
 
 pub next-self-inside-requires-clause-room : goal.next-self-inside-requires-clause-room
 next-self-inside-requires-clause-room g c =
-    let here = standing c.self.inside.reader.slots (sought c.self.inside.wanted) c.self.inside.slot c.self.invariant (ap (λ t. t.stands) c.self.view_is ∙ c.requires.stands) in
+    let here = standing c.self.inside.reader.slots (sought c.self.inside.wanted) c.self.inside.slot c.self.invariant (ap (λ t. t.peeked) c.self.view_is ∙ c.requires.peeked) in
     omega (arith, here.far, c.self.invariant.near c.self.inside.slot)
 
 -- the walk goes on to the slot after
 passed : (g : Over) (c : After-next-self-inside g) → HasPassed c.self.inside.reader.slots (sought c.self.inside.wanted) (sought c.next-self-inside.result) c.self.inside.slot c.after-self-inside.result
 passed g c =
     passed_on c.self.inside.reader.slots (sought c.self.inside.wanted) (sought c.next-self-inside.result) c.self.inside.slot c.after-self-inside.result
-    c.self.invariant (ap (λ t. t.stands) c.self.view_is ∙ c.requires.stands) c.next-self-inside.ensures c.after-self-inside.ensures.after
+    c.self.invariant (ap (λ t. t.peeked) c.self.view_is ∙ c.requires.peeked) c.next-self-inside.ensures c.after-self-inside.ensures.after
 
 pub invariant_of-self : goal.invariant_of-self
 invariant_of-self g c = (passed g (goal.at.invariant_of-self g c).After-next-self-inside).lookup

@@ -2,7 +2,7 @@ use Rattle.std.proofs.Common.{◌≡◌, ◌+◌, ◌%◌, length, arith, rules,
 use Rattle.clock2q_handles.specs.Layout.{slot_at}
 use Rattle.clock2q_handles.specs.Slots.{sought, mark_on}
 use Rattle.clock2q_handles.proofs.shifts.Moves.{reach_of_meaning}
-use Rattle.clock2q_handles.proofs.walks.Cursors.{HasStepped, lookup_steps, found_stands}
+use Rattle.clock2q_handles.proofs.walks.Cursors.{HasStepped, lookup_steps, found_peeked}
 use Rattle.clock2q_handles.proofs.candidates.Candidates.peek.Given.{Over}
 use Rattle.clock2q_handles.proofs.candidates.Candidates.peek.Goals.{After-handle-handle}
 use Rattle.clock2q_handles.proofs.candidates.Candidates.peek.Goals as goal
@@ -37,7 +37,7 @@ returns-clause-within g c =
       c.handle-handle.ensures.reads,
     )
 
-pub returns-clause-stands : goal.returns-clause-stands
-returns-clause-stands g c =
+pub returns-clause-peeked : goal.returns-clause-peeked
+returns-clause-peeked g c =
     let same = c.handle-handle.ensures.same ∙ c.candidate.ensures.same in
-    rw same (found_stands c.self.inside.reader.slots (sought c.in-Ok.wanted) c.in-Ok.slot c.in-Ok.ensures.some c.in-Ok.ensures.found)
+    rw same (found_peeked c.self.inside.reader.slots (sought c.in-Ok.wanted) c.in-Ok.slot c.in-Ok.ensures.some c.in-Ok.ensures.found)

@@ -1,7 +1,6 @@
 use Rattle.std.proofs.Common.{rules, ◌≡◌, ◌+◌, ◌<◌, ◌%◌, length, arith, ap, sym, ◌∙◌, subst, refl, get_or, length-set, None}
-use Rattle.std.proofs.Math.ListN.{set}
 use Rattle.clock2q_handles.specs.Layout.{slot_at}
-use Rattle.clock2q_handles.specs.Slots.{cell, cells, meaning, IsSlotCount}
+use Rattle.clock2q_handles.specs.Slots.{cells, meaning, IsSlotCount}
 use Rattle.clock2q_handles.proofs.layout.Periods.{lap}
 use Rattle.clock2q_handles.proofs.shifts.Cells.{length-cells, mark_read_or, handle_read_at}
 use Rattle.clock2q_handles.proofs.shifts.Moves.{near_of_meaning}
@@ -86,13 +85,13 @@ loop-word-preserved g c =
       reads = omega (arith, c.loop-word.invariant.reads, c.tick.ensures.ticked, c.write.ensures.counted);
     }
 
-pub write-requires-2-clause-within : goal.write-requires-2-clause-within
-write-requires-2-clause-within g c = close_slot (cells c.args.metadata.now c.args.handles.now) (cells c.loop-word.metadata c.loop-word.handles) c.requires.tidy _ _ _ _ c.loop-word.invariant.state
+pub erase-requires-clause-within : goal.erase-requires-clause-within
+erase-requires-clause-within g c = close_slot (cells c.args.metadata.now c.args.handles.now) (cells c.loop-word.metadata c.loop-word.handles) c.requires.tidy _ _ _ _ c.loop-word.invariant.state
 
 pub returns-clause-taken : goal.returns-clause-taken
 returns-clause-taken g c =
     let now = cells c.loop-word.metadata c.loop-word.handles in
-    let written = c.write-2.ensures.written ∙ ap (λ m. set now c.loop-word.hole (cell m c.default.result)) c.empty.ensures in
+    let written = c.erase.ensures.erased in
     let on = next g (goal.at.returns-clause-taken g c).After-after-next in
     let here = inside g (goal.at.returns-clause-taken g c).After-after-next in
     let near = near_of_meaning c.can_move_back.result _ (slot_at now c.after-next.result) c.can_move_back.ensures c.if-not-can_move_back.true
@@ -101,7 +100,7 @@ returns-clause-taken g c =
       closes = λ h n e come was.
           let ended =
           close_ends (cells c.args.metadata.now c.args.handles.now) now c.requires.tidy c.args.slot c.loop-word.hole _ _
-          c.loop-word.invariant.state c.after-next.result on (cells c.write-2.new.metadata c.write-2.new.handles) near written h n e come was in
-          (ended.0, ended.1, omega (arith, ended.2, c.write-2.ensures.counted));
+          c.loop-word.invariant.state c.after-next.result on (cells c.erase.new.metadata c.loop-word.handles) near written h n e come was in
+          (ended.0, ended.1, omega (arith, ended.2, c.erase.ensures.counted));
       len = ap length written ∙ length-set now c.loop-word.hole None ∙ c.loop-word.invariant.state.len;
     }

@@ -3,7 +3,7 @@ use Rattle.std.proofs.lemmas.Nat.{mod_below}
 use Rattle.std.specs.List.{list_any}
 use Rattle.clock2q_handles.specs.Homes.{is_entry_of, listed}
 use Rattle.clock2q_handles.specs.Layout.{homes_of}
-use Rattle.clock2q_handles.specs.Positions.{StandsAt, with_entry, handle_replaced, gap_of}
+use Rattle.clock2q_handles.specs.Positions.{IsEntryAt, with_entry, handle_replaced, gap_of}
 use Rattle.clock2q_handles.proofs.shifts.Steps.{listed-home, table-laid}
 use Rattle.clock2q_handles.proofs.shifts.Replacement.{Replacement, replacement, with_entry-gap, first_entry}
 use Rattle.clock2q_handles.proofs.walks.Positions.{some_homes}
@@ -24,13 +24,13 @@ replace_handle_at-requires g c =
     omega (arith, found.slot, mod_below (c.args.hash % length slots + found.distance) (length slots) (omega (arith, found.within)))
 
 -- the entry that was found
-first : (g : Over) (c : After-find_existing-slot g) → (i : ℕ) × (e : ℕ × g.row.H.Denot) × StandsAt (homes_of c.self.inside.slots.slots) c.args.hash i e c.find_existing-slot.result
+first : (g : Over) (c : After-find_existing-slot g) → (i : ℕ) × (e : ℕ × g.row.H.Denot) × IsEntryAt (homes_of c.self.inside.slots.slots) c.args.hash i e c.find_existing-slot.result
     × (with_entry (homes_of c.self.inside.slots.slots) c.args.hash i (e.0, c.args.new)
     ≡ handle_replaced g.H.PartialEq.eq (homes_of c.self.inside.slots.slots) c.args.hash c.args.handle c.args.new)
 first g c = first_entry g.H.PartialEq.eq c.args.hash c.find_existing-slot.result c.args.handle c.args.new c.self.inside.slots.slots c.self.inside.len c.self.invariant c.find_existing-slot.ensures.found
 
 -- what was handle_replaced
-step : (g : Over) (c : After-replace_handle_at g) (i : ℕ) (e : ℕ × g.row.H.Denot) → StandsAt (homes_of c.self.inside.slots.slots) c.args.hash i e c.find_existing-slot.result
+step : (g : Over) (c : After-replace_handle_at g) (i : ℕ) (e : ℕ × g.row.H.Denot) → IsEntryAt (homes_of c.self.inside.slots.slots) c.args.hash i e c.find_existing-slot.result
     → Replacement c.args.new c.self.inside.slots.slots c.replace_handle_at.new.self.slots c.find_existing-slot.result c.self.inside.len
 step g c i e at =
     subst (λ s. Replacement c.args.new c.self.inside.slots.slots s.slots c.find_existing-slot.result c.self.inside.len) (sym c.replace_handle_at.ensures)

@@ -2,12 +2,12 @@ use Rattle.std.proofs.Common.{◌≡◌, ◌<◌, ℕ, length, ap, sym, ◌∙�
 use Rattle.clock2q_handles.specs.Candidates.{left_from, EndsAt, IsAcceptedAt}
 use Rattle.clock2q_handles.specs.Homes.{top, candidates, candidates_before}
 use Rattle.clock2q_handles.specs.Offers.{Offers, AcceptsNext, MayBeOffered, handle_in}
-use Rattle.clock2q_handles.specs.Positions.{StandsAt, gap_of}
+use Rattle.clock2q_handles.specs.Positions.{IsEntryAt, gap_of}
 use Rattle.clock2q_handles.proofs.layout.TidyLayout.{length-homes_of}
 use Rattle.clock2q_handles.proofs.walks.Yields.{left_at_start}
 use Rattle.clock2q_handles.proofs.Promises.{if_ok, if_err}
 use Rattle.clock2q_handles.proofs.walks.Positions.{ends_gap}
-use Rattle.clock2q_handles.proofs.offers.Accepting.{accepted_stands}
+use Rattle.clock2q_handles.proofs.offers.Accepting.{accepted_entry}
 use Rattle.clock2q_handles.proofs.table.Table.search.Given.{Over}
 use Rattle.clock2q_handles.proofs.table.Table.search.Goals.{After-new-reader}
 use Rattle.clock2q_handles.proofs.table.Table.search.Goals as goal
@@ -35,9 +35,9 @@ returns-clause-found g c =
     let there = some g (goal.at.returns-clause-found g c).After-new-reader in
     if_ok c.offer.result (λ r at.
     let found = subst (λ u. IsAcceptedAt g.M.FnMut c.args.matches u.slots c.args.hash r.0 r.1) c.new-reader.ensures at in
-    let stands = accepted_stands slots c.self.invariant.tidy c.args.hash there r.1 r.0 found.at in
-    subst (λ t. (i : ℕ) × StandsAt t.homes c.args.hash i (top c.args.hash, r.0) r.1 × AcceptsNext g.M.FnMut c.args.matches (candidates_before t.homes c.args.hash i) r.0) c.self.view_is
-    (stands.0, stands.1, subst (λ hs. AcceptsNext g.M.FnMut c.args.matches hs r.0) stands.2 found.accepts)) c.offer.ensures.at
+    let entry_at = accepted_entry slots c.self.invariant.tidy c.args.hash there r.1 r.0 found.at in
+    subst (λ t. (i : ℕ) × IsEntryAt t.homes c.args.hash i (top c.args.hash, r.0) r.1 × AcceptsNext g.M.FnMut c.args.matches (candidates_before t.homes c.args.hash i) r.0) c.self.view_is
+    (entry_at.0, entry_at.1, subst (λ hs. AcceptsNext g.M.FnMut c.args.matches hs r.0) entry_at.2 found.accepts)) c.offer.ensures.at
 
 pub returns-clause-gap : goal.returns-clause-gap
 returns-clause-gap g c =

@@ -1,4 +1,4 @@
-use Rattle.std.proofs.Common.{◌≡◌, ◌+◌, ◌<◌, ◌∷◌, List, Some, length, drop, ap, sym, subst, ◌∙◌}
+use Rattle.std.proofs.Common.{◌≡◌, ◌+◌, ◌<◌, ◌∷◌, List, length, drop, ap, sym, subst, ◌∙◌, arith}
 use Rattle.std.proofs.lemmas.List.{length-set}
 use Rattle.std.specs.Option.{unwrap_or}
 use Rattle.clock2q_queues.specs.Cells.{CellsState}
@@ -25,12 +25,21 @@ attach-requires-clause-slot_in g c =
 pub attach-requires-clause-before_in : goal.attach-requires-clause-before_in
 attach-requires-clause-before_in g c =
     let i = c.self.inside in
-    (first_fits i.records i.newest i.len i.chain c.self.invariant c.take.new.records c.take.new.self c.take.ensures.items c.take.ensures.rest c.in-Some.newest c.in-Some.is).0
+    (first_fits i.records i.newest i.len i.chain c.self.invariant c.take.new.records c.take.new.self c.take.ensures.items c.take.ensures.rest c.in-Some.newest (sym c.slot.ensures ∙ c.in-Some.is)).0
 
 pub attach-requires-clause-previous_in : goal.attach-requires-clause-previous_in
 attach-requires-clause-previous_in g c =
     let i = c.self.inside in
-    (first_fits i.records i.newest i.len i.chain c.self.invariant c.take.new.records c.take.new.self c.take.ensures.items c.take.ensures.rest c.in-Some.newest c.in-Some.is).1
+    (first_fits i.records i.newest i.len i.chain c.self.invariant c.take.new.records c.take.new.self c.take.ensures.items c.take.ensures.rest c.in-Some.newest (sym c.slot.ensures ∙ c.in-Some.is)).1
+
+-- the place has a number that a link can hold
+pub to-self-inside-requires : goal.to-self-inside-requires
+to-self-inside-requires g c =
+    let i = c.self.inside in
+    let place = c.unwrap_or-place.result in
+    let is = chosen i.records i.newest i.len i.chain c.self.invariant place (c.unwrap_or-place.ensures ∙ ap (λ z. unwrap_or z i.len) c.take.ensures.taken) in
+    let room : length (slots_from i.records.items i.newest i.len) < length i.records.items = subst (λ (z : PlaceOrder). length z.places < z.limit) (sym c.self.view_is) c.requires in
+    omega (arith, is, (next_fits i.records i.newest i.len i.chain c.self.invariant room).fits, c.self.invariant.queue.countable)
 
 pub invariant_of-self : goal.invariant_of-self
 invariant_of-self g c =
@@ -38,14 +47,14 @@ invariant_of-self g c =
     let place = c.unwrap_or-place.result in
     let is = chosen i.records i.newest i.len i.chain c.self.invariant place (c.unwrap_or-place.ensures ∙ ap (λ z. unwrap_or z i.len) c.take.ensures.taken) in
     let room : length (slots_from i.records.items i.newest i.len) < length i.records.items = subst (λ (z : PlaceOrder). length z.places < z.limit) (sym c.self.view_is) c.requires in
-    let pushed : IsOrderOf c.match-self.self-inside.records.items (Some place) (c.match-self.self-inside.len + 1)
-    c.match-self.self-inside.chain (place ∷ slots_from i.records.items i.newest i.len) (drop 1 (free_places i.records.items i.chain)) =
-    elim c.match-self.branch [
+    let pushed : IsOrderOf c.match-slot.self-inside.records.items c.to-self-inside.result (c.match-slot.self-inside.len + 1)
+    c.match-slot.self-inside.chain (place ∷ slots_from i.records.items i.newest i.len) (drop 1 (free_places i.records.items i.chain)) =
+    rw c.to-self-inside.ensures (elim c.match-slot.branch [
       | in-None w ↦ rw w.self-inside-is (Pushes-alone i.records i.newest i.len i.chain c.self.invariant c.take.new.records
-          c.take.new.self c.take.ensures.items c.take.ensures.rest w.write.new.self place is room w.in-None.is w.write.ensures)
+          c.take.new.self c.take.ensures.items c.take.ensures.rest w.write.new.self place is room (sym c.slot.ensures ∙ w.in-None.is) w.write.ensures)
       | in-Some w ↦ rw w.self-inside-is (Pushes-attached i.records i.newest i.len i.chain c.self.invariant c.take.new.records
-          c.take.new.self c.take.ensures.items c.take.ensures.rest w.attach.new.self place w.in-Some.newest is room w.in-Some.is w.attach.ensures)
-    ] in
+          c.take.new.self c.take.ensures.items c.take.ensures.rest w.attach.new.self place w.in-Some.newest is room (sym c.slot.ensures ∙ w.in-Some.is) w.attach.ensures)
+    ]) in
     IsOrder-from pushed
 
 pub returns-clause-whole : goal.returns-clause-whole
@@ -54,14 +63,14 @@ returns-clause-whole g c =
     let place = c.unwrap_or-place.result in
     let is = chosen i.records i.newest i.len i.chain c.self.invariant place (c.unwrap_or-place.ensures ∙ ap (λ z. unwrap_or z i.len) c.take.ensures.taken) in
     let room : length (slots_from i.records.items i.newest i.len) < length i.records.items = subst (λ (z : PlaceOrder). length z.places < z.limit) (sym c.self.view_is) c.requires in
-    let pushed : IsOrderOf c.match-self.self-inside.records.items (Some place) (c.match-self.self-inside.len + 1)
-    c.match-self.self-inside.chain (place ∷ slots_from i.records.items i.newest i.len) (drop 1 (free_places i.records.items i.chain)) =
-    elim c.match-self.branch [
+    let pushed : IsOrderOf c.match-slot.self-inside.records.items c.to-self-inside.result (c.match-slot.self-inside.len + 1)
+    c.match-slot.self-inside.chain (place ∷ slots_from i.records.items i.newest i.len) (drop 1 (free_places i.records.items i.chain)) =
+    rw c.to-self-inside.ensures (elim c.match-slot.branch [
       | in-None w ↦ rw w.self-inside-is (Pushes-alone i.records i.newest i.len i.chain c.self.invariant c.take.new.records
-          c.take.new.self c.take.ensures.items c.take.ensures.rest w.write.new.self place is room w.in-None.is w.write.ensures)
+          c.take.new.self c.take.ensures.items c.take.ensures.rest w.write.new.self place is room (sym c.slot.ensures ∙ w.in-None.is) w.write.ensures)
       | in-Some w ↦ rw w.self-inside-is (Pushes-attached i.records i.newest i.len i.chain c.self.invariant c.take.new.records
-          c.take.new.self c.take.ensures.items c.take.ensures.rest w.attach.new.self place w.in-Some.newest is room w.in-Some.is w.attach.ensures)
-    ] in
+          c.take.new.self c.take.ensures.items c.take.ensures.rest w.attach.new.self place w.in-Some.newest is room (sym c.slot.ensures ∙ w.in-Some.is) w.attach.ensures)
+    ]) in
     IsWholeOrder-from _ _ _ _ (IsOrder-from pushed)
 
 pub returns-clause-order : goal.returns-clause-order
@@ -70,16 +79,16 @@ returns-clause-order g c =
     let place = c.unwrap_or-place.result in
     let is = chosen i.records i.newest i.len i.chain c.self.invariant place (c.unwrap_or-place.ensures ∙ ap (λ z. unwrap_or z i.len) c.take.ensures.taken) in
     let room : length (slots_from i.records.items i.newest i.len) < length i.records.items = subst (λ (z : PlaceOrder). length z.places < z.limit) (sym c.self.view_is) c.requires in
-    let pushed : IsOrderOf c.match-self.self-inside.records.items (Some place) (c.match-self.self-inside.len + 1)
-    c.match-self.self-inside.chain (place ∷ slots_from i.records.items i.newest i.len) (drop 1 (free_places i.records.items i.chain)) =
-    elim c.match-self.branch [
+    let pushed : IsOrderOf c.match-slot.self-inside.records.items c.to-self-inside.result (c.match-slot.self-inside.len + 1)
+    c.match-slot.self-inside.chain (place ∷ slots_from i.records.items i.newest i.len) (drop 1 (free_places i.records.items i.chain)) =
+    rw c.to-self-inside.ensures (elim c.match-slot.branch [
       | in-None w ↦ rw w.self-inside-is (Pushes-alone i.records i.newest i.len i.chain c.self.invariant c.take.new.records
-          c.take.new.self c.take.ensures.items c.take.ensures.rest w.write.new.self place is room w.in-None.is w.write.ensures)
+          c.take.new.self c.take.ensures.items c.take.ensures.rest w.write.new.self place is room (sym c.slot.ensures ∙ w.in-None.is) w.write.ensures)
       | in-Some w ↦ rw w.self-inside-is (Pushes-attached i.records i.newest i.len i.chain c.self.invariant c.take.new.records
-          c.take.new.self c.take.ensures.items c.take.ensures.rest w.attach.new.self place w.in-Some.newest is room w.in-Some.is w.attach.ensures)
-    ] in
-    let as_many : length c.match-self.self-inside.records.items ≡ length i.records.items =
-    elim c.match-self.branch [
+          c.take.new.self c.take.ensures.items c.take.ensures.rest w.attach.new.self place w.in-Some.newest is room (sym c.slot.ensures ∙ w.in-Some.is) w.attach.ensures)
+    ]) in
+    let as_many : length c.match-slot.self-inside.records.items ≡ length i.records.items =
+    elim c.match-slot.branch [
       | in-None w ↦ rw w.self-inside-is (ap (λ (z : CellsState Record). length z.items) w.write.ensures
           ∙ length-set c.take.new.records.items place _ ∙ ap (λ (z : List Record). length z) c.take.ensures.items)
       | in-Some w ↦ rw w.self-inside-is (w.attach.ensures.as_many ∙ ap (λ (z : List Record). length z) c.take.ensures.items)
@@ -90,5 +99,5 @@ returns-clause-order g c =
       places = place ∷ slots_from i.records.items i.newest i.len;
       free = drop 1 (free_places i.records.items i.chain);
       limit = n;
-      accesses = c.match-self.self-inside.records.accesses;
+      accesses = c.match-slot.self-inside.records.accesses;
     }) as_many)

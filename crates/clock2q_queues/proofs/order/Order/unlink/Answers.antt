@@ -1,5 +1,6 @@
-use Rattle.std.proofs.Common.{◌≡◌, ltb, ◌-◌, ◌∷◌, true, ap, ◌∙◌}
+use Rattle.std.proofs.Common.{◌≡◌, ltb, eqb, ◌-◌, ◌∷◌, true, Some, ap, ◌∙◌, arith}
 use Rattle.std.specs.Bool.{then_some}
+use Rattle.std.specs.Option.{option_eq}
 use Rattle.clock2q_queues.specs.declared.links.Record.{Record}
 use Rattle.clock2q_queues.specs.Rings.{has, without}
 use Rattle.clock2q_queues.specs.Links.{slots_from}
@@ -25,14 +26,22 @@ put-requires g c =
       countable = chain_fits i.records i.newest i.len i.chain c.self.invariant c.args.place there c.detach-was.new.self c.detach-was.ensures.detached;
     }
 
+-- the next place has a number that a link can hold
+pub only_if-self-inside-requires : goal.only_if-self-inside-requires
+only_if-self-inside-requires g c =
+    let i = c.self.inside in
+    let there : has c.args.place (slots_from i.records.items i.newest i.len) ≡ true = ap (λ (z : PlaceOrder). has c.args.place z.places) c.self.view_is ∙ c.requires in
+    let n = place_fits i.records i.newest i.len i.chain c.self.invariant c.args.place there in
+    omega (arith, n.1, ap (λ (r : Record). r.next) c.detach-was.ensures.value, c.self.invariant.queue.countable)
+
 pub invariant_of-self : goal.invariant_of-self
 invariant_of-self g c =
     let i = c.self.inside in
     let there : has c.args.place (slots_from i.records.items i.newest i.len) ≡ true = ap (λ (z : PlaceOrder). has c.args.place z.places) c.self.view_is ∙ c.requires in
     let u =
-    Unlinks i.records i.newest i.len i.chain c.self.invariant c.args.place there c.detach-was.new.self c.detach-was.ensures.detached c.put.new.records _ c.then_some-self-inside.result
-    c.put.new.self c.put.ensures.rest.1 c.put.ensures.chain (c.then_some-self-inside.ensures ∙ ap (λ (r : Record). then_some (ltb 0 (i.len - 1)) r.next) c.detach-was.ensures.value
-    ∙ first_gone i.records.items i.newest i.len (slots_from i.records.items i.newest i.len) c.args.place c.self.invariant.queue (is_first i.newest c.args.place c.if-eq.ensures)) in
+    Unlinks i.records i.newest i.len i.chain c.self.invariant c.args.place there c.detach-was.new.self c.detach-was.ensures.detached c.put.new.records _ c.only_if-self-inside.result
+    c.put.new.self c.put.ensures.rest.1 c.put.ensures.chain (c.only_if-self-inside.ensures ∙ ap (λ (r : Record). then_some (ltb 0 (i.len - 1)) r.next) c.detach-was.ensures.value
+    ∙ first_gone i.records.items i.newest i.len (slots_from i.records.items i.newest i.len) c.args.place c.self.invariant.queue (is_first i.newest c.args.place (c.if-eq.ensures ∙ ap (λ o. option_eq eqb o (Some c.args.place)) c.slot.ensures))) in
     IsOrder-from u
 
 pub invariant_of-self-else-eq : goal.invariant_of-self-else-eq
@@ -42,7 +51,7 @@ invariant_of-self-else-eq g c =
     let u =
     Unlinks i.records i.newest i.len i.chain c.self.invariant c.args.place there c.detach-was.new.self c.detach-was.ensures.detached c.put.new.records _ i.newest c.put.new.self
     c.put.ensures.rest.1 c.put.ensures.chain
-    (first_stays i.records.items i.newest i.len (slots_from i.records.items i.newest i.len) c.args.place c.self.invariant.queue (not_first i.newest c.args.place c.if-eq.ensures)) in
+    (first_stays i.records.items i.newest i.len (slots_from i.records.items i.newest i.len) c.args.place c.self.invariant.queue (not_first i.newest c.args.place (c.if-eq.ensures ∙ ap (λ o. option_eq eqb o (Some c.args.place)) c.slot.ensures))) in
     IsOrder-from u
 
 pub returns-then-eq : goal.returns-then-eq
@@ -50,9 +59,9 @@ returns-then-eq g c =
     let i = c.self.inside in
     let there : has c.args.place (slots_from i.records.items i.newest i.len) ≡ true = ap (λ (z : PlaceOrder). has c.args.place z.places) c.self.view_is ∙ c.requires in
     let u =
-    Unlinks i.records i.newest i.len i.chain c.self.invariant c.args.place there c.detach-was.new.self c.detach-was.ensures.detached c.put.new.records _ c.then_some-self-inside.result
-    c.put.new.self c.put.ensures.rest.1 c.put.ensures.chain (c.then_some-self-inside.ensures ∙ ap (λ (r : Record). then_some (ltb 0 (i.len - 1)) r.next) c.detach-was.ensures.value
-    ∙ first_gone i.records.items i.newest i.len (slots_from i.records.items i.newest i.len) c.args.place c.self.invariant.queue (is_first i.newest c.args.place c.if-eq.ensures)) in
+    Unlinks i.records i.newest i.len i.chain c.self.invariant c.args.place there c.detach-was.new.self c.detach-was.ensures.detached c.put.new.records _ c.only_if-self-inside.result
+    c.put.new.self c.put.ensures.rest.1 c.put.ensures.chain (c.only_if-self-inside.ensures ∙ ap (λ (r : Record). then_some (ltb 0 (i.len - 1)) r.next) c.detach-was.ensures.value
+    ∙ first_gone i.records.items i.newest i.len (slots_from i.records.items i.newest i.len) c.args.place c.self.invariant.queue (is_first i.newest c.args.place (c.if-eq.ensures ∙ ap (λ o. option_eq eqb o (Some c.args.place)) c.slot.ensures))) in
     record {
       whole = IsWholeOrder-from _ _ _ _ (IsOrder-from u);
       order =
@@ -68,7 +77,7 @@ returns-else-eq g c =
     let u =
     Unlinks i.records i.newest i.len i.chain c.self.invariant c.args.place there c.detach-was.new.self c.detach-was.ensures.detached c.put.new.records _ i.newest c.put.new.self
     c.put.ensures.rest.1 c.put.ensures.chain
-    (first_stays i.records.items i.newest i.len (slots_from i.records.items i.newest i.len) c.args.place c.self.invariant.queue (not_first i.newest c.args.place c.if-eq.ensures)) in
+    (first_stays i.records.items i.newest i.len (slots_from i.records.items i.newest i.len) c.args.place c.self.invariant.queue (not_first i.newest c.args.place (c.if-eq.ensures ∙ ap (λ o. option_eq eqb o (Some c.args.place)) c.slot.ensures))) in
     record {
       whole = IsWholeOrder-from _ _ _ _ (IsOrder-from u);
       order =

@@ -1,4 +1,3 @@
-use Rattle.std.proofs.Common.{ap, ◌∙◌, rules}
 use Rattle.clock2q_queues.proofs.Sharing.{after_choice}
 use Rattle.clock2q_queues.proofs.queues.Queues.select.Goals as goal
 

@@ -1,4 +1,4 @@
-use Rattle.std.proofs.Common.{◌-◌, refl, sym, ap, ◌∙◌, rules}
+use Rattle.std.proofs.Common.{◌-◌, refl, sym, ap, ◌∙◌, rules, arith}
 use Rattle.clock2q_queues.specs.declared.links.Record.{Record}
 use Rattle.clock2q_queues.specs.declared.small.Small.{Small}
 use Rattle.clock2q_queues.specs.Ends.{end_after}
@@ -13,6 +13,19 @@ detach-was-requires g c =
     let l = c.args.links.now in
     let n = neighbours_fit l.records.items (small_slots l c.args.self.now) c.args.slot c.requires.whole.queue.linked c.requires.present in
     record { slot_in = n.0; next_in = n.1; previous_in = n.2 }
+
+-- its neighbours have numbers that a link can hold
+pub end_after-self-requires : goal.end_after-self-requires
+end_after-self-requires g c =
+    let l = c.args.links.now in
+    let n = neighbours_fit l.records.items (small_slots l c.args.self.now) c.args.slot c.requires.whole.queue.linked c.requires.present in
+    omega (arith, n.1, ap (λ (r : Record). r.next) c.detach-was.ensures.value, c.requires.whole.queue.countable)
+
+pub end_after-self-requires-2 : goal.end_after-self-requires-2
+end_after-self-requires-2 g c =
+    let l = c.args.links.now in
+    let n = neighbours_fit l.records.items (small_slots l c.args.self.now) c.args.slot c.requires.whole.queue.linked c.requires.present in
+    omega (arith, n.2, ap (λ (r : Record). r.previous) c.detach-was.ensures.value, c.requires.whole.queue.countable)
 
 pub leave_position-requires : goal.leave_position-requires
 leave_position-requires g c = λ position e.

@@ -3,7 +3,7 @@ use Rattle.std.specs.List.{filter}
 use Rattle.clock2q_directory.specs.Index.{slots_among}
 use Rattle.clock2q_directory.specs.Hashed.{has_hash}
 use Rattle.clock2q_directory.proofs.Lookups.{is_empty}
-use Rattle.clock2q_directory.proofs.WithHash.{sought-slot, sought-found, hash-told}
+use Rattle.clock2q_directory.proofs.WithHash.{sought-slot, sought-found, hash-compared}
 use Rattle.clock2q_directory.proofs.keys.store.Keys.with_hash.Goals as goal
 
 pub hash-requires : goal.hash-requires
@@ -13,7 +13,7 @@ pub returns-then-more-eq0 : goal.returns-then-more-eq0
 returns-then-more-eq0 g c = record {
   found = sought-found c.in-Some.handle (slots_among (drop 1 c.loop-handle.handles.left))
       (sought-slot c.loop-handle.handles.left c.loop-handle.invariant c.in-Some.ensures.candidate c.if-handle-lt-REMEMBERED.true)
-      (hash-told c.args.self.now.entries c.args.hash c.in-Some.handle c.hash.ensures.hash c.if-hash.true) c.if-more-eq0.true;
+      (hash-compared c.args.self.now.entries c.args.hash c.in-Some.handle c.hash.ensures.hash c.if-hash.true) c.if-more-eq0.true;
 }
 
 pub returns : goal.returns
