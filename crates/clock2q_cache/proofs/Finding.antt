@@ -23,17 +23,17 @@ counted-map is f (x ∷ xs) = omega (arith, sum_by-cons (λ y. cond (is y) 1 0) 
 -- a test of slots that returns whether the key there passes
 paired-found : {K : Type 0} (key : ℕ → Option K) (is : K → Bool) (passes : ℕ → Bool) → ((t : ℕ) (k : K) → key t ≡ Some k → passes t ≡ is k) → (ps : List ℕ) → HaveKeys key ps
     → option_map (λ (r : K × ℕ). r.1) (find (λ r. is r.0) (paired key ps)) ≡ find passes ps
-paired-found key is passes tells [] h = refl
-paired-found {K} key is passes tells (p ∷ ps) h =
+paired-found key is passes agrees [] h = refl
+paired-found {K} key is passes agrees (p ∷ ps) h =
     let k = h p (has_first p ps) in
-    let t : passes p ≡ is k.0 = tells p k.0 k.1 in
+    let t : passes p ≡ is k.0 = agrees p k.0 k.1 in
     ap (λ z. option_map (λ (r : K × ℕ). r.1) (find (λ r. is r.0) z)) (paired-cons key p ps k.0 k.1)
-    ∙ elim (cases_Bool (is k.0)) [ inl y ↦ rw (t, y) refl | inr n ↦ rw (t, n) (paired-found key is passes tells ps (have_later key p ps h)) ]
+    ∙ elim (cases_Bool (is k.0)) [ inl y ↦ rw (t, y) refl | inr n ↦ rw (t, n) (paired-found key is passes agrees ps (have_later key p ps h)) ]
 
 module _ {K V : Type 0} (entries : List (Entry K V)) where
   -- whether a key is the one at a place
-  pub key-tells : (eq : K → K → Bool) (key : K) (t : ℕ) (k : K) → key_at entries t ≡ Some k → is_key_at eq key entries t ≡ eq key k
-  key-tells eq key t k h = of (slice_get entries t) h
+  pub key-compares : (eq : K → K → Bool) (key : K) (t : ℕ) (k : K) → key_at entries t ≡ Some k → is_key_at eq key entries t ≡ eq key k
+  key-compares eq key t k h = of (slice_get entries t) h
     where
       of : (o : Option (Entry K V)) → elim o [ None ↦ None | Some e ↦ Some e.key ] ≡ Some k → elim o [ None ↦ false | Some e ↦ eq key e.key ] ≡ eq key k
       of None h = absurd (cc)
@@ -127,7 +127,7 @@ module _ {K V : Type 0} {eq : K → K → Bool} {hash : K → ℕ} {shares : Sha
     slot-among : slot_of (eq key) m ≡ find (is_key_at eq key keys.entries) (places_of q)
     slot-among =
         ap (λ (z : List (K × ℕ)). option_map (λ (r : K × ℕ). r.1) (find (λ r. eq key r.0) z)) (residents-paired laws kept)
-        ∙ paired-found (key_at keys.entries) (eq key) (is_key_at eq key keys.entries) (key-tells keys.entries eq key) (places_of q) (have_keys keys.entries (places_of q) kept.stored.made)
+        ∙ paired-found (key_at keys.entries) (eq key) (is_key_at eq key keys.entries) (key-compares keys.entries eq key) (places_of q) (have_keys keys.entries (places_of q) kept.stored.made)
 
     -- what a lookup finds
     pub found : ((x y : K) → eq x y ≡ true → hash x ≡ hash y) → (hsh : ℕ) → hsh ≡ hash key → find (is_key_at eq key keys.entries) (candidates index hsh) ≡ slot_of (eq key) m
@@ -221,7 +221,7 @@ module _ {K V : Type 0} {eq : K → K → Bool} {hash : K → ℕ} {shares : Sha
       ]
         where
           passed : is_key_at eq key keys.entries t ≡ eq key k
-          passed = key-tells keys.entries eq key t k at
+          passed = key-compares keys.entries eq key t k at
 
       pub hit-machine : (q' : QueueState) → q'.small ≡ small_hit_at slot q.small → q'.main ≡ main_hit_at slot q.main → machine_of shares q' keys.entries h.entries free ≡ hit (eq key) m
       hit-machine q' small main =

@@ -1,10 +1,10 @@
 -- The key of the resident at a slot, and that it is found there.
 use Rattle.std.proofs.Common.{◌≡◌, ℕ, ◌≤◌, Bool, true, false, Option, Some, None, List, length, inl, inr, refl, sym, ap, ◌∙◌, arith}
 use Rattle.clock2q_cache.proofs.Names.{IfSome, IsSome, is_some, some_is, IsEquivalence, KeyPlaces, has, key_at, is_key_at, QueueState, Remembered, Shares, Machine, resident_at, slot_of, machine_of, places_of, IsKept, below_of, cases_Bool}
-use Rattle.clock2q_cache.proofs.Finding.{key-tells, at-slot, slot-at}
+use Rattle.clock2q_cache.proofs.Finding.{key-compares, at-slot, slot-at}
 use Rattle.clock2q_cache.proofs.Places.{resident-none}
 use Rattle.clock2q_cache.proofs.Stored.{have_keys}
-use Rattle.clock2q_cache.proofs.Vacated.{stands, resident-key}
+use Rattle.clock2q_cache.proofs.Vacated.{slot-used, resident-key}
 
 module _ {K V : Type 0} {eq : K → K → Bool} {hash : K → ℕ} {shares : Shares} {q : QueueState} {h : Remembered K} {index : List (List (ℕ × ℕ))} {keys : KeyPlaces K V} {free : List ℕ} {room : ℕ}
     (laws : IsEquivalence eq) (kept : IsKept eq hash shares q h index keys free room) where
@@ -13,7 +13,7 @@ module _ {K V : Type 0} {eq : K → K → Bool} {hash : K → ℕ} {shares : Sha
 
   module _ (slot : ℕ) (there : IsSome (resident_at m slot)) where
     pub in-queues : has slot (places_of q) ≡ true
-    in-queues = stands laws kept slot there
+    in-queues = slot-used laws kept slot there
 
     pub own-key : (k : K) × (key_at keys.entries slot ≡ Some k)
     own-key = have_keys keys.entries (places_of q) kept.stored.made slot in-queues
@@ -22,7 +22,7 @@ module _ {K V : Type 0} {eq : K → K → Bool} {hash : K → ℕ} {shares : Sha
     own-resident = resident-key laws kept slot there own-key.0 own-key.1
 
     asks-itself : is_key_at eq own-key.0 keys.entries slot ≡ true
-    asks-itself = key-tells keys.entries eq own-key.0 slot own-key.0 own-key.1 ∙ laws.refl own-key.0
+    asks-itself = key-compares keys.entries eq own-key.0 slot own-key.0 own-key.1 ∙ laws.refl own-key.0
 
     pub own-slot : slot_of (eq own-key.0) m ≡ Some slot
     own-slot = slot-at laws kept own-key.0 slot (at-slot laws kept own-key.0 slot ∙ rw (in-queues, asks-itself) refl)

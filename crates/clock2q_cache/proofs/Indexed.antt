@@ -19,8 +19,8 @@ length-paired key (s ∷ ss) h =
 
 module _ {K V : Type 0} (hash : K → ℕ) (entries : List (Entry K V)) where
   -- a place has a key, with the key's hash
-  abbrev pub Stands : ℕ → Type 0
-  Stands s = (k : K) × (hashed_at entries s ≡ Some (hash k, k))
+  abbrev pub IsHashed : ℕ → Type 0
+  IsHashed s = (k : K) × (hashed_at entries s ≡ Some (hash k, k))
 
   -- a part of what is at a place
   part-of : {Y : Type 0} (f : ℕ × K → Y) (o : Option (Entry K V)) (x : ℕ × K) → elim o [ None ↦ None | Some e ↦ Some (e.hash, e.key) ] ≡ Some x
@@ -34,24 +34,24 @@ module _ {K V : Type 0} (hash : K → ℕ) (entries : List (Entry K V)) where
   hash-of : (s h : ℕ) (k : K) → hashed_at entries s ≡ Some (h, k) → hash_at entries s ≡ Some h
   hash-of s h k = part-of (λ z. z.0) (slice_get entries s) (h, k)
 
-  pub stand_have : (places : List ℕ) → AllByRecursion Stands places → HaveKeys (key_at entries) places
-  stand_have [] a t g = absurd (cc)
-  stand_have (s ∷ ss) a t g = elim (cases_Bool (eqb t s)) [
+  pub hashed_have : (places : List ℕ) → AllByRecursion IsHashed places → HaveKeys (key_at entries) places
+  hashed_have [] a t g = absurd (cc)
+  hashed_have (s ∷ ss) a t g = elim (cases_Bool (eqb t s)) [
     | inl is ↦ let e : t ≡ s = eqb-true t s is in (a.0.0, ap (λ z. key_at entries z) e ∙ key-of s (hash a.0.0) a.0.0 a.0.1)
-    | inr differ ↦ stand_have ss a.1 t (subst (λ b. (b || has t ss) ≡ true) differ g)
+    | inr differ ↦ hashed_have ss a.1 t (subst (λ b. (b || has t ss) ≡ true) differ g)
   ]
 
   -- if every key has its hash, each place that was used has one
-  stored_stand : (places : List ℕ) → AllBelow (length entries) places → AllByRecursion (λ e. e.hash ≡ hash e.key) entries → AllByRecursion Stands places
-  stored_stand [] below all = tt
-  stored_stand (s ∷ ss) below all =
+  stored_hashed : (places : List ℕ) → AllBelow (length entries) places → AllByRecursion (λ e. e.hash ≡ hash e.key) entries → AllByRecursion IsHashed places
+  stored_hashed [] below all = tt
+  stored_hashed (s ∷ ss) below all =
       let e = slice_get_some entries s below.0 in
       let h = hash-of-key hash entries s e.0.hash e.0.key all (ap (λ z. elim z [ None ↦ None | Some e ↦ Some e.hash ]) e.1) (ap (λ z. elim z [ None ↦ None | Some e ↦ Some e.key ]) e.1) in
       let at : hashed_at entries s ≡ Some (e.0.hash, e.0.key) = ap (λ z. elim z [ None ↦ None | Some e ↦ Some (e.hash, e.key) ]) e.1 in
-      ((e.0.key, at ∙ ap (λ n. Some (n, e.0.key)) h), stored_stand ss below.1 all)
+      ((e.0.key, at ∙ ap (λ n. Some (n, e.0.key)) h), stored_hashed ss below.1 all)
 
   module _ (index : List (List (ℕ × ℕ))) where
-    named : (x place : ℕ) (places : List ℕ) → AllByRecursion Stands places
+    named : (x place : ℕ) (places : List ℕ) → AllByRecursion IsHashed places
         → (has place places && is_named index entries x place) ≡ list_any (λ e. (place == e.1) && is_alike index x (hash e.0)) (paired (key_at entries) places)
     named x place [] a = refl
     named x place (s ∷ ss) a =
@@ -72,11 +72,11 @@ module _ {K V : Type 0} (hash : K → ℕ) (entries : List (Entry K V)) where
               ap (λ b. (b || has place ss) && is_named index entries x place) differ ∙ later ∙ ap (λ b. (b && is_alike index x (hash k)) || rest) (sym differ) ∙ sym there
         ]
 
-    pub has-places : (places : List ℕ) → AllByRecursion Stands places → IsIndex index entries places → HasPlaces hash index (paired (key_at entries) places)
+    pub has-places : (places : List ℕ) → AllByRecursion IsHashed places → IsIndex index entries places → HasPlaces hash index (paired (key_at entries) places)
     has-places places a is = record {
       found = λ x place. is.listed x place ∙ named x place places a;
       once = is.once;
-      counted = is.counted ∙ sym (length-paired (key_at entries) places (stand_have places a));
+      counted = is.counted ∙ sym (length-paired (key_at entries) places (hashed_have places a));
     }
 
   -- if a list of places has as many keys as places, each place has its key with the key's hash
@@ -89,21 +89,21 @@ module _ {K V : Type 0} (hash : K → ℕ) (entries : List (Entry K V)) where
       of (Some e) l = omega (arith, l)
 
   -- what is known of the history: its keys are at its places
-  pub record GhostValue (places : List ℕ) : Type 0 where
-    pub stand : AllByRecursion Stands places
+  pub record AreRemembered (places : List ℕ) : Type 0 where
+    pub hashed : AllByRecursion IsHashed places
     pub zipped : zip (map (λ (e : ℕ × K). e.1) (entries_of entries places)) places ≡ paired (key_at entries) places
 
-  pub told : (places : List ℕ) → length (entries_of entries places) ≡ length places → AllByRecursion (λ (e : ℕ × K). e.0 ≡ hash e.1) (entries_of entries places) → GhostValue places
-  told [] many a = record { stand = tt; zipped = refl }
-  told (s ∷ ss) many a = of (hashed_at entries s) refl (λ n b. told ss n b) many a
+  pub are_remembered : (places : List ℕ) → length (entries_of entries places) ≡ length places → AllByRecursion (λ (e : ℕ × K). e.0 ≡ hash e.1) (entries_of entries places) → AreRemembered places
+  are_remembered [] many a = record { hashed = tt; zipped = refl }
+  are_remembered (s ∷ ss) many a = of (hashed_at entries s) refl (λ n b. are_remembered ss n b) many a
     where
-      of : (o : Option (ℕ × K)) → hashed_at entries s ≡ o → (length (entries_of entries ss) ≡ length ss → AllByRecursion (λ (e : ℕ × K). e.0 ≡ hash e.1) (entries_of entries ss) → GhostValue ss)
-          → length (cons_option o (entries_of entries ss)) ≡ suc (length ss) → AllByRecursion (λ (e : ℕ × K). e.0 ≡ hash e.1) (cons_option o (entries_of entries ss)) → GhostValue (s ∷ ss)
+      of : (o : Option (ℕ × K)) → hashed_at entries s ≡ o → (length (entries_of entries ss) ≡ length ss → AllByRecursion (λ (e : ℕ × K). e.0 ≡ hash e.1) (entries_of entries ss) → AreRemembered ss)
+          → length (cons_option o (entries_of entries ss)) ≡ suc (length ss) → AllByRecursion (λ (e : ℕ × K). e.0 ≡ hash e.1) (cons_option o (entries_of entries ss)) → AreRemembered (s ∷ ss)
       of None is next many a = absurd (omega (arith, many, entries_within ss))
       of (Some e) is next many a =
           let later = next (omega (arith, many)) a.1 in
           record {
-            stand = ((e.1, is ∙ ap (λ h. Some (h, e.1)) a.0), later.stand);
+            hashed = ((e.1, is ∙ ap (λ h. Some (h, e.1)) a.0), later.hashed);
             zipped = ap (λ o. zip (map (λ (e : ℕ × K). e.1) (cons_option o (entries_of entries ss))) (s ∷ ss)) is
                 ∙ ap (λ zs. (e.1, s) ∷ zs) later.zipped ∙ sym (paired-cons (key_at entries) s ss e.1 (key-of s e.0 e.1 is));
           }
@@ -118,7 +118,7 @@ module _ {K V : Type 0} {eq : K → K → Bool} {hash : K → ℕ} {shares : Sha
   pub residents-have : HasPlaces hash index (residents (machine_of shares q keys.entries h.entries free))
   residents-have =
       subst (λ z. HasPlaces hash index z) (sym residents-paired)
-      (has-places hash keys.entries index (places_of q) (stored_stand hash keys.entries (places_of q) kept.stored.made kept.stored.hashed) kept.stored.indexed)
+      (has-places hash keys.entries index (places_of q) (stored_hashed hash keys.entries (places_of q) kept.stored.made kept.stored.hashed) kept.stored.indexed)
 
   -- the history in the index
   pub record Remembers : Type 0 where
@@ -128,10 +128,10 @@ module _ {K V : Type 0} {eq : K → K → Bool} {hash : K → ℕ} {shares : Sha
   pub remembers : IsWholeHistory eq h → Remembers
   remembers whole =
       let w = whole.indexed in
-      let t = told hash w.0 h.places.taken (ap (λ (z : List (ℕ × K)). length z) (sym w.1) ∙ w.2) (subst (λ z. AllByRecursion (λ (e : ℕ × K). e.0 ≡ hash e.1) z) w.1 kept.hashed) in
+      let t = are_remembered hash w.0 h.places.taken (ap (λ (z : List (ℕ × K)). length z) (sym w.1) ∙ w.2) (subst (λ z. AllByRecursion (λ (e : ℕ × K). e.0 ≡ hash e.1) z) w.1 kept.hashed) in
       record {
         as_many = sym w.2 ∙ sym (length-map h.entries (λ (e : ℕ × K). e.1));
         have =
             subst (λ z. HasPlaces hash (known.places h.places.index) z) (sym (ap (λ (z : List (ℕ × K)). zip (map (λ (e : ℕ × K). e.1) z) h.places.taken) w.1 ∙ t.zipped))
-            (has-places hash w.0 (known.places h.places.index) h.places.taken t.stand w.3);
+            (has-places hash w.0 (known.places h.places.index) h.places.taken t.hashed w.3);
       }

@@ -14,12 +14,12 @@ module _ {K V : Type 0} (q : QueueState) (h : Remembered K) (keys : KeyPlaces K 
       → Spends 0 28 0 (counts_of q h keys) (counts_of q' h' keys')
   joined-spends least most queues links few moved renewed =
       let asked = ap (λ (z : KeyPlaces K V). z.comparisons) renewed in
-      let told = ap (λ (z : Remembered K). z.comparisons) moved in
+      let kept_count = ap (λ (z : Remembered K). z.comparisons) moved in
       let same = ap (λ (z : Remembered K). z.accesses) moved in
       record {
         inspections = omega (arith, ap (λ (z : QueueState). z.inspections) queues);
         accesses = (omega (arith, links.0, same), omega (arith, links.1, few, same));
-        comparisons = (omega (arith, asked, told), omega (arith, asked, told));
+        comparisons = (omega (arith, asked, kept_count), omega (arith, asked, kept_count));
       }
 
   -- a key that takes the slot of Small's tail, which is evicted
@@ -30,11 +30,11 @@ module _ {K V : Type 0} (q : QueueState) (h : Remembered K) (keys : KeyPlaces K 
       → keys' ≡ record keys { entries = es; writes = n } → Spends 0 28 0 (counts_of q h keys) (counts_of q' h' keys')
   evicted-spends queues reused pushed remembered renewed =
       let asked = ap (λ (z : KeyPlaces K V). z.comparisons) renewed in
-      let told = ap (λ (z : Remembered K). z.comparisons) pushed in
+      let kept_count = ap (λ (z : Remembered K). z.comparisons) pushed in
       record {
         inspections = omega (arith, ap (λ (z : QueueState). z.inspections) queues);
         accesses = (omega (arith, reused.0, remembered.0), omega (arith, reused.1, remembered.1));
-        comparisons = (omega (arith, asked, told), omega (arith, asked, told));
+        comparisons = (omega (arith, asked, kept_count), omega (arith, asked, kept_count));
       }
 
 module _ {K V : Type 0} {eq : K → K → Bool} {hash : K → ℕ} {shares : Shares} {q : QueueState} {h : Remembered K} {index : List (List (ℕ × ℕ))} {keys : KeyPlaces K V} {free : List ℕ} {room : ℕ}
@@ -48,12 +48,12 @@ module _ {K V : Type 0} {eq : K → K → Bool} {hash : K → ℕ} {shares : Sha
   victim-spends looks links queues moved renewed =
       let looked = main-inspections (key_at keys.entries) q.main (main_have laws kept) in
       let asked = ap (λ (z : KeyPlaces K V). z.comparisons) renewed in
-      let told = ap (λ (z : Remembered K). z.comparisons) moved in
+      let kept_count = ap (λ (z : Remembered K). z.comparisons) moved in
       let same = ap (λ (z : Remembered K). z.accesses) moved in
       record {
         inspections = omega (arith, looked, looks, ap (λ (z : QueueState). z.inspections) queues);
         accesses = (omega (arith, looked, links.0, same), omega (arith, looked, links.1, same));
-        comparisons = (omega (arith, asked, told), omega (arith, asked, told));
+        comparisons = (omega (arith, asked, kept_count), omega (arith, asked, kept_count));
       }
 
 pub no_last : {X : Type 0} (xs : List X) → 0 < length xs → last_or None xs ≡ None → ⊥

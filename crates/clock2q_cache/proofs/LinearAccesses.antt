@@ -10,26 +10,7 @@ use Rattle.clock2q_machine.specs.Bounds.{set_bits, inspections_for, inspections_
 use Rattle.clock2q_machine.specs.Whole.{IsWhole}
 use Rattle.clock2q_machine.proofs.Linear.{linear_inspections}
 use Rattle.clock2q_cache.specs.Costs.{accesses_for, most_accesses}
-
--- whether a call visits all slots
-abbrev pub visits_all : {K V : Type 0} → Call K V → Bool
-visits_all (Retain bits) = true
-visits_all Clear = true
-visits_all (Put key value) = false
-visits_all (Get key) = false
-visits_all (Peek key) = false
-visits_all (Contains key) = false
-visits_all (GetAt slot key) = false
-visits_all (Set key value) = false
-visits_all (With key value) = false
-visits_all (Try key value) = false
-visits_all (SlotFor key value) = false
-visits_all (Remove key) = false
-visits_all Evict = false
-visits_all (Prefill values) = false
-visits_all Len = false
-visits_all IsEmpty = false
-visits_all Capacity = false
+use Rattle.clock2q_cache.specs.Visits.{visits_all}
 
 module _ {K V : Type 0} (eq : K → K → Bool) where
   wanted_accesses : (is : K → Bool) (m : Machine K V) → accesses_for is m ≤ inspections_for is m + 36

@@ -1,6 +1,6 @@
 -- When a key that is placed makes a slot, and when it finds a value in one.
 use Rattle.std.proofs.Common.{◌≡◌, ℕ, ◌<◌, ◌==◌, Bool, true, false, not, ◌&&◌, List, [], ◌∷◌, length, inl, inr, Option, Some, None, refl, sym, ap, ◌∙◌, subst, arith, eq-eqb, eqb-true, ne_eqb}
-use Rattle.clock2q_cache.proofs.Names.{if◌then◌else◌, nat_lt, is_some, slice_get, IfSome, IfNone, IsEquivalence, count_by, last_or, UnwrapsOrElse, cases_lt, lt-ltb, le-ltb, eqb-false, ltb-true, ltb-false, slice_get_within, slice_get_past, sum_by-cons, and_true, and_false, main_share, MainEntry, Machine, Placement, vacancy, vacant_slot, goes_to_main, into_main, into_small, into_small_at, joining_main, replacing_victim, placement, forgotten, slot_of, stored, reused, inserted, hit, slotted_at, fetched_value, replaced_at, IsWhole, Reuses, Takes, IsValueFor, Fills, placed, next_is_vacant, makes_slot, one_if, some_is, none_is, stands_made, victim_made, no_vacancy, all_resident, placed-main, placed-small, length-from_victim, resident_made, get-within, slot_at_most, reused_value, stored_again, stored_same}
+use Rattle.clock2q_cache.proofs.Names.{if◌then◌else◌, nat_lt, is_some, slice_get, IfSome, IfNone, IsEquivalence, count_by, last_or, UnwrapsOrElse, cases_lt, lt-ltb, le-ltb, eqb-false, ltb-true, ltb-false, slice_get_within, slice_get_past, sum_by-cons, and_true, and_false, main_share, MainEntry, Machine, Placement, vacancy, vacant_slot, goes_to_main, into_main, into_small, into_small_at, joining_main, replacing_victim, placement, forgotten, slot_of, stored, reused, inserted, hit, slotted_at, fetched_value, replaced_at, IsWhole, Reuses, Takes, IsValueFor, Fills, placed, next_is_vacant, makes_slot, one_if, some_is, none_is, counted_made, victim_made, no_vacancy, all_resident, placed-main, placed-small, length-from_victim, resident_made, get-within, slot_at_most, reused_value, stored_again, stored_same}
 use Rattle.clock2q_machine.specs.Entries.{from_victim}
 use Rattle.clock2q_cache.proofs.Insertions.{IsSent, goes-there}
 
@@ -18,8 +18,8 @@ module _ {K V : Type 0} (eq : K → K → Bool) (m : Machine K V) (h : IsWhole e
     ]
     by (f ∷ fs) e v =
         let at : f ≡ slot = some_is f slot v in
-        let stands : 0 < count_by (λ s. s == slot) m.free = omega (arith, sum_by-cons (λ s. one_if (s == slot)) f fs, ap (count_by (λ s. s == slot)) e, ap one_if (eq-eqb f slot at)) in
-        lt-ltb slot (length m.values) (stands_made eq m h slot (omega (arith, stands)))
+        let counted : 0 < count_by (λ s. s == slot) m.free = omega (arith, sum_by-cons (λ s. one_if (s == slot)) f fs, ap (count_by (λ s. s == slot)) e, ap one_if (eq-eqb f slot at)) in
+        lt-ltb slot (length m.values) (counted_made eq m h slot (omega (arith, counted)))
         ∙ ap (λ b. not (b && nat_lt (length m.values) m.shares.capacity)) (sym (ne_eqb (length {A = ℕ} (f ∷ fs)) 0 (λ e. omega (arith, e))))
 
   module _ (key : K) where

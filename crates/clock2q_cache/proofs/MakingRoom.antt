@@ -33,10 +33,10 @@ module _ {K V : Type 0} (m : Machine K V) where
     by (Some tail) last = absurd (omega (arith, none, tail_some m.small tail last))
 
   pub leaves-tail : 0 < length m.main → 0 < length m.small → (b : Bool) → IfSome (last_or None m.small) (λ tail. b ≡ is_promoted tail.age) → b ≡ victim_leaves m
-  leaves-tail some small b tells = by (last_or None m.small) refl tells ∙ sym (main-some some) where
+  leaves-tail some small b is_value = by (last_or None m.small) refl is_value ∙ sym (main-some some) where
     by : (t : Option (SmallEntry K)) → last_or None m.small ≡ t → IfSome t (λ tail. b ≡ is_promoted tail.age) → b ≡ keeps_tail t
-    by None last tells = absurd (omega (arith, small, empty_small m.small last))
-    by (Some tail) last tells = tells
+    by None last is_value = absurd (omega (arith, small, empty_small m.small last))
+    by (Some tail) last is_value = is_value
 
 -- Steps of the machine.
 

@@ -211,8 +211,8 @@ module _ {K V : Type 0} {eq : K → K → Bool} {hash : K → ℕ} {shares : Sha
     into-tail key none = ap (λ z. into_small_at key z (last_or None m.small) m) none ∙ ap (λ z. into_small_at key None z m) last_entry
 
   -- whether Small's tail moves on
-  pub tail-tells : 0 < length m.small → (b : Bool) → b ≡ tail_promoted (last_or None q.small) → IfSome (last_or None m.small) (λ tail. b ≡ is_promoted tail.age)
-  tail-tells some b is = of (last_or None (slots_of q.small)) refl
+  pub tail-promotes : 0 < length m.small → (b : Bool) → b ≡ tail_promoted (last_or None q.small) → IfSome (last_or None m.small) (λ tail. b ≡ is_promoted tail.age)
+  tail-promotes some b is = of (last_or None (slots_of q.small)) refl
     where
       of : (o : Option ℕ) → last_or None (slots_of q.small) ≡ o → IfSome (last_or None m.small) (λ tail. b ≡ is_promoted tail.age)
       of None none = absurd (no-tail q.small (omega (arith, some, length_in_small laws kept)) (sym none))

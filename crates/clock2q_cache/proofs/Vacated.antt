@@ -55,22 +55,22 @@ module _ {K V : Type 0} {eq : K → K → Bool} {hash : K → ℕ} {shares : Sha
   ]
 
   module _ (slot : ℕ) (there : IsSome (resident_at m slot)) where
-    pub stands : has slot (places_of q) ≡ true
-    stands = sym (resident-some slot) ∙ there
+    pub slot-used : has slot (places_of q) ≡ true
+    slot-used = sym (resident-some slot) ∙ there
 
     pub slot-made : slot < length keys.entries
-    slot-made = below_of (length keys.entries) (places_of q) kept.stored.made slot stands
+    slot-made = below_of (length keys.entries) (places_of q) kept.stored.made slot slot-used
 
     pub slot-in : slot < q.slots
     slot-in = omega (arith, slot-made, kept.sized.as_many, kept.whole.made_within, length-values keys.entries)
 
     pub resident-key : (k : K) → key_at keys.entries slot ≡ Some k → resident_at m slot ≡ Some (k, slot)
-    resident-key k at = resident-there laws kept slot k stands at
+    resident-key k at = resident-there laws kept slot k slot-used at
 
     standing-counted : 0 < count_by (λ e. e.slot == slot) m.small + count_by (λ e. e.slot == slot) m.main
     standing-counted = omega (
       arith,
-      times-some slot (places_of q) stands,
+      times-some slot (places_of q) slot-used,
       times-both slot q,
       standing-keyed (key_at keys.entries) slot q.small q.main (small_have laws kept) (main_have laws kept),
     )

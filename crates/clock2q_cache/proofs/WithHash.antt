@@ -28,9 +28,9 @@ module _ {K V : Type 0} {eq : K → K → Bool} {hash : K → ℕ} {shares : Sha
 
   same-hash : (x t : ℕ) → has t (candidates index x) ≡ true → has_hash keys.entries x t ≡ has_hash_at hash x m t
   same-hash x t there =
-      let stands = (candidate_there index keys.entries (places_of q) x t kept.stored.indexed there).0 in
-      let e = slice_get_some keys.entries t (below_of (length keys.entries) (places_of q) kept.stored.made t stands) in
-      let resident = resident-there laws kept t e.0.key stands (ap (λ (z : Option (Entry K V)). elim z [ None ↦ None | Some e ↦ Some e.key ]) e.1) in
+      let in-use = (candidate_there index keys.entries (places_of q) x t kept.stored.indexed there).0 in
+      let e = slice_get_some keys.entries t (below_of (length keys.entries) (places_of q) kept.stored.made t in-use) in
+      let resident = resident-there laws kept t e.0.key in-use (ap (λ (z : Option (Entry K V)). elim z [ None ↦ None | Some e ↦ Some e.key ]) e.1) in
       ap (λ (z : Option (Entry K V)). elim z [ None ↦ false | Some e ↦ e.hash == x ]) e.1
       ∙ ap (λ (z : ℕ). z == x) (hash-there hash keys.entries t e.0 e.1 kept.stored.hashed)
       ∙ sym (ap (λ (z : Option (K × ℕ)). elim z [ None ↦ false | Some r ↦ hash r.0 == x ]) resident)
@@ -66,17 +66,17 @@ module _ {K V : Type 0} {eq : K → K → Bool} {hash : K → ℕ} {shares : Sha
     where
       alike : (t : ℕ) → has t (candidates index x) ≡ true → is_key_at eq key keys.entries t ≡ true → has_hash keys.entries x t ≡ true
       alike t there it =
-          let stands = (candidate_there index keys.entries (places_of q) x t kept.stored.indexed there).0 in
-          let e = slice_get_some keys.entries t (below_of (length keys.entries) (places_of q) kept.stored.made t stands) in
+          let in-use = (candidate_there index keys.entries (places_of q) x t kept.stored.indexed there).0 in
+          let e = slice_get_some keys.entries t (below_of (length keys.entries) (places_of q) kept.stored.made t in-use) in
           let equal : eq key e.0.key ≡ true = sym (ap (λ (z : Option (Entry K V)). elim z [ None ↦ false | Some e ↦ eq key e.key ]) e.1) ∙ it in
           ap (λ (z : Option (Entry K V)). elim z [ None ↦ false | Some e ↦ e.hash == x ]) e.1
           ∙ eq-eqb e.0.hash x (hash-there hash keys.entries t e.0 e.1 kept.stored.hashed ∙ sym (respects key e.0.key equal) ∙ sym is)
 
   -- of what the walk finds
-  pub told-absent : (key : K) → ((x y : K) → eq x y ≡ true → hash x ≡ hash y) → (x : ℕ) → x ≡ hash key → (o : Option ℕ)
+  pub absent-unless : (key : K) → ((x y : K) → eq x y ≡ true → hash x ≡ hash y) → (x : ℕ) → x ≡ hash key → (o : Option ℕ)
       → o ≡ slice_get (filter (has_hash keys.entries x) (candidates index x)) 0 → IfNone o (slot_of (eq key) n ≡ None)
-  told-absent key respects x is None found = none-with-hash key respects x is found
-  told-absent key respects x is (Some s) found = tt
+  absent-unless key respects x is None found = none-with-hash key respects x is found
+  absent-unless key respects x is (Some s) found = tt
 
 -- what is in a list and passes is what is kept of it
 has-kept : (p : ℕ → Bool) (cs : List ℕ) (t : ℕ) → has t (filter p cs) ≡ (has t cs && p t)
@@ -108,14 +108,14 @@ module _ {K V : Type 0} {eq : K → K → Bool} {hash : K → ℕ} {shares : Sha
   -- a resident with the hash is among the candidates
   is-candidate : (x t : ℕ) → has_hash_at hash x l t ≡ true → has t (candidates index x) ≡ true
   is-candidate x t it = elim (cases_Bool (has t (places_of q))) [
-    | inl stands ↦
-        let e = slice_get_some keys.entries t (below_of (length keys.entries) (places_of q) kept.stored.made t stands) in
-        let resident = resident-there laws kept t e.0.key stands (ap (λ (z : Option (Entry K V)). elim z [ None ↦ None | Some e ↦ Some e.key ]) e.1) in
+    | inl in-use ↦
+        let e = slice_get_some keys.entries t (below_of (length keys.entries) (places_of q) kept.stored.made t in-use) in
+        let resident = resident-there laws kept t e.0.key in-use (ap (λ (z : Option (Entry K V)). elim z [ None ↦ None | Some e ↦ Some e.key ]) e.1) in
         let same : hash e.0.key ≡ x = eqb-true (hash e.0.key) x (sym (ap (λ (z : Option (K × ℕ)). elim z [ None ↦ false | Some r ↦ hash r.0 == x ]) resident) ∙ it) in
         let own = hash-there hash keys.entries t e.0 e.1 kept.stored.hashed ∙ same in
         let hashed : hash_at keys.entries t ≡ Some x = ap (λ (z : Option (Entry K V)). elim z [ None ↦ None | Some e ↦ Some e.hash ]) e.1 ∙ ap (λ (z : ℕ). Some z) own in
         let named : is_named index keys.entries x t ≡ true = ap (λ (z : Option ℕ). elim z [ None ↦ false | Some y ↦ is_alike index x y ]) hashed ∙ alike-itself index x in
-        let both : (has t (places_of q) && is_named index keys.entries x t) ≡ true = rw (stands, named) refl in
+        let both : (has t (places_of q) && is_named index keys.entries x t) ≡ true = rw (in-use, named) refl in
         kept.stored.indexed.listed x t ∙ both
     | inr gone ↦ absurd (both_ways false refl (sym (ap (λ (z : Option (K × ℕ)). elim z [ None ↦ false | Some r ↦ hash r.0 == x ]) (resident-none laws kept t gone)) ∙ it))
   ]
@@ -140,9 +140,9 @@ pub none-of : (o : Option ℕ) → ((x : ℕ) → o ≡ Some x → ⊥) → o �
 none-of None other = refl
 none-of (Some x) other = absurd (other x refl)
 
-pub told-none : (o : Option ℕ) → ((x : ℕ) → o ≡ Some x → ⊥) → {P : Type 0} → IfNone o P → P
-told-none None other it = it
-told-none (Some x) other it = absurd (other x refl)
+pub none-unless : (o : Option ℕ) → ((x : ℕ) → o ≡ Some x → ⊥) → {P : Type 0} → IfNone o P → P
+none-unless None other it = it
+none-unless (Some x) other it = absurd (other x refl)
 
 -- what is kept of a list is below what all of it is
 kept-below : (p : ℕ → Bool) (bound : ℕ) (cs : List ℕ) (n : ℕ) (o : Option ℕ) → AllByRecursion (λ t. t < bound) cs → o ≡ slice_get (filter p cs) n → IfSome o (λ t. t < bound)

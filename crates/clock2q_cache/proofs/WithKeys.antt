@@ -91,7 +91,7 @@ module _ {K X R : Type 0} {make : ℕ × X → K → R} {key : ℕ → Option K}
   keyed-paired show shown (keyed {e} {es} {rs} k at r) =
       ap (λ z. z ∷ map show rs) (shown e k) ∙ ap (λ zs. (k, e.0) ∷ zs) (keyed-paired show shown r) ∙ sym (paired-cons key e.0 (slots_of es) k at)
 
-  module _ (slot : R → ℕ) (stands : (e : ℕ × X) (k : K) → slot (make e k) ≡ e.0) (t : ℕ) where
+  module _ (slot : R → ℕ) (slot-is : (e : ℕ × X) (k : K) → slot (make e k) ≡ e.0) (t : ℕ) where
     -- how often a slot occurs
     pub keyed-standing : {es : List (ℕ × X)} {rs : List R} → Keyed make key es rs → count_by (λ r. slot r == t) rs ≡ count_by (λ s. s == t) (slots_of es)
     keyed-standing unkeyed = refl
@@ -99,7 +99,7 @@ module _ {K X R : Type 0} {make : ℕ × X → K → R} {key : ℕ → Option K}
       arith,
       sum_by-cons (λ r. cond (slot r == t) 1 0) (make e k) rs,
       sum_by-cons (λ s. cond (s == t) 1 0) e.0 (slots_of es),
-      ap {B = ℕ} (λ s. cond (s == t) 1 0) (stands e k),
+      ap {B = ℕ} (λ s. cond (s == t) 1 0) (slot-is e k),
       keyed-standing r,
     )
 
@@ -107,18 +107,18 @@ module _ {K X R : Type 0} {make : ℕ × X → K → R} {key : ℕ → Option K}
     keyed-without : {es : List (ℕ × X)} {rs : List R} → Keyed make key es rs → Keyed make key (without_slot t es) (filter (λ r. not (slot r == t)) rs)
     keyed-without unkeyed = unkeyed
     keyed-without (keyed {e} k at r) = elim (cases_Bool (eqb e.0 t)) [
-      | inl q ↦ rw (stands e k, q) (keyed-without r)
-      | inr q ↦ rw (stands e k, q) (keyed k at (keyed-without r))
+      | inl q ↦ rw (slot-is e k, q) (keyed-without r)
+      | inr q ↦ rw (slot-is e k, q) (keyed k at (keyed-without r))
     ]
 
   -- a hit, if the key passes the test only at this slot
   keyed-hit : (of : R → K) (h : X → X) (g : R → R) → ((e : ℕ × X) (k : K) → of (make e k) ≡ k) → ((e : ℕ × X) (k : K) → g (make e k) ≡ make (e.0, h e.1) k)
       → (is : K → Bool) (slot : ℕ) {es : List (ℕ × X)} {rs : List R} → ((t : ℕ) (k : K) → has t (slots_of es) ≡ true → key t ≡ Some k → is k ≡ eqb t slot) → Keyed make key es rs
       → Keyed make key (map {B = ℕ × X} (λ e. if e.0 == slot then (e.0, h e.1) else e) es) (map (λ r. if is (of r) then g r else r) rs)
-  keyed-hit of h g own hits is slot tells unkeyed = unkeyed
-  keyed-hit of h g own hits is slot tells (keyed {e} {es} k at r) =
-      let here : is k ≡ eqb e.0 slot = tells e.0 k (has_first e.0 (slots_of es)) at in
-      let rest = keyed-hit of h g own hits is slot (λ t k g. tells t k (has_later t e.0 (slots_of es) g)) r in
+  keyed-hit of h g own hits is slot agrees unkeyed = unkeyed
+  keyed-hit of h g own hits is slot agrees (keyed {e} {es} k at r) =
+      let here : is k ≡ eqb e.0 slot = agrees e.0 k (has_first e.0 (slots_of es)) at in
+      let rest = keyed-hit of h g own hits is slot (λ t k g. agrees t k (has_later t e.0 (slots_of es) g)) r in
       elim (cases_Bool (eqb e.0 slot)) [ inl q ↦ rw (own e k, here, q, hits e k) (keyed k at rest) | inr q ↦ rw (own e k, here, q) (keyed k at rest) ]
 
 module _ {K : Type 0} (key : ℕ → Option K) where
@@ -191,13 +191,13 @@ module _ {K : Type 0} (key : ℕ → Option K) where
   module _ (is : K → Bool) (slot : ℕ) where
     pub small-hit : (es : List (ℕ × Age)) → ((t : ℕ) (k : K) → has t (slots_of es) ≡ true → key t ≡ Some k → is k ≡ eqb t slot) → HaveKeys key (slots_of es)
         → with_keys_small key (small_hit_at slot es) ≡ machine.small_hit is (with_keys_small key es)
-    small-hit es tells h =
-        keyed-is small_with key (keyed-hit (λ (e : SmallEntry K). e.key) touched (λ e. record e { age = touched e.age }) (λ e k. refl) (λ e k. refl) is slot tells (have-keyed small_with key es h))
+    small-hit es agrees h =
+        keyed-is small_with key (keyed-hit (λ (e : SmallEntry K). e.key) touched (λ e. record e { age = touched e.age }) (λ e k. refl) (λ e k. refl) is slot agrees (have-keyed small_with key es h))
 
     pub main-hit : (es : List (ℕ × Bool)) → ((t : ℕ) (k : K) → has t (slots_of es) ≡ true → key t ≡ Some k → is k ≡ eqb t slot) → HaveKeys key (slots_of es)
         → with_keys_main key (main_hit_at slot es) ≡ machine.main_hit is (with_keys_main key es)
-    main-hit es tells h =
-        keyed-is main_with key (keyed-hit (λ (e : MainEntry K). e.key) (λ b. true) (λ e. record e { bit = true }) (λ e k. refl) (λ e k. refl) is slot tells (have-keyed main_with key es h))
+    main-hit es agrees h =
+        keyed-is main_with key (keyed-hit (λ (e : MainEntry K). e.key) (λ b. true) (λ e. record e { bit = true }) (λ e k. refl) (λ e k. refl) is slot agrees (have-keyed main_with key es h))
 
   -- how often a slot occurs in both queues
   pub standing-keyed : (t : ℕ) (small : List (ℕ × Age)) (main : List (ℕ × Bool)) → HaveKeys key (slots_of small) → HaveKeys key (slots_of main)

@@ -7,6 +7,8 @@ use Rattle.clock2q_handles.specs.Layout.{spill, layout}
 use Rattle.clock2q_directory.specs.Index.{index_state, entered}
 use Rattle.clock2q_directory.specs.History.{places_with}
 use Rattle.clock2q_machine.specs.Calls.{Call, Evict, SlotFor}
+use Rattle.clock2q_machine.specs.Steps.{after_all}
+use Rattle.clock2q_machine.specs.Bounds.{set_bits, summed}
 use Rattle.clock2q_machine.proofs.WorkedRuns.{puts, gets, state}
 use Rattle.clock2q_cache.specs.CacheState.{uncounted}
 use Rattle.clock2q_cache.specs.Hashes.{hash_of}
@@ -17,6 +19,11 @@ links_of_a_whole_round : let m = state 20 (puts 1 20 ++ gets 3 18 ++ Get 1 ∷ [
     × (most_accesses eqb (Get 1) m ≡ 0) × (most_accesses eqb (GetAt 0 1) m ≡ 0) ×
     (most_accesses eqb (Retain (false ∷ [])) m ≡ 160) × (most_accesses eqb Clear m ≡ 21) × (most_accesses eqb Evict m ≡ 40)
 links_of_a_whole_round = (refl, refl, refl, refl, refl, refl, refl, refl)
+
+-- a list of three calls, of which the second hits: what its calls may access, the bits before it and after it
+links_of_a_list : let m = state 20 (puts 1 20 ++ gets 3 18 ++ Get 1 ∷ []) in let calls : List (Call ℕ ℕ) = Put 21 21 ∷ Get 21 ∷ Put 22 22 ∷ [] in
+    (summed eqb (most_accesses eqb) calls m ≡ 91) × (set_bits m ≡ 18) × (set_bits (after_all eqb calls m) ≡ 0)
+links_of_a_list = (refl, refl, refl)
 
 -- each key is its own hash
 abbrev key : HashMembers ℕ

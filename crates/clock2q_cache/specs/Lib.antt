@@ -1,4 +1,5 @@
 pub mod Costs
+pub mod Visits
 pub mod Runs
 pub mod CacheFields
 pub mod CacheState

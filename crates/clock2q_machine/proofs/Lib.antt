@@ -11,6 +11,7 @@ pub mod Scanned
 pub mod SecondChance
 pub mod Standing
 pub mod Storing
+pub mod VictimValues
 pub mod Victims
 pub mod Weights
 pub mod Whole

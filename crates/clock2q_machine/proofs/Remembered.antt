@@ -1,5 +1,5 @@
--- Which key enters the history: only that of Small's tail, when it is evicted.
-use Rattle.std.proofs.Common.{◌≡◌, ℕ, ◌+◌, ◌<◌, ◌≤◌, ◌==◌, Bool, true, false, not, List, [], ◌∷◌, map, length, Option, Some, None, refl, ap, arith}
+-- Which key enters the history: only that of Small's tail, when it is evicted, and then it is the newest there.
+use Rattle.std.proofs.Common.{◌≡◌, ℕ, zero, suc, ◌+◌, ◌<◌, ◌≤◌, ◌==◌, Bool, true, false, not, ◌||◌, List, [], ◌∷◌, map, length, take, Option, Some, None, refl, sym, ap, ◌∙◌, subst, arith}
 use Rattle.std.specs.Prelude.{if◌then◌else◌, is_some, nat_lt}
 use Rattle.std.specs.Cmp.{IsEquivalence}
 use Rattle.std.specs.List.{count_by, list_any, last_or}
@@ -10,6 +10,8 @@ use Rattle.clock2q_machine.specs.Entries.{SmallEntry, MainEntry, from_victim}
 use Rattle.clock2q_machine.specs.Calls.{Call, Put, Get, Peek, Contains, GetAt, Set, With, Try, SlotFor, Remove, Retain, Clear, Evict, Prefill, Len, IsEmpty, Capacity}
 use Rattle.clock2q_machine.specs.Machine.{Machine, hit, forgotten, stored, placement, inserted, reused, goes_to_main, into_main, into_small, into_small_at, evicting_tail, promoting_tail, replacing_victim, joining_main, slot_of, vacancy, vacated, vacated_all, removed_at, by_slot, victim_leaves, victim_evicted, tail_evicted}
 use Rattle.clock2q_machine.specs.Steps.{refused_slots, is_at, replaced_at, after}
+use Rattle.clock2q_machine.specs.Bounds.{goes_on}
+use Rattle.clock2q_machine.specs.Lifetimes.{newer, is_remembered, evictions_of}
 use Rattle.clock2q_machine.specs.Whole.{IsWhole}
 use Rattle.clock2q_machine.proofs.Weights.{sum_by-filter-le}
 use Rattle.clock2q_machine.proofs.Whole.{one_if}
@@ -133,3 +135,83 @@ module _ {K V : Type 0} where
       by_tail : (o : Option (SmallEntry K)) → last_or None m.small ≡ o → (tail : SmallEntry K) × ((o ≡ Some tail) × (eq k tail.key ≡ true))
       by_tail None last = absurd (omega (arith, remembered eq m (eq k) call, ap (of_tail (eq k)) last, new, some))
       by_tail (Some tail) last = (tail, (refl, tail_passes (eq k tail.key) (omega (arith, remembered eq m (eq k) call, ap (of_tail (eq k)) last, new, some))))
+
+-- Small's tail is the newest key of the history once it is evicted.
+
+abbrev one_unless : Bool → ℕ
+one_unless b = if b then 0 else 1
+
+newest_taken : {K : Type 0} (is : K → Bool) (key : K) (history : List K) (n : ℕ) → is key ≡ true → 0 < n
+    → (list_any is (take n (key ∷ history)) ≡ true) × (newer is (take n (key ∷ history)) ≡ 0)
+newest_taken is key history zero passes some = absurd (omega (arith, some))
+newest_taken is key history (suc n) passes some = (ap (λ b. b || list_any is (take n history)) passes, ap (λ b. if b then 0 else 1 + newer is (take n history)) passes)
+
+module _ {K V : Type 0} (is : K → Bool) where
+  abbrev IsNewest : Machine K V → Type 0
+  IsNewest m = (is_remembered is m ≡ true) × (newer is m.history ≡ 0)
+
+  newest_wanted : (o : Option ℕ) (n : ℕ) (hits inserts : Machine K V) → (n ≡ 1 → IsNewest inserts) → (if is_some o then 0 else n) ≡ 1 → IsNewest (if is_some o then hits else inserts)
+  newest_wanted None n hits inserts newest one = newest one
+  newest_wanted (Some slot) n hits inserts newest one = absurd (omega (arith, one))
+
+  module _ (m : Machine K V) (tail : SmallEntry K) (last : last_or None m.small ≡ Some tail) (passes : is tail.key ≡ true) (some : 0 < history_share m.shares) where
+    module _ (test : K → Bool) (key : K) where
+      newest_tail : (b : Bool) → one_unless (false || false || b) ≡ 1
+          → IsNewest (if b then promoting_tail key tail (from_victim m.main) (forgotten test m) else evicting_tail key tail (forgotten test m)).machine
+      newest_tail true one = absurd (omega (arith, one))
+      newest_tail false one = newest_taken is tail.key (forgotten test m).history (history_share m.shares) passes some
+
+      newest_small : (v : Option ℕ) → one_unless (false || is_some v || goes_on (Some tail)) ≡ 1 → IsNewest (into_small_at key v (Some tail) (forgotten test m)).machine
+      newest_small (Some slot) one = absurd (omega (arith, one))
+      newest_small None one = newest_tail (is_promoted tail.age) one
+
+      newest_placed : (b : Bool) → one_unless (b || is_some (vacancy m) || goes_on (last_or None m.small)) ≡ 1
+          → IsNewest (if b then into_main key (forgotten test m) else into_small key (forgotten test m)).machine
+      newest_placed true one = absurd (omega (arith, one))
+      newest_placed false one =
+          subst (λ t. IsNewest (into_small_at key (vacancy m) t (forgotten test m)).machine) (sym last)
+          (newest_small (vacancy m) (ap (λ t. one_unless (false || is_some (vacancy m) || goes_on t)) (sym last) ∙ one))
+
+      newest_reused : (fresh : V) → IsNewest (placement test key m).machine → IsNewest (reused test key fresh m)
+      newest_reused fresh newest =
+          let p = placement test key m in
+          elim (nat_lt p.slot (length m.values)) as (λ b. IsNewest (if b then p.machine else stored p.slot fresh p.machine)) [ true ↦ newest | false ↦ newest ]
+
+    newest_evicted : (b : Bool) → one_unless (b || not (is_some (last_or None m.small))) ≡ 1
+        → IsNewest (if b then victim_evicted (last_or None m.small) (from_victim m.main) m else tail_evicted (last_or None m.small) m)
+    newest_evicted true one = absurd (omega (arith, one))
+    newest_evicted false one = subst (λ t. IsNewest (tail_evicted t m)) (sym last) (newest_taken is tail.key m.history (history_share m.shares) passes some)
+
+module _ {K V : Type 0} (eq : K → K → Bool) (laws : IsEquivalence eq) (m : Machine K V) where
+  -- a key that a call evicts from Small is remembered, if the history has room for any, and none is newer
+  pub evicted_newest : (call : Call K V) (tail : SmallEntry K) → last_or None m.small ≡ Some tail → evictions_of eq call m ≡ 1 → 0 < history_share m.shares
+      → (is_remembered (eq tail.key) (after eq call m) ≡ true) × (newer (eq tail.key) (after eq call m).history ≡ 0)
+  evicted_newest call tail last one some = by_call call one where
+    wanted : (key : K) → ℕ
+    wanted key = one_unless (goes_to_main (list_any (eq key) m.history) m || is_some (vacancy m) || goes_on (last_or None m.small))
+
+    placed : (key : K) → wanted key ≡ 1 → IsNewest (eq tail.key) (placement (eq key) key m).machine
+    placed key = newest_placed (eq tail.key) m tail last (laws.refl tail.key) some (eq key) key (goes_to_main (list_any (eq key) m.history) m)
+
+    by_call : (call : Call K V) → evictions_of eq call m ≡ 1 → IsNewest (eq tail.key) (after eq call m)
+    by_call (Put key value) one =
+        newest_wanted (eq tail.key) (slot_of (eq key) m) (wanted key) (replaced_at (eq key) value (slot_of (eq key) m) m) (inserted (eq key) key value m) (placed key) one
+    by_call (Get key) one = absurd (omega (arith, one))
+    by_call (Peek key) one = absurd (omega (arith, one))
+    by_call (Contains key) one = absurd (omega (arith, one))
+    by_call (GetAt slot key) one = absurd (omega (arith, one))
+    by_call (Set key value) one = absurd (omega (arith, one))
+    by_call (With key value) one = newest_wanted (eq tail.key) (slot_of (eq key) m) (wanted key) (hit (eq key) m) (inserted (eq key) key value m) (placed key) one
+    by_call (Try key (Some value)) one = newest_wanted (eq tail.key) (slot_of (eq key) m) (wanted key) (hit (eq key) m) (inserted (eq key) key value m) (placed key) one
+    by_call (Try key None) one = absurd (omega (arith, one))
+    by_call (SlotFor key fresh) one =
+        newest_wanted (eq tail.key) (slot_of (eq key) m) (wanted key) (hit (eq key) m) (reused (eq key) key fresh m)
+        (λ evicts. newest_reused (eq tail.key) m tail last (laws.refl tail.key) some (eq key) key fresh (placed key evicts)) one
+    by_call (Remove key) one = absurd (omega (arith, one))
+    by_call (Retain bits) one = absurd (omega (arith, one))
+    by_call Clear one = absurd (omega (arith, one))
+    by_call Evict one = newest_evicted (eq tail.key) m tail last (laws.refl tail.key) some (victim_leaves m) one
+    by_call (Prefill values) one = absurd (omega (arith, one))
+    by_call Len one = absurd (omega (arith, one))
+    by_call IsEmpty one = absurd (omega (arith, one))
+    by_call Capacity one = absurd (omega (arith, one))

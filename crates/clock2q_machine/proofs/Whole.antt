@@ -128,8 +128,8 @@ module _ {K V : Type 0} where
 
   module _ (eq : K → K → Bool) (m : Machine K V) (h : IsWhole eq m) where
     -- a slot of Small's tail, of Main's victim or of the free ones has been made
-    pub stands_made : (slot : ℕ) → 0 < standings slot m → slot < length m.values
-    stands_made slot some = once_made slot (length m.values) (standings slot m) (h.slots_once slot) some
+    pub counted_made : (slot : ℕ) → 0 < standings slot m → slot < length m.values
+    counted_made slot some = once_made slot (length m.values) (standings slot m) (h.slots_once slot) some
 
     pub whole-hit : (is : K → Bool) → IsWhole eq (hit is m)
     whole-hit is =
@@ -232,7 +232,7 @@ module _ {K V : Type 0} where
     at_vacancy p is standing counted =
         elim (free_slot p.slot (length m.values) m.shares.capacity m.free is) [
           | inl free ↦ inl (record {
-            made = stands_made p.slot (omega (arith, free.0 (λ s. cond (s == p.slot) 1 0), ap one_if (eq-eqb p.slot p.slot refl)));
+            made = counted_made p.slot (omega (arith, free.0 (λ s. cond (s == p.slot) 1 0), ap one_if (eq-eqb p.slot p.slot refl)));
             standing = λ slot. omega (arith, standing slot, free.0 (λ s. cond (s == slot) 1 0));
             counted = omega (arith, counted, free.1);
           })
@@ -272,7 +272,7 @@ module _ {K V : Type 0} where
       pub victim_made : victim.slot < length m.values
       victim_made =
           let at : MainEntry K → ℕ = λ e. one_if (e.slot == victim.slot) in
-          stands_made victim.slot (omega (arith, sum_by-cons at victim others, ap (sum_by at) choice, weight-from_victim at (λ e bit. refl) m.main, ap one_if (eq-eqb victim.slot victim.slot refl)))
+          counted_made victim.slot (omega (arith, sum_by-cons at victim others, ap (sum_by at) choice, weight-from_victim at (λ e bit. refl) m.main, ap one_if (eq-eqb victim.slot victim.slot refl)))
 
     module _ (key : K) where
       -- into Main, which has room
@@ -343,7 +343,7 @@ module _ {K V : Type 0} where
         front_weight g ageless slot = omega (arith, weight-admitted g ageless m.shares.window key slot front, (weight-last g None m.small tail some last).0)
 
         pub tail_made : tail.slot < length m.values
-        tail_made = stands_made tail.slot (omega (arith, (weight-last (λ e. one_if (e.slot == tail.slot)) None m.small tail some last).0, ap one_if (eq-eqb tail.slot tail.slot refl)))
+        tail_made = counted_made tail.slot (omega (arith, (weight-last (λ e. one_if (e.slot == tail.slot)) None m.small tail some last).0, ap one_if (eq-eqb tail.slot tail.slot refl)))
 
         -- into Small, in place of its tail
         pub placed-evicting : IsPlaced key m (evicting_tail key tail m)
@@ -465,8 +465,8 @@ module _ {X : Type 0} (slot_of_entry : X → ℕ) (made : ℕ) where
   all_made [] once = tt
   all_made (e ∷ xs) once =
       let slot = slot_of_entry e in
-      let stands : 0 < count_by (λ x. slot_of_entry x == slot) (e ∷ xs) = omega (arith, sum_by-cons (λ x. one_if (slot_of_entry x == slot)) e xs, ap one_if (eq-eqb slot slot refl)) in (
-        once_made slot made 1 (at_most_one (nat_lt slot made) _ stands (once slot)) (omega arith),
+      let counted : 0 < count_by (λ x. slot_of_entry x == slot) (e ∷ xs) = omega (arith, sum_by-cons (λ x. one_if (slot_of_entry x == slot)) e xs, ap one_if (eq-eqb slot slot refl)) in (
+        once_made slot made 1 (at_most_one (nat_lt slot made) _ counted (once slot)) (omega arith),
         all_made xs (λ s. omega (arith, once s, sum_by-cons (λ x. one_if (slot_of_entry x == s)) e xs)),
       )
 

@@ -1,10 +1,11 @@
 -- How long keys stay, in runs worked out by hand.
-use Rattle.std.proofs.Common.{◌≡◌, true, false, eqb, [], ◌∷◌, ◌++◌, refl}
-use Rattle.clock2q_machine.specs.Calls.{Get}
-use Rattle.clock2q_machine.specs.Steps.{after_all}
+use Rattle.std.proofs.Common.{◌≡◌, true, false, eqb, [], ◌∷◌, ◌++◌, Some, None, refl}
+use Rattle.clock2q_machine.specs.Calls.{Put, Get}
+use Rattle.clock2q_machine.specs.Machine.{slot_of}
+use Rattle.clock2q_machine.specs.Steps.{after, after_all}
 use Rattle.clock2q_machine.specs.Bounds.{summed}
 use Rattle.clock2q_machine.specs.Lifetimes.{older, newer, is_in_small, is_remembered, admissions_of, evictions_of}
-use Rattle.clock2q_machine.proofs.WorkedRuns.{puts, state}
+use Rattle.clock2q_machine.proofs.WorkedRuns.{puts, gets, state}
 
 -- Small has four keys at capacity 40: the newest stays for three more admissions, and leaves with the fourth
 four_in_small : let m = state 40 (puts 0 41) in
@@ -24,3 +25,11 @@ two_remembered = (refl, (refl, (refl, refl)))
 a_tail_that_goes_on : let m = state 20 (puts 1 20 ++ Get 1 ∷ []) in
     (summed eqb (admissions_of eqb) (puts 21 1) m ≡ 1) × (summed eqb (evictions_of eqb) (puts 21 1) m ≡ 0)
 a_tail_that_goes_on = (refl, refl)
+
+-- the hand passes key 2 of Main, which was hit, and stops at key 3
+a_second_chance : let m = after eqb (Put 1 1) (state 4 (puts 1 5 ++ Get 2 ∷ [])) in (slot_of (eqb 2) m ≡ Some 1) × (slot_of (eqb 3) m ≡ None)
+a_second_chance = (refl, refl)
+
+-- if all of Main were hit, it passes each of them, and stops at key 2
+no_chance_for_the_first_of_all : let m = after eqb (Put 1 1) (state 4 (puts 1 5 ++ gets 2 3)) in (slot_of (eqb 2) m ≡ None) × (slot_of (eqb 3) m ≡ Some 2)
+no_chance_for_the_first_of_all = (refl, refl)

@@ -3,7 +3,7 @@ use Rattle.std.proofs.Common.{slice_get, ap, ◌∙◌}
 use Rattle.clock2q_cache.proofs.Names.{hash_of, CacheState}
 use Rattle.clock2q_cache.specs.SlotsByHash.{slots_with_hash}
 use Rattle.clock2q_cache.proofs.Finding.{candidates-there}
-use Rattle.clock2q_cache.proofs.WithHash.{found-within, with-hash, told-absent}
+use Rattle.clock2q_cache.proofs.WithHash.{found-within, with-hash, absent-unless}
 use Rattle.clock2q_cache.proofs.cache.Cache.first_alike.Goals as goal
 
 pub slot_with_hash-requires : goal.slot_with_hash-requires
@@ -18,7 +18,7 @@ pub returns-clause-absent : goal.returns-clause-absent
 returns-clause-absent g c =
     let same = rw (← c.self.view_is) at c.requires in
     rw (← c.self.view_is)
-    (told-absent g.met.K.Eq.laws c.self.invariant c.args.key.now
+    (absent-unless g.met.K.Eq.laws c.self.invariant c.args.key.now
     (λ x y e. ap (λ z. hash_of g.S.BuildHasher g.S.Hasher.Hasher c.self.inside.hasher z) (g.met.K.Hash.respects_eq x y e))
     c.args.hash same
     c.slot_with_hash.result c.slot_with_hash.ensures.slot)

@@ -8,11 +8,11 @@ use Rattle.clock2q_cache.proofs.Insertions.{insert-spends}
 use Rattle.clock2q_cache.proofs.Reaching.{reaches-with}
 use Rattle.clock2q_cache.proofs.Spent.{costs-of}
 use Rattle.clock2q_cache.specs.SlotsByHash.{slots_with_hash}
-use Rattle.clock2q_cache.proofs.WithHash.{none-of, told-none}
+use Rattle.clock2q_cache.proofs.WithHash.{none-of, none-unless}
 use Rattle.clock2q_cache.proofs.cache.Cache.slot_with_hash_or_insert.Goals as goal
 
 pub returns-clause-absent : goal.returns-clause-absent
-returns-clause-absent g c = λ entered. told-none c.first_alike.result c.in_default.not-Some c.first_alike.ensures.absent
+returns-clause-absent g c = λ entered. none-unless c.first_alike.result c.in_default.not-Some c.first_alike.ensures.absent
 
 pub returns-clause-alone : goal.returns-clause-alone
 returns-clause-alone g c = λ entered.

@@ -4,14 +4,14 @@ use Rattle.clock2q_cache.proofs.Names.{QueueState, slots, Remembered, slots-left
 use Rattle.clock2q_cache.proofs.CacheInvariant.{kept-reindexed, reindexed, now-slots}
 use Rattle.clock2q_cache.proofs.Places.{left-resident}
 use Rattle.clock2q_cache.proofs.Renewed.{slot-below, is-resident}
-use Rattle.clock2q_cache.proofs.Vacated.{stands, slot-in, vacated-machine, kept-vacated}
+use Rattle.clock2q_cache.proofs.Vacated.{slot-used, slot-in, vacated-machine, kept-vacated}
 use Rattle.clock2q_cache.proofs.cache.Cache.vacate.Goals as goal
 
 pub leave-requires : goal.leave-requires
 leave-requires g c =
     record {
       resident = is-resident c.self.inside.directory g.met.K.Eq.laws c.self.invariant c.args.slot
-          (stands g.met.K.Eq.laws c.self.invariant c.args.slot (rw (← c.self.view_is) at c.requires));
+          (slot-used g.met.K.Eq.laws c.self.invariant c.args.slot (rw (← c.self.view_is) at c.requires));
     }
 
 pub leave-requires-2 : goal.leave-requires-2
@@ -20,7 +20,7 @@ leave-requires-2 g c = record { slot_in = slot-in g.met.K.Eq.laws c.self.invaria
 pub invariant_of-self : goal.invariant_of-self
 invariant_of-self g c =
     let there = rw (← c.self.view_is) at c.requires in
-    let below = (slot-below g.met.K.Eq.laws c.self.invariant c.args.slot (stands g.met.K.Eq.laws c.self.invariant c.args.slot there)).2 in
+    let below = (slot-below g.met.K.Eq.laws c.self.invariant c.args.slot (slot-used g.met.K.Eq.laws c.self.invariant c.args.slot there)).2 in
     rw c.leave.ensures.kept (kept-reindexed (reindexed c.self.inside.directory.history c.leave.ensures.left.becomes refl)
     (kept-vacated g.met.K.Eq.laws c.self.invariant c.args.slot there c.leave-2.new.self (slots c.leave.new.self.history.places.index) c.free_slot.new.free.items _ _
     (ap (λ (z : QueueState). z.small) c.leave-2.ensures.queues) (ap (λ (z : QueueState). z.main) c.leave-2.ensures.queues) c.free_slot.ensures.top
@@ -43,7 +43,7 @@ pub returns-clause-known : goal.returns-clause-known
 returns-clause-known g c =
     let laws = g.met.K.Eq.laws in
     let h = c.self.inside.directory.history in
-    left-resident laws c.self.invariant h.places c.args.slot (stands laws c.self.invariant c.args.slot (rw (← c.self.view_is) at c.requires)) c.leave.ensures.left.had
+    left-resident laws c.self.invariant h.places c.args.slot (slot-used laws c.self.invariant c.args.slot (rw (← c.self.view_is) at c.requires)) c.leave.ensures.left.had
     (ap (λ (z : Remembered _). z.places) c.leave.ensures.left.becomes)
     ∙ ap (λ (z : CacheState _ _ _). left_by (λ k. hash_of g.S.BuildHasher g.S.Hasher.Hasher z.hasher (g.K.Hash.hash_input k)) (resident_at z.machine c.args.slot) c.args.slot z.known) c.self.view_is
 
