@@ -84,5 +84,5 @@ pub RepliesTo-made : {X : Type 0} (bytes : X → List ℕ) (shares : Shares) (ca
     CanBeHad shares → m ≡ empty shares → IfOk r (λ text. bytes text ≡ output_of (answers nat_eq calls m)) → IfErr r (λ e. e ≡ serve.Memory) →
     RepliesTo (record { shares = shares; calls = calls }) bytes r
 unfolding output_for
-RepliesTo-made bytes shares calls m (Ok text) had made told memory = (had, told ∙ ap (λ m. output_of (answers nat_eq calls m)) made)
-RepliesTo-made bytes shares calls m (Err refusal) had made told memory = subst (IsUnanswered shares) (sym memory) had
+RepliesTo-made bytes shares calls m (Ok text) had made written memory = (had, written ∙ ap (λ m. output_of (answers nat_eq calls m)) made)
+RepliesTo-made bytes shares calls m (Err refusal) had made written memory = subst (IsUnanswered shares) (sym memory) had

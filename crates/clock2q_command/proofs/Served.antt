@@ -9,7 +9,7 @@ use Rattle.clock2q_text.specs.declared.serve_error.ServeError.TheVariants.{BadLi
 -- a script that was read is answered, or there's no text
 pub Answers-replied : {X : Type 0} {old new : Traffic} {left remain : Option (List ℕ)} (input : List ℕ) (script : Script) (bytes : X → List ℕ) (r : Result X ServeError)
     → IsReadWhole old new left remain input → script_of input ≡ Ok script → RepliesTo script bytes r → Answers old new left remain bytes r
-Answers-replied input script bytes (Ok text) whole is h = record { input = input; script = script; read = whole; spelled = is; served = h.0; told = h.1 }
+Answers-replied input script bytes (Ok text) whole is h = record { input = input; script = script; read = whole; spelled = is; served = h.0; answered = h.1 }
 Answers-replied input script bytes (Err (BadLine line)) whole is h = absurd h
 Answers-replied input script bytes (Err Memory) whole is h = inr (record { input = input; read = whole; good = λ line e. cc })
 Answers-replied input script bytes (Err Capacity) whole is h = record { input = input; script = script; read = whole; spelled = is; large = h }

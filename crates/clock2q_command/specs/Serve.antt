@@ -40,7 +40,7 @@ module _ (old new : Traffic) (left remain : Option (List ℕ)) where
     pub read : IsReadWhole old new left remain input
     pub spelled : script_of input ≡ Ok script
     pub served : CanBeHad script.shares
-    pub told : text ≡ output_for script
+    pub answered : text ≡ output_for script
 
   -- the whole input was read, and this line is its first bad one
   pub record HasBadLine (line : ℕ) : Type 0 where

@@ -1,12 +1,15 @@
 //! The run of a list of commands.
-ghost use Rattle.std.specs.Prelude.{◌≡◌, ◌+◌, ◌<◌, ◌≤◌, IfOk, IfErr, OnOk, OnErr, true, drop, get_or, slice_get, length, map};
+ghost use Rattle.std.specs.List.{AllByRecursion};
+ghost use Rattle.std.specs.Prelude.{◌≡◌, ◌+◌, ◌*◌, ◌<◌, ◌≤◌, IfOk, IfErr, OnOk, OnErr, true, false, drop, get_or, slice_get, length, map};
 ghost use Rattle.clock2q_cache.specs.Costs.{Costs, most_accesses};
 ghost use Rattle.clock2q_cache.specs.Indexed.{IsIndexed, IsSpacious};
 ghost use Rattle.clock2q_cache.specs.Runs.{RunsAtCost};
+ghost use Rattle.clock2q_cache.specs.Visits.{visits_all};
 ghost use Rattle.clock2q_text.specs.Commands.{call_of, answer_of, IsSupplied, AreSupplied};
 ghost use Rattle.clock2q_machine.specs.Bounds.{inspections_for, inspections_of, main_victims, settings, set_bits, summed};
 ghost use Rattle.clock2q_machine.specs.Calls.{Prefill, Retain, Set, SlotFor, Try, With};
 ghost use Rattle.clock2q_machine.specs.Machine.{slot_of, value_of};
+ghost use Rattle.clock2q_machine.specs.Whole.{IsWhole};
 ghost use Rattle.clock2q_machine.specs.Steps.{answer, after, answers, after_all, replaced, fetched, fetched_value, tried, tried_value, slotted, slotted_at, retained, prefilled_with};
 
 use clock2q_cache::{Cache, CacheError};
@@ -58,6 +61,14 @@ where
         (summed K.eq (main_victims K.eq) (map call_of commands.items) cache.old.machine +
         summed K.eq (settings K.eq) (map call_of commands.items) cache.old.machine +
         set_bits cache.old.machine)) }
+    ensures turns { IsWhole K.eq cache.old.machine → OnOk result
+        (cache.new.counts.inspections + set_bits cache.new.machine ≤
+        cache.old.counts.inspections + length commands.items + set_bits cache.old.machine) }
+    ensures linear { IsWhole K.eq cache.old.machine →
+        AllByRecursion (λ call. visits_all call ≡ false) (map call_of commands.items) →
+        OnOk result
+        (cache.new.counts.accesses + set_bits cache.new.machine ≤
+        cache.old.counts.accesses + 37 * length commands.items + set_bits cache.old.machine) }
     ensures memory { IfErr result (λ e. e ≡ CacheError.Memory) }
     ensures unchanged { OnErr result (cache.new ≡ cache.old) }
 {

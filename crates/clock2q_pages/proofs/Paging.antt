@@ -56,8 +56,8 @@ module _ (m : Machine ℕ (Option ℕ)) (h : IsWhole eqb m) (page : ℕ) (value 
   page_alone other differ found = slots_apart eqb nat_eq_equiv now whole_now other page (ne_eqb other page differ) frame frame page_there found refl
 
   -- and each other page that is resident is where it was
-  pub others_stand : (other at : ℕ) → other ≢ page → resident_frame now other ≡ Some at → resident_frame m other ≡ Some at
-  others_stand other at differ found = elim (others_keep eqb nat_eq_equiv m h (Put page value) other (ne_eqb other page differ)) [
+  pub others_keep_frames : (other at : ℕ) → other ≢ page → resident_frame now other ≡ Some at → resident_frame m other ≡ Some at
+  others_keep_frames other at differ found = elim (others_keep eqb nat_eq_equiv m h (Put page value) other (ne_eqb other page differ)) [
     | inl gone ↦ absurd (none_is at (sym gone ∙ found))
     | inr same ↦ sym same.0 ∙ found
   ]
@@ -90,8 +90,8 @@ module _ (m : Machine ℕ (Option ℕ)) (h : IsWhole eqb m) (page : ℕ) (value 
         stored_others (hit (eqb page) m) slot value (omega (arith, made)) at differ
 
 -- a page is loaded in a frame if and only if it got the frame last
-pub last_tells : (m : Machine ℕ (Option ℕ)) (page frame : ℕ) → (last_in m frame ≡ Some page) ↔ IsLoaded m page frame
-last_tells m page frame = by_value (slice_get m.values frame) where
+pub last_is_loaded : (m : Machine ℕ (Option ℕ)) (page frame : ℕ) → (last_in m frame ≡ Some page) ↔ IsLoaded m page frame
+last_is_loaded m page frame = by_value (slice_get m.values frame) where
   by_value : (o : Option (Option ℕ)) → (option_and_then (λ last. last) o ≡ Some page) ↔ (o ≡ Some (Some page))
   by_value None = ((λ e. cc), λ e. cc)
   by_value (Some None) = ((λ e. cc), λ e. cc)

@@ -92,17 +92,17 @@ word_alone rest word e = sym (ap (join_with_byte 32) e) ∙ join_with_byte-slice
 
 pub tried-number : (words : List (List ℕ)) (n : ℕ) (rest : List ℕ) → Some (n, words_of rest) ≡ number_first words
     → bytes_eq rest (codes "fail") ≡ false → with_two tried_of tried words ≡ option_map (λ m. (n, Some m)) (with_one number_of (λ m. m) (words_of rest))
-tried-number words n rest e other = tried-after words n rest e ∙ told (words_of rest) refl where
+tried-number words n rest e other = tried-after words n rest e ∙ by_words (words_of rest) refl where
   as_number : (o : Option ℕ) → option_map (tried n) (option_map Some o) ≡ option_map (λ m. (n, Some m)) (option_map (λ m. m) o)
   as_number None = refl
   as_number (Some m) = refl
 
-  told : (others : List (List ℕ)) → words_of rest ≡ others → with_one tried_of (tried n) others ≡ option_map (λ m. (n, Some m)) (with_one number_of (λ m. m) others)
-  told [] is = refl
-  told (word ∷ []) is =
+  by_words : (others : List (List ℕ)) → words_of rest ≡ others → with_one tried_of (tried n) others ≡ option_map (λ m. (n, Some m)) (with_one number_of (λ m. m) others)
+  by_words [] is = refl
+  by_words (word ∷ []) is =
       let unlike : bytes_eq word (codes "fail") ≡ false = ap (λ w. bytes_eq w (codes "fail")) (word_alone rest word is) ∙ other in
       rw unlike (as_number (number_of word))
-  told (word ∷ more ∷ others) is = refl
+  by_words (word ∷ more ∷ others) is = refl
 
 -- two arguments that are read and then mapped
 pub with_two-mapped : {X Y : Type 0} (read : List ℕ → Option Y) (make : ℕ → Y → X) (words : List (List ℕ))

@@ -5,8 +5,8 @@ ghost use Rattle.std.proofs.Common.{rules};
 
 use std::hash::{Hash, Hasher};
 
-/// The hash of a key, and a number that tells it from the others of this hash. Two tokens of one
-/// hash are equal if their numbers are. Only the hash is hashed.
+/// The hash of a key, and a number in which the tokens of one hash differ. Two tokens of one hash are
+/// equal if their numbers are. Only the hash is hashed.
 ///
 /// # Example
 ///

@@ -149,9 +149,9 @@ module _ (keys : List ℕ) (homes : List (List (ℕ × ℕ))) (key : ℕ) (is : 
     refused = λ d q. subst (IsInterned keys) (sym s.1) (interned_grown keys homes is);
   }
 
-  module _ (result : Result (ℕ × Bool) TableError) (new : List (List (ℕ × ℕ))) (told : result ≢ Err Memory → IsNumbered result new) where
+  module _ (result : Result (ℕ × Bool) TableError) (new : List (List (ℕ × ℕ))) (granted : result ≢ Err Memory → IsNumbered result new) where
     done : (r : ℕ × Bool) → result ≡ Ok r → IsNumbered result new
-    done r q = told (λ e. let both = sym q ∙ e in absurd (cc))
+    done r q = granted (λ e. let both = sym q ∙ e in absurd (cc))
 
     -- if the key had a number
     pub old_number : (number : ℕ) (b : Bool) → result ≡ Ok (number, b) → b ≡ false → IsInterned keys new × (number < length keys) × (key_at keys number ≡ key)
@@ -164,8 +164,8 @@ module _ (keys : List ℕ) (homes : List (List (ℕ × ℕ))) (key : ℕ) (is : 
     -- if it was refused one
     pub no_number : (result ≡ Err Memory → new ≡ homes) → (e : TableError) → result ≡ Err e → IsInterned keys new
     no_number memory Memory q = subst (IsInterned keys) (sym (memory q)) is
-    no_number memory Size q = (told (λ m. let both = sym q ∙ m in absurd (cc))).refused Size q
-    no_number memory RunTooLong q = (told (λ m. let both = sym q ∙ m in absurd (cc))).refused RunTooLong q
+    no_number memory Size q = (granted (λ m. let both = sym q ∙ m in absurd (cc))).refused Size q
+    no_number memory RunTooLong q = (granted (λ m. let both = sym q ∙ m in absurd (cc))).refused RunTooLong q
 
 -- what is in a list with one more key is an old key or that one
 pub last_or_old : (keys : List ℕ) (key number held : ℕ) → slice_get (keys ++ key ∷ []) number ≡ Some held → (slice_get keys number ≡ Some held) ⊎ (held ≡ key)

@@ -67,7 +67,7 @@ impl Interner {
     /// [`Table::insert`](clock2q::handles::Table::insert) returns it. All keys keep their numbers,
     /// and none is added.
     pub fn intern(&mut self, key: u64) -> Result<usize, TableError>
-        ensures stands { IfOk result (λ number. slice_get self.new number ≡ Some key) }
+        ensures number { IfOk result (λ number. slice_get self.new number ≡ Some key) }
         ensures same { IfOk result
             (λ number. (other : ℕ) → slice_get self.old other ≡ Some key → number ≡ other) }
         ensures only { (number held : ℕ) → slice_get self.new number ≡ Some held →

@@ -68,7 +68,7 @@ impl SplitIndex {
     ///
     /// Those of [`Interner::intern`]. All keys keep their numbers, and none is added.
     pub fn insert(&mut self, key: u64) -> Result<usize, TableError>
-        ensures stands { IfOk result
+        ensures number { IfOk result
             (λ number. (part : ℕ) → IsGroupOf (spread key) (length self.old) part →
             slice_get (get_or self.new part []) number ≡ Some key) }
         ensures kept { (part number held : ℕ) →

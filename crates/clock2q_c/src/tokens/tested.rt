@@ -10,7 +10,7 @@ use crate::{
 };
 use std::test::Fail;
 
-fn told(admitted: Admitted) -> (usize, bool) {
+fn parts(admitted: Admitted) -> (usize, bool) {
     (admitted.slot, admitted.has_entered)
 }
 
@@ -26,10 +26,10 @@ fn tokens_of_two_hashes(rt: HostRuntime) -> Result<(), Fail> {
         handle.discard();
         return Err("no memory".into());
     }
-    assert_eq!(rt; told(clock2q_tokens_admit(&mut handle, 7)), (0, true));
-    assert_eq!(rt; told(clock2q_tokens_admit(&mut handle, 7)), (0, false));
+    assert_eq!(rt; parts(clock2q_tokens_admit(&mut handle, 7)), (0, true));
+    assert_eq!(rt; parts(clock2q_tokens_admit(&mut handle, 7)), (0, false));
     assert_eq!(rt; clock2q_tokens_enter(&mut handle, 7, 1), 1);
-    assert_eq!(rt; told(clock2q_tokens_admit(&mut handle, 9)), (2, true));
+    assert_eq!(rt; parts(clock2q_tokens_admit(&mut handle, 9)), (2, true));
     assert_eq!(rt; clock2q_tokens_len(&mut handle), 3);
     assert_eq!(rt; clock2q_tokens_capacity(&mut handle), 3);
     assert_eq!(rt; found(clock2q_tokens_seek(&mut handle, 9, 0)), (2, true));

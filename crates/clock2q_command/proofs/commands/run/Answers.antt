@@ -1,7 +1,10 @@
--- The commands that are left have their values, and each inspection by the hand is paid for.
+-- The commands that are left have their values, each inspection by the hand is paid for, and a list takes linear time.
 use Rattle.std.proofs.Common.{rules, arith, ◌≡◌, refl, sym, ap, ◌∙◌, subst, map}
 use Rattle.std.proofs.lemmas.Grind.{common_steps}
 use Rattle.clock2q_machine.proofs.Clock.{run_bounded}
+use Rattle.clock2q_machine.proofs.Linear.{linear_inspections}
+use Rattle.clock2q_cache.proofs.LinearAccesses.{linear_accesses}
+use Rattle.std.proofs.lemmas.List.{length-map}
 use Rattle.std.specs.Vec.Iter.{into_iter_items}
 use Rattle.clock2q_cache.specs.Costs.{most_accesses}
 use Rattle.clock2q_cache.specs.Runs.{RunsAtCost}
@@ -14,7 +17,7 @@ pub loop-command-init : goal.loop-command-init
 loop-command-init g c = record {
   can = search rules;
   ends = search rules;
-  told = search rules;
+  replied = search rules;
   rest = search rules;
   ran = λ end ran. subst (λ items. RunsAtCost (members g) g.S.BuildHasher g.S.Hasher.Hasher (map call_of items) c.args.cache.now end) (search rules) ran;
   hasher = refl;
@@ -36,7 +39,7 @@ pub loop-command-preserved : goal.loop-command-preserved
 loop-command-preserved g c = record {
   can = search rules;
   ends = search rules;
-  told = grind (arith, common_steps);
+  replied = grind (arith, common_steps);
   rest = grind (arith, common_steps);
   ran = λ end ran.
       c.loop-command.invariant.ran end
@@ -61,6 +64,24 @@ returns-clause-replies g c = grind (arith, common_steps)
 
 pub returns-clause-machine : goal.returns-clause-machine
 returns-clause-machine g c = grind (arith, common_steps)
+
+pub returns-clause-turns : goal.returns-clause-turns
+returns-clause-turns g c whole =
+    grind (
+      arith,
+      common_steps,
+      length-map c.args.commands.items call_of,
+      linear_inspections g.K.PartialEq.eq g.met.K.Eq.laws (map call_of c.args.commands.items) c.args.cache.now.machine whole,
+    )
+
+pub returns-clause-linear : goal.returns-clause-linear
+returns-clause-linear g c whole some =
+    grind (
+      arith,
+      common_steps,
+      length-map c.args.commands.items call_of,
+      linear_accesses g.K.PartialEq.eq g.met.K.Eq.laws (map call_of c.args.commands.items) c.args.cache.now.machine whole some,
+    )
 
 pub returns-clause-memory : goal.returns-clause-memory
 returns-clause-memory g c = search rules

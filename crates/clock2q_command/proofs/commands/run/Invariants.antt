@@ -19,7 +19,7 @@ abbrev pub invariant-loop-command : goal.invariant-loop-command
 invariant-loop-command g l = record {
   can : (goal.iterator-loop-command g).can_next l.command-iterator;
   ends : (goal.iterator-loop-command g).is_finite l.command-iterator;
-  told : map answer_of l.replies.items ++ answers g.K.PartialEq.eq
+  replied : map answer_of l.replies.items ++ answers g.K.PartialEq.eq
       (map call_of (into_iter_items l.command-iterator)) l.cache.machine ≡
       answers g.K.PartialEq.eq (map call_of l.fn.commands.items) l.fn.cache.machine;
   rest : after_all g.K.PartialEq.eq (map call_of (into_iter_items l.command-iterator)) l.cache.machine ≡ after_all g.K.PartialEq.eq (map call_of l.fn.commands.items) l.fn.cache.machine;

@@ -29,14 +29,14 @@ loop-key-preserved g c =
       ends = search rules;
       callable = rw c.get_recorded.ensures.function (rest_callable (g.F.Fn) c.loop-key.memo.function _ _ _ left inv.callable);
       remembers = λ h. c.get_recorded.ensures.remembers (inv.remembers h);
-      told = λ h value computes.
+      remembered = λ h value computes.
           let now = subst (λ f. Computes g.K.PartialEq.eq (FnReturnsAt g.F.Fn f) value) (sym inv.function) computes in
           let is = c.get_recorded.ensures.value (inv.remembers h) value now in
           rw c.push_reserved.ensures.items
           (one_more c.loop-key.values.items c.get_recorded.result (value c.in-Some.key)
           (map value (into_iter_items c.next.new.self)) _ is
           (subst (λ keys. c.loop-key.values.items ++ map value keys ≡ map value c.args.keys.items) left
-          (inv.told h value computes)));
+          (inv.remembered h value computes)));
       machine = recalled-step g.K.PartialEq.eq (into_iter_items c.loop-key.key-iterator)
           (into_iter_items c.next.new.self) c.args.keys.items c.in-Some.key c.get_recorded.result c.loop-key.memo.machine
           c.get_recorded.new.self.machine c.args.memo.now.machine c.loop-key.values.items c.push_reserved.new.self.items left

@@ -13,7 +13,7 @@ invariant-loop-key g l = record {
   ends : (goal.iterator-loop-key g).is_finite l.key-iterator;
   callable : IsCallableAtEach (g.F.Fn) l.memo.function (into_iter_items l.key-iterator);
   remembers : Remembers g.K.PartialEq.eq (FnReturnsAt (g.F.Fn) l.fn.memo.function) l.fn.memo.machine → Remembers g.K.PartialEq.eq (FnReturnsAt (g.F.Fn) l.memo.function) l.memo.machine;
-  told : Remembers g.K.PartialEq.eq (FnReturnsAt (g.F.Fn) l.fn.memo.function) l.fn.memo.machine →
+  remembered : Remembers g.K.PartialEq.eq (FnReturnsAt (g.F.Fn) l.fn.memo.function) l.fn.memo.machine →
       (value : g.row.K.Denot → g.row.V.Denot) → Computes g.K.PartialEq.eq (FnReturnsAt (g.F.Fn) l.fn.memo.function) value →
       l.values.items ++ map value (into_iter_items l.key-iterator) ≡ map value l.fn.keys.items;
   machine : (more : List g.row.V.Denot) →

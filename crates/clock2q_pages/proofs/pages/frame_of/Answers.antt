@@ -1,5 +1,5 @@
 use Rattle.std.proofs.Common.{rules, ◌≡◌, ◌<◌, Some, eqb, slice_get, sym, ap, ◌∙◌, subst}
-use Rattle.clock2q_pages.proofs.Paging.{last_tells, page_there, page_alone, others_stand, frame_within, value_there, values_elsewhere, same_shares}
+use Rattle.clock2q_pages.proofs.Paging.{last_is_loaded, page_there, page_alone, others_keep_frames, frame_within, value_there, values_elsewhere, same_shares}
 use Rattle.clock2q_machine.specs.Steps.{put}
 use Rattle.clock2q_pages.specs.Pages.{last_in}
 use Rattle.clock2q_pages.proofs.pages.frame_of.Goals as goal
@@ -14,7 +14,7 @@ returns-clause-alone g c =
     (found ∙ ap Some c.get_or_insert_mut-frame.ensures.slot)
 
 pub returns-clause-others : goal.returns-clause-others
-returns-clause-others g c = others_stand c.args.pages.now.machine c.len.ensures.whole c.args.page (Some c.args.page)
+returns-clause-others g c = others_keep_frames c.args.pages.now.machine c.len.ensures.whole c.args.page (Some c.args.page)
 
 pub returns-clause-within : goal.returns-clause-within
 returns-clause-within g c =
@@ -24,7 +24,7 @@ returns-clause-within g c =
 pub returns-clause-loaded : goal.returns-clause-loaded
 returns-clause-loaded g c =
     let last : c.get_or_insert_mut-frame.result.1.now ≡ last_in c.args.pages.now.machine c.get_or_insert_mut-frame.result.0 = search rules in
-    rw last (last_tells c.args.pages.now.machine c.args.page c.get_or_insert_mut-frame.result.0)
+    rw last (last_is_loaded c.args.pages.now.machine c.args.page c.get_or_insert_mut-frame.result.0)
 
 pub returns-clause-loads : goal.returns-clause-loads
 returns-clause-loads g c =

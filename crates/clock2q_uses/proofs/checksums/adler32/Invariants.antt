@@ -7,5 +7,5 @@ abbrev pub invariant-loop-byte : goal.invariant-loop-byte
 invariant-loop-byte l = record {
   low : l.low < 65521;
   high : l.high < 65521;
-  told : sums (drop l.byte-index l.bytes) l.low l.high ≡ sums l.bytes 1 0;
+  same : sums (drop l.byte-index l.bytes) l.low l.high ≡ sums l.bytes 1 0;
 }

@@ -23,8 +23,8 @@ returns g c = record {
       (λ f key value route b next same shows there called.
       let l : value.now < length f.0.now = subst (λ up. value.now < length up) (sym same) (c.requires.links route.1 value.now there) in
       let still : next.0.now ≡ f.0.now = search rules in
-      let told : b ≡ get_or f.0.now value.now false = grind (arith, common_steps) in (
-        told ∙ ap (λ up. get_or up value.now false) same
+      let known : b ≡ get_or f.0.now value.now false = grind (arith, common_steps) in (
+        known ∙ ap (λ up. get_or up value.now false) same
             ∙ ap (λ at. get_or c.args.up.now at false)
             (sym (get_or_from_slice_get c.args.routes.now.machine.values route.1 value.now 0 there)),
         still ∙ same,

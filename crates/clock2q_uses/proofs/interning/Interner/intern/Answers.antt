@@ -43,10 +43,10 @@ find_or_insert-requires-clause-callable c = λ key gives. offered_held_by _ _ _ 
     _ (c.reserve.ensures.items, refl) key gives
 
 -- what the lookup returned
-told : (c : After-branch-number) → c.find_or_insert.result ≢ Err Memory →
+settled : (c : After-branch-number) → c.find_or_insert.result ≢ Err Memory →
     IsNumbered c.self.inside.keys.items c.self.inside.numbers.homes c.args.key c.self.invariant c.find_or_insert.result
     c.find_or_insert.new.self.homes
-told c ran =
+settled c ran =
     let keys : List ℕ = c.self.inside.keys.items in
     let homes = c.self.inside.numbers.homes in
     let settles = c.find_or_insert.ensures.settles ran in
@@ -80,29 +80,29 @@ pub invariant_of-self-in_err-number : goal.invariant_of-self-in_err-number
 invariant_of-self-in_err-number c =
     subst (λ ks. IsInterned ks c.find_or_insert.new.self.homes) (sym c.reserve.ensures.items)
     (no_number c.self.inside.keys.items c.self.inside.numbers.homes c.args.key c.self.invariant c.find_or_insert.result
-    c.find_or_insert.new.self.homes (told (goal.at.invariant_of-self-in_err-number c).After-branch-number)
+    c.find_or_insert.new.self.homes (settled (goal.at.invariant_of-self-in_err-number c).After-branch-number)
     (λ e. ap (λ t. t.homes) (c.find_or_insert.ensures.memory e).1) c.in_err-number.field-0.0 c.in_err-number.was)
 
 pub invariant_of-self-then-is_new : goal.invariant_of-self-then-is_new
 invariant_of-self-then-is_new c =
     let next = next_number c.self.inside.keys.items c.self.inside.numbers.homes c.args.key c.self.invariant
     c.find_or_insert.result c.find_or_insert.new.self.homes
-    (told (goal.at.invariant_of-self-then-is_new c).After-branch-number)
+    (settled (goal.at.invariant_of-self-then-is_new c).After-branch-number)
     c.in_ok-number.number c.in_ok-number.is_new c.in_ok-number.was c.if-is_new.true in
     subst (λ ks. IsInterned ks c.find_or_insert.new.self.homes) (sym (c.push_reserved.ensures.items ∙ ap (λ ks. ks ++ c.args.key ∷ []) c.reserve.ensures.items)) next.0
 
 pub invariant_of-self-else-is_new : goal.invariant_of-self-else-is_new
 invariant_of-self-else-is_new c =
     let old = old_number c.self.inside.keys.items c.self.inside.numbers.homes c.args.key c.self.invariant c.find_or_insert.result
-    c.find_or_insert.new.self.homes (told (goal.at.invariant_of-self-else-is_new c).After-branch-number)
+    c.find_or_insert.new.self.homes (settled (goal.at.invariant_of-self-else-is_new c).After-branch-number)
     c.in_ok-number.number c.in_ok-number.is_new c.in_ok-number.was c.if-is_new.false in
     subst (λ ks. IsInterned ks c.find_or_insert.new.self.homes) (sym c.reserve.ensures.items) old.0
 
-pub returns-then-is_new-clause-stands : goal.returns-then-is_new-clause-stands
-returns-then-is_new-clause-stands c =
+pub returns-then-is_new-clause-number : goal.returns-then-is_new-clause-number
+returns-then-is_new-clause-number c =
     let keys : List ℕ = c.self.inside.keys.items in
     let next = next_number keys c.self.inside.numbers.homes c.args.key c.self.invariant c.find_or_insert.result
-    c.find_or_insert.new.self.homes (told (goal.at.returns-then-is_new-clause-stands c).After-branch-number)
+    c.find_or_insert.new.self.homes (settled (goal.at.returns-then-is_new-clause-number c).After-branch-number)
     c.in_ok-number.number c.in_ok-number.is_new c.in_ok-number.was c.if-is_new.true in
     ap (λ ks. slice_get ks c.in_ok-number.number)
     (c.push_reserved.ensures.items ∙ ap (λ ks. ks ++ c.args.key ∷ []) c.reserve.ensures.items)
@@ -112,7 +112,7 @@ pub returns-then-is_new-clause-same : goal.returns-then-is_new-clause-same
 returns-then-is_new-clause-same c other at =
     let keys : List ℕ = c.self.inside.keys.items in
     let next = next_number keys c.self.inside.numbers.homes c.args.key c.self.invariant c.find_or_insert.result
-    c.find_or_insert.new.self.homes (told (goal.at.returns-then-is_new-clause-same c).After-branch-number)
+    c.find_or_insert.new.self.homes (settled (goal.at.returns-then-is_new-clause-same c).After-branch-number)
     c.in_ok-number.number c.in_ok-number.is_new c.in_ok-number.was c.if-is_new.true in
     let there : slice_get keys other ≡ Some c.args.key = ap (λ ks. slice_get ks other) c.self.view_is ∙ at in
     absurd (next.2 other (slice_get_within keys other c.args.key there) (get_or_from_slice_get keys other c.args.key 0 there))
@@ -123,11 +123,11 @@ returns-then-is_new-clause-kept c number held at =
     ap (λ ks. slice_get ks number) (c.push_reserved.ensures.items ∙ ap (λ ks. ks ++ c.args.key ∷ []) c.reserve.ensures.items)
     ∙ slice_get-left keys (c.args.key ∷ []) number held (ap (λ ks. slice_get ks number) c.self.view_is ∙ at)
 
-pub returns-else-is_new-clause-stands : goal.returns-else-is_new-clause-stands
-returns-else-is_new-clause-stands c =
+pub returns-else-is_new-clause-number : goal.returns-else-is_new-clause-number
+returns-else-is_new-clause-number c =
     let keys : List ℕ = c.self.inside.keys.items in
     let old = old_number keys c.self.inside.numbers.homes c.args.key c.self.invariant c.find_or_insert.result
-    c.find_or_insert.new.self.homes (told (goal.at.returns-else-is_new-clause-stands c).After-branch-number)
+    c.find_or_insert.new.self.homes (settled (goal.at.returns-else-is_new-clause-number c).After-branch-number)
     c.in_ok-number.number c.in_ok-number.is_new c.in_ok-number.was c.if-is_new.false in
     ap (λ ks. slice_get ks c.in_ok-number.number) c.reserve.ensures.items ∙ slice_get-get_or keys c.in_ok-number.number 0 old.1 ∙ ap Some old.2
 
@@ -135,7 +135,7 @@ pub returns-else-is_new-clause-same : goal.returns-else-is_new-clause-same
 returns-else-is_new-clause-same c other at =
     let keys : List ℕ = c.self.inside.keys.items in
     let old = old_number keys c.self.inside.numbers.homes c.args.key c.self.invariant c.find_or_insert.result
-    c.find_or_insert.new.self.homes (told (goal.at.returns-else-is_new-clause-same c).After-branch-number)
+    c.find_or_insert.new.self.homes (settled (goal.at.returns-else-is_new-clause-same c).After-branch-number)
     c.in_ok-number.number c.in_ok-number.is_new c.in_ok-number.was c.if-is_new.false in
     let there : slice_get keys other ≡ Some c.args.key = ap (λ ks. slice_get ks other) c.self.view_is ∙ at in
     c.self.invariant.2 c.in_ok-number.number other old.1 (slice_get_within keys other c.args.key there) (old.2 ∙ sym (get_or_from_slice_get keys other c.args.key 0 there))
