@@ -156,19 +156,19 @@ module _ (capacity : ℕ) (some : 0 < capacity) (trace : List ℕ) where
 -- The hits so far and those to come, with one more key.
 pub hits_on : (capacity : ℕ) (trace : List ℕ) (at before now total : ℕ) → at < length trace → before + optimal_hits_from capacity (drop at trace) (optimal_at capacity trace at) ≡ total
     → now ≡ before + (if is_in (get_or trace at 0) (optimal_at capacity trace at) then 1 else 0) → now + optimal_hits_from capacity (drop (suc at) trace) (optimal_at capacity trace (suc at)) ≡ total
-hits_on capacity trace at before now total within told more =
+hits_on capacity trace at before now total within so_far more =
     let rest : optimal_hits_from capacity (drop at trace) (optimal_at capacity trace at) ≡
     (if is_in (get_or trace at 0) (optimal_at capacity trace at) then 1 else 0) + optimal_hits_from capacity
     (drop (suc at) trace) (optimal_at capacity trace (suc at)) =
     ap (λ keys. optimal_hits_from capacity keys (optimal_at capacity trace at)) (drop-cons trace at 0 within) in
-    omega (arith, rest, told, more)
+    omega (arith, rest, so_far, more)
 
 pub outcomes_on : (capacity : ℕ) (trace : List ℕ) (at : ℕ) (before now total : List Bool) → at < length trace →
     before ++ optimal_outcomes_from capacity (drop at trace) (optimal_at capacity trace at) ≡ total
     → now ≡ before ++ is_in (get_or trace at 0) (optimal_at capacity trace at) ∷ [] → now ++ optimal_outcomes_from capacity (drop (suc at) trace) (optimal_at capacity trace (suc at)) ≡ total
-outcomes_on capacity trace at before now total within told more =
+outcomes_on capacity trace at before now total within so_far more =
     let key : ℕ = get_or trace at 0 in
     let ahead : List Bool = optimal_outcomes_from capacity (drop (suc at) trace) (optimal_at capacity trace (suc at)) in
     let rest : optimal_outcomes_from capacity (drop at trace) (optimal_at capacity trace at) ≡ is_in key (optimal_at capacity trace at) ∷ ahead =
     ap (λ keys. optimal_outcomes_from capacity keys (optimal_at capacity trace at)) (drop-cons trace at 0 within) in
-    ap (λ seen. seen ++ ahead) more ∙ append_assoc before (is_in key (optimal_at capacity trace at) ∷ []) ahead ∙ sym (ap (λ coming. before ++ coming) rest) ∙ told
+    ap (λ seen. seen ++ ahead) more ∙ append_assoc before (is_in key (optimal_at capacity trace at) ∷ []) ahead ∙ sym (ap (λ coming. before ++ coming) rest) ∙ so_far

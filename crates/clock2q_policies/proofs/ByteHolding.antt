@@ -107,8 +107,8 @@ module _ {A : Type 0} (trace : List ℕ) (at : ℕ) (old : ByteResidents A) (hol
   stamps = set old.stamps.items key (at + 1)
 
   -- the key's stamp shows whether it is held
-  pub byte-tells : (stamp : ℕ) → stamp ≡ get_or old.stamps.items key stamp → holds key (entries_by trace at old) ≡ ltb old.left stamp
-  byte-tells stamp read =
+  pub byte-held-iff : (stamp : ℕ) → stamp ≡ get_or old.stamps.items key stamp → holds key (entries_by trace at old) ≡ ltb old.left stamp
+  byte-held-iff stamp read =
       let same : get_or old.stamps.items key 0 ≡ stamp = sym (read ∙ get_or_default old.stamps.items key stamp 0 (holding.known at before)) in
       holds-entries old.sizes.items key keys ∙ is_in-stamp trace old.stamps.items old.left key at holding.stamped ∙ ap (ltb old.left) same
 

@@ -83,14 +83,14 @@ pub hits-further : (trace recent after : List ℕ) (at capacity before now total
     → before + hits is_in (plain_after LeastRecentlyUsed capacity) (drop at trace) (take capacity recent) ≡ total
     → now ≡ before + cond (is_below capacity distance) 1 0
     → now + hits is_in (plain_after LeastRecentlyUsed capacity) (drop (at + 1) trace) (take capacity after) ≡ total
-hits-further trace recent after at capacity before now total distance within some apart is came_in_front told more =
+hits-further trace recent after at capacity before now total distance within some apart is came_in_front so_far more =
     let hit : is_below capacity distance ≡ is_in (get_or trace at 0) (take capacity recent) = ap (is_below capacity) is ∙ sym (near capacity (get_or trace at 0) recent) in
     let count : now ≡ before + cond (is_in (get_or trace at 0) (take capacity recent)) 1 0 = more ∙ ap (λ b. before + cond b 1 0) hit in
     let held : plain_after LeastRecentlyUsed capacity (get_or trace at 0) (take capacity recent) ≡ take capacity after =
     lru_holds_recent capacity (get_or trace at 0) recent some apart ∙ sym (ap (take capacity) came_in_front) in
     subst (λ held. now + hits is_in (plain_after LeastRecentlyUsed capacity) (drop (at + 1) trace) held ≡ total) held
     (counted is_in (plain_after LeastRecentlyUsed capacity) trace at before now total
-    (take capacity recent) within told count)
+    (take capacity recent) within so_far count)
 
 -- before the trace no access is counted
 pub nothing-counted : (counts : List ℕ) → counts ≡ [] → (n : ℕ) → sum_to counts n ≡ 0

@@ -21,8 +21,8 @@ module _ {A : Type 0} (capacity : ℕ) (trace : List ℕ) (at : ℕ) (old : Resi
   stamps = set old.stamps.items key (at + 1)
 
   -- the key's stamp shows whether it is held
-  pub tells : (stamp : ℕ) → stamp ≡ get_or old.stamps.items key stamp → is_in key held ≡ ltb old.left stamp
-  tells stamp read =
+  pub held-iff : (stamp : ℕ) → stamp ≡ get_or old.stamps.items key stamp → is_in key held ≡ ltb old.left stamp
+  held-iff stamp read =
       let same : get_or old.stamps.items key 0 ≡ stamp = sym (read ∙ get_or_default old.stamps.items key stamp 0 (holding.known at before)) in
       is_in-stamp trace old.stamps.items old.left key at holding.stamped ∙ ap (ltb old.left) same
 

@@ -3,12 +3,14 @@ pub mod Holding
 pub mod Counting
 pub mod Outcomes
 pub mod Flushing
+pub mod Rings
 pub mod WithoutSmall
 pub mod Sharing
 pub mod Optimum
 pub mod DemandPolicies
 pub mod MachineOptimum
 pub mod WorkedClock
+pub mod WorkedFlushing
 pub mod WorkedOptimum
 pub mod WorkedDistances
 pub mod Sums

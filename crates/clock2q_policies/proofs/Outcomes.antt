@@ -20,13 +20,13 @@ module _ {Cache : Type 0} (holds : ℕ → Cache → Bool) (after : ℕ → Cach
   -- the outcomes so far and those to come, one access further
   pub one_further : (trace : List ℕ) (i : ℕ) (before now total : List Bool) (cache : Cache) → i < length trace → before ++ outcomes holds after (drop i trace) cache ≡ total
       → now ≡ before ++ holds (get_or trace i 0) cache ∷ [] → now ++ outcomes holds after (drop (i + 1) trace) (after (get_or trace i 0) cache) ≡ total
-  one_further trace i before now total cache within told more =
+  one_further trace i before now total cache within so_far more =
       let rest : outcomes holds after (drop i trace) cache ≡
       holds (get_or trace i 0) cache ∷ outcomes holds after (drop (i + 1) trace) (after (get_or trace i 0) cache) =
       rw add-one (ap (λ keys. outcomes holds after keys cache) (drop-cons trace i 0 within)) in
       ap (λ seen. seen ++ outcomes holds after (drop (i + 1) trace) (after (get_or trace i 0) cache)) more
       ∙ append_assoc before (holds (get_or trace i 0) cache ∷ []) (outcomes holds after (drop (i + 1) trace) (after (get_or trace i 0) cache))
-      ∙ sym (ap (λ ahead. before ++ ahead) rest) ∙ told
+      ∙ sym (ap (λ ahead. before ++ ahead) rest) ∙ so_far
 
 pub one_optimal_each : (capacity : ℕ) (trace held : List ℕ) → length (optimal_outcomes_from capacity trace held) ≡ length trace
 one_optimal_each capacity [] held = refl

@@ -1,95 +1,27 @@
--- A Clock2Q+ cache whose Small has no share is CLOCK: the same keys hit on every trace.
-use Rattle.std.proofs.Common.{◌≡◌, ℕ, zero, suc, ◌+◌, ◌<◌, ◌==◌, Bool, true, false, ◌||◌, cond, eqb, List, [], ◌∷◌, ◌++◌, map, length, take, drop, Option, Some, None, refl, sym, ap, ◌∙◌, subst, arith, eqb-true}
+-- A Clock2Q+ cache whose Small has no share is CLOCK: on every trace the same keys hit, the same keys leave, and each key
+-- has the same slot.
+use Rattle.std.proofs.Common.{◌≡◌, ℕ, ◌+◌, ◌<◌, ◌==◌, Bool, true, false, eqb, List, [], ◌∷◌, ◌++◌, map, length, drop, Option, Some, None, refl, sym, ap, ◌∙◌, subst, arith, eqb-true}
 use Rattle.std.specs.Prelude.{if◌then◌else◌, is_some, nat_lt, slice_get}
 use Rattle.std.specs.Cmp.{nat_eq_equiv}
-use Rattle.std.specs.List.{find, prefix_len}
 use Rattle.std.specs.Option.{option_map, option_and_then}
 use Rattle.std.proofs.lemmas.Bool.{lt-ltb, le-ltb, eqb-false}
-use Rattle.std.proofs.lemmas.List.{length-map, map-append, append_assoc}
+use Rattle.std.proofs.lemmas.List.{length-map, map-append}
 use Rattle.clock2q_machine.specs.Shares.{Shares, main_share}
-use Rattle.clock2q_machine.specs.Entries.{MainEntry, main_hit, from_victim, set_front, behind_hand, with_bit}
-use Rattle.clock2q_machine.specs.Calls.{Put}
+use Rattle.clock2q_machine.specs.Entries.{MainEntry, main_hit, first_of, from_victim, behind_hand}
+use Rattle.clock2q_machine.specs.Calls.{Call, Put}
+use Rattle.clock2q_machine.specs.Leaving.{leaver}
 use Rattle.clock2q_machine.specs.Machine.{Machine, empty, hit, stored, inserted, replacing_victim, joining_main, slot_of, value_of, vacant_slot}
-use Rattle.clock2q_machine.specs.Steps.{put, replaced_at}
+use Rattle.clock2q_machine.specs.Steps.{put, replaced_at, after_all}
 use Rattle.clock2q_machine.specs.Whole.{IsWhole}
-use Rattle.clock2q_machine.proofs.Whole.{none_is}
+use Rattle.clock2q_machine.proofs.Whole.{none_is, some_is}
 use Rattle.clock2q_machine.proofs.Weights.{length-from_victim}
-use Rattle.clock2q_machine.proofs.Residents.{slot_in_main, slot_among}
+use Rattle.clock2q_machine.proofs.Residents.{slot_among}
 use Rattle.clock2q_machine.proofs.MachineInvariant.{lasting-after, lasting-empty, resident_made}
 use Rattle.clock2q_machine.proofs.Standing.{get-within}
 use Rattle.clock2q_policies.specs.Policies.{hits, outcomes}
-use Rattle.clock2q_policies.specs.SecondChance.{Ring, is_on, marked, moved_on, joined, clock_after, clock_hits, clock_outcomes}
-
--- Main as a ring.
-
-abbrev entry_of : MainEntry ℕ → ℕ × Bool
-entry_of e = (e.key, e.bit)
-
-abbrev ring_of : List (MainEntry ℕ) → Ring
-ring_of main = map entry_of main
-
--- the hand, one marked key after another: the longest marked front moves behind the rest, without its marks
-abbrev front_of : Ring → ℕ
-front_of ring = prefix_len (λ e. e.1) ring
-
-abbrev unmarked : Ring → Ring
-unmarked ring = map {B = ℕ × Bool} (λ e. (e.0, false)) ring
-
-append_none : (xs : Ring) → xs ≡ xs ++ []
-append_none [] = refl
-append_none (x ∷ xs) = ap (λ rest. x ∷ rest) (append_none xs)
-
-moved_round : (ring back : Ring) → moved_on (length ring) (ring ++ back) ≡ drop (front_of ring) ring ++ (back ++ unmarked (take (front_of ring) ring))
-moved_round [] back = append_none back
-moved_round (e ∷ ring) back =
-    elim e.1 as (λ b. (if b then moved_on (length ring) ((ring ++ back) ++ (e.0, false) ∷ []) else e ∷ (ring ++ back))
-    ≡ drop (cond b (1 + front_of ring) 0) (e ∷ ring) ++ (back ++ unmarked (take (cond b (1 + front_of ring) 0) (e ∷ ring)))) [
-      | true ↦
-          let n : 1 + front_of ring ≡ suc (front_of ring) = omega arith in
-          rw n (ap (moved_on (length ring)) (append_assoc ring back ((e.0, false) ∷ [])) ∙ moved_round ring (back ++ (e.0, false) ∷ [])
-          ∙ ap (λ xs. drop (front_of ring) ring ++ xs) (append_assoc back ((e.0, false) ∷ []) (unmarked (take (front_of ring) ring))))
-      | false ↦ ap (λ xs. e ∷ (ring ++ xs)) (append_none back)
-    ]
-
-front_alike : (main : List (MainEntry ℕ)) → front_of (ring_of main) ≡ set_front main
-front_alike [] = refl
-front_alike (e ∷ main) = ap (λ n. cond e.bit (1 + n) 0) (front_alike main)
-
-drop_alike : (n : ℕ) (main : List (MainEntry ℕ)) → drop n (ring_of main) ≡ ring_of (drop n main)
-drop_alike zero main = refl
-drop_alike (suc n) [] = refl
-drop_alike (suc n) (e ∷ main) = drop_alike n main
-
-take_alike : (n : ℕ) (main : List (MainEntry ℕ)) → unmarked (take n (ring_of main)) ≡ ring_of (map (λ e. with_bit e false) (take n main))
-take_alike zero main = refl
-take_alike (suc n) [] = refl
-take_alike (suc n) (e ∷ main) = ap (λ rest. (e.key, false) ∷ rest) (take_alike n main)
-
--- the victim is first either way
-victim_alike : (main : List (MainEntry ℕ)) → moved_on (length (ring_of main)) (ring_of main) ≡ ring_of (from_victim main)
-victim_alike main =
-    let n = set_front main in
-    ap (moved_on (length (ring_of main))) (append_none (ring_of main))
-    ∙ moved_round (ring_of main) []
-    ∙ ap (λ k. drop k (ring_of main) ++ unmarked (take k (ring_of main))) (front_alike main)
-    ∙ ap (λ xs. xs ++ unmarked (take n (ring_of main))) (drop_alike n main)
-    ∙ ap (λ xs. ring_of (drop n main) ++ xs) (take_alike n main)
-    ∙ sym (map-append entry_of (drop n main) (map (λ e. with_bit e false) (take n main)))
-
--- a hit, and whether a key is there
-marked_alike : (key : ℕ) (main : List (MainEntry ℕ)) → ring_of (main_hit (λ held. key == held) main) ≡ marked key (ring_of main)
-marked_alike key [] = refl
-marked_alike key (e ∷ main) =
-    elim (key == e.key) as
-    (λ b. entry_of (if b then with_bit e true else e) ∷ ring_of (main_hit (λ held. key == held) main) ≡
-    (if b then (e.key, true) else (e.key, e.bit)) ∷ marked key (ring_of main))
-    [ true ↦ ap (λ rest. (e.key, true) ∷ rest) (marked_alike key main) | false ↦ ap (λ rest. (e.key, e.bit) ∷ rest) (marked_alike key main) ]
-
-found_alike : (key : ℕ) (main : List (MainEntry ℕ)) → is_some (slot_in_main (λ held. key == held) main) ≡ is_on key (ring_of main)
-found_alike key [] = refl
-found_alike key (e ∷ main) =
-    elim (key == e.key) as (λ b. is_some (option_map (λ x. x.slot) (cond b (Some e) (find (λ x. key == x.key) main))) ≡ (b || is_on key (ring_of main)))
-    [ true ↦ refl | false ↦ found_alike key main ]
+use Rattle.clock2q_policies.specs.SecondChance.{is_on, marked, moved_on, joined, clock_after, clock_hits, clock_outcomes, first_key, clock_victim, passed, turned, frames_after}
+use Rattle.clock2q_policies.specs.SecondChance.{clock_ring_from, clock_frames_from, clock_ring, clock_frames}
+use Rattle.clock2q_policies.proofs.Rings.{entry_of, ring_of, frames_of, victim_alike, frames_turned, frames_hit, first_alike, marked_alike, found_alike}
 
 module _ (capacity : ℕ) where
   abbrev without_small : Shares
@@ -99,12 +31,13 @@ module _ (capacity : ℕ) where
   abbrev cache_of : List (MainEntry ℕ) → List (Unit {0}) → Machine ℕ (Unit {0})
   cache_of main values = record { shares = without_small; small = []; main = main; history = []; free = []; values = values }
 
-  -- after an access to a key: again such a cache, whose ring is that of CLOCK
+  -- after an access to a key: again such a cache, whose ring and frames are those of CLOCK
   record GoesOn (key : ℕ) (main : List (MainEntry ℕ)) (n : Machine ℕ (Unit {0})) : Type 0 where
     now : List (MainEntry ℕ)
     stored_values : List (Unit {0})
     is_cache : n ≡ cache_of now stored_values
     is_ring : ring_of now ≡ clock_after capacity key (ring_of main)
+    is_frames : frames_of now ≡ frames_after capacity key (ring_of main) (frames_of main)
 
   module _ (key : ℕ) (main : List (MainEntry ℕ)) (values : List (Unit {0})) (h : IsWhole eqb (cache_of main values)) where
     abbrev is_key : ℕ → Bool
@@ -123,12 +56,17 @@ module _ (capacity : ℕ) where
     holds_alike : is_some (value_of is_key (cache_of main values)) ≡ is_on key (ring_of main)
     holds_alike = with_value (slot_of is_key (cache_of main values)) refl ∙ found_in_main
 
+    -- the frames if the key isn't there
+    abbrev added : List ℕ
+    added = if nat_lt (length (ring_of main)) capacity then frames_of main ++ length (frames_of main) ∷ [] else turned 1 (turned (passed (ring_of main)) (frames_of main))
+
     hit_alike : (slot : ℕ) → slot_of is_key (cache_of main values) ≡ Some slot → GoesOn key main (stored slot tt (hit is_key (cache_of main values)))
     hit_alike slot found = record {
       now = main_hit is_key main;
       stored_values = (stored slot tt (cache_of main values)).values;
       is_cache = refl;
       is_ring = marked_alike key main ∙ sym (ap (λ b. if b then marked key (ring_of main) else joined capacity key (ring_of main)) (sym found_in_main ∙ ap {B = Bool} is_some found));
+      is_frames = frames_hit is_key main ∙ ap (λ b. if b then frames_of main else added) (sym (sym found_in_main ∙ ap {B = Bool} is_some found));
     }
 
     missed : slot_of is_key (cache_of main values) ≡ None → is_on key (ring_of main) ≡ false
@@ -154,7 +92,23 @@ module _ (capacity : ℕ) where
               ∙ ap (λ ring. drop 1 ring ++ (key, false) ∷ []) (sym (victim_alike main ∙ ap ring_of choice))
               ∙ ap (λ b. (if b then ring_of main else drop 1 (moved_on (length (ring_of main)) (ring_of main))) ++ (key, false) ∷ []) (sym no_room)
               ∙ ap (λ b. if b then marked key (ring_of main) else joined capacity key (ring_of main)) (sym (missed absent));
+          is_frames =
+              map-append (λ (e : MainEntry ℕ). e.slot) others (record { key = key; slot = victim.slot; bit = false } ∷ [])
+              ∙ ap (turned 1) (sym (ap frames_of choice) ∙ frames_turned main)
+              ∙ ap (λ b. if b then frames_of main ++ length (frames_of main) ∷ [] else turned 1 (turned (passed (ring_of main)) (frames_of main))) (sym no_room)
+              ∙ ap (λ b. if b then frames_of main else added) (sym (missed absent));
         }
+
+    -- the next slot that was never made
+    next_slot : (slot : ℕ) → length main < capacity → vacant_slot [] (length values) capacity ≡ Some slot → slot ≡ length (frames_of main)
+    next_slot slot room vacant =
+        let made : length values < capacity = omega (arith, h.slots_counted, room) in
+        omega (
+          arith,
+          some_is (length values) slot (ap (λ b. if b then Some (length values) else None) (sym (lt-ltb (length values) capacity made)) ∙ vacant),
+          h.slots_counted,
+          length-map main (λ e. e.slot),
+        )
 
     entered_room : slot_of is_key (cache_of main values) ≡ None → length main < capacity → (v : Option ℕ) → vacant_slot [] (length values) capacity ≡ v
         → let p = joining_main key v (cache_of main values) in GoesOn key main (stored p.slot tt p.machine)
@@ -172,6 +126,11 @@ module _ (capacity : ℕ) where
               behind_alike slot main
               ∙ ap (λ b. (if b then ring_of main else drop 1 (moved_on (length (ring_of main)) (ring_of main))) ++ (key, false) ∷ []) (sym has_room)
               ∙ ap (λ b. if b then marked key (ring_of main) else joined capacity key (ring_of main)) (sym (missed absent));
+          is_frames =
+              map-append (λ (e : MainEntry ℕ). e.slot) main (record { key = key; slot = slot; bit = false } ∷ [])
+              ∙ ap (λ s. frames_of main ++ s ∷ []) (next_slot slot room vacant)
+              ∙ ap (λ b. if b then frames_of main ++ length (frames_of main) ∷ [] else turned 1 (turned (passed (ring_of main)) (frames_of main))) (sym has_room)
+              ∙ ap (λ b. if b then frames_of main else added) (sym (missed absent));
         }
 
     entered_alike : slot_of is_key (cache_of main values) ≡ None → GoesOn key main (inserted is_key key tt (cache_of main values))
@@ -189,6 +148,29 @@ module _ (capacity : ℕ) where
         → GoesOn key main (if is_some o then replaced_at is_key tt o (cache_of main values) else inserted is_key key tt (cache_of main values))
     goes_on None absent = entered_alike absent
     goes_on (Some slot) found = hit_alike slot found
+
+    -- the same key leaves
+    abbrev leaves_full : Bool → Option ℕ
+    leaves_full full = option_map (λ r. r.0) (if full then first_of (from_victim main) else None)
+
+    abbrev stops_at : Bool → Option ℕ
+    stops_at room = if room then None else first_key (moved_on (length (ring_of main)) (ring_of main))
+
+    leaves_alike : leaves_full (length main == main_share without_small) ≡ stops_at (nat_lt (length (ring_of main)) capacity)
+    leaves_alike =
+        (elim (length main == main_share without_small) as (λ b. (length main == main_share without_small) ≡ b → leaves_full b ≡ stops_at (nat_lt (length (ring_of main)) capacity)) [
+          | true ↦ λ full. first_alike (from_victim main) ∙ ap first_key (sym (victim_alike main))
+              ∙ ap stops_at (sym (le-ltb (length (ring_of main)) capacity (omega (arith, eqb-true (length main) (main_share without_small) full, length-map main entry_of))))
+          | false ↦ λ less. ap stops_at (sym (lt-ltb (length (ring_of main)) capacity
+              (omega (arith, h.main_within, eqb-false (length main) (main_share without_small) less, length-map main entry_of))))
+        ]) refl
+
+    victim_leaves_alike : option_map (λ r. r.0) (leaver eqb (Put key tt) (cache_of main values)) ≡ clock_victim capacity key (ring_of main)
+    victim_leaves_alike =
+        ap (λ b. option_map (λ (r : ℕ × ℕ). r.0) (if b then None else (if length main == main_share without_small then first_of (from_victim main) else None))) found_in_main
+        ∙ elim (is_on key (ring_of main)) as
+        (λ b. option_map (λ (r : ℕ × ℕ). r.0) (if b then None else (if length main == main_share without_small then first_of (from_victim main) else None))
+        ≡ (if b then None else stops_at (nat_lt (length (ring_of main)) capacity))) [ true ↦ refl | false ↦ leaves_alike ]
 
   -- so the same keys of every trace hit
   abbrev machine_holds : ℕ → Machine ℕ (Unit {0}) → Bool
@@ -227,3 +209,57 @@ module _ (capacity : ℕ) where
 
   pub clock_outcomes_without_small : 0 < capacity → (trace : List ℕ) → outcomes machine_holds machine_after trace (empty without_small) ≡ clock_outcomes capacity trace
   clock_outcomes_without_small some trace = outcomes_alike trace [] [] (lasting-empty eqb nat_eq_equiv without_small some)
+
+  -- The keys from the hand on, their marks and their slots after a trace, and who leaves next.
+
+  abbrev puts : List ℕ → List (Call ℕ (Unit {0}))
+  puts trace = map (λ key. Put key tt) trace
+
+  record Ends (trace : List ℕ) (main : List (MainEntry ℕ)) (n : Machine ℕ (Unit {0})) : Type 0 where
+    last : List (MainEntry ℕ)
+    stored_values : List (Unit {0})
+    is_cache : n ≡ cache_of last stored_values
+    whole : IsWhole eqb (cache_of last stored_values)
+    is_ring : ring_of last ≡ clock_ring_from capacity trace (ring_of main)
+    is_frames : frames_of last ≡ clock_frames_from capacity trace (ring_of main) (frames_of main)
+
+  ends_alike : (trace : List ℕ) (main : List (MainEntry ℕ)) (values : List (Unit {0})) → IsWhole eqb (cache_of main values)
+      → Ends trace main (after_all eqb (puts trace) (cache_of main values))
+  ends_alike [] main values h = record { last = main; stored_values = values; is_cache = refl; whole = h; is_ring = refl; is_frames = refl }
+  ends_alike (key ∷ trace) main values h =
+      let m = cache_of main values in
+      let step = goes_on key main values h (slot_of (λ held. key == held) m) refl in
+      let whole : IsWhole eqb (cache_of step.now step.stored_values) = subst (IsWhole eqb) step.is_cache (lasting-after eqb nat_eq_equiv (Put key tt) m h) in
+      let rest = ends_alike trace step.now step.stored_values whole in
+      record {
+        last = rest.last;
+        stored_values = rest.stored_values;
+        is_cache = ap (after_all eqb (puts trace)) step.is_cache ∙ rest.is_cache;
+        whole = rest.whole;
+        is_ring = rest.is_ring ∙ ap (clock_ring_from capacity trace) step.is_ring;
+        is_frames =
+            rest.is_frames
+            ∙ ap (λ ring. clock_frames_from capacity trace ring (frames_of step.now)) step.is_ring
+            ∙ ap (clock_frames_from capacity trace (clock_after capacity key (ring_of main))) step.is_frames;
+      }
+
+  module _ (some : 0 < capacity) (trace : List ℕ) where
+    abbrev ended : Machine ℕ (Unit {0})
+    ended = after_all eqb (puts trace) (empty without_small)
+
+    ends : Ends trace [] ended
+    ends = ends_alike trace [] [] (lasting-empty eqb nat_eq_equiv without_small some)
+
+    -- the residents are the keys of the ring, in its order and with its marks, and their slots are its frames
+    pub clock_slots_without_small : (ended.small ≡ []) × ((map entry_of ended.main ≡ clock_ring capacity trace) × (map (λ e. e.slot) ended.main ≡ clock_frames capacity trace))
+    clock_slots_without_small = (
+      ap (λ (m : Machine ℕ (Unit {0})). m.small) ends.is_cache,
+      (ap (λ (m : Machine ℕ (Unit {0})). ring_of m.main) ends.is_cache ∙ ends.is_ring, ap (λ (m : Machine ℕ (Unit {0})). frames_of m.main) ends.is_cache ∙ ends.is_frames),
+    )
+
+    -- the same key leaves for the next one
+    pub clock_victim_without_small : (key : ℕ) → option_map (λ r. r.0) (leaver eqb (Put key tt) ended) ≡ clock_victim capacity key (clock_ring capacity trace)
+    clock_victim_without_small key =
+        ap (λ m. option_map (λ (r : ℕ × ℕ). r.0) (leaver eqb (Put key tt) m)) ends.is_cache
+        ∙ victim_leaves_alike key ends.last ends.stored_values ends.whole
+        ∙ ap (clock_victim capacity key) ends.is_ring

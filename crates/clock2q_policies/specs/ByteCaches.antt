@@ -1,4 +1,4 @@
--- LRU and FIFO over keys of unequal sizes, in a cache for so many bytes.
+-- LRU and FIFO over keys of unequal sizes, in a cache for a number of bytes.
 use Rattle.std.specs.Prelude.{ℕ, ◌+◌, ◌-◌, Bool, false, ◌||◌, ◌==◌, nat_le, if◌then◌else◌, List, [], ◌∷◌, ◌++◌}
 use Rattle.clock2q_policies.specs.declared.plain.PlainPolicy.{PlainPolicy}
 use Rattle.clock2q_policies.specs.declared.plain.PlainPolicy.TheVariants.{LeastRecentlyUsed, FirstInFirstOut}

@@ -1,4 +1,4 @@
--- The residents of a cache for so many bytes, given by stamps and the sizes of their admissions.
+-- The residents of a cache for a number of bytes, given by stamps and the sizes of their admissions.
 use Rattle.std.specs.Prelude.{◌≡◌, ℕ, ◌≤◌, List, get_or, map}
 use Rattle.clock2q_policies.specs.declared.byte_caches.ByteResidents.{ByteResidents}
 use Rattle.clock2q_policies.specs.ByteCaches.{Entry, total}

@@ -1,4 +1,4 @@
-//! LRU and FIFO over keys of unequal sizes, in caches for so many bytes.
+//! LRU and FIFO over keys of unequal sizes, in caches for a number of bytes.
 ghost use Rattle.std.specs.Prelude.{◌≡◌, ◌+◌, ◌-◌, ◌<◌, ◌≤◌, IfOk, false, true, length, slice_index};
 ghost use Rattle.clock2q_policies.specs.ByteCaches.{after_byte_hit, admitted, byte_after, byte_outcomes, fitting, holds};
 ghost use Rattle.clock2q_policies.specs.ByteResidents.{IsByteHolding, entries_by};

@@ -12,6 +12,7 @@ use Rattle.clock2q_simulation.specs.declared.amount.Amount.{Amount}
 use Rattle.clock2q_simulation.specs.declared.amount.Unit.{Unit as Counted}
 use Rattle.clock2q_simulation.specs.declared.amount.Unit.TheVariants.{Keys, Millionths}
 use Rattle.clock2q_simulation.specs.Amounts.{amount, amount_in, asked_by, count_in, ends_in, ends_of, front, is_dot, is_same, joined, number_in, range, range_between, round_numbers}
+use Rattle.clock2q_simulation.specs.ByteAmounts.{bytes_in, joined_bytes, one_more}
 
 -- a word that ends with a byte
 pub ends-some : (byte : ℕ) (word start : List ℕ) → word ≡ start ++ byte ∷ [] → (ends_in byte word ≡ true) × (front word ≡ start)
@@ -110,3 +111,13 @@ asked-range word ends first to e f t same order = rw (e, f, t) (between first to
 pub joined_more : (some more : List Amount) (rest : Option (List Amount)) → joined (Some (some ++ more)) rest ≡ joined (Some some) (joined (Some more) rest)
 joined_more some more None = refl
 joined_more some more (Some rest) = ap Some (append_assoc some more rest)
+
+-- a number of bytes after others, and more after it
+pub joined_bytes_more : (some : List ℕ) (bytes : ℕ) (more : Option (List ℕ)) → joined_bytes (some ++ bytes ∷ []) more ≡ joined_bytes some (joined_bytes (bytes ∷ []) more)
+joined_bytes_more some bytes None = refl
+joined_bytes_more some bytes (Some rest) = ap Some (append_assoc some (bytes ∷ []) rest)
+
+-- that one is what a word spells
+pub one_more_after : (word old new : List ℕ) (bytes : ℕ) (more : Option (List ℕ)) → bytes_in word ≡ Some bytes → new ≡ old ++ bytes ∷ [] → joined_bytes new more ≡ joined_bytes old (one_more (bytes_in word) more)
+one_more_after word old new bytes more spelled items =
+    ap (λ all. joined_bytes all more) items ∙ joined_bytes_more old bytes more ∙ sym (ap (λ found. joined_bytes old (one_more found more)) spelled)

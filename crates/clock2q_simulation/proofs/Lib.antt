@@ -1,4 +1,5 @@
 mod Amounts
+mod ByteRows
 mod Bytes
 mod FieldByField
 mod KeyBytes

@@ -15,6 +15,7 @@ use Rattle.clock2q_simulation.specs.declared.row.Hits.{Hits}
 use Rattle.clock2q_simulation.specs.declared.row.Replayed.{Replayed}
 use Rattle.clock2q_simulation.specs.declared.row.Row.{Row}
 use Rattle.clock2q_simulation.specs.declared.shares.ChosenShares.{ChosenShares}
+use Rattle.clock2q_simulation.specs.Bytes.{asked_between, AreBytes, HasBytes, hit_between}
 use Rattle.clock2q_simulation.specs.ChosenShares.{shares_for}
 use Rattle.clock2q_simulation.specs.MachineHits.{machine_holds, machine_after}
 use Rattle.clock2q_simulation.specs.Rows.{AreHits, AreOutcomes, AreHitsAfter, IsReplay, IsRow}
@@ -124,3 +125,17 @@ module _ {A : Type 0} (compared : List Policy) (shares : Option ChosenShares) (n
             (all_mapped (λ h. AreHitsAfter first shares (take last numbers) room h.policy h.hits) (counted first last sizes) replays
             (λ k d l. between_are shares numbers room some (get_or replays k d).policy (get_or replays k d).outcomes.items (are.each k d l) first last order));
       }
+
+  -- and the row has their bytes
+  pub bytes_are : (replays seen : List (Replayed A)) (first last : ℕ) (found sizes : List ℕ) (row : Row A) → seen ≡ replays → AreReplays compared shares numbers room replays → found ≡ sizes → first + row.accesses ≡ last
+      → row.bytes ≡ asked_between first last found → row.hits.items ≡ map (counted first last found) seen → HasBytes shares numbers sizes room first (first + row.accesses) row
+  bytes_are replays seen first last found sizes row same are whole ends asked hits = record {
+    asked = asked ∙ ap (asked_between first last) whole ∙ ap (λ n. asked_between first n sizes) (sym ends);
+    hits = subst (All (λ h. AreBytes shares numbers sizes room first (first + row.accesses) h.policy h.bytes)) (sym (hits ∙ ap (map (counted first last found)) same))
+        (all_mapped (λ h. AreBytes shares numbers sizes room first (first + row.accesses) h.policy h.bytes) (counted first last found) replays
+        (λ k d l. record {
+          outcomes = (get_or replays k d).outcomes.items;
+          replay = are.each k d l;
+          are = ap (hit_between first last (get_or replays k d).outcomes.items) whole ∙ ap (λ n. hit_between first n (get_or replays k d).outcomes.items sizes) (sym ends);
+        }));
+  }

@@ -1,7 +1,8 @@
 -- What words spell, computed.
-use Rattle.std.specs.Prelude.{◌≡◌, [], ◌∷◌, Some, None, codes, refl}
+use Rattle.std.specs.Prelude.{◌≡◌, ℕ, false, List, [], ◌∷◌, Some, None, codes, refl}
 use Rattle.clock2q_simulation.specs.declared.amount.Unit.TheVariants.{Keys, Millionths}
-use Rattle.clock2q_simulation.specs.Amounts.{amount, amount_in, asked_by, keys_of, round_numbers}
+use Rattle.clock2q_simulation.specs.Amounts.{amount, amount_in, asked_by, asked_from, keys_of, round_numbers}
+use Rattle.clock2q_simulation.specs.ByteAmounts.{bytes_from, bytes_in}
 
 keys : amount_in (codes "0250") ≡ Some (amount Keys 250)
 keys = refl
@@ -63,3 +64,38 @@ three_dots = refl
 
 two_units : asked_by (codes "1..3%") ≡ None
 two_units = refl
+
+-- numbers of bytes
+bytes : bytes_in (codes "0512B") ≡ Some 512
+bytes = refl
+
+thousands_of_bytes : bytes_in (codes "64kB") ≡ Some 64000
+thousands_of_bytes = refl
+
+kibibytes : bytes_in (codes "64KiB") ≡ Some 65536
+kibibytes = refl
+
+gigabytes : bytes_in (codes "2GB") ≡ Some 2000000000
+gigabytes = refl
+
+too_many_bytes : bytes_in (codes "99999999999TiB") ≡ Some 18446744073709551615
+too_many_bytes = refl
+
+keys_are_no_bytes : bytes_in (codes "64k") ≡ None
+keys_are_no_bytes = refl
+
+unit_alone : bytes_in (codes "KiB") ≡ None
+unit_alone = refl
+
+binary_without_a_power : bytes_in (codes "1iB") ≡ None
+binary_without_a_power = refl
+
+-- both kinds of capacities, each in order
+abbrev both_kinds : List (List ℕ)
+both_kinds = codes "64kB" ∷ codes "5" ∷ codes "--skip" ∷ codes "7B" ∷ codes "1GiB" ∷ []
+
+of_keys : asked_from false both_kinds ≡ Some (amount Keys 5 ∷ [])
+of_keys = refl
+
+of_bytes : bytes_from false both_kinds ≡ Some (64000 ∷ 1073741824 ∷ [])
+of_bytes = refl

@@ -135,16 +135,21 @@ is_option word = nat_lt 1 (length word) && (get_or word 0 0 == 45)
 abbrev pub is_capacity : List ℕ → Bool
 is_capacity word = nat_lt 0 (length word) && is_ascii_digit (get_or word 0 0)
 
+-- whether one is in bytes: it ends with a B
+abbrev pub is_in_bytes : List ℕ → Bool
+is_in_bytes word = is_capacity word && ends_in 66 word
+
 -- some capacities and those after them, if both exist
 abbrev pub joined : Option (List Amount) → Option (List Amount) → Option (List Amount)
 joined (Some capacities) (Some more) = Some (capacities ++ more)
 joined _ _ = None
 
--- the capacities that words ask for, in order; the first word may be the value of an option before it
+-- the capacities that words ask for other than in bytes, in order; the first word may be the value of an option before it
 abbrev pub asked_from : Bool → List (List ℕ) → Option (List Amount)
 asked_from is_value [] = Some []
 asked_from true (word ∷ words) = asked_from false words
 asked_from false (word ∷ words) =
     if is_option word then asked_from (takes_value word) words
+    else if is_in_bytes word then asked_from false words
     else if is_capacity word then joined (asked_by word) (asked_from false words)
     else asked_from false words

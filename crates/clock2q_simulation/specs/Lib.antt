@@ -1,5 +1,7 @@
 pub mod Amounts
 pub mod BestShares
+pub mod ByteAmounts
+pub mod ByteRows
 pub mod Bytes
 pub mod ChosenShares
 pub mod Fields
@@ -8,6 +10,7 @@ pub mod Help
 pub mod KnownKeys
 pub mod LruCurve
 pub mod MachineHits
+pub mod Ratios
 pub mod Reading
 pub mod Rows
 pub mod Sample

@@ -23,7 +23,7 @@ stirred hash = multiplied ((hash + hash / 2 ^ 32) % 2 ^ 64)
 abbrev pub sampling_hash : List ℕ → ℕ
 sampling_hash key = stirred (stirred (fold after_byte 1 key))
 
--- a key is in a sample of so many millionths of all keys if the upper half of its hash is in that part of the numbers
+-- a key is in a sample of some millionths of all keys if the upper half of its hash is in that part of the numbers
 -- of 32 bits
 abbrev pub is_in_sample : Sample → List ℕ → Bool
 is_in_sample sample key = nat_lt (sampling_hash key / 2 ^ 32 * 1000000 / 2 ^ 32) sample.millionths

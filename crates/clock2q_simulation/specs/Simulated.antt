@@ -13,10 +13,12 @@ use Rattle.clock2q_simulation.specs.declared.sample.Sample.{Sample}
 use Rattle.clock2q_simulation.specs.declared.shares.ChosenShares.{ChosenShares}
 use Rattle.clock2q_simulation.specs.declared.window.Windows.{Windows}
 use Rattle.clock2q_simulation.specs.BestShares.{AreAskedBest}
+use Rattle.clock2q_simulation.specs.Bytes.{AllHaveBytes, HaveBytes}
+use Rattle.clock2q_simulation.specs.ByteRows.{AreAskedByteRows}
 use Rattle.clock2q_simulation.specs.Formats.{Access}
 use Rattle.clock2q_simulation.specs.Rows.{AreRows}
 use Rattle.clock2q_simulation.specs.Sample.{scaled}
-use Rattle.clock2q_simulation.specs.Trace.{Numbered}
+use Rattle.clock2q_simulation.specs.Trace.{Numbered, sizes_of}
 use Rattle.clock2q_simulation.specs.Windows.{AreAskedWindows}
 
 module _ (given gives : Traffic) (left remain : Option (List ℕ)) (format : TraceFormat) where
@@ -25,13 +27,16 @@ module _ (given gives : Traffic) (left remain : Option (List ℕ)) (format : Tra
     pub accesses : List Access
     pub read : AreRead given gives left remain format accesses
 
-  -- the rows, the windows and the best shares are those of a trace with the accesses that were read
-  pub record IsReplayed {A : Type 0} (sample : Option Sample) (policies : List Policy) (shares : Option ChosenShares) (skipped : ℕ) (window : Option NonZeroUsize) (is_best : Bool) (tried : List ChosenShares) (capacities : List Amount) (made : List (Row A)) (all : List (Windows A)) (most : List BestShares) : Type 0 where
+  -- the rows, the windows, their bytes and the best shares are those of a trace with the accesses that were read
+  pub record IsReplayed {A : Type 0} (sample : Option Sample) (policies : List Policy) (shares : Option ChosenShares) (skipped : ℕ) (window : Option NonZeroUsize) (is_best : Bool) (tried : List ChosenShares) (capacities : List Amount) (byte_capacities : List NonZeroUsize) (made made_in_bytes : List (Row A)) (all : List (Windows A)) (most : List BestShares) : Type 0 where
     pub trace : Numbered
     pub read : AreRead given gives left remain format trace.accesses
     pub sampled : trace.sample ≡ sample
     pub rows : AreRows policies shares skipped trace (map (scaled sample) capacities) made
+    pub byte_rows : AreAskedByteRows skipped trace policies byte_capacities made_in_bytes
+    pub bytes : HaveBytes shares trace.numbers (sizes_of trace) skipped made
     pub windows : AreAskedWindows policies shares trace.numbers skipped window made all
+    pub window_bytes : AllHaveBytes shares trace.numbers (sizes_of trace) all
     pub best : AreAskedBest tried skipped trace.numbers is_best made most
 
 -- a whole text was written and flushed

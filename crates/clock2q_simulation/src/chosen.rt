@@ -4,7 +4,7 @@ ghost use Rattle.clock2q_simulation.specs.Amounts.{takes_value};
 
 use crate::amount::Amount;
 use crate::error::{ArgumentError, SimulationError};
-use crate::format::AskedFormat;
+use crate::format::{AskedFormat, TraceFormat};
 use crate::options::Format;
 use crate::policy::Policy;
 use crate::sample::Sample;
@@ -164,6 +164,44 @@ impl<A: Allocator + Copy> Chosen<A> {
         match &self.policies {
             Some(policies) if !policies.contains(&Policy::Clock2Q) => {
                 Err(SimulationError::Argument(ArgumentError::BestOfNone, index))
+            }
+            _ => Ok(()),
+        }
+    }
+}
+
+impl<A: Allocator> Chosen<A> {
+    /// Refuses a second trace beside a picture, by the indices of the arguments that name traces.
+    pub(crate) fn check_traces(&self, traces: &[usize]) -> Result<(), SimulationError> {
+        match (self.format, traces) {
+            (Some(Format::Svg), [_, second, ..]) => {
+                Err(SimulationError::Argument(ArgumentError::SecondTrace, *second))
+            }
+            _ => Ok(()),
+        }
+    }
+
+    /// Refuses a capacity in bytes, if an argument at an index asks for one, of traces without
+    /// sizes, and beside what has no such capacities.
+    pub(crate) fn check_bytes(
+        &self,
+        index: Option<usize>,
+        trace_format: TraceFormat,
+    ) -> Result<(), SimulationError> {
+        let Some(index) = index else {
+            return Ok(());
+        };
+        let is_svg = self.format == Some(Format::Svg);
+        let is_best = self.best_shares.is_some();
+        if is_svg || is_best || self.window.is_some() || self.sample.is_some() {
+            return Err(SimulationError::Argument(ArgumentError::CrowdedBytes, index));
+        }
+        if !trace_format.has_sizes() {
+            return Err(SimulationError::Argument(ArgumentError::UnsizedBytes, index));
+        }
+        match &self.policies {
+            Some(policies) if !policies.iter().any(|policy| policy.in_bytes().is_some()) => {
+                Err(SimulationError::Argument(ArgumentError::UndefinedBytes, index))
             }
             _ => Ok(()),
         }

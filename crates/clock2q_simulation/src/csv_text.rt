@@ -3,7 +3,8 @@
 use crate::best_shares::BestShares;
 use crate::options::Options;
 use crate::outcome::Outcome;
-use crate::row::Row;
+use crate::policy::Policy;
+use crate::row::{Hits, Row};
 use crate::window::Windows;
 use std::alloc::{AllocError, Allocator};
 use std::fmt::Write;
@@ -19,7 +20,7 @@ pub(crate) fn csv_text<A: Allocator>(
     let has_names = outcomes.len() > 1;
     write_names(&mut text, options, has_names)?;
     for outcome in outcomes {
-        write_rows(&mut text, outcome, has_names)?;
+        write_rows(&mut text, &options.policies, outcome, has_names)?;
     }
     Ok(text)
 }
@@ -58,6 +59,7 @@ fn write_names<A: Allocator>(
 /// Writes the rows of a trace, or its windows, with or without its name at the end of each.
 fn write_rows<A: Allocator>(
     text: &mut String<A>,
+    policies: &[Policy],
     outcome: &Outcome<'_, A>,
     has_names: bool,
 ) -> Result<(), AllocError> {
@@ -70,7 +72,36 @@ fn write_rows<A: Allocator>(
         let best = outcome.best_shares.get(index);
         write_row(text, capacity, row, outcome.is_sized, None, best, name)?;
     }
+    for row in outcome.byte_rows.iter() {
+        write_byte_row(text, policies, row, name)?;
+    }
     Ok(())
+}
+
+/// Writes a row of a capacity in bytes, with nothing for each policy that isn't defined there.
+fn write_byte_row<A: Allocator>(
+    text: &mut String<A>,
+    policies: &[Policy],
+    row: &Row<A>,
+    name: Option<&str>,
+) -> Result<(), AllocError> {
+    write!(
+        text,
+        "{}B,{},{}",
+        row.capacity.get(),
+        row.accesses,
+        row.bytes
+    )?;
+    for policy in policies {
+        match row.hits.iter().find(|hits| hits.policy == *policy) {
+            Some(hits) => write_hits(text, row, hits, true)?,
+            None => text.push_str(",,,,")?,
+        }
+    }
+    if let Some(name) = name {
+        write_quoted(text, name)?;
+    }
+    text.push('\n')
 }
 
 fn write_all_windows<A: Allocator>(
@@ -137,12 +168,23 @@ fn write_ratios<A: Allocator>(
         write!(text, ",{}", row.bytes)?;
     }
     for hits in row.hits.iter() {
-        let ratio = row.ratio(hits.hits);
-        write!(text, ",{},{ratio:.4}", hits.hits)?;
-        if is_sized {
-            let ratio = row.byte_ratio(hits.bytes);
-            write!(text, ",{},{ratio:.4}", hits.bytes)?;
-        }
+        write_hits(text, row, hits, is_sized)?;
+    }
+    Ok(())
+}
+
+/// Writes the hits and the hit ratio of a policy, and those of bytes if there are sizes.
+fn write_hits<A: Allocator>(
+    text: &mut String<A>,
+    row: &Row<A>,
+    hits: &Hits,
+    is_sized: bool,
+) -> Result<(), AllocError> {
+    let ratio = row.ratio(hits.hits);
+    write!(text, ",{},{ratio:.4}", hits.hits)?;
+    if is_sized {
+        let ratio = row.byte_ratio(hits.bytes);
+        write!(text, ",{},{ratio:.4}", hits.bytes)?;
     }
     Ok(())
 }

@@ -75,6 +75,18 @@ pub enum ArgumentError {
     /// It asks for a column of sizes, and no argument for the format csv.
     #[error("a column of sizes, which only --format=csv has")]
     UnusedSizes,
+    /// It ends with a B, and isn't a number of bytes of at least 1.
+    #[error("not a capacity in bytes (as 500B, 64kB or 1GiB)")]
+    NotBytes,
+    /// It is a capacity in bytes, and the traces have no sizes.
+    #[error("a capacity in bytes, and the traces have no sizes (--help formats)")]
+    UnsizedBytes,
+    /// It is a capacity in bytes, and no policy is defined there.
+    #[error("a capacity in bytes, for which only lru and fifo are defined")]
+    UndefinedBytes,
+    /// It is a capacity in bytes, and another argument asks for what has none.
+    #[error("a capacity in bytes, not with --window, --svg, --sample or --best-shares")]
+    CrowdedBytes,
     /// It isn't a part of all keys.
     #[error("not a part of the keys (0.000001 to 0.999999, or 1% to 100%)")]
     NotSample,

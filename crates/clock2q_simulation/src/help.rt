@@ -11,8 +11,9 @@ Reports which part of a trace's accesses hit in a cache of each capacity.
 A trace is a list of accesses in their order, a key a line: the names of the
 files, blocks or pages that were asked for. It is a file, or - or nothing for
 standard input. A capacity is how many keys a cache holds, up to 16777215, as
-500, 64k or 1M, or a part of the trace's different keys, as 10% or 0.1%. A
-range such as 10..1k or 0.1%..50% adds 20, 50, 100 and so on between its ends.
+500, 64k or 1M, or a part of the trace's keys, as 10% or 0.1%. A range, as
+10..1k or 1%..50%, adds 20, 50, 100 and so on between its ends. If keys have
+sizes, a capacity in bytes, as 64kB, 64MiB or 1GB, is for lru and fifo.
 
     printf 'a\\nb\\na\\nc\\nb\\nd\\na\\nb\\n' | ./clock2q-simulate 2 75%
     ./clock2q-simulate --svg --policies=clock2q,lru,opt 9 50 trace >hits.svg
@@ -22,17 +23,15 @@ range such as 10..1k or 0.1%..50% adds 20, 50, 100 and so on between its ends.
   --format=FORMAT   reads lines, csv or oracleGeneral (--help formats)
   --column=N        takes the keys of csv from this column, 1 for the first
   --size-column=N   takes their sizes in bytes from this one (--help formats)
-  --shares=SHARES   gives Clock2Q+ other shares than small=10%,window=50%: the
-                    small queue's of the capacity and the window's of the queue
+  --shares=SHARES   gives Clock2Q+ other shares than small=10%,window=50%
   --best-shares     prints the shares that hit most of 18 tried, and their gain
   --sample=0.01     replays this part of the keys, in caches as much smaller
   --skip=COUNT      counts no hits in this many accesses at a trace's beginning
   --window=COUNT    counts the hits of each COUNT accesses, in rows or a picture
   -h, --help        prints this text
 
-Status: 2 if an argument or a record is wrong, 3 if a capacity is too large or
-memory ran out, 4 if reading or writing failed. The first start proves and
-builds it.
+Status: 2 if an argument or record is wrong, 3 if a capacity is too large or
+memory ran out, 4 if a read or write failed. The first start proves it.
 ";
 
 /// The help text on the formats of traces.
@@ -50,7 +49,10 @@ The formats of traces, for --format:
 
 With sizes each policy has a second figure: the bytes of its hits as a part of
 the bytes asked for. Each access counts with its own size. OPT has the most
-hits, not the most bytes.
+hits, not the most bytes. A capacity in bytes, as 500B, 64kB (64,000) or 64KiB
+(65,536), up to TB and TiB, is for lru and fifo: the other policies aren't
+defined over keys of unequal sizes, and have a dash there. A key keeps the size
+of the access that admitted it, and one larger than the cache isn't admitted.
 
     ./clock2q-simulate --format=csv --column=2 --size-column=3 10% trace.csv
     zcat trace.gz | ./clock2q-simulate 1k -
@@ -65,7 +67,9 @@ pub const POLICIES_HELP: &str = "\
 The policies, for --policies, with the titles and years of their papers. The
 first five are the default.
 
-  clock2q    Clock2Q+: a small queue, a main ring, and a history of evicted keys
+  clock2q    Clock2Q+: a small queue, a main ring, and a history of evicted keys.
+             Of --shares small is the small queue's share of the capacity, and
+             window the share of that queue in which a key is young
   sieve      SIEVE is Simpler than LRU: an Efficient Turn-Key Eviction Algorithm
              for Web Caches (2024)
   s3fifo     FIFO Queues are All You Need for Cache Eviction (2023); a full main

@@ -47,7 +47,25 @@ fn write_outcome<A: Allocator>(
         }
         text.push('}')?;
     }
+    write_byte_rows(text, outcome)?;
     text.push_str("\n  ]}")
+}
+
+/// Writes the rows of capacities in bytes, after the others.
+fn write_byte_rows<A: Allocator>(
+    text: &mut String<A>,
+    outcome: &Outcome<'_, A>,
+) -> Result<(), AllocError> {
+    let mut is_first = outcome.rows.is_empty();
+    for row in outcome.byte_rows.iter() {
+        text.push_str(if is_first { "\n" } else { ",\n" })?;
+        is_first = false;
+        let capacity = row.capacity.get();
+        write!(text, "    {{\"capacity_bytes\": {capacity}, ")?;
+        write_policies(text, row, true)?;
+        text.push('}')?;
+    }
+    Ok(())
 }
 
 /// Writes the figures of a trace, or of the sample that was replayed.

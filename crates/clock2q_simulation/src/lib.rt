@@ -5,6 +5,8 @@
 mod amount;
 mod axis;
 mod best_shares;
+mod byte_amount;
+mod byte_rows;
 mod capacities;
 mod chart;
 mod chosen;
@@ -38,6 +40,8 @@ mod window;
 
 pub use amount::{Amount, Unit};
 pub use best_shares::{BestShares, TRIED_SHARES, all_best_shares_of, best_shares_of};
+pub use byte_amount::bytes_of;
+pub use byte_rows::byte_rows_of;
 pub use clock::{clock_outcomes, clock2q_outcomes};
 pub use error::{ArgumentError, ErrorReport, SimulationError};
 pub use format::TraceFormat;

@@ -1,10 +1,13 @@
 //! The arguments of the program.
 ghost use Rattle.std.specs.List.{All};
-ghost use Rattle.std.specs.Prelude.{◌≡◌, ◌<◌, [], ◌∷◌, ◌++◌, ℕ, false, is_some, Some, MatchOption, IfOk, OnOk, List, length, map, string_bytes};
+ghost use Rattle.std.specs.NonZero.{non_zero_usize_get};
+ghost use Rattle.std.specs.Prelude.{◌≡◌, ◌<◌, ◌+◌, [], ◌∷◌, ◌++◌, ℕ, false, is_some, Some, MatchOption, IfOk, OnOk, List, length, map, string_bytes};
 ghost use Rattle.clock2q_simulation.specs.ChosenShares.{Fits};
-ghost use Rattle.clock2q_simulation.specs.Amounts.{IsCapacity, asked_from, asked_by, is_capacity, is_option, joined, takes_value};
+ghost use Rattle.clock2q_simulation.specs.Amounts.{IsCapacity, asked_from, asked_by, is_capacity, is_in_bytes, is_option, joined, takes_value};
+ghost use Rattle.clock2q_simulation.specs.ByteAmounts.{bytes_from, bytes_in, joined_bytes};
 
 use crate::amount::Amount;
+use crate::byte_amount::{capacity_in_bytes, ends_in};
 use crate::capacities::capacities_of;
 use crate::chosen::{Chosen, Valued};
 use crate::error::{ArgumentError, SimulationError};
@@ -50,6 +53,8 @@ pub struct Options<A: Allocator> {
     pub format: Format,
     /// The capacities to simulate, in order. A percentage is of the trace's different keys.
     pub capacities: Vec<Amount, A>,
+    /// The capacities in bytes, in order. If there are some, the traces have sizes.
+    pub byte_capacities: Vec<NonZeroUsize, A>,
     /// The indices of the arguments that name traces, in order. A dash names standard input, which
     /// is the trace if there is no name.
     pub traces: Vec<usize, A>,
@@ -88,10 +93,13 @@ pub fn parse_options<A: Allocator + Copy>(
     alloc: A,
     arguments: &[String],
 ) -> Result<Options<A>, SimulationError>
-    ensures some { IfOk result (λ options. 0 < length options.capacities.items) }
+    ensures some { IfOk result (λ options. 0 < length options.capacities.items
+        + length options.byte_capacities.items) }
     ensures within { IfOk result (λ options. All IsCapacity options.capacities.items) }
     ensures fit { IfOk result (λ options. MatchOption options.shares (Unit {0}) (λ shares. All (Fits (Some shares)) options.capacities.items)) }
     ensures asked { IfOk result (λ options. asked_from false (map string_bytes arguments.now) ≡ Some options.capacities.items) }
+    ensures bytes { IfOk result (λ options. bytes_from false (map string_bytes arguments.now)
+        ≡ Some (map non_zero_usize_get options.byte_capacities.items)) }
 {
     let mut asked = Asked::new(alloc);
     for (index, argument) in arguments.iter().enumerate() {
@@ -120,10 +128,20 @@ fn is_capacity(argument: &str) -> bool
     0 < bytes.len() && bytes[0].is_ascii_digit()
 }
 
+/// Returns true if an argument is a capacity in bytes: it begins with a digit and ends with a `B`.
+fn is_in_bytes(argument: &str) -> bool
+    ensures bytes { result ≡ is_in_bytes argument.now }
+{
+    is_capacity(argument) && ends_in(argument.as_bytes(), b'B')
+}
+
 /// What the arguments so far ask for.
 #[derive(Drop)]
 struct Asked<A: Allocator> {
     capacities: Vec<Amount, A>,
+    byte_capacities: Vec<NonZeroUsize, A>,
+    // The index of the argument that asks for the last one of these.
+    last_in_bytes: Option<usize>,
     traces: Vec<usize, A>,
     chosen: Chosen<A>,
     // The option whose value comes next.
@@ -133,10 +151,13 @@ struct Asked<A: Allocator> {
 impl<A: Allocator + Copy> Asked<A> {
     fn new(alloc: A) -> Asked<A>
         ensures capacities { result.capacities.items ≡ [] }
+        ensures bytes { result.byte_capacities.items ≡ [] }
         ensures awaited { is_some result.awaited ≡ false }
     {
         Asked {
             capacities: Vec::new(alloc),
+            byte_capacities: Vec::new(alloc),
+            last_in_bytes: None,
             traces: Vec::new(alloc),
             chosen: Chosen::none(),
             awaited: None,
@@ -148,12 +169,19 @@ impl<A: Allocator + Copy> Asked<A> {
         requires within { All IsCapacity self.old.capacities.items }
         ensures within { OnOk result (All IsCapacity self.new.capacities.items) }
         ensures asked { OnOk result ((rest : List (List ℕ)) → joined (Some self.new.capacities.items) (asked_from (is_some self.new.awaited) rest) ≡ joined (Some self.old.capacities.items) (asked_from (is_some self.old.awaited) (argument.now ∷ rest))) }
+        ensures bytes { OnOk result ((rest : List (List ℕ)) → joined_bytes
+            (map non_zero_usize_get self.new.byte_capacities.items) (bytes_from (is_some self.new.awaited) rest)
+            ≡ joined_bytes (map non_zero_usize_get self.old.byte_capacities.items)
+            (bytes_from (is_some self.old.awaited) (argument.now ∷ rest))) }
     {
         if let Some(option) = self.awaited {
             return self.take_value(alloc, option, argument, index);
         }
         if is_option(argument) {
             return self.take_option(alloc, argument, index);
+        }
+        if is_in_bytes(argument) {
+            return self.take_bytes(argument, index);
         }
         if !is_capacity(argument) {
             return self.take_name(index);
@@ -163,9 +191,28 @@ impl<A: Allocator + Copy> Asked<A> {
         Ok(())
     }
 
+    /// Takes a capacity in bytes.
+    fn take_bytes(&mut self, argument: &str, index: usize) -> Result<(), SimulationError>
+        ensures capacities { self.new.capacities ≡ self.old.capacities }
+        ensures awaited { self.new.awaited ≡ self.old.awaited }
+        ensures bytes { OnOk result ((bytes : ℕ) × (bytes_in argument.now ≡ Some bytes)
+            × (map non_zero_usize_get self.new.byte_capacities.items
+            ≡ map non_zero_usize_get self.old.byte_capacities.items ++ bytes ∷ [])) }
+    {
+        let Some(capacity) = capacity_in_bytes(argument) else {
+            return Err(SimulationError::Argument(ArgumentError::NotBytes, index));
+        };
+        self.last_in_bytes = Some(index);
+        match self.byte_capacities.push(capacity) {
+            Ok(()) => Ok(()),
+            Err(_) => Err(SimulationError::Memory),
+        }
+    }
+
     /// Takes the argument that names a trace.
     fn take_name(&mut self, index: usize) -> Result<(), SimulationError>
         ensures capacities { self.new.capacities ≡ self.old.capacities }
+        ensures bytes { self.new.byte_capacities ≡ self.old.byte_capacities }
         ensures awaited { self.new.awaited ≡ self.old.awaited }
     {
         match self.traces.push(index) {
@@ -183,6 +230,7 @@ impl<A: Allocator + Copy> Asked<A> {
         index: usize,
     ) -> Result<(), SimulationError>
         ensures capacities { self.new.capacities ≡ self.old.capacities }
+        ensures bytes { self.new.byte_capacities ≡ self.old.byte_capacities }
         ensures awaited { is_some self.new.awaited ≡ false }
     {
         self.awaited = None;
@@ -192,6 +240,7 @@ impl<A: Allocator + Copy> Asked<A> {
     /// Takes an option, without the value that may be the next argument.
     fn take_option(&mut self, alloc: A, option: &str, index: usize) -> Result<(), SimulationError>
         ensures capacities { self.new.capacities ≡ self.old.capacities }
+        ensures bytes { self.new.byte_capacities ≡ self.old.byte_capacities }
         ensures awaited { OnOk result (is_some self.new.awaited ≡ takes_value option.now) }
     {
         self.awaited = Valued::named(option);
@@ -211,56 +260,43 @@ impl<A: Allocator + Copy> Asked<A> {
     /// Returns what all arguments ask for.
     fn finish(self, alloc: A) -> Result<Options<A>, SimulationError>
         requires within { All IsCapacity self.capacities.items }
-        ensures some { IfOk result (λ options. 0 < length options.capacities.items) }
+        ensures some { IfOk result (λ options. 0 < length options.capacities.items
+            + length options.byte_capacities.items) }
         ensures within { IfOk result (λ options. All IsCapacity options.capacities.items) }
         ensures fit { IfOk result (λ options. MatchOption options.shares (Unit {0}) (λ shares. All (Fits (Some shares)) options.capacities.items)) }
         ensures asked { IfOk result (λ options. options.capacities ≡ self.capacities) }
+        ensures bytes { IfOk result (λ options. options.byte_capacities ≡ self.byte_capacities) }
     {
-        let Asked {
-            capacities,
-            traces,
-            chosen,
-            awaited: _,
-        } = self;
-        chosen.check_best_shares()?;
-        let Chosen {
-            format,
-            policies,
-            shares,
-            skipped,
-            window,
-            trace_format,
-            sample,
-            best_shares,
-        } = chosen;
-        let trace_format = trace_format.finish()?;
-        if capacities.is_empty() {
+        self.chosen.check_best_shares()?;
+        self.chosen.check_traces(&self.traces)?;
+        let trace_format = self.chosen.trace_format.finish()?;
+        self.chosen.check_bytes(self.last_in_bytes, trace_format)?;
+        if self.capacities.is_empty() && self.byte_capacities.is_empty() {
             return Err(SimulationError::NoCapacity);
         }
-        if let (Some(Format::Svg), [_, second, ..]) = (format, traces.as_slice()) {
-            return Err(SimulationError::Argument(ArgumentError::SecondTrace, *second));
-        }
-        let policies = match policies {
+        let mut chosen = self.chosen;
+        let policies = match chosen.policies.take() {
             Some(policies) => policies,
             None => Vec::from_slice(alloc, &Policy::SHOWN)?,
         };
-        if let Some(shares) = shares {
+        if let Some(shares) = chosen.shares {
             if !policies.contains(&Policy::Clock2Q) {
                 return Err(SimulationError::UnusedShares);
             }
-            shares.check(&capacities)?;
+            shares.check(&self.capacities)?;
         }
         Ok(Options {
-            format: format.unwrap_or(Format::Table),
-            capacities,
-            traces,
+            format: chosen.format.unwrap_or(Format::Table),
+            capacities: self.capacities,
+            byte_capacities: self.byte_capacities,
+            traces: self.traces,
             policies,
-            shares,
-            skipped: skipped.unwrap_or(0),
-            window,
+            shares: chosen.shares,
+            skipped: chosen.skipped.unwrap_or(0),
+            window: chosen.window,
             trace_format,
-            sample,
-            best_shares: best_shares.is_some(),
+            sample: chosen.sample,
+            best_shares: chosen.best_shares.is_some(),
         })
     }
 }

@@ -2,12 +2,17 @@
 ghost use Rattle.std.specs.NonZero.{non_zero_usize_get};
 ghost use Rattle.std.specs.Prelude.{◌≡◌, ◌<◌, ◌↔◌, ◌≢◌, IfErr, IfOk, IsErrOf, map};
 ghost use Rattle.clock2q_simulation.specs.BestShares.{AreAskedBest};
+ghost use Rattle.clock2q_simulation.specs.Bytes.{AllHaveBytes, HaveBytes};
+ghost use Rattle.clock2q_simulation.specs.ByteRows.{AreAskedByteRows};
 ghost use Rattle.clock2q_simulation.specs.Rows.{AreRows};
 ghost use Rattle.clock2q_simulation.specs.Sample.{scaled, unscaled};
 ghost use Rattle.clock2q_simulation.specs.Simulated.{IsReplayed};
 ghost use Rattle.clock2q_simulation.specs.SimulationError.{IsOfNoDevice};
+ghost use Rattle.clock2q_simulation.specs.Trace.{sizes_of};
+ghost use Rattle.clock2q_simulation.specs.Windows.{AreAskedWindows};
 
 use crate::best_shares::{BestShares, TRIED_SHARES, all_best_shares_of};
+use crate::byte_rows::byte_rows_of;
 use crate::error::SimulationError;
 use crate::options::Options;
 use crate::progress::Progress;
@@ -45,6 +50,8 @@ pub struct Outcome<'a, A: Allocator> {
     /// The hits at each capacity, in the order of the capacities. With a sample they are those of
     /// caches as much smaller.
     pub rows: Vec<Row<A>, A>,
+    /// The hits at each capacity in bytes, of the policies that are defined there.
+    pub byte_rows: Vec<Row<A>, A>,
     /// The windows at each capacity, if they are asked for.
     pub windows: Vec<Windows<A>, A>,
     /// The best shares at each capacity, if they are asked for.
@@ -84,8 +91,8 @@ pub fn replay_source<'a, R: Source, P: Write, S: BuildHasher + Drop, A: Allocato
     progress: &mut Progress<P>,
 ) -> Result<Outcome<'a, A>, SimulationError>
     ensures ok { IfOk result (λ outcome. IsReplayed (R.given reader.old) (R.given reader.new) (R.remaining reader.old) (R.remaining reader.new) options.now.trace_format
-        options.now.sample options.now.policies.items options.now.shares options.now.skipped options.now.window options.now.best_shares TRIED_SHARES options.now.capacities.items
-        outcome.rows.items outcome.windows.items outcome.best_shares.items) }
+        options.now.sample options.now.policies.items options.now.shares options.now.skipped options.now.window options.now.best_shares TRIED_SHARES options.now.capacities.items options.now.byte_capacities.items
+        outcome.rows.items outcome.byte_rows.items outcome.windows.items outcome.best_shares.items) }
 
     // A failed source is always reported as `Read`, and nothing else is.
     ensures read { ((R.given reader.old).failures < (R.given reader.new).failures) ↔ IsErrOf result SimulationError.Read }
@@ -103,20 +110,8 @@ pub fn replay_source<'a, R: Source, P: Write, S: BuildHasher + Drop, A: Allocato
     let summary = summary_of(alloc, &trace)?;
     progress.warn_of(name, &summary);
     let rows = asked_rows(alloc, options, &trace, progress)?;
-    let windows = match options.window {
-        Some(size) => {
-            all_windows_of(
-                alloc,
-                &rows,
-                &options.policies,
-                options.shares,
-                options.skipped,
-                size,
-                &trace,
-            )?
-        }
-        None => Vec::new(alloc),
-    };
+    let byte_rows = asked_byte_rows(alloc, options, &trace)?;
+    let windows = asked_windows(alloc, options, &rows, &trace)?;
     let best_shares = asked_best_shares(alloc, options, &rows, &trace)?;
     Ok(Outcome {
         name,
@@ -124,6 +119,7 @@ pub fn replay_source<'a, R: Source, P: Write, S: BuildHasher + Drop, A: Allocato
         sample: options.sample,
         is_sized: trace.has_sizes(),
         rows,
+        byte_rows,
         windows,
         best_shares,
     })
@@ -138,6 +134,8 @@ fn asked_rows<P: Write, A: Allocator + Copy>(
 ) -> Result<Vec<Row<A>, A>, SimulationError>
     ensures rows { IfOk result (λ rows. AreRows options.now.policies.items options.now.shares options.now.skipped trace.now
         (map (scaled options.now.sample) options.now.capacities.items) rows.items) }
+    ensures bytes { IfOk result (λ rows. HaveBytes options.now.shares trace.now.numbers
+        (sizes_of trace.now) options.now.skipped rows.items) }
     ensures devices { IfErr result IsOfNoDevice }
 {
     let capacities = all_scaled(alloc, options.sample, &options.capacities)?;
@@ -150,6 +148,48 @@ fn asked_rows<P: Write, A: Allocator + Copy>(
         options.skipped,
         progress,
     )
+}
+
+/// Returns a row for each capacity in bytes, if the trace has sizes.
+fn asked_byte_rows<A: Allocator + Copy>(
+    alloc: A,
+    options: &Options<A>,
+    trace: &Trace<A>,
+) -> Result<Vec<Row<A>, A>, SimulationError>
+    ensures rows { IfOk result (λ rows. AreAskedByteRows options.now.skipped trace.now
+        options.now.policies.items options.now.byte_capacities.items rows.items) }
+    ensures devices { IfErr result IsOfNoDevice }
+{
+    if !trace.has_sizes() {
+        return Ok(Vec::new(alloc));
+    }
+    byte_rows_of(
+        alloc,
+        trace,
+        &options.byte_capacities,
+        &options.policies,
+        options.skipped,
+    )
+}
+
+/// Returns the windows at the capacity of each row, if they are asked for.
+fn asked_windows<A: Allocator + Copy>(
+    alloc: A,
+    options: &Options<A>,
+    rows: &[Row<A>],
+    trace: &Trace<A>,
+) -> Result<Vec<Windows<A>, A>, SimulationError>
+    ensures windows { IfOk result (λ all. AreAskedWindows options.now.policies.items
+        options.now.shares trace.now.numbers options.now.skipped options.now.window rows.now all.items) }
+    ensures bytes { IfOk result (λ all. AllHaveBytes options.now.shares trace.now.numbers
+        (sizes_of trace.now) all.items) }
+    ensures devices { IfErr result IsOfNoDevice }
+{
+    let Some(size) = options.window else {
+        return Ok(Vec::new(alloc));
+    };
+    let (policies, shares) = (&options.policies, options.shares);
+    all_windows_of(alloc, rows, policies, shares, options.skipped, size, trace)
 }
 
 /// Returns the best shares at the capacity of each row, if they are asked for.

@@ -1,7 +1,8 @@
 //! The policies that can be compared.
-ghost use Rattle.std.specs.Prelude.{◌≤◌, ◌^◌, IfErr, IfOk};
+ghost use Rattle.std.specs.Prelude.{◌≡◌, ◌≤◌, ◌^◌, IfErr, IfOk};
 ghost use Rattle.std.specs.NonZero.{non_zero_usize_get};
 ghost use Rattle.clock2q_policies.specs.Policies.{AreBelow};
+ghost use Rattle.clock2q_simulation.specs.ByteRows.{in_bytes};
 ghost use Rattle.clock2q_simulation.specs.Rows.{IsReplay};
 ghost use Rattle.clock2q_simulation.specs.SimulationError.{IsOfNoDevice};
 
@@ -101,6 +102,17 @@ impl Policy {
             Policy::Lirs => "lirs",
             Policy::Lru2 => "lru2",
             Policy::WTinyLfu => "wtinylfu",
+        }
+    }
+
+    /// Returns the policy for a cache for a number of bytes, if it is defined there: LRU and FIFO.
+    pub fn in_bytes(self) -> Option<PlainPolicy>
+        ensures defined { result ≡ in_bytes self }
+    {
+        match self {
+            Policy::LeastRecentlyUsed => Some(PlainPolicy::LeastRecentlyUsed),
+            Policy::FirstInFirstOut => Some(PlainPolicy::FirstInFirstOut),
+            _ => None,
         }
     }
 

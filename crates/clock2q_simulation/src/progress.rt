@@ -68,7 +68,7 @@ impl<W: Write> Progress<W> {
         }
     }
 
-    /// Reports how much of a trace was read, after so many more bytes and with so many keys.
+    /// Reports how much of a trace was read, after some more bytes, and how many keys it has.
     pub(crate) fn read(&mut self, bytes: usize, keys: usize) {
         self.read = self.read.saturating_add(bytes as u64);
         let (figure, unit) = match self.length {

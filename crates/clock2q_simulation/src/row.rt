@@ -4,6 +4,7 @@ ghost use Rattle.std.specs.NonZero.{non_zero_usize_get};
 ghost use Rattle.clock2q_policies.specs.Policies.{hit_count};
 ghost use Rattle.clock2q_simulation.specs.Bytes.{AreBytes, HasBytes};
 ghost use Rattle.clock2q_simulation.specs.LruCurve.{lru_hits_after};
+ghost use Rattle.clock2q_simulation.specs.Ratios.{ratio_of};
 ghost use Rattle.clock2q_simulation.specs.Rows.{AreHitsAfter, IsReplay, IsRow};
 ghost use Rattle.clock2q_simulation.specs.SimulationError.{IsOfNoDevice};
 ghost use Rattle.clock2q_simulation.specs.Trace.{sizes_of};
@@ -47,7 +48,7 @@ pub struct Hits {
 /// ```
 #[derive(Drop)]
 pub struct Row<A: Allocator> {
-    /// The number of keys that each cache can hold.
+    /// The number of keys that each cache can hold, or of bytes if the capacity was in bytes.
     pub capacity: NonZeroUsize,
     /// The number of counted accesses: those of the trace without the skipped ones.
     pub accesses: usize,
@@ -59,7 +60,9 @@ pub struct Row<A: Allocator> {
 
 impl<A: Allocator> Row<A> {
     /// Returns the hit ratio: `hits` divided by the number of accesses, or 0 for an empty trace.
-    pub fn ratio(&self, hits: usize) -> f64 {
+    pub fn ratio(&self, hits: usize) -> f64
+        ensures ratio { result ≡ ratio_of hits self.now.accesses }
+    {
         if self.accesses == 0 {
             return 0.0;
         }
@@ -67,7 +70,9 @@ impl<A: Allocator> Row<A> {
     }
 
     /// Returns the byte hit ratio: `bytes` divided by the sum of the sizes, or 0 if that is 0.
-    pub fn byte_ratio(&self, bytes: usize) -> f64 {
+    pub fn byte_ratio(&self, bytes: usize) -> f64
+        ensures ratio { result ≡ ratio_of bytes self.now.bytes }
+    {
         if self.bytes == 0 {
             return 0.0;
         }

@@ -2,9 +2,11 @@
 ghost use Rattle.std.specs.Prelude.{◌≡◌, ◌≢◌, ◌<◌, ◌↔◌, IfOk, IfErr, IsErrOf, OnOk, map};
 ghost use Rattle.std.specs.NonZero.{non_zero_usize_get};
 ghost use Rattle.clock2q_simulation.specs.Amounts.{IsFor, keys_of};
+ghost use Rattle.clock2q_simulation.specs.Bytes.{HaveBytes};
 ghost use Rattle.clock2q_simulation.specs.Rows.{AreRows};
 ghost use Rattle.clock2q_simulation.specs.SimulationError.{IsOfNoDevice};
 ghost use Rattle.clock2q_simulation.specs.Simulated.{IsSimulated, IsWritten};
+ghost use Rattle.clock2q_simulation.specs.Trace.{sizes_of};
 
 use crate::amount::Amount;
 use crate::csv_text::csv_text;
@@ -109,6 +111,7 @@ pub fn rows_of<P: Write, A: Allocator + Copy>(
     progress: &mut Progress<P>,
 ) -> Result<Vec<Row<A>, A>, SimulationError>
     ensures rows { IfOk result (λ rows. AreRows policies.now shares skipped trace.now capacities.now rows.items) }
+    ensures bytes { IfOk result (λ rows. HaveBytes shares trace.now.numbers (sizes_of trace.now) skipped rows.items) }
     ensures devices { IfErr result IsOfNoDevice }
 {
     let rooms = rooms_of(alloc, trace, capacities)?;

@@ -1,5 +1,5 @@
 //! The numbers of accesses and keys of a trace.
-ghost use Rattle.std.specs.Prelude.{◌≡◌, IfOk, length};
+ghost use Rattle.std.specs.Prelude.{◌≡◌, ◌&&◌, ◌*◌, IfOk, leb, length, ltb};
 ghost use Rattle.clock2q_simulation.specs.Bytes.{asked_between};
 ghost use Rattle.clock2q_simulation.specs.Trace.{sizes_of};
 
@@ -28,9 +28,13 @@ pub struct Summary {
 }
 
 impl Summary {
-    /// Returns true if more than 99 of 100 keys are accessed once.
-    pub fn is_nearly_all_once(&self) -> bool {
-        self.keys >= 100 && self.keys_once / 99 > self.keys / 100
+    /// Returns true if more than 99 of 100 keys are accessed once, and there are at least 100.
+    pub fn is_nearly_all_once(&self) -> bool
+        ensures once { result ≡
+            (leb 100 self.now.keys && ltb (99 * self.now.keys) (100 * self.now.keys_once)) }
+    {
+        let (keys, once) = (self.keys as u128, self.keys_once as u128);
+        keys >= 100 && 99 * keys < 100 * once
     }
 }
 

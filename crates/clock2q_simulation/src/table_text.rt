@@ -1,6 +1,7 @@
 //! The results of traces as a table.
 
 use crate::best_shares::BestShares;
+use crate::byte_amount::bytes_text;
 use crate::options::Options;
 use crate::outcome::Outcome;
 use crate::policy::Policy;
@@ -13,7 +14,7 @@ use std::fmt::Write;
 /// Returns the hit ratios in columns, in percent, below a line of headings and the figures of each
 /// trace: a row for each capacity, or for each window. If there are several traces, each row ends
 /// with the name of its trace.
-pub(crate) fn table_text<A: Allocator>(
+pub(crate) fn table_text<A: Allocator + Copy>(
     alloc: A,
     options: &Options<A>,
     outcomes: &[Outcome<'_, A>],
@@ -35,9 +36,28 @@ pub(crate) fn table_text<A: Allocator>(
     writeln!(text, " in percent, the best of a row with *")?;
     write_headings(&mut text, options, outcomes.len() > 1)?;
     for outcome in outcomes {
-        write_rows(&mut text, outcome, outcomes.len() > 1)?;
+        write_rows(
+            &mut text,
+            alloc,
+            &options.policies,
+            outcome,
+            outcomes.len() > 1,
+        )?;
     }
+    write_undefined(&mut text, options)?;
     Ok(text)
+}
+
+/// Writes what a dash is, if there is one.
+fn write_undefined<A: Allocator>(
+    text: &mut String<A>,
+    options: &Options<A>,
+) -> Result<(), AllocError> {
+    let is_undefined = |policy: &Policy| policy.in_bytes().is_none();
+    if !options.byte_capacities.is_empty() && options.policies.iter().any(is_undefined) {
+        text.push_str("-: not defined over keys of unequal sizes, as lru and fifo are\n")?;
+    }
+    Ok(())
 }
 
 /// Writes the figures of each trace after its name.
@@ -107,8 +127,10 @@ fn write_headings<A: Allocator>(
 }
 
 /// Writes the rows of a trace, or its windows, with or without its name at the end of each.
-fn write_rows<A: Allocator>(
+fn write_rows<A: Allocator + Copy>(
     text: &mut String<A>,
+    alloc: A,
+    policies: &[Policy],
     outcome: &Outcome<'_, A>,
     has_names: bool,
 ) -> Result<(), AllocError> {
@@ -121,7 +143,31 @@ fn write_rows<A: Allocator>(
         let best = outcome.best_shares.get(index);
         write_row(text, capacity, row, outcome.is_sized, None, best, name)?;
     }
+    for row in outcome.byte_rows.iter() {
+        write_byte_row(text, alloc, policies, row, name)?;
+    }
     Ok(())
+}
+
+/// Writes a row of a capacity in bytes, with a dash for each policy that isn't defined there.
+fn write_byte_row<A: Allocator>(
+    text: &mut String<A>,
+    alloc: A,
+    policies: &[Policy],
+    row: &Row<A>,
+    name: Option<&str>,
+) -> Result<(), AllocError> {
+    write!(text, "{:>8}", bytes_text(alloc, row.capacity.get())?)?;
+    for policy in policies {
+        match row.hits.iter().find(|hits| hits.policy == *policy) {
+            Some(hits) => write_percents(text, row, *hits, true)?,
+            None => write!(text, "{:>9}{:>9}", "-", "-")?,
+        }
+    }
+    if let Some(name) = name {
+        write!(text, "  {name}")?;
+    }
+    text.push('\n')
 }
 
 fn write_all_windows<A: Allocator>(
@@ -150,8 +196,8 @@ fn write_windows<A: Allocator>(
     Ok(())
 }
 
-/// Writes a row, with or without bytes, and with the first access of its window, the best shares and the name of its trace if
-/// they are given.
+/// Writes a row, with or without bytes, and with the first access of its window, the best shares and
+/// the name of its trace if they are given.
 fn write_row<A: Allocator>(
     text: &mut String<A>,
     capacity: usize,
@@ -165,7 +211,9 @@ fn write_row<A: Allocator>(
     if let Some(first) = first {
         write!(text, "{first:>11}")?;
     }
-    write_percents(text, row, is_sized)?;
+    for hits in row.hits.iter() {
+        write_percents(text, row, *hits, is_sized)?;
+    }
     if let Some(best) = best {
         let width = if name.is_some() { 21 } else { 0 };
         write_best_shares(text, row, best, width)?;
@@ -176,21 +224,18 @@ fn write_row<A: Allocator>(
     text.push('\n')
 }
 
+/// Writes the hit ratio of a policy, and its byte hit ratio if there are sizes.
 fn write_percents<A: Allocator>(
     text: &mut String<A>,
     row: &Row<A>,
+    hits: Hits,
     is_sized: bool,
 ) -> Result<(), AllocError> {
-    let best = best_of(row, Counted::Hits);
-    let best_bytes = best_of(row, Counted::Bytes);
-    for hits in row.hits.iter() {
-        let is_real = is_real(hits);
-        let percent = row.ratio(hits.hits) * 100.0;
-        write_percent(text, percent, is_real && best == Some(hits.hits))?;
-        if is_sized {
-            let percent = row.byte_ratio(hits.bytes) * 100.0;
-            write_percent(text, percent, is_real && best_bytes == Some(hits.bytes))?;
-        }
+    let is_best = is_real(&hits) && best_of(row, Counted::Hits) == Some(hits.hits);
+    write_percent(text, row.ratio(hits.hits) * 100.0, is_best)?;
+    if is_sized {
+        let is_best = is_real(&hits) && best_of(row, Counted::Bytes) == Some(hits.bytes);
+        write_percent(text, row.byte_ratio(hits.bytes) * 100.0, is_best)?;
     }
     Ok(())
 }

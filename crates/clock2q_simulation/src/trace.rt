@@ -1,5 +1,5 @@
 //! A trace: keys of any bytes, identified by numbers.
-ghost use Rattle.std.specs.Prelude.{◌≡◌, ◌≤◌, ◌^◌, [], ◌∷◌, ◌++◌, ◌<◌, false, true, if◌then◌else◌, None, OnOk, OnErr, length, vec_len, vec_capacity};
+ghost use Rattle.std.specs.Prelude.{◌≡◌, ◌≤◌, ◌^◌, [], ◌∷◌, ◌++◌, ◌<◌, false, true, if◌then◌else◌, IsTrue, None, OnOk, OnErr, length, vec_len, vec_capacity};
 ghost use Rattle.clock2q_policies.specs.Policies.{AreBelow};
 ghost use Rattle.clock2q_simulation.specs.Formats.{access, unsized};
 ghost use Rattle.clock2q_simulation.specs.Trace.{AreNumbers, AreUsed, sampled_keys, sizes_of};
@@ -74,6 +74,7 @@ impl<A: Allocator> Trace<A> {
     /// Returns the sizes of the accesses in bytes, in order, or nothing if they aren't kept.
     pub fn sizes(&self) -> &[usize]
         ensures sizes { result.now ≡ sizes_of self.now }
+        ensures long { IsTrue self.now.is_sized → length result.now ≡ length self.now.numbers }
     {
         &self.sizes
     }

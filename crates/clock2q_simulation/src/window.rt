@@ -2,8 +2,9 @@
 ghost use Rattle.std.specs.Prelude.{◌≡◌, ◌-◌, ◌≤◌, IfErr, IfOk, length, map};
 ghost use Rattle.std.specs.NonZero.{non_zero_usize_get};
 ghost use Rattle.std.specs.List.{All};
-ghost use Rattle.clock2q_simulation.specs.Bytes.{asked_between};
+ghost use Rattle.clock2q_simulation.specs.Bytes.{asked_between, AllHaveBytes, WindowsHaveBytes};
 ghost use Rattle.clock2q_simulation.specs.SimulationError.{IsOfNoDevice};
+ghost use Rattle.clock2q_simulation.specs.Trace.{sizes_of};
 ghost use Rattle.clock2q_simulation.specs.Windows.{counted, AreAllWindows, AreReplays, AreWindows};
 
 use crate::error::SimulationError;
@@ -69,6 +70,7 @@ pub fn all_windows_of<A: Allocator + Copy>(
     trace: &Trace<A>,
 ) -> Result<Vec<Windows<A>, A>, SimulationError>
     ensures windows { IfOk result (λ all. AreAllWindows policies.now shares trace.now.numbers skipped (non_zero_usize_get size) rows.now all.items) }
+    ensures bytes { IfOk result (λ all. AllHaveBytes shares trace.now.numbers (sizes_of trace.now) all.items) }
     ensures devices { IfErr result IsOfNoDevice }
 {
     let mut all = Vec::new(alloc);
@@ -106,6 +108,8 @@ pub fn windows_of<A: Allocator + Copy>(
 ) -> Result<Vec<Window<A>, A>, SimulationError>
     ensures windows { IfOk result (λ windows. AreWindows policies.now shares trace.now.numbers skipped
         (non_zero_usize_get capacity) (non_zero_usize_get size) windows.items) }
+    ensures bytes { IfOk result (λ windows. WindowsHaveBytes shares trace.now.numbers (sizes_of trace.now)
+        (non_zero_usize_get capacity) windows.items) }
     ensures devices { IfErr result IsOfNoDevice }
 {
     let replays = replays_of(alloc, capacity, policies, shares, trace)?;

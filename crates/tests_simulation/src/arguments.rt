@@ -47,7 +47,7 @@ fn report_of(alloc: Global, line: &str) -> Result<(String, u8), Fail> {
 }
 
 /// Checks the message for a line of refused arguments, and the status.
-fn is_refused(alloc: Global, line: &str, wanted: &str, status: u8) -> Result<(), Fail> {
+pub(crate) fn is_refused(alloc: Global, line: &str, wanted: &str, status: u8) -> Result<(), Fail> {
     let (text, given) = report_of(alloc, line)?;
     same_at((text.as_str(), given), (wanted, status), line)
 }

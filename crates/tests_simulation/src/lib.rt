@@ -9,6 +9,8 @@ mod arguments;
 #[cfg(test)]
 mod best_shares;
 #[cfg(test)]
+mod byte_capacities;
+#[cfg(test)]
 mod devices;
 #[cfg(test)]
 mod formats;

@@ -49,3 +49,20 @@ fn progress_in_percent(rt: HostRuntime) -> Result<(), Fail> {
     same(shown(rt.alloc(), &trace, None, true)?.len(), 0)?;
     Ok(())
 }
+
+/// A hundred keys, each asked for once, and then one of them once more.
+#[test]
+fn warns_of_keys_asked_for_once(rt: HostRuntime) -> Result<(), Fail> {
+    let mut trace = Vec::new(rt.alloc());
+    for key in 33u8..133 {
+        trace.push(key)?;
+        trace.push(b'\n')?;
+    }
+    let line =
+        "clock2q-simulate: -: warning: more than 99 of 100 keys are asked for once: is each line a key?\n";
+    let seen = shown(rt.alloc(), &trace, None, false)?;
+    same(seen.as_slice(), line.as_bytes())?;
+    trace.push(b'!')?;
+    same(shown(rt.alloc(), &trace, None, false)?.len(), 0)?;
+    Ok(())
+}

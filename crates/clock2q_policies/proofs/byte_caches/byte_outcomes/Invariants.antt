@@ -8,5 +8,5 @@ abbrev pub invariant-loop-at : goal.invariant-loop-at
 invariant-loop-at g l = record {
   holding : IsByteHolding l.trace l.at l.residents;
   room : vec_len l.outcomes + (length l.trace - l.at) ≤ vec_capacity l.outcomes;
-  told : l.outcomes.items ++ byte_outcomes_from l.policy l.capacity (drop l.at l.trace) (drop l.at l.sizes) (entries_by l.trace l.at l.residents) ≡ byte_outcomes l.policy l.capacity l.trace l.sizes;
+  so_far : l.outcomes.items ++ byte_outcomes_from l.policy l.capacity (drop l.at l.trace) (drop l.at l.sizes) (entries_by l.trace l.at l.residents) ≡ byte_outcomes l.policy l.capacity l.trace l.sizes;
 }

@@ -14,7 +14,7 @@ loop-at-init g c = record {
   counting = c.in_ok-accesses.ensures.counting;
   long = ap (length {A = ℕ}) c.new-counts.ensures.items;
   few = λ n. omega (arith, nothing-counted c.new-counts.result.items c.new-counts.ensures.items n);
-  told = λ capacity some. hits-at-first c.args.trace.now c.new-counts.result.items c.new-counts.ensures.items capacity;
+  so_far = λ capacity some. hits-at-first c.args.trace.now c.new-counts.result.items c.new-counts.ensures.items capacity;
 }
 
 pub index_mut-requires : goal.index_mut-requires
@@ -72,12 +72,12 @@ loop-at-preserved g c =
       counting = c.access.ensures.counting;
       long = longer ∙ sym (ap (length {A = ℕ}) c.access.ensures.recent);
       few = λ n. omega (arith, sums n, c.loop-at.invariant.few n, at-most-one (is_below n c.access.result));
-      told = λ capacity some.
+      so_far = λ capacity some.
           hits-further c.args.trace.now (recent_by c.args.trace.now c.loop-at.at c.loop-at.accesses)
           (recent_by c.args.trace.now (c.loop-at.at + 1) c.access.new.self) c.loop-at.at capacity
           (sum_to c.loop-at.counts.items capacity) (sum_to c.match-access.counts.items capacity)
           (plain_hits LeastRecentlyUsed capacity c.args.trace.now) c.access.result
-          c.loop-at-test.true some apart c.access.ensures.distance c.access.ensures.recent (c.loop-at.invariant.told capacity some) (sums capacity);
+          c.loop-at-test.true some apart c.access.ensures.distance c.access.ensures.recent (c.loop-at.invariant.so_far capacity some) (sums capacity);
     }
 
 pub returns-clause-few : goal.returns-clause-few

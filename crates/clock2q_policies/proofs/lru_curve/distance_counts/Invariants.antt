@@ -11,7 +11,7 @@ invariant-loop-at g l = record {
   counting : IsCounting l.trace l.at l.accesses;
   long : length l.counts.items ≡ length (recent_by l.trace l.at l.accesses);
   few : (n : ℕ) → sum_to l.counts.items n ≤ l.at;
-  told : (capacity : ℕ) → 0 < capacity →
+  so_far : (capacity : ℕ) → 0 < capacity →
       sum_to l.counts.items capacity + hits is_in (plain_after LeastRecentlyUsed capacity) (drop l.at l.trace)
       (take capacity (recent_by l.trace l.at l.accesses)) ≡ plain_hits LeastRecentlyUsed capacity l.trace;
 }

@@ -20,8 +20,8 @@ loop-at-preserved g c =
     record {
       awaiting = c.access.ensures.awaiting;
       few = elim c.if-access.branch [ then-access w ↦ omega arith | else-access w ↦ omega arith ];
-      told = rw add-one
+      so_far = rw add-one
           (hits_on (non_zero_usize_get c.args.capacity) c.args.trace.now c.loop-at.at c.loop-at.hits c.if-access.hits
           (optimal_hits (non_zero_usize_get c.args.capacity) c.args.trace.now) c.loop-at-test.true
-          c.loop-at.invariant.told more);
+          c.loop-at.invariant.so_far more);
     }

@@ -9,6 +9,6 @@ abbrev pub invariant-loop-at : goal.invariant-loop-at
 invariant-loop-at g l = record {
   awaiting : IsAwaiting l.trace l.at (optimal_at (non_zero_usize_get l.capacity) l.trace l.at) l.awaited;
   few : l.hits ≤ l.at;
-  told : l.hits + optimal_hits_from (non_zero_usize_get l.capacity) (drop l.at l.trace)
+  so_far : l.hits + optimal_hits_from (non_zero_usize_get l.capacity) (drop l.at l.trace)
       (optimal_at (non_zero_usize_get l.capacity) l.trace l.at) ≡ optimal_hits (non_zero_usize_get l.capacity) l.trace;
 }

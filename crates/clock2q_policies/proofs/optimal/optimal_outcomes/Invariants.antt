@@ -9,6 +9,6 @@ abbrev pub invariant-loop-at : goal.invariant-loop-at
 invariant-loop-at g l = record {
   awaiting : IsAwaiting l.trace l.at (optimal_at (non_zero_usize_get l.capacity) l.trace l.at) l.awaited;
   room : vec_len l.outcomes + (length l.trace - l.at) ≤ vec_capacity l.outcomes;
-  told : l.outcomes.items ++ optimal_outcomes_from (non_zero_usize_get l.capacity) (drop l.at l.trace)
+  so_far : l.outcomes.items ++ optimal_outcomes_from (non_zero_usize_get l.capacity) (drop l.at l.trace)
       (optimal_at (non_zero_usize_get l.capacity) l.trace l.at) ≡ optimal_outcomes (non_zero_usize_get l.capacity) l.trace;
 }

@@ -9,6 +9,6 @@ abbrev pub invariant-loop-at : goal.invariant-loop-at
 invariant-loop-at g l = record {
   holding : IsHolding (non_zero_usize_get l.capacity) l.trace l.at l.residents;
   room : vec_len l.outcomes + (length l.trace - l.at) ≤ vec_capacity l.outcomes;
-  told : l.outcomes.items ++ outcomes is_in (plain_after l.policy (non_zero_usize_get l.capacity)) (drop l.at l.trace)
+  so_far : l.outcomes.items ++ outcomes is_in (plain_after l.policy (non_zero_usize_get l.capacity)) (drop l.at l.trace)
       (held_by l.trace l.at l.residents) ≡ plain_outcomes l.policy (non_zero_usize_get l.capacity) l.trace;
 }

@@ -7,5 +7,5 @@ use Rattle.clock2q_simulation.proofs.clock.outcomes_in.Given as goal
 abbrev pub invariant-loop-key : goal.invariant-loop-key
 invariant-loop-key g l = record {
   room : vec_len l.outcomes + (length l.trace - l.key-index) ≤ vec_capacity l.outcomes;
-  told : l.outcomes.items ++ outcomes machine_holds machine_after (drop l.key-index l.trace) l.cache.machine ≡ outcomes machine_holds machine_after l.trace l.fn.cache.machine;
+  so_far : l.outcomes.items ++ outcomes machine_holds machine_after (drop l.key-index l.trace) l.cache.machine ≡ outcomes machine_holds machine_after l.trace l.fn.cache.machine;
 }

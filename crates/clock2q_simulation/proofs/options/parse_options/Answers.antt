@@ -2,7 +2,9 @@ use Rattle.std.proofs.Common.{◌≡◌, ◌∙◌, ◌+◌, ◌<◌, ◌∷◌,
 use Rattle.std.specs.Option.{is_some}
 use Rattle.std.specs.String.{string_bytes}
 use Rattle.std.proofs.lemmas.List.{drop_more, get_or-map, length-map}
+use Rattle.std.specs.NonZero.{non_zero_usize_get}
 use Rattle.clock2q_simulation.specs.Amounts.{asked_from, joined}
+use Rattle.clock2q_simulation.specs.ByteAmounts.{bytes_from, joined_bytes}
 use Rattle.clock2q_simulation.proofs.options.parse_options.Goals as goal
 
 pub loop-index-preserved : goal.loop-index-preserved
@@ -17,4 +19,7 @@ loop-index-preserved g c =
       asked = c.in_ok-take.ensures.asked (drop (place + 1) words)
           ∙ sym (ap (λ ws. joined (Some asked.capacities.items) (asked_from (is_some asked.awaited) ws)) (drop_more words place [] within ∙ ap (λ w. w ∷ drop (place + 1) words) word))
           ∙ c.loop-index.invariant.asked;
+      bytes = c.in_ok-take.ensures.bytes (drop (place + 1) words)
+          ∙ sym (ap (λ ws. joined_bytes (map non_zero_usize_get asked.byte_capacities.items) (bytes_from (is_some asked.awaited) ws)) (drop_more words place [] within ∙ ap (λ w. w ∷ drop (place + 1) words) word))
+          ∙ c.loop-index.invariant.bytes;
     }

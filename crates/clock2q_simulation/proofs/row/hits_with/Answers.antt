@@ -1,4 +1,4 @@
-use Rattle.std.proofs.Common.{◌≡◌, ◌∙◌, [], ap, sym, false, arith, length, rules}
+use Rattle.std.proofs.Common.{◌≡◌, ◌∙◌, ap, sym, false, arith, length, rules}
 use Rattle.std.specs.NonZero.{non_zero_usize_get}
 use Rattle.clock2q_simulation.specs.Sample.{sampled}
 use Rattle.clock2q_simulation.specs.Trace.{kept_sizes, sizes_of}

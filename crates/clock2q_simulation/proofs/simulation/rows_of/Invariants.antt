@@ -2,11 +2,14 @@
 use Rattle.std.proofs.Common.{◌≡◌, map, take}
 use Rattle.std.specs.List.{All}
 use Rattle.std.specs.NonZero.{non_zero_usize_get}
+use Rattle.clock2q_simulation.specs.Bytes.{HaveBytes}
 use Rattle.clock2q_simulation.specs.Rows.{IsRow}
+use Rattle.clock2q_simulation.specs.Trace.{sizes_of}
 use Rattle.clock2q_simulation.proofs.simulation.rows_of.Given as goal
 
 abbrev pub invariant-loop-index : goal.invariant-loop-index
 invariant-loop-index g l = record {
   capacities : map (λ row. non_zero_usize_get row.capacity) l.rows.items ≡ map non_zero_usize_get (take l.index l.rooms.items);
+  bytes : HaveBytes l.fn.shares l.fn.trace.numbers (sizes_of l.fn.trace) l.fn.skipped l.rows.items;
   each : All (λ row. IsRow l.fn.policies l.fn.shares l.fn.skipped l.fn.trace.numbers (non_zero_usize_get row.capacity) row) l.rows.items;
 }

@@ -1,6 +1,4 @@
-use Rattle.std.proofs.Common.{◌≡◌, ◌∙◌, ◌+◌, ap, sym, get_or, arith}
-use Rattle.std.specs.List.{sum}
-use Rattle.clock2q_simulation.specs.Bytes.{asked_between, between, capped}
+use Rattle.std.proofs.Common.{arith}
 use Rattle.clock2q_simulation.proofs.Bytes.{sum-done, sum-more}
 use Rattle.clock2q_simulation.proofs.sums.asked_bytes.Goals as goal
 

@@ -1,5 +1,5 @@
 use Rattle.std.proofs.Common.{◌≡◌, ◌∙◌, ◌+◌, false, cond, ap, sym, get_or, arith}
-use Rattle.clock2q_simulation.specs.Bytes.{between, capped, hit_between, hit_bytes}
+use Rattle.clock2q_simulation.specs.Bytes.{between, capped, hit_bytes}
 use Rattle.clock2q_simulation.proofs.Bytes.{hit-done, hit-more}
 use Rattle.clock2q_simulation.proofs.sums.hit_bytes.Goals.{then-outcomes-index, else-outcomes-index}
 use Rattle.clock2q_simulation.proofs.sums.hit_bytes.Goals as goal

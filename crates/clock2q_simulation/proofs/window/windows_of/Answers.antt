@@ -1,8 +1,11 @@
 use Rattle.std.proofs.Common.{◌≡◌, ◌+◌, ◌-◌, ap, subst, refl, length, min, arith, rules}
 use Rattle.std.specs.NonZero.{non_zero_usize_get}
+use Rattle.clock2q_simulation.specs.Bytes.{HasBytes}
+use Rattle.clock2q_simulation.specs.Trace.{sizes_of}
 use Rattle.clock2q_simulation.specs.Windows.{AreInTurn}
-use Rattle.clock2q_simulation.proofs.Replaying.{all_within, row_is}
+use Rattle.clock2q_simulation.proofs.Replaying.{all_within, bytes_are, row_is}
 use Rattle.clock2q_simulation.proofs.WindowByWindow.{one_more}
+use Rattle.clock2q_simulation.proofs.Zipped.{All-more}
 use Rattle.clock2q_simulation.proofs.window.windows_of.Goals as goal
 
 pub row_between-requires-clause-within : goal.row_between-requires-clause-within
@@ -29,6 +32,11 @@ loop-first-preserved g c =
     record {
       within = omega (arith, c.loop-first-test.true, count, long);
       in_turn = next.in_turn;
+      bytes = All-more (λ window. HasBytes c.args.shares numbers (sizes_of c.args.trace.now) (non_zero_usize_get c.args.capacity) window.first (window.first + window.row.accesses) window.row)
+          c.loop-first.windows.items (record { first = first; row = c.in_ok-row.row }) c.push.new.self.items c.in-Ok.ensures.items c.loop-first.invariant.bytes
+          (bytes_are c.args.policies.now c.args.shares numbers (non_zero_usize_get c.args.capacity) c.in_ok-replays.replays.items c.deref.result.now first (first + c.min-count.result)
+          c.sizes.result.now (sizes_of c.args.trace.now) c.in_ok-row.row c.deref.ensures.value c.in_ok-replays.ensures.replays c.sizes.ensures.sizes (omega (arith, c.in_ok-row.ensures.accesses))
+          c.in_ok-row.ensures.bytes c.in_ok-row.ensures.hits);
       each = next.each;
     }
 
@@ -41,5 +49,6 @@ returns g c =
             (omega (arith, c.loop-first.invariant.within, c.loop-first-test.false, long)) c.loop-first.invariant.in_turn;
         each = c.loop-first.invariant.each;
       };
+      bytes = c.loop-first.invariant.bytes;
       devices = search rules;
     }

@@ -2,6 +2,8 @@
 use Rattle.std.proofs.Common.{◌-◌, ◌≤◌, length, min}
 use Rattle.std.specs.List.{All}
 use Rattle.std.specs.NonZero.{non_zero_usize_get}
+use Rattle.clock2q_simulation.specs.Bytes.{WindowsHaveBytes}
+use Rattle.clock2q_simulation.specs.Trace.{sizes_of}
 use Rattle.clock2q_simulation.specs.Windows.{AreInTurn, IsWindow}
 use Rattle.clock2q_simulation.proofs.window.windows_of.Given as goal
 
@@ -9,6 +11,7 @@ abbrev pub invariant-loop-first : goal.invariant-loop-first
 invariant-loop-first g l = record {
   within : l.first ≤ l.accesses;
   in_turn : AreInTurn (min l.fn.skipped (length l.fn.trace.numbers)) l.windows.items l.first;
+  bytes : WindowsHaveBytes l.fn.shares l.fn.trace.numbers (sizes_of l.fn.trace) (non_zero_usize_get l.fn.capacity) l.windows.items;
   each : All (IsWindow l.fn.policies l.fn.shares l.fn.trace.numbers (non_zero_usize_get l.fn.capacity) (non_zero_usize_get l.fn.size)) l.windows.items;
 }
 

@@ -8,7 +8,7 @@ invariant-loop-first g l = record {
   some : 0 < l.first;
   ordered : l.first ≤ l.end;
   within : l.end ≤ 2 * l.self.blocks;
-  told : l.sum + sum_in (node_of l.self) l.first (l.end - l.first) ≡ sum_in (count_of l.self) l.fn.block (l.self.blocks - l.fn.block);
+  so_far : l.sum + sum_in (node_of l.self) l.first (l.end - l.first) ≡ sum_in (count_of l.self) l.fn.block (l.self.blocks - l.fn.block);
 }
 
 abbrev pub decreases-loop-first : goal.decreases-loop-first

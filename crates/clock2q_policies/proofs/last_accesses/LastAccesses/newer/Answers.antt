@@ -32,7 +32,7 @@ loop-index-init g c =
       | inr past ↦ inl (omega (arith, past, c.ranges.at, c.saturating_mul.ensures, c.lesser-edge.ensures))
     ] in
     record {
-      told = omega (arith, c.sum_from-count.ensures, ap (sum_in (newest c.args.trace.now c.args.self.now.stamps.items) c.args.from) none);
+      so_far = omega (arith, c.sum_from-count.ensures, ap (sum_in (newest c.args.trace.now c.args.self.now.stamps.items) c.args.from) none);
       few = omega (
         arith,
         c.sum_from-count.ensures,
@@ -47,9 +47,9 @@ loop-index-preserved g c =
     let next : c.loop-index.index + 1 - c.args.from ≡ suc (c.loop-index.index - c.args.from) = omega arith in
     let here : c.args.from + (c.loop-index.index - c.args.from) ≡ c.loop-index.index = omega arith in
     record {
-      told = omega (
+      so_far = omega (
         arith,
-        c.loop-index.invariant.told,
+        c.loop-index.invariant.so_far,
         c.newest-count.ensures.newest,
         ap (sum_in (newest c.args.trace.now c.args.self.now.stamps.items) c.args.from) next,
         ap (newest c.args.trace.now c.args.self.now.stamps.items) here,
@@ -66,7 +66,7 @@ returns g c =
     ] in
     let begun : c.args.from ≤ c.lesser-edge.result = omega (arith, c.ranges.at, c.div_ceil-block.ensures, c.saturating_mul.ensures, c.lesser-edge.ensures) in
     let all : c.loop-index.index - c.args.from ≡ c.lesser-edge.result - c.args.from = omega (arith, begun) in
-    c.loop-index.invariant.told
+    c.loop-index.invariant.so_far
     ∙ ap (λ n. sum_in (newest c.args.trace.now c.args.self.now.stamps.items) c.args.from n + sum_in
     (count_of c.args.self.now.counts) c.div_ceil-block.result (c.args.self.now.counts.blocks - c.div_ceil-block.result)) all
     ∙ newer-sum c.args.trace.now c.args.at c.args.self.now c.requires.counting c.requires.at c.args.from c.div_ceil-block.result

@@ -6,6 +6,6 @@ use Rattle.clock2q_policies.proofs.last_accesses.LastAccesses.newer.Given as goa
 
 abbrev pub invariant-loop-index : goal.invariant-loop-index
 invariant-loop-index g l = record {
-  told : l.count ≡ sum_in (newest l.trace l.self.stamps.items) l.from (l.index - l.from) + sum_in (count_of l.self.counts) l.block (l.self.counts.blocks - l.block);
+  so_far : l.count ≡ sum_in (newest l.trace l.self.stamps.items) l.from (l.index - l.from) + sum_in (count_of l.self.counts) l.block (l.self.counts.blocks - l.block);
   few : l.count + l.edge ≤ l.at + (l.index - l.from);
 }
