@@ -1,7 +1,7 @@
 //! A table in which each handle was inserted under the hash that it contains.
 ghost use Rattle.std.specs.Prelude.{◌≡◌};
 
-use crate::standing::{hold, slots_of};
+use crate::layout::{hold, slots_of};
 use clock2q_handles::{Table, TableError};
 use std::alloc::Global;
 use std::cell::Cell;
@@ -154,7 +154,11 @@ impl Hashed {
 
     /// Returns the failure of a test unless the table has exactly the wanted handles, each with its slot and
     /// displacement.
-    pub(crate) fn stands(&self, alloc: Global, wanted: &[(usize, u64, usize)]) -> Result<(), Fail> {
+    pub(crate) fn has_layout(
+        &self,
+        alloc: Global,
+        wanted: &[(usize, u64, usize)],
+    ) -> Result<(), Fail> {
         same(self.table.len(), wanted.len())?;
         let mut numbers = Vec::new(alloc);
         for slot in &slots_of(alloc, &self.table)? {

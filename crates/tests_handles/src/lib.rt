@@ -10,6 +10,8 @@ mod growing;
 #[cfg(test)]
 mod hashed;
 #[cfg(test)]
+mod layout;
+#[cfg(test)]
 mod partitions;
 #[cfg(test)]
 mod plain;
@@ -23,8 +25,6 @@ mod refused;
 mod refused_commands;
 #[cfg(test)]
 mod seeded;
-#[cfg(test)]
-mod standing;
 #[cfg(test)]
 mod table_commands;
 #[cfg(test)]

@@ -1,7 +1,7 @@
 //! A table as the list of the entries of each home, and where those lists put each entry.
 
 use crate::hashed::{Handle, Seen};
-use crate::standing::Slot;
+use crate::layout::Slot;
 use clock2q_handles::TableError;
 use std::alloc::{AllocError, Global};
 

@@ -169,27 +169,17 @@ fn insert_counted(table: &mut RefusedTable<'_>) -> (Result<(), TableError>, u64)
 }
 
 /// Inserts into a full table with requests refused, and returns the turn in which none is.
-fn insert_in_turn(
-    rt: &impl Abort,
-    alloc: &Refusing<Global>,
-    table: &mut RefusedTable<'_>,
-) -> Result<u64, Fail>
+fn insert_in_turn(alloc: &Refusing<Global>, table: &mut RefusedTable<'_>) -> Result<u64, Fail>
     requires keyed { IsHashOf (λ handle. handle) table.old.homes }
 {
     let held = alloc.held();
     for turn in 0..MANY {
         refuse_in(turn, alloc);
-        let (outcome, asked) = insert_counted(table);
-        if outcome.is_ok() {
-            same(asked, 12)?;
-            return Ok(turn);
+        match insert_counted(table) {
+            (Ok(()), 12) => return Ok(turn),
+            (Err(TableError::Memory), 0) => assert_kept(alloc, held, table, turn)?,
+            _ => return Err(Fail::from("another reply")),
         }
-        assert_eq!(rt;
-            (outcome, asked),
-            (Err(TableError::Memory), 0),
-            "turn {turn}"
-        );
-        assert_kept(alloc, held, table, turn)?;
     }
     Ok(MANY)
 }
@@ -204,7 +194,7 @@ fn look_at_thirteen(table: &RefusedTable<'_>) -> Result<(), Fail> {
 fn insertions(rt: HostRuntime) -> Result<(), Fail> {
     let alloc = Refusing::new(rt.alloc());
     let mut table = full(&rt, &alloc)?;
-    let turn = insert_in_turn(&rt, &alloc, &mut table)?;
+    let turn = insert_in_turn(&alloc, &mut table)?;
     look_at_thirteen(&table)?;
     drop(table);
     same(turn, REFUSED_TURNS)?;
@@ -230,27 +220,17 @@ fn reserve_counted(table: &mut RefusedTable<'_>) -> (Result<(), TableError>, u64
 }
 
 /// Reserves room in a full table with requests refused, and returns the turn in which none is.
-fn reserve_in_turn(
-    rt: &impl Abort,
-    alloc: &Refusing<Global>,
-    table: &mut RefusedTable<'_>,
-) -> Result<u64, Fail>
+fn reserve_in_turn(alloc: &Refusing<Global>, table: &mut RefusedTable<'_>) -> Result<u64, Fail>
     requires keyed { IsHashOf (λ handle. handle) table.old.homes }
 {
     let held = alloc.held();
     for turn in 0..MANY {
         refuse_in(turn, alloc);
-        let (outcome, asked) = reserve_counted(table);
-        if outcome.is_ok() {
-            same(asked, 12)?;
-            return Ok(turn);
+        match reserve_counted(table) {
+            (Ok(()), 12) => return Ok(turn),
+            (Err(TableError::Memory), 0) => assert_kept(alloc, held, table, turn)?,
+            _ => return Err(Fail::from("another reply")),
         }
-        assert_eq!(rt;
-            (outcome, asked),
-            (Err(TableError::Memory), 0),
-            "turn {turn}"
-        );
-        assert_kept(alloc, held, table, turn)?;
     }
     Ok(MANY)
 }
@@ -264,7 +244,7 @@ fn look_at_twelve(table: &RefusedTable<'_>) -> Result<(), Fail> {
 fn reservations(rt: HostRuntime) -> Result<(), Fail> {
     let alloc = Refusing::new(rt.alloc());
     let mut table = full(&rt, &alloc)?;
-    let turn = reserve_in_turn(&rt, &alloc, &mut table)?;
+    let turn = reserve_in_turn(&alloc, &mut table)?;
     look_at_twelve(&table)?;
     drop(table);
     same(turn, REFUSED_TURNS)?;
@@ -300,27 +280,17 @@ fn find_counted(table: &mut RefusedTable<'_>) -> Found
 }
 
 /// Finds in a full table with requests refused, and returns the turn in which none is.
-fn find_in_turn(
-    rt: &impl Abort,
-    alloc: &Refusing<Global>,
-    table: &mut RefusedTable<'_>,
-) -> Result<u64, Fail>
+fn find_in_turn(alloc: &Refusing<Global>, table: &mut RefusedTable<'_>) -> Result<u64, Fail>
     requires keyed { IsHashOf (λ handle. handle) table.old.homes }
 {
     let held = alloc.held();
     for turn in 0..MANY {
         refuse_in(turn, alloc);
-        let (outcome, calls) = find_counted(table);
-        if outcome.is_ok() {
-            same((outcome, calls), (Ok((5, false)), (1, 12)))?;
-            return Ok(turn);
+        match find_counted(table) {
+            (Ok((5, false)), (1, 12)) => return Ok(turn),
+            (Err(TableError::Memory), (0, 0)) => assert_kept(alloc, held, table, turn)?,
+            _ => return Err(Fail::from("another reply")),
         }
-        assert_eq!(rt;
-            (outcome, calls),
-            (Err(TableError::Memory), (0, 0)),
-            "turn {turn}"
-        );
-        assert_kept(alloc, held, table, turn)?;
     }
     Ok(MANY)
 }
@@ -329,7 +299,7 @@ fn find_in_turn(
 fn finds(rt: HostRuntime) -> Result<(), Fail> {
     let alloc = Refusing::new(rt.alloc());
     let mut table = full(&rt, &alloc)?;
-    let turn = find_in_turn(&rt, &alloc, &mut table)?;
+    let turn = find_in_turn(&alloc, &mut table)?;
     look_at_twelve(&table)?;
     drop(table);
     same(turn, REFUSED_TURNS)?;

@@ -1,8 +1,8 @@
 //! Seeded lists of calls, whose replies and results are compared with plain lists.
 
 use crate::hashed::{Handle, Hashed, Seen};
+use crate::layout::write_down;
 use crate::plain::Plain;
-use crate::standing::write_down;
 use crate::walks::yields;
 use std::alloc::Global;
 use std::test::Fail;

@@ -1,5 +1,5 @@
 //! Tables whose lookups are worked out by hand.
-use crate::standing::stands;
+use crate::layout::has_layout;
 use crate::walks::{A, B, yields, yields_as_peeked};
 use clock2q_handles::{Table, TableError};
 use std::test::Fail;
@@ -30,14 +30,14 @@ fn four_handles(rt: HostRuntime) -> Result<(), Fail> {
     let shown = format!(in rt.alloc(); "{table:?}")?;
     same(shown.as_str(), "Table { len: 4, slots: 16 }")?;
     let four = [(5, 0, 0), (6, 1, 1), (7, 3, 2), (8, 2, 2)];
-    stands(rt.alloc(), &table, &four, "four")?;
+    has_layout(rt.alloc(), &table, &four, "four")?;
     put(&mut table, first, 4)?;
     yields(table.get(first), &[0, 1, 4], "five")?;
     let five = [(5, 0, 0), (6, 1, 1), (7, 3, 2), (8, 4, 3), (9, 2, 3)];
-    stands(rt.alloc(), &table, &five, "five")?;
+    has_layout(rt.alloc(), &table, &five, "five")?;
     assert!(rt; table.remove(first, 4));
     yields(table.get(first), &[0, 1], "restored")?;
-    stands(rt.alloc(), &table, &four, "restored")?;
+    has_layout(rt.alloc(), &table, &four, "restored")?;
     Ok(())
 }
 
@@ -56,7 +56,7 @@ fn four_handles_less_one(rt: HostRuntime) -> Result<(), Fail> {
     assert!(rt; table.remove(0xAB00_0100_0000_0005, 0));
     yields(table.get(first), &[1], "after the removal")?;
     let three = [(5, 1, 0), (6, 3, 1), (7, 2, 1)];
-    stands(rt.alloc(), &table, &three, "after the removal")?;
+    has_layout(rt.alloc(), &table, &three, "after the removal")?;
     assert!(rt; !table.remove(first, 0));
     same(table.len(), 3)?;
     Ok(())
@@ -71,12 +71,12 @@ fn figure(rt: HostRuntime) -> Result<(), Fail> {
     yields(table.get(4), &[0, 1], "home 4")?;
     yields(table.get(7), &[3, 4], "home 7")?;
     let five = [(4, 0, 0), (5, 1, 1), (6, 2, 1), (7, 3, 0), (8, 4, 1)];
-    stands(rt.alloc(), &table, &five, "five")?;
+    has_layout(rt.alloc(), &table, &five, "five")?;
     assert!(rt; table.remove(4, 1));
     yields(table.get(4), &[0], "home 4, after")?;
     yields(table.get(5), &[2], "home 5, after")?;
     let four = [(4, 0, 0), (5, 2, 0), (7, 3, 0), (8, 4, 1)];
-    stands(rt.alloc(), &table, &four, "after")?;
+    has_layout(rt.alloc(), &table, &four, "after")?;
     Ok(())
 }
 
@@ -91,13 +91,13 @@ fn wrapped(rt: HostRuntime) -> Result<(), Fail> {
     yields(table.get(15), &[2], "home 15")?;
     yields(table.get(0), &[3, 4], "home 0")?;
     let five = [(14, 0, 0), (15, 1, 1), (0, 2, 1), (1, 3, 1), (2, 4, 2)];
-    stands(rt.alloc(), &table, &five, "five")?;
+    has_layout(rt.alloc(), &table, &five, "five")?;
     assert!(rt; table.remove(14, 0));
     yields(table.get(14), &[1], "home 14, after")?;
     yields(table.get(15), &[2], "home 15, after")?;
     yields(table.get(0), &[3, 4], "home 0, after")?;
     let four = [(14, 1, 0), (15, 2, 0), (0, 3, 0), (1, 4, 1)];
-    stands(rt.alloc(), &table, &four, "after")?;
+    has_layout(rt.alloc(), &table, &four, "after")?;
     Ok(())
 }
 
@@ -111,7 +111,7 @@ fn wrapped_in_another_order(rt: HostRuntime) -> Result<(), Fail> {
     yields(table.get(15), &[1], "home 15")?;
     yields(table.get(0), &[0, 3], "home 0")?;
     let five = [(14, 2, 0), (15, 4, 1), (0, 1, 1), (1, 0, 1), (2, 3, 2)];
-    stands(rt.alloc(), &table, &five, "five")?;
+    has_layout(rt.alloc(), &table, &five, "five")?;
     Ok(())
 }
 

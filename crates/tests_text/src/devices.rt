@@ -173,8 +173,8 @@ fn other_read(alloc: Global, text: &[u8], step: usize, reads: usize) -> Option<(
                 fault,
             };
             let (outcome, replies, calls) = read(alloc, text, plan);
-            let is_told = outcome == Err(ServeError::Read) && replies.is_empty();
-            if !is_told || calls != fails_at + 1 {
+            let is_reported = outcome == Err(ServeError::Read) && replies.is_empty();
+            if !is_reported || calls != fails_at + 1 {
                 return Some((fails_at, kind));
             }
         }
@@ -230,9 +230,9 @@ fn other_write(alloc: Global, step: usize, writes: usize, fault: Fault) -> Optio
         };
         let (outcome, writer) = written(alloc, plan);
         let taken = writer.taken.as_slice();
-        let is_told = outcome == Err(ServeError::Write) && REPLIES.starts_with(taken);
+        let is_reported = outcome == Err(ServeError::Write) && REPLIES.starts_with(taken);
         let is_all = taken.len() == fails_at.saturating_mul(step);
-        if !is_told || !is_all || writer.calls != fails_at + 1 || writer.flushes != 0 {
+        if !is_reported || !is_all || writer.calls != fails_at + 1 || writer.flushes != 0 {
             return Some(fails_at);
         }
     }

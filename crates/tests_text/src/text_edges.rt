@@ -124,8 +124,8 @@ fn other_answer(
     text.extend_from_slice(line)?;
     text.extend_from_slice(b"\nlen\n")?;
     let (outcome, written) = served(alloc, text.as_slice());
-    let is_told = outcome == Err(ServeError::BadLine(number)) && written.is_empty();
-    Ok((!is_told).then_some(outcome))
+    let is_reported = outcome == Err(ServeError::BadLine(number)) && written.is_empty();
+    Ok((!is_reported).then_some(outcome))
 }
 
 #[test]

@@ -215,7 +215,7 @@ const REFUSED: [(&[u8], &str, u8); 17] = [
 ];
 
 /// Checks the line and the status of a refusal.
-fn tells(alloc: Global, refusal: ServeError, line: &str, status: u8) -> Result<(), Fail> {
+fn reports(alloc: Global, refusal: ServeError, line: &str, status: u8) -> Result<(), Fail> {
     let text = refusal.to_string(alloc)?;
     same((text.as_str(), refusal.status()), (line, status))
 }
@@ -226,7 +226,7 @@ fn is_refused(alloc: Global, text: &[u8], line: &str, status: u8) -> Result<(), 
     same_at(written.len(), 0, text)?;
     match outcome {
         Ok(()) => Err(Fail::from("answered")),
-        Err(refusal) => tells(alloc, refusal, line, status),
+        Err(refusal) => reports(alloc, refusal, line, status),
     }
 }
 
@@ -240,7 +240,7 @@ fn refused(rt: HostRuntime) -> Result<(), Fail> {
 
 /// The line and the status of each refusal.
 #[test]
-fn told(rt: HostRuntime) -> Result<(), Fail> {
+fn reported(rt: HostRuntime) -> Result<(), Fail> {
     let rows = [
         (ServeError::BadLine(1), "line 1: bad command", 2),
         (ServeError::BadLine(10), "line 10: bad command", 2),
@@ -251,7 +251,7 @@ fn told(rt: HostRuntime) -> Result<(), Fail> {
         (ServeError::Write, "write failed", 4),
     ];
     for (refusal, line, status) in rows {
-        tells(rt.alloc(), refusal, line, status)?;
+        reports(rt.alloc(), refusal, line, status)?;
     }
     Ok(())
 }

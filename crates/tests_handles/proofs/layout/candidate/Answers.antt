@@ -1,7 +1,7 @@
 use Rattle.std.proofs.Common.{rules}
 use denote.Param.Always.{mut_total}
 use Rattle.clock2q_handles.proofs.Offering.{offered_any}
-use Rattle.tests_handles.proofs.standing.candidate.Goals as goal
+use Rattle.tests_handles.proofs.layout.candidate.Goals as goal
 
 pub search-found-requires-clause-callable : goal.search-found-requires-clause-callable
 search-found-requires-clause-callable g c = offered_any _ _ _ (mut_total _ _ (λ f a. search rules))

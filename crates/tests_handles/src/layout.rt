@@ -80,7 +80,7 @@ pub(crate) fn hold<H: Copy + Eq + Debug>(
 
 /// Returns the failure of a test unless a table has exactly the wanted handles, each with its slot
 /// and displacement.
-pub(crate) fn stands(
+pub(crate) fn has_layout(
     alloc: Global,
     table: &Table<usize>,
     wanted: &[(usize, usize, usize)],
