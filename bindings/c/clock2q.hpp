@@ -5,8 +5,8 @@
 //     page *found = pages.get(name);
 //     if (found == nullptr) found = pages.try_emplace(name, read_page(name)).first;
 //
-// `cache` keeps keys of any type with their values. `page_cache` gives whole numbers slots, for who keeps
-// the values.
+// `cache` keeps keys of any type with their values; a `weighted_cache` limits a sum of weights too. `page_cache`
+// gives whole numbers slots, for who keeps the values.
 #ifndef CLOCK2Q_HPP
 #define CLOCK2Q_HPP
 
@@ -243,7 +243,7 @@ template <> struct argument<false> {
 // A cache of at most `capacity` keys with their values, in the manner of std::unordered_map.
 //
 // - Each key has a slot of its own. There are at most sixteen keys of one 64-bit hash, and then one leaves for
-//   the next. So let Hash tell keys apart.
+//   the next. So let Hash be different for different keys.
 // - `get`, `at`, `find`, `[]` and all that inserts record a hit. `peek`, `contains`, `count`, iterators and const
 //   members don't.
 // - A pointer or reference to a value holds until its key leaves; iterators until an entry comes or leaves.
@@ -256,6 +256,7 @@ template <> struct argument<false> {
 //   assignment does. Destructors don't throw.
 // - Calls of const members may overlap, as those of std's containers; others are one thread's at a time.
 template <class Key, class Value, class Hash = std::hash<Key>, class Equal = std::equal_to<Key>> class cache {
+    template <class, class, class, class, class> friend class weighted_cache;
     static_assert(std::is_nothrow_destructible_v<Key> && std::is_nothrow_destructible_v<Value>,
                   "the destructor of a key or value may throw");
 
@@ -338,6 +339,7 @@ template <class Key, class Value, class Hash = std::hash<Key>, class Equal = std
 
       private:
         friend class cache;
+        template <class, class, class, class, class> friend class weighted_cache;
         struct destroy {
             void operator()(node *left) const noexcept {
                 left->~node();
@@ -429,19 +431,20 @@ template <class Key, class Value, class Hash = std::hash<Key>, class Equal = std
     // Inserts a key, in place of its entry if it has one, after a hit.
     template <class Other = Value> void put(const Key &key, Other &&value) {
         node *left = pushed(key, std::forward<Other>(value));
-        state_->drop(left);
+        state_->drop_all(left);
     }
     template <class Other = Value> void put(Key &&key, Other &&value) {
         node *left = pushed(std::move(key), std::forward<Other>(value));
-        state_->drop(left);
+        state_->drop_all(left);
     }
 
-    // Does what `put` does, and returns the entry that left: the key's own, another's or none.
+    // Does what `put` does, and returns the entry that left: the key's own, another's or none. If two left, it is the
+    // one whose slot the key has now.
     template <class Other = Value> node_type push(const Key &key, Other &&value) {
-        return node_type(pushed(key, std::forward<Other>(value)));
+        return first_of(pushed(key, std::forward<Other>(value)));
     }
     template <class Other = Value> node_type push(Key &&key, Other &&value) {
-        return node_type(pushed(std::move(key), std::forward<Other>(value)));
+        return first_of(pushed(std::move(key), std::forward<Other>(value)));
     }
 
     // Takes a key out, and returns its entry or none.
@@ -478,8 +481,18 @@ template <class Key, class Value, class Hash = std::hash<Key>, class Equal = std
     }
 
     // Takes out the entry that would have to leave next for a new key, and returns it, or none. Its key is remembered as
-    // those that leave for others are. `while (cache.size() > n) cache.evict();` makes room.
+    // those that leave for others are.
     node_type evict() noexcept { return node_type(state_ == nullptr ? nullptr : state_->evict()); }
+
+    // Has the cache hold `capacity` keys at most. Entries leave as by `evict` until there are no more, and are destroyed
+    // then; later two may leave for one that comes. The cache keeps its memory, and as many slots for new keys. Throws
+    // std::invalid_argument if `capacity` is 0 or above that with which the cache was made; nothing has changed then.
+    void resize(size_type capacity) {
+        if (capacity == 0 || state_ == nullptr || capacity > state_->slots.capacity()) {
+            detail::check(CLOCK2Q_BAD_CAPACITY);
+        }
+        state_->drop_all(state_->resize(capacity));
+    }
 
     // Takes all entries out, and forgets all keys. Takes time in proportion to the capacity.
     void clear() noexcept {
@@ -488,7 +501,10 @@ template <class Key, class Value, class Hash = std::hash<Key>, class Equal = std
 
     size_type size() const noexcept { return state_ == nullptr ? 0 : state_->nodes.size(); }
     bool empty() const noexcept { return size() == 0; }
-    size_type capacity() const noexcept { return state_ == nullptr ? 0 : state_->slots.capacity(); }
+    // Returns how many keys there can be: as many as the cache was made for, or resized to since.
+    size_type capacity() const noexcept {
+        return state_ == nullptr ? 0 : std::min(state_->slots.capacity(), state_->limit);
+    }
     // Return copies of what the cache was made with. It wasn't moved from.
     Hash hash_function() const { return state_->hash; }
     Equal key_eq() const { return state_->equal; }
@@ -509,6 +525,8 @@ template <class Key, class Value, class Hash = std::hash<Key>, class Equal = std
     friend void swap(cache &one, cache &other) noexcept { one.swap(other); }
 
   private:
+    static constexpr std::size_t no_limit = SIZE_MAX;
+
     struct state {
         state(token_cache made, const Hash &own_hash, const Equal &own_equal)
             : slots(std::move(made)), nodes(slots.capacity()), hash(own_hash), equal(own_equal) {}
@@ -553,16 +571,33 @@ template <class Key, class Value, class Hash = std::hash<Key>, class Equal = std
             return nullptr;
         }
 
-        // Gives a new node, whose key isn't in, its slot, and returns the node that left for it or null.
+        // Gives a new node, whose key isn't in, its slot, and returns the nodes that left for it: none, one, or two of
+        // which the first leads to the other.
         node *link(node *fresh) noexcept {
             version++;
+            if (nodes.size() >= limit) return link_among_fewer(fresh);
             clock2q_admitted admitted = slots.admit(fresh->hash);
-            if (admitted.has_entered) return nodes.exchange(admitted.slot, fresh);
+            if (admitted.has_entered) return exchange(admitted.slot, fresh);
             node *gave_way = nodes.last_of_many(fresh->hash, detail::most_alike);
             if (gave_way != nullptr) unlink(gave_way);
-            node *left = nodes.exchange(slots.enter_beside(fresh->hash), fresh);
-            if (left == nullptr) return gave_way;
-            drop(gave_way);
+            return exchange(slots.enter_beside(fresh->hash), fresh, gave_way);
+        }
+
+        // Does so in place of another node though there are slots, since there may not be more nodes.
+        node *link_among_fewer(node *fresh) noexcept {
+            node *gone = nodes.last_of_many(fresh->hash, detail::most_alike);
+            if (gone != nullptr) unlink(gone);
+            else gone = evict();
+            clock2q_admitted admitted = slots.admit(fresh->hash);
+            return exchange(admitted.has_entered ? admitted.slot : slots.enter_beside(fresh->hash), fresh, gone);
+        }
+
+        // Puts a node at a slot, and returns the one that was there or null, and after it the one that had left before.
+        node *exchange(std::size_t slot, node *fresh, node *gone = nullptr) noexcept {
+            if (gone != nullptr) gone->next = nullptr;
+            node *left = nodes.exchange(slot, fresh);
+            if (left == nullptr) return gone;
+            left->next = gone;
             return left;
         }
 
@@ -577,7 +612,7 @@ template <class Key, class Value, class Hash = std::hash<Key>, class Equal = std
             }
             if (found == nullptr) return link(fresh);
             version++;
-            return nodes.exchange(found->slot, fresh);
+            return exchange(found->slot, fresh);
         }
 
         // The same for a node whose key wasn't in at this version.
@@ -597,13 +632,25 @@ template <class Key, class Value, class Hash = std::hash<Key>, class Equal = std
             version++;
             node *gone = nodes.at(found.slot);
             nodes.remove(gone);
+            gone->next = nullptr;
+            return gone;
+        }
+
+        // Has as many nodes at most from now on, and returns those above, of which each leads to the next, or null.
+        node *resize(std::size_t most) noexcept {
+            node *gone = nullptr;
+            while (nodes.size() > most) {
+                node *last = evict();
+                last->next = std::exchange(gone, last);
+            }
+            limit = most < slots.capacity() ? most : no_limit;
             return gone;
         }
 
         void clear() noexcept {
             version++;
             slots.clear();
-            for (node *left = nodes.remove_all(); left != nullptr;) drop(std::exchange(left, left->next));
+            drop_all(nodes.remove_all());
         }
 
         template <class... Args> node *make(Args &&...args) {
@@ -618,9 +665,13 @@ template <class Key, class Value, class Hash = std::hash<Key>, class Equal = std
         }
 
         void drop(node *left) noexcept {
-            if (left == nullptr) return;
             left->~node();
             keep(left);
+        }
+
+        // Drops a node and those that it leads to, which are out; none, if it is null.
+        void drop_all(node *left) noexcept {
+            while (left != nullptr) drop(std::exchange(left, left->next));
         }
 
         // Keeps one block without an entry for the next one.
@@ -632,6 +683,7 @@ template <class Key, class Value, class Hash = std::hash<Key>, class Equal = std
         token_cache slots;
         detail::nodes<node> nodes;
         node *spare = nullptr;
+        std::size_t limit = no_limit; // how many nodes there may be, if fewer than slots
         std::uint64_t version = 0; // how often entries have come or left
         std::uint64_t hits = 0, misses = 0;
         Hash hash;
@@ -643,6 +695,13 @@ template <class Key, class Value, class Hash = std::hash<Key>, class Equal = std
     std::uint64_t hash_to_insert(const Key &key) const {
         if (state_ == nullptr) throw std::length_error("clock2q: the capacity is 0, since the cache was moved from");
         return hash_of(key);
+    }
+
+    // The first of the nodes that left. The others are dropped.
+    node_type first_of(node *left) noexcept {
+        node_type first(left);
+        if (left != nullptr) state_->drop_all(left->next);
+        return first;
     }
 
     static Value *value_of(node *at) noexcept { return at == nullptr ? nullptr : std::addressof(at->entry.second); }
@@ -662,7 +721,7 @@ template <class Key, class Value, class Hash = std::hash<Key>, class Equal = std
         node *fresh = make();
         node *left = state_->link_since(seen, fresh);
         state_->misses++;
-        state_->drop(left);
+        state_->drop_all(left);
         return {value_of(fresh), true};
     }
 
@@ -687,7 +746,7 @@ template <class Key, class Value, class Hash = std::hash<Key>, class Equal = std
         }
         std::uint64_t seen = state_->version;
         node *fresh = state_->make(hash, std::forward<K>(key), std::forward<Other>(value));
-        state_->drop(state_->link_since(seen, fresh));
+        state_->drop_all(state_->link_since(seen, fresh));
         return {value_of(fresh), true};
     }
 
@@ -708,6 +767,199 @@ template <class Key, class Value, class Hash = std::hash<Key>, class Equal = std
     }
 
     std::unique_ptr<state> state_;
+};
+
+// A cache whose entries have weights, of which the sum is limited too.
+//
+// The weigher is called once for each entry that is to be stored, before anything changes, and returns its weight.
+// Then others leave as by `evict`, until there is room for it under both limits. An entry that is heavier than the
+// limit alone isn't stored, and no other leaves for it. Values are only read, so that no weight changes.
+//
+// What `cache` says of slots, pointers, users' code, exceptions and threads holds here too.
+template <class Key, class Value, class Weigher = std::function<std::uint64_t(const Key &, const Value &)>,
+          class Hash = std::hash<Key>, class Equal = std::equal_to<Key>>
+class weighted_cache {
+    using entries = cache<Key, Value, Hash, Equal>;
+    using node = typename entries::node;
+    template <class Other> using argument = typename entries::template argument<Other>;
+
+  public:
+    using key_type = Key;
+    using mapped_type = Value;
+    using size_type = std::size_t;
+    using node_type = typename entries::node_type;
+    using const_iterator = typename entries::const_iterator;
+
+    // Makes a cache for `capacity` entries, whose weights are at most `max_weight` together. Throws what `cache` does.
+    weighted_cache(size_type capacity, std::uint64_t max_weight, Weigher weigher = Weigher(), const Hash &hash = Hash(),
+                   const Equal &equal = Equal())
+        : entries_(capacity, hash, equal), limit_(new limit{std::move(weigher), max_weight, 0, nullptr}) {
+        limit_->by_slot.reset(new std::uint64_t[capacity]());
+    }
+    weighted_cache(weighted_cache &&) noexcept = default;
+    weighted_cache &operator=(weighted_cache &&other) noexcept {
+        weighted_cache taken(std::move(other));
+        swap(taken);
+        return *this;
+    }
+    ~weighted_cache() {
+        while (!empty()) clear(); // a destructor of a value may insert
+    }
+
+    // Returns the value of a key, after a hit, or null. Counts a hit or a miss.
+    template <class K = Key> const Value *get(const argument<K> &key) { return entries_.get(key); }
+
+    // Returns the value of a key, or null, and records nothing.
+    template <class K = Key> const Value *peek(const argument<K> &key) const { return entries_.peek(key); }
+
+    // Returns true, or 1, if the key is there, and records nothing.
+    template <class K = Key> bool contains(const argument<K> &key) const { return entries_.contains(key); }
+    template <class K = Key> size_type count(const argument<K> &key) const { return entries_.count(key); }
+
+    // Inserts a key, in place of its entry if it has one, after a hit, and returns true. Returns false if the entry is
+    // heavier than `max_weight`: it is destroyed, and the cache is as it was.
+    template <class Other = Value> bool put(const Key &key, Other &&value) {
+        return push(key, std::forward<Other>(value), [](node_type) {});
+    }
+    template <class Other = Value> bool put(Key &&key, Other &&value) {
+        return push(std::move(key), std::forward<Other>(value), [](node_type) {});
+    }
+
+    // Does what `put` does, and calls `left` with each entry that left for this one, and last with the key's own, if
+    // that hadn't left yet.
+    template <class Other, class Left> bool push(const Key &key, Other &&value, Left left) {
+        return pushed(key, std::forward<Other>(value), left);
+    }
+    template <class Other, class Left> bool push(Key &&key, Other &&value, Left left) {
+        return pushed(std::move(key), std::forward<Other>(value), left);
+    }
+
+    // Takes a key out, and returns its entry or none.
+    template <class K = Key> node_type extract(const argument<K> &key) { return without(entries_.extract(key)); }
+
+    // Takes a key out, and returns how many entries left: 1 or 0.
+    template <class K = Key> size_type erase(const argument<K> &key) { return extract(key).empty() ? 0 : 1; }
+
+    // Takes out the entry that would have to leave next, and returns it, or none.
+    node_type evict() noexcept { return without(entries_.evict()); }
+
+    // Takes all entries out, and forgets all keys. Takes time in proportion to the capacity.
+    void clear() noexcept {
+        if (limit_ == nullptr) return;
+        std::fill_n(limit_->by_slot.get(), entries_.capacity(), 0);
+        limit_->weight = 0;
+        entries_.clear();
+    }
+
+    // Has the sum of the weights be at most `max_weight` from now on. Entries leave as by `evict` until it is, and are
+    // destroyed then. The cache wasn't moved from.
+    void set_max_weight(std::uint64_t max_weight) noexcept {
+        leaving left(*this);
+        while (limit_->weight > max_weight) left.add(entries_.state_->evict());
+        limit_->max_weight = max_weight;
+    }
+
+    size_type size() const noexcept { return entries_.size(); }
+    bool empty() const noexcept { return entries_.empty(); }
+    // Returns how many entries there can be, whatever their weights.
+    size_type capacity() const noexcept { return entries_.capacity(); }
+    // Return the sum of the weights of all entries, and the most that it may be.
+    std::uint64_t weight() const noexcept { return limit_ == nullptr ? 0 : limit_->weight; }
+    std::uint64_t max_weight() const noexcept { return limit_ == nullptr ? 0 : limit_->max_weight; }
+    // Return how many look-ups by `get` found their key, and how many didn't.
+    std::uint64_t hits() const noexcept { return entries_.hits(); }
+    std::uint64_t misses() const noexcept { return entries_.misses(); }
+
+    // All entries, in no order that is kept. Takes time in proportion to the capacity.
+    const_iterator begin() const noexcept { return entries_.begin(); }
+    const_iterator end() const noexcept { return entries_.end(); }
+
+    void swap(weighted_cache &other) noexcept {
+        entries_.swap(other.entries_);
+        limit_.swap(other.limit_);
+    }
+    friend void swap(weighted_cache &one, weighted_cache &other) noexcept { one.swap(other); }
+
+  private:
+    struct limit {
+        Weigher weigher;
+        std::uint64_t max_weight;
+        std::uint64_t weight; // the sum of those of all entries
+        std::unique_ptr<std::uint64_t[]> by_slot;
+
+        // Takes the weight of a node that left off the sum.
+        void take_off(const node *left) noexcept { weight -= std::exchange(by_slot[left->slot], 0); }
+    };
+
+    // Nodes that left, in their order, which are dropped at the end.
+    class leaving {
+      public:
+        explicit leaving(weighted_cache &from) noexcept : from_(from) {}
+        leaving(const leaving &) = delete;
+        leaving &operator=(const leaving &) = delete;
+        ~leaving() { from_.entries_.state_->drop_all(first_); }
+        // Adds a node that was taken out, whose weight is still there.
+        void add(node *left) noexcept {
+            from_.limit_->take_off(left);
+            left->next = nullptr;
+            *end_ = left;
+            end_ = &left->next;
+        }
+        // Calls a function with each.
+        template <class Left> void hand_over(Left &left) {
+            while (first_ != nullptr) left(node_type(std::exchange(first_, first_->next)));
+        }
+
+      private:
+        weighted_cache &from_;
+        node *first_ = nullptr, **end_ = &first_;
+    };
+
+    node_type without(node_type left) noexcept {
+        if (left) limit_->take_off(left.owned_.get());
+        return left;
+    }
+
+    template <class K, class Other, class Left> bool pushed(K &&key, Other &&value, Left &left) {
+        std::uint64_t hash = entries_.hash_to_insert(key), weight = 0;
+        typename entries::state &state = *entries_.state_;
+        node *fresh = state.make(hash, std::forward<K>(key), std::forward<Other>(value)), *found = nullptr;
+        try {
+            const auto &entry = fresh->entry;
+            weight = limit_->weigher(entry.first, entry.second);
+            if (weight <= limit_->max_weight) found = state.hit(entry.first, hash);
+        } catch (...) {
+            state.drop(fresh);
+            throw;
+        }
+        if (weight > limit_->max_weight) {
+            state.drop(fresh);
+            return false;
+        }
+        leaving gone(*this);
+        link(fresh, weight, found, gone);
+        gone.hand_over(left);
+        return true;
+    }
+
+    // Gives a new node its slot, that of the node of its key or one of its own. It calls no code of users.
+    void link(node *fresh, std::uint64_t weight, node *found, leaving &gone) noexcept {
+        typename entries::state &state = *entries_.state_;
+        std::uint64_t own = found == nullptr ? 0 : limit_->by_slot[found->slot];
+        while (limit_->weight - own > limit_->max_weight - weight) {
+            node *last = state.evict();
+            if (last == found) found = nullptr, own = 0;
+            gone.add(last);
+        }
+        if (found != nullptr) state.version++;
+        node *more = found == nullptr ? state.link(fresh) : state.exchange(found->slot, fresh);
+        while (more != nullptr) gone.add(std::exchange(more, more->next));
+        limit_->weight += weight;
+        limit_->by_slot[fresh->slot] = weight;
+    }
+
+    entries entries_;
+    std::unique_ptr<limit> limit_;
 };
 
 } // namespace clock2q_cpp

@@ -56,11 +56,12 @@ check_tools() {
     [ -z "$missing" ] || give_up "what is missing:$missing"
 }
 
-# Says whether a folder can be made and written to.
+# Says whether a folder can be written to, or made if it isn't there.
 can_write() {
-    folder=$1
-    until [ -e "$folder" ]; do folder=$(dirname "$folder"); done
-    [ -d "$folder" ] && [ -w "$folder" ]
+    folder=$1 absent=''
+    until [ -e "$folder" ]; do absent=$folder folder=$(dirname "$folder"); done
+    [ -d "$folder" ] && [ -w "$folder" ] || return
+    [ -z "$absent" ] || { mkdir "$absent" 2>/dev/null && rmdir "$absent"; }
 }
 
 check_prefix() {

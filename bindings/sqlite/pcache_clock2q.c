@@ -236,7 +236,7 @@ static struct page *give_slot(struct cache *cache, struct page *page) {
 }
 
 /* Records a hit of a page that has a slot. */
-APART static void tell_hit(struct cache *cache, struct page *page) {
+APART static void record_hit(struct cache *cache, struct page *page) {
     clock2q_at(&cache->index, page->slot, page->key);
     page->hit_at = cache->entries;
 }
@@ -268,7 +268,7 @@ static void enter_pages(struct cache *cache, struct page **pages, size_t count) 
     }
     for (size_t i = 0; i < count; i++) {
         struct page *page = pages[i];
-        if (page != NULL && page->hit_at != 0 && page->slot != NO_SLOT) tell_hit(cache, page);
+        if (page != NULL && page->hit_at != 0 && page->slot != NO_SLOT) record_hit(cache, page);
     }
 }
 
@@ -463,7 +463,7 @@ static bool is_refused(struct cache *cache) {
 /* Pins an idle page, which is a hit. One that is pinned isn't hit again. */
 static void take_up(struct cache *cache, struct page *page) {
     make_pinned(cache, page);
-    if (page->hit_at != cache->entries && page->slot != NO_SLOT) tell_hit(cache, page);
+    if (page->hit_at != cache->entries && page->slot != NO_SLOT) record_hit(cache, page);
 }
 
 APART static sqlite3_pcache_page *missed(struct cache *cache, unsigned key, int create) {

@@ -15,7 +15,7 @@ static long refused, hard_refused; /* of one session, and of those which weren't
 static int own_depth, depth; /* between benign calls of the module's, and of anybody's */
 static long own_refused;     /* benign requests of the module's that were refused */
 
-/* SQLite's own are out of reach, so the module's benign requests are told apart by these. */
+/* SQLite's own are out of reach, so the module's benign requests are recognized by these. */
 void sqlite3BeginBenignMalloc(void);
 void sqlite3EndBenignMalloc(void);
 

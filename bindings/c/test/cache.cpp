@@ -40,7 +40,7 @@ static std::uint64_t drawn(std::uint64_t &state) {
     return state ^= state << 17;
 }
 
-// ---- keys and values that are counted, and throw when told to ----
+// ---- keys and values that are counted, and throw on request ----
 
 struct refused {};
 

@@ -96,7 +96,7 @@ static void own_memory(void) {
     must(clock2q_new(&cache, 100) == CLOCK2Q_DONE, "no memory of malloc is asked for");
     must(clock2q_use_memory(NULL).take == own_take, "where memory came from before");
     must(own_taken > 0 && own_given_back == 0, "a cache in the program's memory");
-    must(own_bytes <= 160 * 100, "at most 160 bytes a key");
+    must(own_bytes <= 170 * 100, "at most 170 bytes a key, as the header says");
     clock2q_free(&cache);
     must(own_given_back == own_taken, "memory goes back where it came from");
     must(clock2q_new(&cache, 100) == CLOCK2Q_NO_MEMORY, "malloc's memory again");

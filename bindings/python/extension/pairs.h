@@ -136,7 +136,7 @@ PyObject *refuse_copy(PyObject *self, PyObject *unused);
 /* What belongs to the module. */
 typedef struct {
     PyTypeObject *cache_type, *place_type;
-    PyObject *keyword_mark; /* stands in a key of `cached` before the keyword arguments */
+    PyObject *keyword_mark; /* comes before the keyword arguments in a key of `cached` */
 } module_state;
 
 extern PyType_Spec cache_spec, cached_spec, pages_spec;

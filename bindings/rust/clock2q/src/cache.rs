@@ -165,7 +165,7 @@ impl<K, V, S> Cache<K, V, S> {
     /// [`Refused::Capacity`] if it is 0, or above the capacity with which the cache was made. Nothing has changed
     /// then.
     pub fn resize(&mut self, capacity: usize) -> Result<(), Refused> {
-        self.store.resize(capacity)
+        self.store.resize(capacity).map(drop)
     }
 
     /// Removes all keys, and forgets those that left.

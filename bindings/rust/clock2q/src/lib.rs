@@ -1,7 +1,7 @@
 //! Caches of fixed capacity with Clock2Q+ replacement, proved up to the C calls under them.
 //!
-//! A [`Cache`] is a map of any hashable keys, a [`WeightedCache`] one whose pairs have weights, and
-//! [`sync::Cache`] one that threads share. A [`PageCache`] gives numbers slots, for arrays of the caller's.
+//! A [`Cache`] is a map of any hashable keys, and a [`WeightedCache`] one whose pairs have weights; threads
+//! share those of [`sync`]. A [`PageCache`] gives numbers slots, for arrays of the caller's.
 //! [`sys`] has the C calls.
 //!
 //! ```
@@ -26,6 +26,7 @@ mod store;
 pub mod sync;
 pub mod sys;
 mod weighted;
+mod weights;
 
 pub use cache::Cache;
 pub use entry::{Entry, OccupiedEntry, VacantEntry};

@@ -87,20 +87,20 @@ impl<K, V> Store<K, V> {
         self.slots.capacity().min(self.limit)
     }
 
-    /// Has as many pairs at most from now on, for which there are slots. Those above leave.
-    pub(crate) fn resize(&mut self, limit: usize) -> Result<(), Refused> {
+    /// Has as many pairs at most from now on, for which there are slots. Returns those above, which leave.
+    pub(crate) fn resize(&mut self, limit: usize) -> Result<Vec<(K, V)>, Refused> {
         if limit == 0 || limit > self.slots.capacity() {
             return Err(Refused::Capacity);
         }
         let mut left = Vec::new();
         while self.entries.len() > limit {
-            left.extend(self.evict());
+            left.extend(self.evict().map(|(_, pair)| pair));
         }
         self.limit = match limit < self.slots.capacity() {
             true => limit,
             false => usize::MAX,
         };
-        Ok(())
+        Ok(left)
     }
 
     pub(crate) fn clear(&mut self) {

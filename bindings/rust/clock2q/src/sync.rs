@@ -1,29 +1,30 @@
-//! A cache that threads share.
+//! Caches that threads share.
 
 mod flight;
 mod shard;
+mod shards;
+mod weighted;
 
 use crate::slots::Slots;
 use crate::store::{hash_of, Store};
 use crate::Refused;
-use shard::Shard;
+use shard::Pairs;
+use shards::{part, usual_count, Shards};
 use std::borrow::Borrow;
 use std::collections::hash_map::RandomState;
 use std::convert::Infallible;
 use std::fmt;
 use std::hash::{BuildHasher, Hash};
-
-/// How many shards there are if there are keys enough.
-const SHARDS: usize = 16;
-/// How many keys a shard is for at least, unless the number of shards is asked for.
-const SHARD_CAPACITY: usize = 64;
+use std::sync::{Mutex, MutexGuard, PoisonError};
+pub use weighted::WeightedCache;
 
 /// A map of fixed capacity that threads share: shards, each a [`Cache`](crate::Cache) under a lock of its
 /// own. The high bits of a key's hash choose its shard.
 ///
 /// The capacity is divided among the shards, so a key may have to leave a full shard while another one has
-/// room. A call of one key locks one shard; [`len`](Cache::len), [`clear`](Cache::clear) and those like
-/// them lock all of them in turn, and what they return may have changed meanwhile.
+/// room. A call of one key locks one shard; [`len`](Cache::len), [`clear`](Cache::clear),
+/// [`resize`](Cache::resize) and those like them lock all of them in turn, and what they return may have
+/// changed meanwhile.
 ///
 /// `Hash` and the closure of [`get_or_insert_with`](Cache::get_or_insert_with) run without a lock, and what
 /// leaves is dropped without one, but by [`clear`](Cache::clear). `Eq`, `Clone` and the closure of
@@ -57,9 +58,29 @@ const SHARD_CAPACITY: usize = 64;
 /// # Ok::<(), clock2q::Refused>(())
 /// ```
 pub struct Cache<K, V, S = RandomState> {
-    shards: Box<[Shard<K, V>]>,
+    shards: Shards<Store<K, V>, K, V>,
     hasher: S,
-    capacity: usize,
+    /// How many keys there are slots for.
+    made: usize,
+    /// How many of them there may be. Whoever changes it has this lock meanwhile.
+    capacity: Mutex<usize>,
+}
+
+impl<K: Eq, V> Pairs<K, V> for Store<K, V> {
+    fn find(&mut self, hash: u64, key: &K) -> Option<&V> {
+        let (_, (_, value)) = self.find_pair(hash, key)?;
+        Some(value)
+    }
+
+    fn peek(&self, hash: u64, key: &K) -> Option<&V> {
+        let slot = self.entries.slot(hash, key)?;
+        self.entries.pair(slot).map(|(_, value)| value)
+    }
+}
+
+/// Locks what no code of users runs under.
+fn locked<T>(number: &Mutex<T>) -> MutexGuard<'_, T> {
+    number.lock().unwrap_or_else(PoisonError::into_inner)
 }
 
 impl<K, V> Cache<K, V> {
@@ -81,8 +102,7 @@ impl<K, V, S> Cache<K, V, S> {
     ///
     /// Those of [`new`](Cache::new).
     pub fn with_hasher(capacity: usize, hasher: S) -> Result<Cache<K, V, S>, Refused> {
-        let shards = (capacity / SHARD_CAPACITY).clamp(1, SHARDS);
-        Cache::with_shards_and_hasher(capacity, shards, hasher)
+        Cache::with_shards_and_hasher(capacity, usual_count(capacity), hasher)
     }
 
     /// Makes a cache of that many shards, or of one for each key if there are fewer keys. The capacities
@@ -96,19 +116,14 @@ impl<K, V, S> Cache<K, V, S> {
         shards: usize,
         hasher: S,
     ) -> Result<Cache<K, V, S>, Refused> {
-        let count = shards.min(capacity);
-        if count == 0 {
-            return Err(Refused::Capacity);
-        }
-        let (each, more) = (capacity / count, capacity % count);
-        let shards: Result<Vec<_>, Refused> = (0..count)
-            .map(|at| Slots::new(each + usize::from(at < more)))
-            .map(|slots| Ok(Shard::new(Store::new(slots?)?)))
-            .collect();
+        let shards = Shards::new(capacity, shards, |at, count| {
+            Store::new(Slots::new(part(capacity as u64, at, count) as usize)?)
+        })?;
         Ok(Cache {
-            shards: shards?.into_boxed_slice(),
+            shards,
             hasher,
-            capacity,
+            made: capacity,
+            capacity: Mutex::new(capacity),
         })
     }
 
@@ -125,9 +140,40 @@ impl<K, V, S> Cache<K, V, S> {
         self.len() == 0
     }
 
-    /// Returns how many keys there can be.
+    /// Returns how many keys there can be: as many as asked for last, when the cache was made or
+    /// [resized](Cache::resize).
     pub fn capacity(&self) -> usize {
-        self.capacity
+        *locked(&self.capacity)
+    }
+
+    /// Has the cache hold `capacity` keys at most, divided among the shards as at first. Pairs leave each shard as
+    /// by [`Cache::resize`](crate::Cache::resize), are kept in a vector until all are through, and are dropped
+    /// without a lock. The cache keeps its memory.
+    ///
+    /// # Errors
+    ///
+    /// [`Refused::Capacity`] if it is less than the number of shards, or above the capacity with which the cache
+    /// was made. Nothing has changed then.
+    pub fn resize(&self, capacity: usize) -> Result<(), Refused> {
+        let count = self.shards.len();
+        if capacity < count || capacity > self.made {
+            return Err(Refused::Capacity);
+        }
+        let mut left = Vec::new();
+        let mut present = locked(&self.capacity);
+        for (at, shard) in self.shards.iter().enumerate() {
+            let limit = part(capacity as u64, at, count) as usize;
+            left.extend(shard.lock().resize(limit)?);
+        }
+        *present = capacity;
+        drop(present);
+        drop(left);
+        Ok(())
+    }
+
+    /// Returns how many shards there are.
+    pub fn shards(&self) -> usize {
+        self.shards.len()
     }
 
     /// Returns how many look-ups found their key, since the cache was made. Those of
@@ -151,14 +197,8 @@ impl<K, V, S> Cache<K, V, S> {
     /// Removes all keys, and forgets those that left.
     pub fn clear(&self) {
         for shard in self.shards.iter() {
-            shard.clear();
+            shard.lock().clear();
         }
-    }
-
-    fn shard(&self, hash: u64) -> &Shard<K, V> {
-        // As `entries::mark` does, so that a poor hasher does no harm.
-        let spread = u128::from(hash.wrapping_mul(crate::entries::SPREAD));
-        &self.shards[((spread * self.shards.len() as u128) >> 64) as usize]
     }
 }
 
@@ -180,9 +220,9 @@ impl<K: Hash + Eq, V, S: BuildHasher> Cache<K, V, S> {
         Q: Hash + Eq + ?Sized,
     {
         let hash = hash_of(&self.hasher, key);
-        let mut store = self.shard(hash).lock();
-        let slot = store.find(hash, key)?;
-        store.entries.pair(slot).map(|(_, value)| read(value))
+        let mut store = self.shards.of(hash).lock();
+        let (_, (_, value)) = store.find_pair(hash, key)?;
+        Some(read(value))
     }
 
     /// Returns true if the key is here. It records no hit.
@@ -192,21 +232,24 @@ impl<K: Hash + Eq, V, S: BuildHasher> Cache<K, V, S> {
         Q: Hash + Eq + ?Sized,
     {
         let hash = hash_of(&self.hasher, key);
-        self.shard(hash).lock().entries.slot(hash, key).is_some()
+        let store = self.shards.of(hash).lock();
+        store.entries.slot(hash, key).is_some()
     }
 
     /// Stores a value for a key, and returns the one before, if the key was here. A pair that has to leave
     /// for a new key is dropped.
     pub fn insert(&self, key: K, value: V) -> Option<V> {
         let hash = hash_of(&self.hasher, &key);
-        self.shard(hash).push(hash, key, value).replaced()
+        let (_, before) = self.shards.of(hash).lock().push(hash, key, value);
+        before.replaced()
     }
 
     /// Stores a value for a key, and returns what had its slot: `key` and its value before, or the pair
     /// that had to leave for it.
     pub fn push(&self, key: K, value: V) -> Option<(K, V)> {
         let hash = hash_of(&self.hasher, &key);
-        self.shard(hash).push(hash, key, value).pair()
+        let (_, before) = self.shards.of(hash).lock().push(hash, key, value);
+        before.pair()
     }
 
     /// Returns a clone of the value of a key, after a hit or after storing what `make` returns. If
@@ -245,7 +288,8 @@ impl<K: Hash + Eq, V, S: BuildHasher> Cache<K, V, S> {
         V: Clone,
     {
         let hash = hash_of(&self.hasher, &key);
-        self.shard(hash).value_or_make(hash, key, make)
+        let push = |store: &mut Store<K, V>, key, value| store.push(hash, key, value);
+        self.shards.of(hash).value_or_make(hash, key, make, push)
     }
 
     /// Removes a key, and returns its value. A key that isn't here is forgotten.
@@ -255,7 +299,7 @@ impl<K: Hash + Eq, V, S: BuildHasher> Cache<K, V, S> {
         Q: Hash + Eq + ?Sized,
     {
         let hash = hash_of(&self.hasher, key);
-        let removed = self.shard(hash).lock().remove(hash, key);
+        let removed = self.shards.of(hash).lock().remove(hash, key);
         removed.map(|(_, value)| value)
     }
 }

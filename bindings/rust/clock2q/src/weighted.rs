@@ -1,38 +1,21 @@
 //! Pairs with weights.
 
+use crate::slots::Slots;
 use crate::store::hash_of;
-use crate::{Cache, Refused};
+use crate::weights::{Stored, WeightedStore};
+use crate::{Iter, Refused};
 use std::borrow::Borrow;
 use std::collections::hash_map::RandomState;
 use std::fmt;
 use std::hash::{BuildHasher, Hash};
-use std::mem;
 
-/// A value, and what the weigher said of its pair.
-struct Weighed<V> {
-    value: V,
-    weight: u64,
-}
-
-/// What was stored took the place of.
-struct Stored<K, V> {
-    /// The key, and its value before.
-    before: Option<(K, V)>,
-    /// The pairs that left.
-    left: Vec<(K, Weighed<V>)>,
-}
-
-fn without_weight<K, V>((key, weighed): (K, Weighed<V>)) -> (K, V) {
-    (key, weighed.value)
-}
-
-/// A [`Cache`] whose pairs have weights, of which the sum is limited too.
+/// A [`Cache`](crate::Cache) whose pairs have weights, of which the sum is limited too.
 ///
 /// A function of the cache's owner, the weigher, is called once for each pair that is to be stored, before
 /// anything changes. Then others leave, in the order in which they would for new keys, until there is room for it
 /// under both limits. A pair that is heavier than the limit alone isn't stored, and no other leaves for it.
 ///
-/// What [`Cache`] says of memory, panics and threads holds here too, but that pairs which leave for a heavier one
+/// What [`Cache`](crate::Cache) says of memory, panics and threads holds here too, but that pairs which leave for a heavier one
 /// are kept in a vector until it is stored.
 ///
 /// # Example
@@ -49,10 +32,9 @@ fn without_weight<K, V>((key, weighed): (K, Weighed<V>)) -> (K, V) {
 /// # Ok::<(), clock2q::Refused>(())
 /// ```
 pub struct WeightedCache<K, V, W, S = RandomState> {
-    cache: Cache<K, Weighed<V>, S>,
+    store: WeightedStore<K, V>,
     weigher: W,
-    weight: u64,
-    max_weight: u64,
+    hasher: S,
 }
 
 impl<K, V, W: Fn(&K, &V) -> u64> WeightedCache<K, V, W> {
@@ -60,7 +42,7 @@ impl<K, V, W: Fn(&K, &V) -> u64> WeightedCache<K, V, W> {
     ///
     /// # Errors
     ///
-    /// Those of [`Cache::new`].
+    /// Those of [`Cache::new`](crate::Cache::new).
     pub fn new(capacity: usize, max_weight: u64, weigher: W) -> Result<Self, Refused> {
         WeightedCache::with_hasher(capacity, max_weight, weigher, RandomState::new())
     }
@@ -71,7 +53,7 @@ impl<K, V, W: Fn(&K, &V) -> u64, S> WeightedCache<K, V, W, S> {
     ///
     /// # Errors
     ///
-    /// Those of [`Cache::new`].
+    /// Those of [`Cache::new`](crate::Cache::new).
     pub fn with_hasher(
         capacity: usize,
         max_weight: u64,
@@ -79,10 +61,9 @@ impl<K, V, W: Fn(&K, &V) -> u64, S> WeightedCache<K, V, W, S> {
         hasher: S,
     ) -> Result<Self, Refused> {
         Ok(WeightedCache {
-            cache: Cache::with_hasher(capacity, hasher)?,
+            store: WeightedStore::new(Slots::new(capacity)?, max_weight)?,
             weigher,
-            weight: 0,
-            max_weight,
+            hasher,
         })
     }
 }
@@ -90,65 +71,59 @@ impl<K, V, W: Fn(&K, &V) -> u64, S> WeightedCache<K, V, W, S> {
 impl<K, V, W, S> WeightedCache<K, V, W, S> {
     /// Returns how many pairs there are.
     pub fn len(&self) -> usize {
-        self.cache.len()
+        self.store.pairs.entries.len()
     }
 
     /// Returns true if there is no pair.
     pub fn is_empty(&self) -> bool {
-        self.cache.is_empty()
+        self.len() == 0
     }
 
     /// Returns how many pairs there can be, whatever their weights.
     pub fn capacity(&self) -> usize {
-        self.cache.capacity()
+        self.store.pairs.capacity()
     }
 
     /// Returns the sum of the weights of all pairs.
     pub fn weight(&self) -> u64 {
-        self.weight
+        self.store.weight
     }
 
     /// Returns the most that the sum of the weights may be.
     pub fn max_weight(&self) -> u64 {
-        self.max_weight
+        self.store.max_weight
     }
 
     /// Has the sum of the weights be at most `max_weight` from now on. Pairs leave as by
     /// [`evict`](WeightedCache::evict) until it is, and are dropped then.
     pub fn set_max_weight(&mut self, max_weight: u64) {
-        let mut left = Vec::new();
-        while self.weight > max_weight {
-            left.extend(self.evict());
-        }
-        self.max_weight = max_weight;
+        drop(self.store.set_max_weight(max_weight));
     }
 
     /// Returns how many look-ups found their key, of those that record hits.
     pub fn hits(&self) -> u64 {
-        self.cache.hits()
+        self.store.pairs.hits
     }
 
     /// Returns how many of these look-ups didn't.
     pub fn misses(&self) -> u64 {
-        self.cache.misses()
+        self.store.pairs.misses
     }
 
     /// Removes the pair that would have to leave next, and returns it; nothing if there is none.
     pub fn evict(&mut self) -> Option<(K, V)> {
-        let left = self.cache.evict()?;
-        self.weight -= left.1.weight;
-        Some(without_weight(left))
+        self.store.evict()
     }
 
     /// Removes all pairs, and forgets those that left.
     pub fn clear(&mut self) {
-        self.weight = 0;
-        self.cache.clear();
+        self.store.clear();
     }
 
     /// Returns the pairs, in any order. It records no hit.
     pub fn iter(&self) -> impl ExactSizeIterator<Item = (&K, &V)> {
-        self.cache.iter().map(|(key, held)| (key, &held.value))
+        let pairs = &self.store.pairs.entries;
+        Iter::new(pairs.as_slice().iter(), self.len()).map(|(key, held)| (key, &held.value))
     }
 }
 
@@ -160,7 +135,7 @@ impl<K: Hash + Eq, V, W, S: BuildHasher> WeightedCache<K, V, W, S> {
         K: Borrow<Q>,
         Q: Hash + Eq + ?Sized,
     {
-        self.cache.get(key).map(|held| &held.value)
+        self.store.find(hash_of(&self.hasher, key), key)
     }
 
     /// Returns the value of a key. It records no hit.
@@ -169,7 +144,7 @@ impl<K: Hash + Eq, V, W, S: BuildHasher> WeightedCache<K, V, W, S> {
         K: Borrow<Q>,
         Q: Hash + Eq + ?Sized,
     {
-        self.cache.peek(key).map(|held| &held.value)
+        self.store.peek(hash_of(&self.hasher, key), key)
     }
 
     /// Returns true if the key is here. It records no hit.
@@ -178,7 +153,7 @@ impl<K: Hash + Eq, V, W, S: BuildHasher> WeightedCache<K, V, W, S> {
         K: Borrow<Q>,
         Q: Hash + Eq + ?Sized,
     {
-        self.cache.contains_key(key)
+        self.peek(key).is_some()
     }
 
     /// Removes a key, and returns its value. A key that isn't here is forgotten.
@@ -187,21 +162,13 @@ impl<K: Hash + Eq, V, W, S: BuildHasher> WeightedCache<K, V, W, S> {
         K: Borrow<Q>,
         Q: Hash + Eq + ?Sized,
     {
-        let held = self.cache.remove(key)?;
-        self.weight -= held.weight;
-        Some(held.value)
+        let removed = self.store.remove(hash_of(&self.hasher, key), key);
+        removed.map(|(_, value)| value)
     }
 
     /// Removes the pairs for which `keep` returns false. It records no hit.
-    pub fn retain(&mut self, mut keep: impl FnMut(&K, &V) -> bool) {
-        let weight = &mut self.weight;
-        self.cache.retain(|key, held| {
-            let stays = keep(key, &held.value);
-            if !stays {
-                *weight -= held.weight;
-            }
-            stays
-        });
+    pub fn retain(&mut self, keep: impl FnMut(&K, &V) -> bool) {
+        self.store.retain(keep);
     }
 }
 
@@ -213,7 +180,7 @@ impl<K: Hash + Eq, V, W: Fn(&K, &V) -> u64, S: BuildHasher> WeightedCache<K, V, 
     ///
     /// The pair, if it is heavier than [`max_weight`](WeightedCache::max_weight). The cache is as it was.
     pub fn insert(&mut self, key: K, value: V) -> Result<Option<V>, (K, V)> {
-        let stored = self.store(key, value)?;
+        let stored = self.store_pair(key, value)?;
         Ok(stored.before.map(|(_, value)| value))
     }
 
@@ -224,51 +191,13 @@ impl<K: Hash + Eq, V, W: Fn(&K, &V) -> u64, S: BuildHasher> WeightedCache<K, V, 
     ///
     /// Those of [`insert`](WeightedCache::insert).
     pub fn push(&mut self, key: K, value: V) -> Result<Vec<(K, V)>, (K, V)> {
-        let stored = self.store(key, value)?;
-        let left = stored.left.into_iter().map(without_weight);
-        Ok(left.chain(stored.before).collect())
+        Ok(self.store_pair(key, value)?.into_pairs())
     }
 
-    fn store(&mut self, key: K, value: V) -> Result<Stored<K, V>, (K, V)> {
+    fn store_pair(&mut self, key: K, value: V) -> Result<Stored<K, V>, (K, V)> {
         let weight = (self.weigher)(&key, &value);
-        if weight > self.max_weight {
-            return Err((key, value));
-        }
-        let hash = hash_of(&self.cache.hasher, &key);
-        let mut found = self.cache.store.entries.slot(hash, &key);
-        // No code of users runs from here on.
-        let mut left = Vec::new();
-        let mut own = found.map_or(0, |slot| self.hit(slot));
-        while self.weight - own > self.max_weight - weight {
-            let evicted = self.cache.store.evict();
-            let (slot, pair) = evicted.expect("what has a weight is here");
-            self.weight -= pair.1.weight;
-            left.push(pair);
-            if found == Some(slot) {
-                found = None;
-                own = 0;
-            }
-        }
-        self.weight = self.weight - own + weight;
-        let mut held = Weighed { value, weight };
-        if let Some((_, here)) = found.and_then(|slot| self.cache.store.entries.pair_mut(slot)) {
-            mem::swap(here, &mut held);
-            let before = Some((key, held.value));
-            return Ok(Stored { before, left });
-        }
-        let (_, more) = self.cache.store.admit(hash, key, held);
-        if let Some(pair) = more {
-            self.weight -= pair.1.weight;
-            left.push(pair);
-        }
-        Ok(Stored { before: None, left })
-    }
-
-    /// Records a hit of the pair at a slot, and returns its weight.
-    fn hit(&mut self, slot: usize) -> u64 {
-        let store = &mut self.cache.store;
-        store.hit(slot);
-        store.entries.pair(slot).map_or(0, |(_, held)| held.weight)
+        let hash = hash_of(&self.hasher, &key);
+        self.store.push(hash, key, value, weight)
     }
 }
 
@@ -278,8 +207,8 @@ impl<K, V, W, S> fmt::Debug for WeightedCache<K, V, W, S> {
             .debug_struct("WeightedCache")
             .field("len", &self.len())
             .field("capacity", &self.capacity())
-            .field("weight", &self.weight)
-            .field("max_weight", &self.max_weight)
+            .field("weight", &self.weight())
+            .field("max_weight", &self.max_weight())
             .finish()
     }
 }

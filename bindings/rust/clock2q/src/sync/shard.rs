@@ -1,96 +1,93 @@
 //! A part of a shared cache, under one lock.
 
 use super::flight::Flight;
-use crate::store::{Before, Store};
 use std::ops::{Deref, DerefMut};
 use std::sync::{Arc, Mutex, MutexGuard, PoisonError};
 
+/// What a shard keeps: pairs, of which a key finds the value.
+pub(super) trait Pairs<K, V> {
+    /// Returns the value of a key, after a hit, and counts.
+    fn find(&mut self, hash: u64, key: &K) -> Option<&V>;
+
+    /// Returns the value of a key. It records nothing.
+    fn peek(&self, hash: u64, key: &K) -> Option<&V>;
+}
+
 /// A shard, on cache lines of its own.
 #[repr(align(128))]
-pub(super) struct Shard<K, V>(Mutex<State<K, V>>);
+pub(super) struct Shard<P, K, V>(Mutex<State<P, K, V>>);
 
 /// What a shard's lock guards: pairs, and the keys whose values are being made, with their hashes.
-struct State<K, V> {
-    store: Store<K, V>,
+struct State<P, K, V> {
+    pairs: P,
     made: Vec<(u64, K, Arc<Flight<V>>)>,
 }
 
 /// A locked shard, of which only the pairs are seen.
-pub(super) struct Locked<'a, K, V>(MutexGuard<'a, State<K, V>>);
+pub(super) struct Locked<'a, P, K, V>(MutexGuard<'a, State<P, K, V>>);
 
-impl<K, V> Deref for Locked<'_, K, V> {
-    type Target = Store<K, V>;
+impl<P, K, V> Deref for Locked<'_, P, K, V> {
+    type Target = P;
 
-    fn deref(&self) -> &Store<K, V> {
-        &self.0.store
+    fn deref(&self) -> &P {
+        &self.0.pairs
     }
 }
 
-impl<K, V> DerefMut for Locked<'_, K, V> {
-    fn deref_mut(&mut self) -> &mut Store<K, V> {
-        &mut self.0.store
+impl<P, K, V> DerefMut for Locked<'_, P, K, V> {
+    fn deref_mut(&mut self) -> &mut P {
+        &mut self.0.pairs
     }
 }
 
-impl<K, V> Shard<K, V> {
-    pub(super) fn new(store: Store<K, V>) -> Shard<K, V> {
+impl<P, K, V> Shard<P, K, V> {
+    pub(super) fn new(pairs: P) -> Shard<P, K, V> {
         Shard(Mutex::new(State {
-            store,
+            pairs,
             made: Vec::new(),
         }))
     }
 
-    /// Locks the pairs. A lock is never left poisoned: what panics under it leaves a whole store.
-    pub(super) fn lock(&self) -> Locked<'_, K, V> {
+    /// Locks the pairs. A lock is never left poisoned: what panics under it leaves whole pairs.
+    pub(super) fn lock(&self) -> Locked<'_, P, K, V> {
         Locked(self.state())
     }
 
-    /// Removes all pairs, and drops them under the lock.
-    pub(super) fn clear(&self) {
-        self.lock().clear();
-    }
-
-    fn state(&self) -> MutexGuard<'_, State<K, V>> {
+    fn state(&self) -> MutexGuard<'_, State<P, K, V>> {
         self.0.lock().unwrap_or_else(PoisonError::into_inner)
     }
 }
 
-impl<K: Eq, V> Shard<K, V> {
-    /// Stores a pair, and returns what had its slot, to be dropped without the lock.
-    pub(super) fn push(&self, hash: u64, key: K, value: V) -> Before<K, V> {
-        self.lock().push(hash, key, value).1
-    }
-}
-
-impl<K: Eq, V: Clone> Shard<K, V> {
-    /// Returns a clone of the value of a key, which `make` makes if neither is it here nor does another
-    /// thread make it.
-    pub(super) fn value_or_make<E>(
+impl<P: Pairs<K, V>, K: Eq, V: Clone> Shard<P, K, V> {
+    /// Returns a clone of the value of a key, which `make` makes and `push` stores if neither is it here nor
+    /// does another thread make it. What `push` returns is dropped without the lock.
+    pub(super) fn value_or_make<E, L>(
         &self,
         hash: u64,
         key: K,
         make: impl FnOnce() -> Result<V, E>,
+        push: impl FnOnce(&mut P, K, V) -> L,
     ) -> Result<V, E> {
         match self.value_or_begin(hash, key) {
             Ok(value) => Ok(value),
             Err(making) => {
                 let value = make()?;
-                Ok(making.store(hash, value))
+                Ok(making.store(value, push))
             }
         }
     }
 
     /// Returns a clone of the value of a key, maybe after waiting for it, or else the promise to make it.
-    fn value_or_begin(&self, hash: u64, key: K) -> Result<V, Making<'_, K, V>> {
+    fn value_or_begin(&self, hash: u64, key: K) -> Result<V, Making<'_, P, K, V>> {
         let mut is_counted = false;
         loop {
             let mut state = self.state();
-            let slot = if is_counted {
-                state.store.entries.slot(hash, &key)
+            let found = if is_counted {
+                state.pairs.peek(hash, &key)
             } else {
-                state.store.find(hash, &key)
+                state.pairs.find(hash, &key)
             };
-            if let Some((_, value)) = slot.and_then(|slot| state.store.entries.pair(slot)) {
+            if let Some(value) = found {
                 return Ok(value.clone());
             }
             is_counted = true;
@@ -106,9 +103,14 @@ impl<K: Eq, V: Clone> Shard<K, V> {
     }
 }
 
-impl<K, V> Shard<K, V> {
+impl<P, K, V> Shard<P, K, V> {
     /// Has others wait for the value of a key.
-    fn begin(&self, mut state: MutexGuard<'_, State<K, V>>, hash: u64, key: K) -> Making<'_, K, V> {
+    fn begin(
+        &self,
+        mut state: MutexGuard<'_, State<P, K, V>>,
+        hash: u64,
+        key: K,
+    ) -> Making<'_, P, K, V> {
         let flight = Arc::new(Flight::new());
         state.made.push((hash, key, Arc::clone(&flight)));
         Making {
@@ -119,7 +121,7 @@ impl<K, V> Shard<K, V> {
     }
 }
 
-impl<K, V> State<K, V> {
+impl<P, K, V> State<P, K, V> {
     /// Returns what makes the value of a key, if something does.
     fn flight(&self, hash: u64, key: &K) -> Option<Arc<Flight<V>>>
     where
@@ -139,19 +141,19 @@ impl<K, V> State<K, V> {
 }
 
 /// The promise to make the value of a key. If it is dropped, those that wait try themselves.
-struct Making<'a, K, V> {
-    shard: &'a Shard<K, V>,
+struct Making<'a, P, K, V> {
+    shard: &'a Shard<P, K, V>,
     flight: Arc<Flight<V>>,
     is_over: bool,
 }
 
-impl<K: Eq, V: Clone> Making<'_, K, V> {
+impl<P, K: Eq, V: Clone> Making<'_, P, K, V> {
     /// Stores the value, and returns a clone of it, as to those that wait. What leaves is dropped last.
-    fn store(mut self, hash: u64, value: V) -> V {
+    fn store<L>(mut self, value: V, push: impl FnOnce(&mut P, K, V) -> L) -> V {
         let copy = value.clone();
         let mut state = self.shard.state();
         let key = state.end(&self.flight);
-        let before = key.map(|key| state.store.push(hash, key, value));
+        let before = key.map(|key| push(&mut state.pairs, key, value));
         drop(state);
         // Nobody begins to wait from now on.
         if Arc::strong_count(&self.flight) > 1 {
@@ -163,7 +165,7 @@ impl<K: Eq, V: Clone> Making<'_, K, V> {
     }
 }
 
-impl<K, V> Drop for Making<'_, K, V> {
+impl<P, K, V> Drop for Making<'_, P, K, V> {
     fn drop(&mut self) {
         if !self.is_over {
             let key = self.shard.state().end(&self.flight);

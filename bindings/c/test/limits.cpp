@@ -1,0 +1,198 @@
+// clock2q.hpp: `resize`, and caches with weights, against std::unordered_map, with good and bad hashers; weighers that
+// throw or call the cache. usage: limits [CALLS]
+#include "clock2q.hpp"
+
+#include <cstdio>
+#include <cstdlib>
+#include <memory>
+#include <string>
+#include <unordered_map>
+#include <vector>
+
+using clock2q_cpp::cache;
+using clock2q_cpp::weighted_cache;
+
+static int failed = 0;
+
+static void must(bool holds, const char *what) {
+    if (holds) return;
+    std::printf("limits: %s\n", what);
+    failed = 1;
+}
+
+template <class Call> static bool is_refused(Call call) {
+    try {
+        call();
+    } catch (const std::invalid_argument &) {
+        return true;
+    }
+    return false;
+}
+
+static std::uint64_t drawn(std::uint64_t &state) {
+    state ^= state << 13;
+    state ^= state >> 7;
+    return state ^= state << 17;
+}
+
+struct good {
+    std::size_t operator()(std::uint64_t key) const { return key * 0xBF58476D1CE4E5B9u; }
+};
+struct two_bits {
+    std::size_t operator()(std::uint64_t key) const { return key & 3; }
+};
+struct constant {
+    std::size_t operator()(std::uint64_t) const { return 42; }
+};
+
+// ---- resize ----
+
+template <class Hash> static void resized(std::size_t capacity, long calls) {
+    cache<std::uint64_t, std::uint64_t, Hash> tried(capacity);
+    std::unordered_map<std::uint64_t, std::uint64_t> stored;
+    std::uint64_t state = capacity;
+    for (long call = 0; call < calls; call++) {
+        std::uint64_t draw = drawn(state) >> 8, key = (draw >> 8) % (3 * capacity);
+        if (draw % 64 == 0) {
+            tried.resize(1 + (draw >> 40) % capacity);
+            must(tried.capacity() == 1 + (draw >> 40) % capacity, "its capacity is the new one");
+        }
+        const std::uint64_t *found = tried.peek(key);
+        must(found == nullptr || *found == stored[key], "what is there was stored last");
+        if (draw % 4 == 0) tried.erase(key);
+        else if (draw % 4 == 1) tried.get(key);
+        else {
+            bool was_there = found != nullptr;
+            auto left = tried.push(key, stored[key] = static_cast<std::uint64_t>(call));
+            must(was_there == (left && left.key() == key), "its own entry left");
+            must(tried.contains(key) && (!left || left.key() == key || !tried.contains(left.key())), "it is there, who left isn't");
+        }
+        must(tried.size() <= tried.capacity(), "no more keys than the capacity");
+    }
+    must(is_refused([&] { tried.resize(0); }) && is_refused([&] { tried.resize(capacity + 1); }), "refused");
+    tried.resize(capacity);
+    must(tried.capacity() == capacity, "it grows again");
+    auto moved = std::move(tried);
+    must(is_refused([&] { tried.resize(1); }) && moved.capacity() == capacity, "a cache that was moved from");
+}
+
+// It hits as often as a cache that was made as small, by nine tenths.
+static void smaller_is_useful() {
+    cache<std::uint64_t, int> small(100), tried(1000);
+    for (std::uint64_t key = 0; key < 1000; key++) tried.put(key, 1);
+    tried.resize(100);
+    must(tried.size() == 100, "the others left");
+    std::uint64_t state = 1;
+    for (int call = 0; call < 100000; call++) {
+        std::uint64_t draw = drawn(state), key = (draw >> 20) & (draw >> 40) & 1023;
+        tried.try_emplace(key, 1);
+        small.try_emplace(key, 1);
+    }
+    must(10 * tried.hits() > 9 * small.hits(), "a smaller cache is useful");
+}
+
+// ---- weights ----
+
+// The weight of an entry is that of its value by 8.
+struct by_value {
+    std::uint64_t operator()(std::uint64_t, std::uint64_t value) const { return value % 8; }
+};
+
+template <class Hash> using weighed = weighted_cache<std::uint64_t, std::uint64_t, by_value, Hash>;
+
+template <class Hash> static bool is_same(const weighed<Hash> &tried, const std::unordered_map<std::uint64_t, std::uint64_t> &stored) {
+    std::uint64_t sum = 0;
+    for (const auto &[key, value] : tried) {
+        auto at = stored.find(key);
+        if (at == stored.end() || at->second != value) return false;
+        sum += value % 8;
+    }
+    return sum == tried.weight() && sum <= tried.max_weight() && stored.size() == tried.size() && tried.size() <= tried.capacity();
+}
+
+template <class Hash> static void weights(std::size_t capacity, std::uint64_t most, long calls) {
+    weighed<Hash> tried(capacity, most);
+    std::unordered_map<std::uint64_t, std::uint64_t> stored;
+    auto take = [&stored](auto left) { must(!left || stored.erase(left.key()) == 1, "what leaves was there"); };
+    std::uint64_t state = capacity + most;
+    for (long call = 0; call < calls; call++) {
+        std::uint64_t draw = drawn(state) >> 8, key = (draw >> 8) % (3 * capacity), value = 8 * static_cast<std::uint64_t>(call) + draw % 9;
+        if (draw % 16 == 0) take(tried.evict());
+        else if (draw % 16 == 1) take(tried.extract(key));
+        else if (draw % 16 < 5) tried.get(key);
+        else if (draw % 997 == 0) tried.clear(), stored.clear();
+        else if (draw % 101 == 0) {
+            tried.set_max_weight(most / (1 + draw % 2));
+            for (auto it = stored.begin(); it != stored.end();) it = tried.contains(it->first) ? std::next(it) : stored.erase(it);
+        } else if (tried.push(key, value, take)) {
+            must(stored.emplace(key, value).second && *tried.peek(key) == value, "it is stored");
+        } else {
+            must(value % 8 > tried.max_weight(), "what isn't stored is too heavy");
+        }
+        if (call % 61 == 0) must(is_same(tried, stored), "the map and its sum");
+    }
+    must(is_same(tried, stored), "the map and its sum");
+}
+
+static void few_leave() {
+    weighted_cache<int, std::uint64_t> tried(1000, 100, [](int, std::uint64_t weight) { return weight; });
+    std::vector<int> gone;
+    auto note = [&gone](auto left) { gone.push_back(left.key()); };
+    for (int key = 0; key < 10; key++) tried.push(key, 10u, note);
+    must(gone.empty() && tried.weight() == 100, "no entry leaves for one that fits");
+    must(tried.push(10, 35u, note) && gone.size() == 4 && tried.weight() == 95, "as few as need to");
+    gone.clear();
+    must(!tried.put(11, 101u) && tried.weight() == 95 && !tried.contains(11), "one that is too heavy isn't stored");
+    must(tried.push(10, 36u, note) && gone == std::vector<int>{10} && tried.weight() == 96, "its own entry leaves");
+    auto moved = std::move(tried);
+    must(tried.empty() && tried.weight() == 0 && !tried.get(10) && moved.weight() == 96, "moved");
+    tried.clear();
+    tried = std::move(moved);
+    must(tried.weight() == 96 && *tried.get(10) == 36 && tried.hits() == 1, "and moved back");
+    tried.set_max_weight(36);
+    must(tried.weight() <= 36, "a smaller limit");
+    weighted_cache<int, std::uint64_t> heaviest(10, UINT64_MAX, [](int, std::uint64_t weight) { return weight; });
+    for (int key = 0; key < 20; key++) must(heaviest.put(key, UINT64_MAX - static_cast<unsigned>(key)) && heaviest.size() == 1, "no sum is too large");
+}
+
+// A weigher that throws changes nothing, and one that uses the cache finds a whole one.
+static void weighers() {
+    weighted_cache<std::string, int> *called = nullptr;
+    auto weigh = [&called](const std::string &, int value) -> std::uint64_t {
+        if (value == 13) throw std::runtime_error("thirteen");
+        if (value == 14) called->put("from a weigher", 3), called->set_max_weight(10);
+        return static_cast<std::uint64_t>(value);
+    };
+    weighted_cache<std::string, int> tried(10, 100, weigh);
+    called = &tried;
+    tried.put("one", 60);
+    for (const char *key : {"one", "two"}) {
+        try {
+            tried.put(key, 13);
+            must(false, "it throws");
+        } catch (const std::runtime_error &) {
+        }
+        must(tried.size() == 1 && tried.weight() == 60 && *tried.peek("one") == 60, "nothing has changed");
+    }
+    must(!tried.put("two", 14) && tried.weight() == 3 && tried.contains("from a weigher"), "a weigher that lowers the limit");
+    weighted_cache<int, std::unique_ptr<int>> owners(2, 10, [](int, const auto &value) { return static_cast<std::uint64_t>(*value); });
+    must(owners.put(1, std::make_unique<int>(5)) && owners.put(2, std::make_unique<int>(6)) && owners.size() == 1, "values that are only moved");
+}
+
+int main(int, char **arguments) {
+    long calls = arguments[1] != nullptr ? std::strtol(arguments[1], nullptr, 10) : 20000;
+    for (std::size_t capacity : {1, 2, 3, 10, 100, 1000}) {
+        resized<good>(capacity, calls);
+        resized<two_bits>(capacity, calls);
+        resized<constant>(capacity, calls);
+        for (std::uint64_t most : {std::uint64_t{0}, std::uint64_t{1}, std::uint64_t{7}, 2 * std::uint64_t{capacity}, 10 * std::uint64_t{capacity}}) {
+            weights<good>(capacity, most, calls / 2);
+            weights<two_bits>(capacity, most, calls / 2);
+            weights<constant>(capacity, most, calls / 2);
+        }
+    }
+    smaller_is_useful();
+    few_leave();
+    weighers();
+    return failed;
+}
