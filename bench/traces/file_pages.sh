@@ -20,6 +20,6 @@ SELECT count(v) FROM t;
 SQL
 strace -f -y -s 0 -e trace=pread64,pwrite64 -o "$work/calls" \
     sqlite3 -batch "$work/database" <"$work/sql" >"$work/output"
-# A line is: PID CALL(FD<PATH>, ""..., BYTES, OFFSET) = ..; (deleted) may stand after PATH>.
+# A line is: PID CALL(FD<PATH>, ""..., BYTES, OFFSET) = ..; (deleted) may follow PATH>.
 sed -n 's/^[0-9]* *p[a-z]*64([0-9]*<.*\/\([^/>]*\)>.*, \([0-9]*\), \([0-9]*\)) *= .*/\1 \2 \3/p' "$work/calls" |
     awk '{ for (at = $3 - $3 % 4096; at < $3 + $2; at += 4096) printf "%s:%d\n", $1, at / 4096 }'
