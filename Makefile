@@ -19,10 +19,10 @@ export PREFIX INTO
 
 all: crates/clock2q_program/out/made crates/clock2q_simulator/out/made
 
-crates/clock2q_program/out/made: needs = some 36 minutes of processor time, 14 of the clock on four cores, \
+crates/clock2q_program/out/made: needs = some 39 minutes of processor time, 15 of the clock on four cores, \
 	3 GB of disk and 6 GB of memory
-crates/clock2q_simulator/out/made: needs = up to 44 minutes of processor time and 5 GB of disk, or 8 minutes and \
-	2 GB once clock2q is built, and 6 GB of memory
+crates/clock2q_simulator/out/made: needs = up to 55 minutes of processor time and 6 GB of disk, or 24 minutes and \
+	3 GB once clock2q is built, and 6 GB of memory
 
 crates/%/out/made: always
 	{ .bin/sources $* && cksum crates/$*/out/$*; } 2>/dev/null | cmp -s - $@ || \
