@@ -1,8 +1,9 @@
 -- What an iterator over the residents has left: slot by slot, and the number.
-use Rattle.std.proofs.Common.{◌≡◌, ℕ, zero, suc, ◌+◌, ◌-◌, ◌<◌, ◌≤◌, ◌==◌, Bool, true, false, cond, Option, Some, None, List, [], ◌∷◌, map, length, inl, inr, refl, ap, ◌∙◌, arith, eq-eqb, ne_eqb}
+use Rattle.std.proofs.Common.{◌≡◌, ℕ, zero, suc, ◌+◌, ◌-◌, ◌<◌, ◌≤◌, ◌==◌, Bool, true, false, cond, Option, Some, None, List, [], ◌∷◌, map, length, inl, inr, refl, sym, ap, ◌∙◌, arith, eq-eqb, ne_eqb}
 use Rattle.std.specs.Prelude.{is_some, slice_get, nat_lt, if◌then◌else◌}
 use Rattle.std.specs.List.{filter_map, range_with_len, cons_option, find, sum_by, count_by}
 use Rattle.std.specs.Option.{option_map, option_and_then}
+use mathlib.Core.List.{map-map}
 use Rattle.std.proofs.lemmas.Bool.{cases_lt, le-ltb}
 use Rattle.std.proofs.lemmas.List.{length-map, length-append}
 use Rattle.std.proofs.lemmas.List.Sums.{sum_by-cons, sum_by-append}
@@ -11,7 +12,7 @@ use Rattle.clock2q_machine.specs.Machine.{Machine, residents, resident_at, resid
 use Rattle.clock2q_machine.specs.Whole.{IsWhole}
 use Rattle.clock2q_machine.proofs.Whole.{one_if}
 use Rattle.clock2q_machine.proofs.Standing.{get-within}
-use Rattle.clock2q_cache.specs.Iteration.{entry_at, entries_from, entries, key_and_slot}
+use Rattle.clock2q_cache.specs.Iteration.{entry_at, entries_from, entries, key_and_slot, key_of, keys}
 
 module _ {K V : Type 0} (m : Machine K V) where
   one_more : (slot : ℕ) → slot < length m.values → (o : Option (K × ℕ × V)) → entry_at m slot ≡ o → entries_from m slot ≡ cons_option o (entries_from m (slot + 1))
@@ -60,6 +61,10 @@ module _ {K V : Type 0} (m : Machine K V) where
   entries-by_slot =
       let e : length m.values - 0 ≡ length m.values = omega arith in
       ap (λ n. map key_and_slot (filter_map (entry_at m) (range_with_len 0 n))) e ∙ keys_and_slots 0 (length m.values) (omega arith)
+
+  -- the keys of the entries are those of the residents by slot
+  pub entries-keys : map key_of (entries m) ≡ keys m
+  entries-keys = sym (map-map (λ (r : K × ℕ). r.0) key_and_slot (entries m)) ∙ ap (λ (rs : List (K × ℕ)). map (λ r. r.0) rs) entries-by_slot
 
 -- a slot occurs once in a range that has it, and not in one above it
 none_above : (s from n : ℕ) → s < from → sum_by (λ slot. one_if (s == slot)) (range_with_len from n) ≡ 0

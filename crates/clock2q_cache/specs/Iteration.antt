@@ -1,8 +1,8 @@
 -- The residents of a machine with their values, as an iterator over a cache yields them.
-use Rattle.std.specs.Prelude.{ℕ, ◌-◌, List, length, slice_get, Option}
+use Rattle.std.specs.Prelude.{ℕ, ◌-◌, List, length, map, slice_get, Option}
 use Rattle.std.specs.List.{filter_map, range_with_len}
 use Rattle.std.specs.Option.{option_map, option_and_then}
-use Rattle.clock2q_machine.specs.Machine.{Machine, resident_at}
+use Rattle.clock2q_machine.specs.Machine.{Machine, resident_at, by_slot}
 
 module _ {K V : Type 0} where
   -- the key of the resident at a slot, the slot, and the value there
@@ -20,3 +20,19 @@ module _ {K V : Type 0} where
   -- the key and the slot
   abbrev pub key_and_slot : K × ℕ × V → K × ℕ
   key_and_slot e = (e.0, e.1)
+
+  -- the key
+  abbrev pub key_of : K × ℕ × V → K
+  key_of e = e.0
+
+  -- the value
+  abbrev pub value_in : K × ℕ × V → V
+  value_in e = e.2
+
+  -- the residents' keys by slot
+  abbrev pub keys : Machine K V → List K
+  keys m = map (λ r. r.0) (by_slot m)
+
+  -- their values by slot
+  abbrev pub values : Machine K V → List V
+  values m = map value_in (entries m)

@@ -17,7 +17,7 @@ use crate::shares::Shares;
 use clock2q_directory::directory::Directory;
 use clock2q_directory::history::Found;
 use clock2q_queues::queues::Queues;
-pub use iteration::Iter;
+pub use iteration::{Iter, Keys, Values};
 use std::alloc::{Allocator, Global};
 use std::hash::{BuildHasher, BuildHasherDefault, FoldHasher, Hash};
 use std::marker::Model;

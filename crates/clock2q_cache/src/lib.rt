@@ -26,5 +26,5 @@ mod hashes;
 mod shares;
 mod vacancies;
 
-pub use cache::{Cache, DefaultHashBuilder, Iter, MAX_CAPACITY};
+pub use cache::{Cache, DefaultHashBuilder, Iter, Keys, MAX_CAPACITY, Values};
 pub use error::CacheError;

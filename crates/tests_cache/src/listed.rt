@@ -4,6 +4,7 @@ use clock2q_cache::Cache;
 use std::alloc::{AllocError, Global};
 use std::num::NonZeroUsize;
 use std::test::Fail;
+use testing::same;
 
 type Numbers = Cache<u64, u64>;
 
@@ -38,6 +39,24 @@ fn by_slot(rt: HostRuntime) -> Result<(), Fail> {
         [(1, 0, 10), (3, 2, 30), (5, 3, 50)].as_slice()
     );
     Ok(())
+}
+
+/// Returns the keys and the values in order.
+fn keys_and_values(alloc: Global, cache: &Numbers) -> Result<(Vec<u64>, Vec<u64>), AllocError> {
+    let keys = cache.keys().copied().collect(alloc)?;
+    let values = cache.values().copied().collect(alloc)?;
+    Ok((keys, values))
+}
+
+/// A value has its key's place.
+#[test]
+fn apart(rt: HostRuntime) -> Result<(), Fail> {
+    let capacity = NonZeroUsize::new(5).ok_or("not zero")?;
+    let mut cache = Numbers::new(rt.alloc(), capacity)?;
+    put_and_removed(&mut cache);
+    let (keys, values) = keys_and_values(rt.alloc(), &cache)?;
+    same(keys.as_slice(), [1, 3, 5].as_slice())?;
+    same(values.as_slice(), [10, 30, 50].as_slice())
 }
 
 #[test]

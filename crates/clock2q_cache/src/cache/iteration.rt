@@ -32,10 +32,56 @@ impl<'a, K: Hash + Eq, V, S: BuildHasher, A: Allocator> Model for Iter<'a, K, V,
     ghost invariant = { λ it. it.left ≡ length (entries_from it.cache.now.machine it.slot) };
 }
 
+/// An iterator over the keys of a cache, by ascending slot.
+///
+/// # Example
+///
+/// ```
+/// for key in cache.keys() {
+///     println!(rt; "{key}")?;
+/// }
+/// ```
+#[derive(Drop)]
+pub struct Keys<'a, K: Hash + Eq, V, S: BuildHasher = DefaultHashBuilder, A: Allocator = Global> {
+    entries: Iter<'a, K, V, S, A>,
+}
+
+impl<'a, K: Hash + Eq, V, S: BuildHasher, A: Allocator> Model for Keys<'a, K, V, S, A> {
+    ghost use Rattle.std.specs.Prelude.{List, map};
+    ghost use Rattle.clock2q_cache.specs.Iteration.{key_of};
+
+    ghost Value = { List K };
+
+    ghost view = { λ it. map key_of it.entries };
+}
+
+/// An iterator over the values of a cache, by ascending slot.
+///
+/// # Example
+///
+/// ```
+/// for value in cache.values() {
+///     println!(rt; "{value}")?;
+/// }
+/// ```
+#[derive(Drop)]
+pub struct Values<'a, K: Hash + Eq, V, S: BuildHasher = DefaultHashBuilder, A: Allocator = Global> {
+    entries: Iter<'a, K, V, S, A>,
+}
+
+impl<'a, K: Hash + Eq, V, S: BuildHasher, A: Allocator> Model for Values<'a, K, V, S, A> {
+    ghost use Rattle.std.specs.Prelude.{List, map};
+    ghost use Rattle.clock2q_cache.specs.Iteration.{value_in};
+
+    ghost Value = { List V };
+
+    ghost view = { λ it. map value_in it.entries };
+}
+
 impl<K: Hash + Eq, V, S: BuildHasher, A: Allocator> Cache<K, V, S, A> {
     ghost use Rattle.std.specs.Prelude.{◌≡◌, ◌+◌, ◌^◌, ◌<◌, [], length, map, IfSome, IfNone, IsSome};
     ghost use Rattle.clock2q_machine.specs.Machine.{by_slot, resident_at, resident_count};
-    ghost use Rattle.clock2q_cache.specs.Iteration.{entries, entries_from, key_and_slot};
+    ghost use Rattle.clock2q_cache.specs.Iteration.{entries, entries_from, key_and_slot, keys, values};
 
     /// Returns an iterator over the residents, by ascending slot: the key, its slot and its value.
     /// It records no hit, and so changes no later eviction.
@@ -53,6 +99,34 @@ impl<K: Hash + Eq, V, S: BuildHasher, A: Allocator> Cache<K, V, S, A> {
             cache: self,
             slot: 0,
             left: self.len(),
+        }
+    }
+
+    /// Returns an iterator over the keys of the residents, by ascending slot. It records no hit.
+    ///
+    /// # Cost
+    ///
+    /// That of [`iter`](Cache::iter).
+    pub fn keys(&self) -> Keys<'_, K, V, S, A>
+        ensures keys { result ≡ keys self.now.machine }
+        ensures len { length result ≡ resident_count self.now.machine }
+    {
+        Keys {
+            entries: self.iter(),
+        }
+    }
+
+    /// Returns an iterator over the values of the residents, by ascending slot. It records no hit.
+    ///
+    /// # Cost
+    ///
+    /// That of [`iter`](Cache::iter).
+    pub fn values(&self) -> Values<'_, K, V, S, A>
+        ensures values { result ≡ values self.now.machine }
+        ensures len { length result ≡ resident_count self.now.machine }
+    {
+        Values {
+            entries: self.iter(),
         }
     }
 
@@ -103,6 +177,61 @@ impl<'a, K: Hash + Eq, V, S: BuildHasher, A: Allocator> ExactSizeIterator for It
 }
 
 impl<'a, K: Hash + Eq, V, S: BuildHasher, A: Allocator> FusedIterator for Iter<'a, K, V, S, A> {}
+
+impl<'a, K: Hash + Eq, V, S: BuildHasher, A: Allocator> Iterator for Keys<'a, K, V, S, A> {
+    ghost use Rattle.std.specs.Iterator.{YieldsFirstBy, item_count};
+
+    type Item = &'a K;
+
+    ghost next_gives = { YieldsFirstBy (λ key. key.now) (λ left. left) };
+
+    ghost remaining = { item_count (λ left. left) };
+
+    fn next(&mut self) -> Option<&'a K> {
+        let (key, _, _) = self.entries.next()?;
+        Some(key)
+    }
+
+    fn size_hint(&self) -> (usize, Option<usize>) {
+        self.entries.size_hint()
+    }
+}
+
+impl<'a, K: Hash + Eq, V, S: BuildHasher, A: Allocator> ExactSizeIterator for Keys<'a, K, V, S, A> {
+    fn len(&self) -> usize {
+        self.entries.len()
+    }
+}
+
+impl<'a, K: Hash + Eq, V, S: BuildHasher, A: Allocator> FusedIterator for Keys<'a, K, V, S, A> {}
+
+impl<'a, K: Hash + Eq, V, S: BuildHasher, A: Allocator> Iterator for Values<'a, K, V, S, A> {
+    ghost use Rattle.std.specs.Iterator.{YieldsFirstBy, item_count};
+
+    type Item = &'a V;
+
+    ghost next_gives = { YieldsFirstBy (λ value. value.now) (λ left. left) };
+
+    ghost remaining = { item_count (λ left. left) };
+
+    fn next(&mut self) -> Option<&'a V> {
+        let (_, _, value) = self.entries.next()?;
+        Some(value)
+    }
+
+    fn size_hint(&self) -> (usize, Option<usize>) {
+        self.entries.size_hint()
+    }
+}
+
+impl<'a, K: Hash + Eq, V, S: BuildHasher, A: Allocator> ExactSizeIterator
+    for Values<'a, K, V, S, A> {
+    fn len(&self) -> usize {
+        self.entries.len()
+    }
+}
+
+impl<'a, K: Hash + Eq, V, S: BuildHasher, A: Allocator> FusedIterator for Values<'a, K, V, S, A> {}
 
 impl<'a, K: Hash + Eq, V, S: BuildHasher, A: Allocator> IntoIterator for &'a Cache<K, V, S, A> {
     ghost use Rattle.std.specs.Prelude.{◌≡◌};
