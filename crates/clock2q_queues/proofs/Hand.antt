@@ -36,7 +36,7 @@ from_victim-chosen s es = append-nil ((s, false) ∷ es)
 abbrev pub with_hand : ℕ → MainRing → MainRing
 with_hand hand main = record { hand = Some hand; len = main.len }
 
-first_of : (ss : List ℕ) (first : ℕ) → Some first ≡ slice_get ss 0 → (rest : List ℕ) × (ss ≡ first ∷ rest)
+pub first_of : (ss : List ℕ) (first : ℕ) → Some first ≡ slice_get ss 0 → (rest : List ℕ) × (ss ≡ first ∷ rest)
 first_of [] first e = absurd (cc)
 first_of (s ∷ ss) first e = let q : s ≡ first = cc in (ss, ap (λ z. z ∷ ss) q)
 

@@ -8,6 +8,7 @@ pub mod QueuesApart
 pub mod Leaving
 pub mod Locations
 pub mod Main
+pub mod NextVictim
 pub mod Orders
 pub mod Records
 pub mod Rings

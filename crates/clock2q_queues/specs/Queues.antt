@@ -1,6 +1,6 @@
 -- Small and Main as two lists, over the links that they share.
-use Rattle.std.specs.Prelude.{◌≡◌, ℕ, Bool, true, false, not, ◌==◌, List, [], map, ◌++◌, length, Option, Some, None}
-use Rattle.std.specs.List.{filter}
+use Rattle.std.specs.Prelude.{◌≡◌, ℕ, Bool, true, false, not, ◌&&◌, nat_lt, ◌==◌, List, [], map, ◌++◌, length, Option, Some, None}
+use Rattle.std.specs.List.{filter, last_or}
 use Rattle.clock2q_machine.specs.Ages.{Age, is_promoted}
 use Rattle.clock2q_queues.specs.Rings.{has, AllApart, AllBelow}
 use Rattle.clock2q_queues.specs.Links.{LinkState, accesses_of, location_at}
@@ -61,6 +61,15 @@ IsAt at.Main slot q = (has slot (slots_of q.small) ≡ false) × (has slot (slot
 abbrev pub tail_promoted : Option (ℕ × Age) → Bool
 tail_promoted None = false
 tail_promoted (Some e) = is_promoted e.1
+
+-- whether Small gives up no slot: it is empty, or its oldest slot goes on to Main
+abbrev pub keeps_tail : Option (ℕ × Age) → Bool
+keeps_tail None = true
+keeps_tail (Some e) = is_promoted e.1
+
+-- whether a slot of Main leaves next, rather than Small's oldest one
+abbrev pub victim_leaves : QueueState → Bool
+victim_leaves q = nat_lt 0 (length q.main) && keeps_tail (last_or None q.small)
 
 -- what callers may rely on: no slot occurs twice, and each is below the number of slots
 pub record IsWholeQueues (q : QueueState) : Type 0 where

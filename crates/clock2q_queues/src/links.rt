@@ -253,6 +253,34 @@ impl<A: Allocator> Links<A> {
         }
     }
 
+    /// Returns the slot after another in its queue. It counts no access.
+    pub(crate) fn next_of(&self, slot: u32) -> u32
+        requires { slot < length self.now.records.items }
+        ensures { result ≡ next_at self.now.records.items slot }
+    {
+        self.records.peek(slot).next
+    }
+
+    /// Returns true if a slot's bit is set. It counts no inspection.
+    pub(crate) fn has_bit(&self, slot: u32) -> bool
+        requires { slot < length self.now.records.items }
+        ensures { result ≡ bit_at self.now slot }
+    {
+        self.bits.is_set(slot)
+    }
+
+    /// Returns true if a slot is old and its bit is set. It counts no access.
+    pub(crate) fn is_promoted(&self, slot: u32) -> bool
+        requires { slot < length self.now.records.items }
+        ensures { result
+            ≡ (is_old (location_at self.now.records.items slot) && bit_at self.now slot) }
+    {
+        match self.records.peek(slot).location {
+            Location::SmallOld => self.bits.is_set(slot),
+            _ => false,
+        }
+    }
+
     /// Resets every record, every position and every bit to its initial state.
     pub(crate) fn reset(&mut self)
         ensures records { self.new.records.items

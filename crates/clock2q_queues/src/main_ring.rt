@@ -1,6 +1,7 @@
 //! Main: a ring of slots with a hand, which looks for the slot to evict.
 ghost use Rattle.std.specs.Prelude.{◌≡◌, ℕ, ◌+◌, ◌^◌, ◌<◌, ◌≤◌, ◌==◌, true, false, not, [], ◌∷◌, ◌++◌, length, drop, Some, slice_get};
 ghost use Rattle.std.specs.List.{filter};
+ghost use Rattle.std.specs.Option.{option_map};
 ghost use Rattle.clock2q_queues.specs.Cells.{Rises, accessed};
 ghost use Rattle.clock2q_queues.specs.Rings.{has};
 ghost use Rattle.clock2q_queues.specs.Links.{LinkState, IsSameBut, location_at};
@@ -106,6 +107,24 @@ impl MainRing {
         }
         self.hand = Some(hand);
         hand
+    }
+
+    /// Returns the slot that [`select`](MainRing::select) would choose, or `None` if the ring is empty.
+    /// It changes nothing. If every bit is set, the hand would come back to its slot.
+    pub(crate) fn victim<A: Allocator>(&self, links: &Links<A>) -> Option<u32>
+        requires { IsMainRing links.now self.now }
+        ensures victim { slice_get (from_victim (main_entries links.now self.now)) 0
+            ≡ option_map (λ slot. (slot, false)) result }
+    {
+        let hand = self.hand?;
+        let mut slot = hand;
+        for _ in 0..self.len {
+            if !links.has_bit(slot) {
+                return Some(slot);
+            }
+            slot = links.next_of(slot);
+        }
+        Some(hand)
     }
 
     /// Moves the hand on from its slot, whose bit is clear. That slot is then the last one.

@@ -1,11 +1,12 @@
 //! The two queues of a cache's residents, Small and Main, over the links that they share.
 ghost use Rattle.std.specs.Prelude.{◌≡◌, ℕ, ◌+◌, ◌-◌, ◌<◌, ◌⊎◌, false, true, [], ◌∷◌, ◌++◌, length, take, drop, slice_get, None, Some, IfOk};
 ghost use Rattle.std.specs.List.{last_or};
+ghost use Rattle.std.specs.Option.{option_map};
 ghost use Rattle.clock2q_queues.specs.Cells.{Rises};
 ghost use Rattle.clock2q_queues.specs.Rings.{has};
 ghost use Rattle.clock2q_queues.specs.Small.{admitted, small_hit_at};
 ghost use Rattle.clock2q_queues.specs.MainRing.{inspections, from_victim, main_hit_at};
-ghost use Rattle.clock2q_queues.specs.Queues.{slots_of, without_slot, empty_queues, IsAt, IsWholeQueues, tail_promoted};
+ghost use Rattle.clock2q_queues.specs.Queues.{slots_of, without_slot, empty_queues, victim_leaves, IsAt, IsWholeQueues, tail_promoted};
 
 use crate::links::{Links, Location};
 use crate::main_ring::MainRing;
@@ -204,6 +205,31 @@ impl<A: Allocator> Queues<A> {
         ensures accesses { self.new.accesses + 1 ≡ self.old.accesses + inspections self.old.main }
     {
         self.main.select(&mut self.links)
+    }
+
+    /// Returns the slot that leaves next: Small's oldest one, or the one that the hand would choose if
+    /// that one goes on to Main or Small is empty. Returns `None` if there is no slot. It changes
+    /// nothing, and counts no access and no inspection.
+    ///
+    /// # Cost
+    ///
+    /// Linear in the number of slots that the hand would pass.
+    pub fn next_victim(&self) -> Option<u32>
+        ensures tail { victim_leaves self.now ≡ false
+            → result ≡ last_or None (slots_of self.now.small) }
+        ensures victim { victim_leaves self.now ≡ true
+            → slice_get (from_victim self.now.main) 0 ≡ option_map (λ slot. (slot, false)) result }
+    {
+        let tail = self.small.tail();
+        if self.main.len() == 0 {
+            return tail;
+        }
+        if let Some(tail) = tail {
+            if !self.links.is_promoted(tail) {
+                return Some(tail);
+            }
+        }
+        self.main.victim(&self.links)
     }
 
     /// Removes the slot that the hand chooses from Main, and returns it.

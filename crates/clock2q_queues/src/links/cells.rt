@@ -1,5 +1,6 @@
 //! The vectors that hold the links. Only these accessors reach their items, and each read or write
-//! of a cell, and each inspection of a bit by the hand, raises a count.
+//! of a cell, and each inspection of a bit by the hand, raises a count, unless it is for a call that
+//! changes nothing.
 ghost use Rattle.std.specs.Prelude.{◌≡◌, ℕ, ◌+◌, ◌<◌, false, IfOk, length, replicate, slice_index_or, slice_set};
 ghost use Rattle.clock2q_queues.specs.Cells.{cells_state, accessed, written};
 ghost use Rattle.clock2q_queues.specs.Links.{Attaches, Detaches, next_at, previous_at, record_at, with_next, with_previous};
@@ -52,6 +53,14 @@ impl<T: Copy, A: Allocator> Cells<T, A> {
         ensures counted { self.new ≡ accessed self.old }
     {
         self.accesses.tick();
+        self.items[at as usize]
+    }
+
+    /// Returns the item of a cell to a walk that changes nothing, and so isn't counted.
+    pub(super) fn peek(&self, at: u32) -> T
+        requires { at < length self.now.items }
+        ensures { (d : T) → result ≡ slice_index_or self.now.items at d }
+    {
         self.items[at as usize]
     }
 

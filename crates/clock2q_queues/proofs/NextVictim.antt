@@ -1,0 +1,103 @@
+-- The slot that the hand would choose, found without moving it.
+use Rattle.std.proofs.Common.{◌≡◌, ◌&&◌, None, ℕ, zero, suc, ◌+◌, ◌<◌, ◌≤◌, Bool, true, false, Some, slice_get, List, [], ◌∷◌, ◌++◌, length, map, take, drop, refl, sym, ap, ◌∙◌, subst, arith}
+use Rattle.std.specs.List.{last_or}
+use Rattle.std.proofs.lemmas.Bool.{lt-ltb}
+use Rattle.std.proofs.lemmas.List.{length-map}
+use Rattle.clock2q_queues.specs.Queues.{QueueState, keeps_tail, victim_leaves}
+use Rattle.clock2q_queues.specs.declared.main_ring.MainRing.{MainRing}
+use Rattle.clock2q_queues.specs.Rings.{AllBelow, around}
+use Rattle.clock2q_queues.specs.Links.{LinkState, slots_from, next_at, bit_at}
+use Rattle.clock2q_queues.specs.MainRing.{IsMainRing, main_slots, main_entries, set_front, from_victim}
+use Rattle.clock2q_queues.proofs.Hand.{first_of, from_victim-chosen}
+
+-- the first slot whose bit is clear, or this one if all are set
+abbrev pub first_clear : ℕ → List (ℕ × Bool) → ℕ
+first_clear hand [] = hand
+first_clear hand ((s, true) ∷ es) = first_clear hand es
+first_clear hand ((s, false) ∷ es) = s
+
+past_set : (es behind : List (ℕ × Bool)) (hand : ℕ) → slice_get behind 0 ≡ Some (hand, false) → slice_get (drop (set_front es) es ++ behind) 0 ≡ Some (first_clear hand es, false)
+past_set [] behind hand first = first
+past_set ((s, true) ∷ es) behind hand first =
+    let e : 1 + set_front es ≡ suc (set_front es) = omega arith in
+    rw e (past_set es behind hand first)
+past_set ((s, false) ∷ es) behind hand first = refl
+
+-- it is what the hand chooses
+pub chosen : (hand : ℕ) (bit : Bool) (es : List (ℕ × Bool)) → slice_get (from_victim ((hand, bit) ∷ es)) 0 ≡ Some (first_clear hand ((hand, bit) ∷ es), false)
+chosen hand false es = ap (λ (z : List (ℕ × Bool)). slice_get z 0) (from_victim-chosen hand es)
+chosen hand true es =
+    let e : 1 + set_front es ≡ suc (set_front es) = omega arith in
+    past_set ((hand, true) ∷ es) (map (λ e. (e.0, false)) (take (1 + set_front es) ((hand, true) ∷ es))) hand (rw e refl)
+
+-- a walk from the hand has come to this slot: the choice is among those that are left
+pub record Walks (l : LinkState) (main : MainRing) (hand slot passed : ℕ) : Type 0 where
+  pub left : ℕ
+  pub counted : passed + left ≡ main.len
+  pub below : AllBelow (length l.records.items) (around (next_at l.records.items) slot left)
+  pub choice : first_clear hand (map (λ s. (s, bit_at l s)) (around (next_at l.records.items) slot left)) ≡ first_clear hand (main_entries l main)
+
+module _ (l : LinkState) (main : MainRing) (hand : ℕ) where
+  module _ (whole : IsMainRing l main) (at : main.hand ≡ Some hand) where
+    slots_are : main_slots l main ≡ around (next_at l.records.items) hand main.len
+    slots_are = ap (λ h. slots_from l.records.items h main.len) at
+
+    pub Walks-start : Walks l main hand hand 0
+    Walks-start = record {
+      left = main.len;
+      counted = omega arith;
+      below = subst (AllBelow (length l.records.items)) slots_are whole.queue.linked.below;
+      choice = ap (λ (ss : List ℕ). first_clear hand (map (λ s. (s, bit_at l s)) ss)) (sym slots_are);
+    }
+
+    -- Main's victim is the choice among all
+    chosen_first : slice_get (from_victim (main_entries l main)) 0 ≡ Some (first_clear hand (main_entries l main), false)
+    chosen_first =
+        let first = first_of (main_slots l main) hand (sym at ∙ whole.queue.starts) in
+        let is : main_entries l main ≡ (hand, bit_at l hand) ∷ map (λ s. (s, bit_at l s)) first.0 = ap (λ (ss : List ℕ). map {B = ℕ × Bool} (λ s. (s, bit_at l s)) ss) first.1 in
+        rw is (chosen hand (bit_at l hand) (map (λ s. (s, bit_at l s)) first.0))
+
+    choice_is : (s : ℕ) → s ≡ first_clear hand (main_entries l main) → slice_get (from_victim (main_entries l main)) 0 ≡ Some (s, false)
+    choice_is s is = chosen_first ∙ ap (λ z. Some (z, false)) (sym is)
+
+    -- every bit is set
+    pub Walks-over : {slot passed : ℕ} → Walks l main hand slot passed → main.len ≤ passed → slice_get (from_victim (main_entries l main)) 0 ≡ Some (hand, false)
+    Walks-over {slot} w over =
+        let none : w.left ≡ 0 = omega (arith, w.counted, over) in
+        choice_is hand (ap (λ n. first_clear hand (map (λ s. (s, bit_at l s)) (around (next_at l.records.items) slot n))) (sym none) ∙ w.choice)
+
+  -- one step
+  module _ {slot passed : ℕ} (w : Walks l main hand slot passed) (more : passed < main.len) where
+    left_after : (left : ℕ) × (w.left ≡ suc left)
+    left_after = by w.left refl where
+      by : (n : ℕ) → w.left ≡ n → (left : ℕ) × (w.left ≡ suc left)
+      by zero none = absurd (omega (arith, w.counted, more, none))
+      by (suc left) some = (left, some)
+
+    abbrev ahead : List ℕ
+    ahead = around (next_at l.records.items) (next_at l.records.items slot) left_after.0
+
+    all_below : AllBelow (length l.records.items) (slot ∷ ahead)
+    all_below = subst (λ n. AllBelow (length l.records.items) (around (next_at l.records.items) slot n)) left_after.1 w.below
+
+    pub slot_in : slot < length l.records.items
+    slot_in = all_below.0
+
+    choice_from : (b : Bool) → bit_at l slot ≡ b → first_clear hand ((slot, b) ∷ map (λ s. (s, bit_at l s)) ahead) ≡ first_clear hand (main_entries l main)
+    choice_from b is =
+        ap (λ z. first_clear hand ((slot, z) ∷ map (λ s. (s, bit_at l s)) ahead)) (sym is)
+        ∙ ap (λ n. first_clear hand (map (λ s. (s, bit_at l s)) (around (next_at l.records.items) slot n))) (sym left_after.1)
+        ∙ w.choice
+
+    pub Walks-on : bit_at l slot ≡ true → Walks l main hand (next_at l.records.items slot) (passed + 1)
+    Walks-on set = record { left = left_after.0; counted = omega (arith, w.counted, left_after.1); below = all_below.1; choice = choice_from true set }
+
+    pub Walks-here : IsMainRing l main → main.hand ≡ Some hand → bit_at l slot ≡ false → slice_get (from_victim (main_entries l main)) 0 ≡ Some (slot, false)
+    Walks-here whole at clear = choice_is whole at slot (choice_from false clear)
+
+pub length-entries : (l : LinkState) (main : MainRing) → length (main_entries l main) ≡ length (main_slots l main)
+length-entries l main = length-map {B = ℕ × Bool} (main_slots l main) (λ s. (s, bit_at l s))
+
+-- if Main has a slot, Small's oldest one decides
+pub leaves-with_main : (q : QueueState) → 0 < length q.main → victim_leaves q ≡ keeps_tail (last_or None q.small)
+leaves-with_main q some = ap (λ b. b && keeps_tail (last_or None q.small)) (lt-ltb 0 (length q.main) some)
