@@ -15,6 +15,7 @@ pub mod LinearAccesses
 pub mod Making
 pub mod MakingRoom
 pub mod Names
+pub mod NextVictim
 pub mod Places
 pub mod Reaching
 pub mod Renewed

@@ -11,6 +11,7 @@ mod iteration;
 mod making_room;
 mod removal;
 mod slots;
+mod victim;
 
 use crate::hashes::hash_of;
 use crate::shares::Shares;

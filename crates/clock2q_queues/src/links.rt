@@ -275,10 +275,7 @@ impl<A: Allocator> Links<A> {
         ensures { result
             ≡ (is_old (location_at self.now.records.items slot) && bit_at self.now slot) }
     {
-        match self.records.peek(slot).location {
-            Location::SmallOld => self.bits.is_set(slot),
-            _ => false,
-        }
+        matches!(self.records.peek(slot).location, Location::SmallOld) && self.bits.is_set(slot)
     }
 
     /// Resets every record, every position and every bit to its initial state.
