@@ -1,11 +1,13 @@
 //! The calls that change nothing.
 ghost use Rattle.clock2q_c.specs.Handle.{machine_in};
-ghost use Rattle.clock2q_machine.specs.Machine.{resident_count};
+ghost use Rattle.clock2q_machine.specs.Calls.{Evict};
+ghost use Rattle.clock2q_machine.specs.Leaving.{leaver, next_victim};
+ghost use Rattle.clock2q_machine.specs.Machine.{resident_count, vacancy};
 ghost use Rattle.clock2q_pages.specs.Pages.{resident_frame};
 ghost use Rattle.std.specs.Option.{unwrap_or};
-ghost use Rattle.std.specs.Prelude.{◌≡◌, ◌↔◌, IsSome, IsTrue, IfSome};
+ghost use Rattle.std.specs.Prelude.{◌≡◌, ◌↔◌, eqb, if◌then◌else◌, false, None, Some, IsSome, IsTrue, IfSome};
 
-use crate::calls::Found;
+use crate::calls::{Found, Place};
 use crate::handle::Handle;
 
 /// Returns true if the key has a slot. It records no hit.
@@ -45,6 +47,42 @@ pub extern "C" fn clock2q_peek_key(handle: &mut Handle, key: usize) -> Found
         None => Found {
             slot: 0,
             is_found: false,
+        },
+    }
+}
+
+/// Returns the place of the key that leaves next: its slot, and itself as the last key there. If no key
+/// has a slot, returns a place whose parts are all 0 and false.
+///
+/// # Cost
+///
+/// That of `Cache::next_victim`: no hash.
+#[unsafe(no_mangle)]
+pub extern "C" fn clock2q_next_victim(handle: &mut Handle) -> Place
+    requires { IsSome handle.old.cache }
+    ensures left { IfSome (machine_in handle.old.cache)
+        (λ m. leaver eqb Evict m ≡
+        (if result.has_last then Some (result.last, result.slot) else None)) }
+    ensures unknown { IfSome (machine_in handle.old.cache)
+        (λ m. vacancy m ≡ None →
+        next_victim m ≡ (if result.has_last then Some (result.last, result.slot) else None)) }
+    ensures stays { result.evicted ≡ false }
+    ensures slot { result.has_last ≡ false → result.slot ≡ 0 }
+    ensures which { result.has_last ≡ false → result.last ≡ 0 }
+    ensures same { handle.new.cache ≡ handle.old.cache }
+{
+    match handle.held().cache.next_victim() {
+        Some((key, slot)) => Place {
+            slot,
+            last: *key,
+            has_last: true,
+            evicted: false,
+        },
+        None => Place {
+            slot: 0,
+            last: 0,
+            has_last: false,
+            evicted: false,
         },
     }
 }

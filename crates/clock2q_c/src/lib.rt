@@ -22,7 +22,9 @@ mod tokens;
 mod unboxed;
 mod version;
 
-pub use crate::asking::{clock2q_capacity, clock2q_contains, clock2q_len, clock2q_peek_key};
+pub use crate::asking::{
+    clock2q_capacity, clock2q_contains, clock2q_len, clock2q_next_victim, clock2q_peek_key,
+};
 pub use crate::calls::{
     Found, Place, clock2q_at, clock2q_clear, clock2q_enter_key, clock2q_find_key, clock2q_remove,
 };
@@ -33,7 +35,7 @@ pub use crate::status::{BAD_CAPACITY, BAD_POLICY, DONE, NO_MEMORY};
 pub use crate::tokens::{
     Admitted, TokensHandle, clock2q_tokens_admit, clock2q_tokens_capacity, clock2q_tokens_clear,
     clock2q_tokens_enter, clock2q_tokens_evict, clock2q_tokens_forget, clock2q_tokens_hit,
-    clock2q_tokens_len, clock2q_tokens_new, clock2q_tokens_release, clock2q_tokens_remove,
-    clock2q_tokens_seek, clock2q_tokens_with_policy,
+    clock2q_tokens_len, clock2q_tokens_new, clock2q_tokens_next_victim, clock2q_tokens_release,
+    clock2q_tokens_remove, clock2q_tokens_seek, clock2q_tokens_with_policy,
 };
 pub use crate::version::{VERSION, clock2q_version};

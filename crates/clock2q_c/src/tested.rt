@@ -5,8 +5,8 @@ use crate::calls::{Found, Place};
 use crate::handle::Handle;
 use crate::{
     BAD_CAPACITY, BAD_POLICY, DONE, clock2q_at, clock2q_capacity, clock2q_clear, clock2q_contains,
-    clock2q_enter_key, clock2q_find_key, clock2q_len, clock2q_new, clock2q_peek_key,
-    clock2q_release, clock2q_remove, clock2q_with_policy,
+    clock2q_enter_key, clock2q_find_key, clock2q_len, clock2q_new, clock2q_next_victim,
+    clock2q_peek_key, clock2q_release, clock2q_remove, clock2q_with_policy,
 };
 use std::alloc::Global;
 use std::test::Fail;
@@ -36,6 +36,10 @@ fn keys_in_two_slots(rt: HostRuntime) -> Result<(), Fail> {
         (1, 0, false, false)
     );
     assert_eq!(rt;
+        parts(clock2q_next_victim(&mut handle)),
+        (0, 70, true, false)
+    );
+    assert_eq!(rt;
         parts(clock2q_enter_key(&mut handle, 90)),
         (0, 70, true, true)
     );
@@ -50,11 +54,19 @@ fn keys_in_two_slots(rt: HostRuntime) -> Result<(), Fail> {
     assert!(rt; !clock2q_contains(&mut handle, 90));
     assert_eq!(rt; clock2q_len(&mut handle), 1);
     assert_eq!(rt;
+        parts(clock2q_next_victim(&mut handle)),
+        (1, 80, true, false)
+    );
+    assert_eq!(rt;
         parts(clock2q_enter_key(&mut handle, 60)),
         (0, 90, true, false)
     );
     clock2q_clear(&mut handle);
     assert_eq!(rt; clock2q_len(&mut handle), 0);
+    assert_eq!(rt;
+        parts(clock2q_next_victim(&mut handle)),
+        (0, 0, false, false)
+    );
     assert_eq!(rt; clock2q_capacity(&mut handle), 2);
     clock2q_release(handle);
     Ok(())

@@ -11,7 +11,9 @@ mod making;
 #[cfg(test)]
 mod tested;
 
-pub use asking::{clock2q_tokens_capacity, clock2q_tokens_len, clock2q_tokens_seek};
+pub use asking::{
+    clock2q_tokens_capacity, clock2q_tokens_len, clock2q_tokens_next_victim, clock2q_tokens_seek,
+};
 pub use calls::{
     Admitted, clock2q_tokens_admit, clock2q_tokens_clear, clock2q_tokens_enter,
     clock2q_tokens_forget, clock2q_tokens_hit, clock2q_tokens_remove,

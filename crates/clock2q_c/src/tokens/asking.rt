@@ -1,9 +1,11 @@
 //! The calls for tokens that change nothing.
 ghost use Rattle.clock2q_c.specs.Tokens.{tokens_in};
 ghost use Rattle.clock2q_cache.specs.SlotsByHash.{ListsOnce, slots_with_hash};
-ghost use Rattle.clock2q_machine.specs.Machine.{resident_count};
-ghost use Rattle.std.specs.Option.{unwrap_or};
-ghost use Rattle.std.specs.Prelude.{◌≡◌, ◌<◌, ◌↔◌, IsSome, IsTrue, IfSome, slice_get};
+ghost use Rattle.clock2q_machine.specs.Calls.{Evict};
+ghost use Rattle.clock2q_machine.specs.Leaving.{leaver, next_victim};
+ghost use Rattle.clock2q_machine.specs.Machine.{resident_count, vacancy};
+ghost use Rattle.std.specs.Option.{option_map, unwrap_or};
+ghost use Rattle.std.specs.Prelude.{◌≡◌, ◌<◌, ◌↔◌, if◌then◌else◌, false, None, Some, IsSome, IsTrue, IfSome, slice_get};
 
 use crate::calls::Found;
 use crate::tokens::handle::TokensHandle;
@@ -36,6 +38,35 @@ pub extern "C" fn clock2q_tokens_seek(handle: &mut TokensHandle, hash: u64, nth:
 {
     match handle.held().cache.slot_with_hash(hash, nth) {
         Some(slot) => Found {
+            slot,
+            is_found: true,
+        },
+        None => Found {
+            slot: 0,
+            is_found: false,
+        },
+    }
+}
+
+/// Returns the slot of the token that leaves next, if a token has one.
+///
+/// # Cost
+///
+/// That of `Cache::next_victim`: no hash.
+#[unsafe(no_mangle)]
+pub extern "C" fn clock2q_tokens_next_victim(handle: &mut TokensHandle) -> Found
+    requires { IsSome handle.old.cache }
+    ensures left { IfSome (tokens_in handle.old.cache)
+        (λ m. option_map (λ r. r.1) (leaver ⟦<Token as PartialEq>⟧.eq Evict m) ≡
+        (if result.is_found then Some result.slot else None)) }
+    ensures unknown { IfSome (tokens_in handle.old.cache)
+        (λ m. vacancy m ≡ None →
+        option_map (λ r. r.1) (next_victim m) ≡ (if result.is_found then Some result.slot else None)) }
+    ensures none { result.is_found ≡ false → result.slot ≡ 0 }
+    ensures same { handle.new.cache ≡ handle.old.cache }
+{
+    match handle.held().cache.next_victim() {
+        Some((_, slot)) => Found {
             slot,
             is_found: true,
         },

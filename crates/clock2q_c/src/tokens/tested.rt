@@ -5,8 +5,8 @@ use crate::tokens::handle::TokensHandle;
 use crate::{
     BAD_CAPACITY, DONE, Found, clock2q_tokens_admit, clock2q_tokens_capacity, clock2q_tokens_clear,
     clock2q_tokens_enter, clock2q_tokens_forget, clock2q_tokens_hit, clock2q_tokens_len,
-    clock2q_tokens_new, clock2q_tokens_release, clock2q_tokens_remove, clock2q_tokens_seek,
-    clock2q_tokens_with_policy,
+    clock2q_tokens_new, clock2q_tokens_next_victim, clock2q_tokens_release, clock2q_tokens_remove,
+    clock2q_tokens_seek, clock2q_tokens_with_policy,
 };
 use std::test::Fail;
 
@@ -32,6 +32,7 @@ fn tokens_of_two_hashes(rt: HostRuntime) -> Result<(), Fail> {
     assert_eq!(rt; parts(clock2q_tokens_admit(&mut handle, 9)), (2, true));
     assert_eq!(rt; clock2q_tokens_len(&mut handle), 3);
     assert_eq!(rt; clock2q_tokens_capacity(&mut handle), 3);
+    assert_eq!(rt; found(clock2q_tokens_next_victim(&mut handle)), (0, true));
     assert_eq!(rt; found(clock2q_tokens_seek(&mut handle, 9, 0)), (2, true));
     assert_eq!(rt; found(clock2q_tokens_seek(&mut handle, 9, 1)), (0, false));
     assert!(rt; clock2q_tokens_seek(&mut handle, 7, 1).is_found);
@@ -45,6 +46,7 @@ fn tokens_of_two_hashes(rt: HostRuntime) -> Result<(), Fail> {
     assert!(rt; !clock2q_tokens_forget(&mut handle, 7, 1));
     clock2q_tokens_clear(&mut handle);
     assert_eq!(rt; clock2q_tokens_len(&mut handle), 0);
+    assert!(rt; !clock2q_tokens_next_victim(&mut handle).is_found);
     clock2q_tokens_release(handle);
     Ok(())
 }
