@@ -129,6 +129,11 @@ bool clock2q_remove(clock2q *cache, uint64_t key);
  * queues, and one for each key that the hand passes over. */
 clock2q_place clock2q_evict_key(clock2q *cache);
 
+/* Returns the place that clock2q_evict_key would return, but for `evicted`, which is false, and changes
+ * nothing. If no key has a slot, all of it is 0 or false. Needs a cache. Costs no hash, and a step for each
+ * key that the hand would pass over, at each call. */
+clock2q_place clock2q_next_victim(clock2q *cache);
+
 /* Takes all slots away, and forgets all keys. Needs a cache. Takes time in proportion to the
  * capacity. */
 void clock2q_clear(clock2q *cache);
@@ -212,6 +217,10 @@ bool clock2q_tokens_forget(clock2q_tokens *cache, uint64_t hash, uint64_t number
  * Finds none if no token has a slot. Needs a cache. */
 clock2q_found clock2q_tokens_evict(clock2q_tokens *cache);
 
+/* Finds the slot that clock2q_tokens_evict would find, and changes nothing, as clock2q_next_victim does.
+ * Needs a cache. */
+clock2q_found clock2q_tokens_next_victim(clock2q_tokens *cache);
+
 /* The same as clock2q_clear, clock2q_len, clock2q_capacity and clock2q_release. They need a cache. */
 void clock2q_tokens_clear(clock2q_tokens *cache);
 size_t clock2q_tokens_len(clock2q_tokens *cache);
@@ -267,6 +276,7 @@ static inline clock2q_tokens clock2q_tokens_checked_value(clock2q_tokens cache) 
 #define clock2q_peek_key(cache, key) clock2q_peek_key(clock2q_checked(cache, true), key)
 #define clock2q_remove(cache, key) clock2q_remove(clock2q_checked(cache, true), key)
 #define clock2q_evict_key(cache) clock2q_evict_key(clock2q_checked(cache, true))
+#define clock2q_next_victim(cache) clock2q_next_victim(clock2q_checked(cache, true))
 #define clock2q_clear(cache) clock2q_clear(clock2q_checked(cache, true))
 #define clock2q_len(cache) clock2q_len(clock2q_checked(cache, true))
 #define clock2q_capacity(cache) clock2q_capacity(clock2q_checked(cache, true))
@@ -283,6 +293,7 @@ static inline clock2q_tokens clock2q_tokens_checked_value(clock2q_tokens cache) 
 #define clock2q_tokens_forget(cache, hash, number) \
     clock2q_tokens_forget(clock2q_tokens_checked(cache, true), hash, number)
 #define clock2q_tokens_evict(cache) clock2q_tokens_evict(clock2q_tokens_checked(cache, true))
+#define clock2q_tokens_next_victim(cache) clock2q_tokens_next_victim(clock2q_tokens_checked(cache, true))
 #define clock2q_tokens_clear(cache) clock2q_tokens_clear(clock2q_tokens_checked(cache, true))
 #define clock2q_tokens_len(cache) clock2q_tokens_len(clock2q_tokens_checked(cache, true))
 #define clock2q_tokens_capacity(cache) clock2q_tokens_capacity(clock2q_tokens_checked(cache, true))

@@ -80,6 +80,8 @@ class page_cache {
     bool erase(std::uint64_t key) noexcept { return clock2q_remove(&handle_, key); }
     // Takes the slot away from the key that is to leave next, and returns where it was, as clock2q_evict_key does.
     clock2q_place evict() noexcept { return clock2q_evict_key(&handle_); }
+    // Returns where that key is, and changes nothing, as clock2q_next_victim does.
+    clock2q_place next_victim() noexcept { return clock2q_next_victim(&handle_); }
     // Takes all slots away, and forgets all keys.
     void clear() noexcept { clock2q_clear(&handle_); }
     // Returns how many keys have a slot.
@@ -128,6 +130,8 @@ class token_cache {
     bool erase(std::size_t slot) noexcept { return clock2q_tokens_remove(&handle_, slot); }
     // Takes the slot away from the key that is to leave next, and returns the slot, if any key has one.
     clock2q_found evict() noexcept { return clock2q_tokens_evict(&handle_); }
+    // Returns that slot, and changes nothing.
+    clock2q_found next_victim() noexcept { return clock2q_tokens_next_victim(&handle_); }
     // Takes all slots away, and forgets all keys.
     void clear() noexcept { clock2q_tokens_clear(&handle_); }
     // Returns how many keys have a slot.
@@ -484,6 +488,11 @@ template <class Key, class Value, class Hash = std::hash<Key>, class Equal = std
     // those that leave for others are.
     node_type evict() noexcept { return node_type(state_ == nullptr ? nullptr : state_->evict()); }
 
+    // Returns where that entry is, or end(), and records nothing.
+    iterator next_victim() noexcept {
+        return state_ == nullptr ? end() : position<iterator>(state_->next_victim());
+    }
+
     // Has the cache hold `capacity` keys at most. Entries leave as by `evict` until there are no more, and are destroyed
     // then; later two may leave for one that comes. The cache keeps its memory, and as many slots for new keys. Throws
     // std::invalid_argument if `capacity` is 0 or above that with which the cache was made; nothing has changed then.
@@ -634,6 +643,12 @@ template <class Key, class Value, class Hash = std::hash<Key>, class Equal = std
             nodes.remove(gone);
             gone->next = nullptr;
             return gone;
+        }
+
+        // Returns that node or null.
+        node *next_victim() noexcept {
+            clock2q_found found = slots.next_victim();
+            return found.is_found ? nodes.at(found.slot) : nullptr;
         }
 
         // Has as many nodes at most from now on, and returns those above, of which each leads to the next, or null.

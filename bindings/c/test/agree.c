@@ -63,7 +63,10 @@ static bool evicts(struct run *run) {
     clock2q_place place = {77, 77, false, false};
     uint64_t key = 77;
     long slot = 77;
+    clock2q_place next = clock2q_next_victim(&run->cache);
     bool expected = model_evict(&run->model, &key, &slot);
+    if (next.has_last != expected || next.evicted) return false;
+    if (next.last != (expected ? key : 0) || (long)next.slot != (expected ? slot : 0)) return false;
     return clock2q_evict(&run->cache, &place) == expected && (long)place.slot == slot && place.last == key
         && place.has_last == expected && place.evicted == expected;
 }

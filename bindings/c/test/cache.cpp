@@ -182,6 +182,8 @@ static bool agrees_on_call(counted_cache<Hash> &tried, model<Hash> &wanted, std:
     case 1: {
         if (value % 4 == 0) {
             auto gone = wanted.evict();
+            auto next = tried.next_victim();
+            if (gone ? next == tried.end() || next->first.number != *gone : next != tried.end()) return false;
             auto left = tried.evict();
             return gone ? left && left.key().number == *gone : left.empty();
         }
@@ -551,6 +553,7 @@ static void pages() {
     must(one.contains(7) && one.peek(7).slot == place.slot && !one.peek(8).is_found && one.size() == 1 && one.capacity() == 2 && two.capacity() == 3, "it goes along");
     must(one.erase(7) && !one.erase(7) && one.size() == 0, "it is erased");
     std::size_t slot = one.enter(8).slot;
+    must(one.next_victim().last == 8 && one.next_victim().slot == slot && !one.next_victim().evicted, "it is next");
     place = one.evict();
     must(place.evicted && place.last == 8 && place.slot == slot && !one.evict().evicted, "it is evicted");
     one.enter(8);

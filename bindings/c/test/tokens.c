@@ -73,6 +73,8 @@ static bool evicts(struct run *run) {
     uint64_t code = 0;
     long slot = 0;
     bool expected = model_evict(&run->model, &code, &slot);
+    clock2q_found next = clock2q_tokens_next_victim(&run->cache);
+    if (next.is_found != expected || (long)next.slot != slot) return false;
     clock2q_found found = clock2q_tokens_evict(&run->cache);
     if (found.is_found != expected || (long)found.slot != slot) return false;
     if (!expected) return true;

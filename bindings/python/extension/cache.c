@@ -294,6 +294,8 @@ static PyMethodDef cache_methods[] = {
      "pop($self, /, key, default=<raise KeyError>)\n--\n\nRemove a key and return its value, or the default if there is no key."},
     {"popitem", (PyCFunction)cache_popitem, METH_NOARGS,
      "popitem($self, /)\n--\n\nRemove and return the (key, value) pair that would leave next; raise KeyError if there is none."},
+    {"next_victim", (PyCFunction)cache_next_victim, METH_NOARGS,
+     "next_victim($self, /)\n--\n\nReturn the (key, value) pair that popitem would remove, or None."},
     {"resize", (PyCFunction)cache_resize, METH_O,
      "resize($self, maxsize, /)\n--\n\nHold at most maxsize keys from now on, of as many as the cache was made for.\n\n"
      "The pairs that are too many leave, in the order of popitem."},

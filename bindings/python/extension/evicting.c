@@ -19,6 +19,21 @@ clock2q_found evict_pair(Cache *cache, pair *left) {
     return evicted;
 }
 
+PyObject *cache_next_victim(Cache *self, PyObject *unused) {
+    (void)unused;
+    PyObject *item = PyTuple_New(2); /* first, since the collector may run other code here */
+    clock2q_found next = {0, false};
+    if (item == NULL) return NULL;
+    if (self->pairs != NULL) next = clock2q_tokens_next_victim(&self->slots);
+    if (!next.is_found) {
+        Py_DECREF(item);
+        Py_RETURN_NONE;
+    }
+    PyTuple_SET_ITEM(item, 0, Py_NewRef(self->pairs[next.slot].key));
+    PyTuple_SET_ITEM(item, 1, Py_NewRef(self->pairs[next.slot].value));
+    return item;
+}
+
 /* Takes out the pair that is to leave next, of some, and adds it to a list, which runs no other code. Writes the slot
  * that it had. Returns -1 with an exception if there is no memory. */
 static int evict_to(Cache *cache, PyObject *list, size_t *slot) {

@@ -110,6 +110,9 @@ void set_weight(Cache *cache, size_t slot, uint64_t weight);
 /* Takes out the pair that is to leave next, and returns the slot that it had, if there is one. The caller drops it. */
 clock2q_found evict_pair(Cache *cache, pair *left);
 
+/* The method that returns this pair, or None. */
+PyObject *cache_next_victim(Cache *self, PyObject *unused);
+
 /* Has at most `maxsize` pairs be there, for which there are slots. Returns -1 with an exception if there is no
  * memory. */
 int resize_pairs(Cache *cache, size_t maxsize);

@@ -24,7 +24,10 @@ class PopitemTest(unittest.TestCase):
                 if len(popping) == maxsize and draws.random() < 0.1:
                     fresh = 3 * maxsize + number
                     pairs = dict(storing.items())
+                    self.assertEqual(storing.next_victim(), popping.next_victim())
+                    following = popping.next_victim()
                     popped = popping.popitem()
+                    self.assertEqual(following, popped)
                     popping[fresh] = storing[fresh] = fresh
                     left = pairs.items() - dict(storing.items()).items()
                     self.assertEqual({popped}, left)
@@ -35,6 +38,7 @@ class PopitemTest(unittest.TestCase):
         cache.update((number, str(number)) for number in range(300))
         pairs = dict(cache.items())
         self.assertEqual(dict(cache.popitem() for _ in range(100)), pairs)
+        self.assertIsNone(cache.next_victim())
         with self.assertRaises(KeyError):
             cache.popitem()
 
@@ -173,8 +177,9 @@ class WeightTest(unittest.TestCase):
             elif draw < 0.9:
                 cache.pop(key, None)
             elif draw < 0.92 and len(cache) > 0:
+                following = cache.next_victim()
                 key, value = cache.popitem()
-                self.assertEqual(stored[key], value)
+                self.assertEqual((following, stored[key]), ((key, value), value))
             elif draw < 0.93:
                 cache.resize(draws.randint(1, capacity))
             elif draw < 0.932:

@@ -156,6 +156,13 @@ impl<K, V, S> Cache<K, V, S> {
         self.store.evict().map(|(_, pair)| pair)
     }
 
+    /// Returns the pair that [`evict`](Cache::evict) would remove: if the cache is full, the one that leaves for
+    /// a key that is unknown. Records no hit, but needs the cache alone, as each call of the library does. Takes
+    /// time in proportion to the pairs that were hit and would be passed over.
+    pub fn next_victim(&mut self) -> Option<(&K, &V)> {
+        self.store.next_victim()
+    }
+
     /// Has the cache hold `capacity` keys at most. Pairs leave as by [`evict`](Cache::evict) until there are no
     /// more, are kept in a vector until then, and are dropped; later a key may take the place of two, of which
     /// [`push`](Cache::push) returns one. The cache keeps its memory, and as many slots for new keys.

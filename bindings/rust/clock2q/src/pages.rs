@@ -146,6 +146,12 @@ impl PageCache {
         place.evicted.then_some((place.last, place.slot))
     }
 
+    /// Returns the key and the slot that [`evict`](PageCache::evict) would return, and changes nothing.
+    pub fn next_victim(&self) -> Option<(u64, usize)> {
+        let place = unsafe { sys::clock2q_next_victim(self.handle()) };
+        place.has_last.then_some((place.last, place.slot))
+    }
+
     /// Takes all slots away, and forgets all keys.
     pub fn clear(&mut self) {
         unsafe { sys::clock2q_clear(self.handle()) }

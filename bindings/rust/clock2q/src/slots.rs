@@ -112,6 +112,13 @@ impl Slots {
         left.is_found.then_some(left.slot)
     }
 
+    /// Returns the slot that [`evict`](Slots::evict) would return.
+    pub(crate) fn next_victim(&mut self) -> Option<usize> {
+        // SAFETY: as above.
+        let next = unsafe { sys::clock2q_tokens_next_victim(&mut self.cache) };
+        next.is_found.then_some(next.slot)
+    }
+
     /// Forgets a key that has no slot, unless one of its hash has.
     pub(crate) fn forget(&mut self, hash: u64) {
         // SAFETY: as above.

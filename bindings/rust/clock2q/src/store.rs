@@ -164,6 +164,12 @@ impl<K, V> Store<K, V> {
         Some((slot, self.entries.take(slot)?))
     }
 
+    /// Returns the pair that would leave next.
+    pub(crate) fn next_victim(&mut self) -> Option<(&K, &V)> {
+        let slot = self.slots.next_victim()?;
+        self.entries.pair(slot).map(|(key, value)| (key, value))
+    }
+
     /// Removes the pair at a slot.
     pub(crate) fn remove_at(&mut self, slot: usize) -> Option<(K, V)> {
         self.slots.remove(slot);

@@ -81,6 +81,7 @@ extern "C" {
     pub fn clock2q_peek_key(cache: *mut clock2q, key: u64) -> clock2q_found;
     pub fn clock2q_remove(cache: *mut clock2q, key: u64) -> bool;
     pub fn clock2q_evict_key(cache: *mut clock2q) -> clock2q_place;
+    pub fn clock2q_next_victim(cache: *mut clock2q) -> clock2q_place;
     pub fn clock2q_clear(cache: *mut clock2q);
     pub fn clock2q_len(cache: *mut clock2q) -> usize;
     pub fn clock2q_capacity(cache: *mut clock2q) -> usize;
@@ -99,6 +100,7 @@ extern "C" {
     pub fn clock2q_tokens_remove(cache: *mut clock2q_tokens, slot: usize) -> bool;
     pub fn clock2q_tokens_forget(cache: *mut clock2q_tokens, hash: u64, number: u64) -> bool;
     pub fn clock2q_tokens_evict(cache: *mut clock2q_tokens) -> clock2q_found;
+    pub fn clock2q_tokens_next_victim(cache: *mut clock2q_tokens) -> clock2q_found;
     pub fn clock2q_tokens_clear(cache: *mut clock2q_tokens);
     pub fn clock2q_tokens_len(cache: *mut clock2q_tokens) -> usize;
     pub fn clock2q_tokens_capacity(cache: *mut clock2q_tokens) -> usize;

@@ -115,6 +115,12 @@ impl<K, V, W, S> WeightedCache<K, V, W, S> {
         self.store.evict()
     }
 
+    /// Returns the pair that [`evict`](WeightedCache::evict) would remove. Records no hit.
+    pub fn next_victim(&mut self) -> Option<(&K, &V)> {
+        let (key, weighed) = self.store.pairs.next_victim()?;
+        Some((key, &weighed.value))
+    }
+
     /// Removes all pairs, and forgets those that left.
     pub fn clear(&mut self) {
         self.store.clear();

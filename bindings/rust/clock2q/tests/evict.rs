@@ -16,10 +16,13 @@ fn a_cache_empties() {
         let mut cache = Cache::new(capacity).expect("a cache");
         cache.extend((0..3 * capacity).map(|key| (key, 2 * key)));
         for left in (0..capacity).rev() {
+            let next = cache.next_victim().map(|(key, value)| (*key, *value));
             let (key, value) = cache.evict().expect("a pair is here");
+            assert_eq!(next, Some((key, value)));
             assert_eq!((value, cache.len()), (2 * key, left));
             assert!(!cache.contains_key(&key));
         }
+        assert_eq!(cache.next_victim(), None);
         assert_eq!(cache.evict(), None);
     }
 }
@@ -36,7 +39,9 @@ fn what_leaves_is_what_would_leave_for_a_new_key() {
             assert_eq!(evicting.enter(key).slot, entering.enter(key).slot);
             if evicting.len() == capacity && draws.below(20) == 0 {
                 let fresh = (4 * capacity + number) as u64;
+                let next = entering.next_victim();
                 let left = evicting.evict();
+                assert_eq!(next, left);
                 let place = entering.enter(fresh);
                 assert_eq!(left, place.evicted.map(|key| (key, place.slot)));
                 assert_eq!(evicting.enter(fresh).slot, place.slot);
