@@ -220,15 +220,6 @@ module _ {K V : Type 0} where
       empty (p ∷ ps) e = absurd (omega arith)
   IsIndex-removed (h ∷ hs) keys places place hash i apart at = IsIndex-taken (h ∷ hs) keys places place hash i (omega arith) apart at
 
-  -- the places in another order
-  pub IsIndex-turned : (index : List (List (ℕ × ℕ))) (keys : List (Entry K V)) (ps qs : List ℕ)
-      → ((t : ℕ) → has t qs ≡ has t ps) → length qs ≡ length ps → IsIndex index keys ps → IsIndex index keys qs
-  IsIndex-turned index keys ps qs same as_many i = record {
-    listed = λ x t. i.listed x t ∙ ap (λ b. b && is_named index keys x t) (sym (same t));
-    once = i.once;
-    counted = i.counted ∙ sym as_many;
-  }
-
   -- other keys at other places
   pub IsIndex-kept : (index : List (List (ℕ × ℕ))) (keys keys' : List (Entry K V)) (places : List ℕ)
       → ((t : ℕ) → has t places ≡ true → hash_at keys' t ≡ hash_at keys t) → IsIndex index keys places → IsIndex index keys' places

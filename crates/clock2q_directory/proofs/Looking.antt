@@ -4,10 +4,11 @@ use Rattle.std.specs.Prelude.{IfSome}
 use Rattle.std.specs.List.{find, AllByRecursion}
 use Rattle.std.specs.Cmp.{IsEquivalence}
 use Rattle.std.proofs.lemmas.Bool.{cases_Bool, lt-ltb, le-ltb, ltb-true, ltb-false}
+use Rattle.clock2q_directory.specs.declared.handle.Handle.{Handle}
 use Rattle.clock2q_directory.specs.declared.history.Found.{Found}
 use Rattle.clock2q_handles.specs.Homes.{candidates}
 use Rattle.clock2q_directory.specs.Index as known
-use Rattle.clock2q_directory.specs.Index.{IndexState, first_remembered, is_shared, slots_among, places_among}
+use Rattle.clock2q_directory.specs.Index.{IndexState, first_remembered, unpacked, is_shared, slots_among, places_among}
 use Rattle.clock2q_queues.specs.Order.{PlaceOrder}
 use Rattle.clock2q_directory.specs.Keys.{KeyPlaces, entries_of, is_key_at}
 use Rattle.clock2q_directory.specs.Indexes.{HasHash}
@@ -30,11 +31,29 @@ module _ (h : ℕ) (hs : List ℕ) where
   places-passed : h < first_remembered → places_among (h ∷ hs) ≡ places_among hs
   places-passed l = rw (lt-ltb h first_remembered l) refl
 
--- if the next handle is a slot, it is the next to be compared
-pub asked-slot : {test : ℕ → Bool} {n bound : ℕ} {all : List ℕ} {asked : ℕ} (handles : List ℕ) {h : ℕ} → Asked test n bound all asked (slots_among handles)
-    → Some h ≡ slice_get handles 0 → h < first_remembered → Asked test n bound all asked (h ∷ slots_among (drop 1 handles))
-asked-slot {test} {n} {bound} {all} {asked} handles {h} a is l =
-    subst (λ z. Asked test n bound all asked z) (ap slots_among (begins_with is) ∙ slots-first h (drop 1 handles) l) a
+-- what a stored number says is below every place's number, or from the first on
+pub says-slot : {h s : ℕ} → Handle.Resident s ≡ unpacked h → (h ≡ s) × (h < first_remembered)
+says-slot {h} {s} e = elim (cases_Bool (ltb h first_remembered)) [
+  | inl l ↦ let q : Handle.Resident s ≡ Handle.Resident h = e ∙ rw l refl in (cc, ltb-true h first_remembered l)
+  | inr l ↦ let q : Handle.Resident s ≡ Handle.Remembered (h - first_remembered) = e ∙ rw l refl in absurd (cc)
+]
+
+pub says-place : {h p : ℕ} → Handle.Remembered p ≡ unpacked h → (h - first_remembered ≡ p) × (first_remembered ≤ h)
+says-place {h} {p} e = elim (cases_Bool (ltb h first_remembered)) [
+  | inl l ↦ let q : Handle.Remembered p ≡ Handle.Resident h = e ∙ rw l refl in absurd (cc)
+  | inr l ↦ let q : Handle.Remembered p ≡ Handle.Remembered (h - first_remembered) = e ∙ rw l refl in (cc, ltb-false h first_remembered l)
+]
+
+-- if the next handle is a slot's, that slot is the next among the slots
+pub next-slot : {h s : ℕ} (handles : List ℕ) → Some h ≡ slice_get handles 0 → Handle.Resident s ≡ unpacked h → slots_among handles ≡ s ∷ slots_among (drop 1 handles)
+next-slot {h} {s} handles is says =
+    let q = says-slot says in
+    ap slots_among (begins_with is) ∙ slots-first h (drop 1 handles) q.1 ∙ ap (λ z. z ∷ slots_among (drop 1 handles)) q.0
+
+-- it is the next to be compared
+pub asked-slot : {test : ℕ → Bool} {n bound : ℕ} {all : List ℕ} {asked : ℕ} (handles : List ℕ) {h s : ℕ} → Asked test n bound all asked (slots_among handles)
+    → Some h ≡ slice_get handles 0 → Handle.Resident s ≡ unpacked h → Asked test n bound all asked (s ∷ slots_among (drop 1 handles))
+asked-slot {test} {n} {bound} {all} {asked} handles a is says = subst (λ z. Asked test n bound all asked z) (next-slot handles is says) a
 
 -- if all are slots, none is skipped
 pub slots-all : (hs : List ℕ) → AllByRecursion (λ h. h < first_remembered) hs → slots_among hs ≡ hs
@@ -96,59 +115,30 @@ module _ (a b : ℕ → Bool) where
   looks-next {all} {left} {h} {n} {m} {p} {p'} {q} {q'} on is = subst (λ z. LooksOn all z n m p p' q q') (begins_with is) on
 
   module _ {all left : List ℕ} {h n m p p' q q' : ℕ} (on : LooksOn all (h ∷ left) n m p p' q q') where
-    module _ (l : h < first_remembered) where
-      slots_are : slots_among (h ∷ left) ≡ h ∷ slots_among left
-      slots_are = slots-first h left l
+    module _ {s : ℕ} (says : Handle.Resident s ≡ unpacked h) where
+      slots_are : slots_among (h ∷ left) ≡ s ∷ slots_among left
+      slots_are = next-slot (h ∷ left) refl says
 
-      places_are : places_among (h ∷ left) ≡ places_among left
-      places_are = places-passed h left l
-
-      pub resident-there : h < n
+      pub resident-there : s < n
       resident-there = (subst (λ z. AllByRecursion (λ s. s < n) z) slots_are on.slots).0
 
-      pub resident-other : false ≡ a h → LooksOn all left n m p (p' + 1) q q'
-      resident-other other = record {
-        first = on.first ∙ rw (lt-ltb h first_remembered l, sym other) refl;
-        slots = (subst (λ z. AllByRecursion (λ s. s < n) z) slots_are on.slots).1;
-        places = subst (λ z. AllByRecursion (λ s. s < m) z) places_are on.places;
-        asked_from = omega (arith, on.asked_from);
-        asked_most = omega (arith, on.asked_most, ap (λ (z : List ℕ). length z) slots_are);
-        comparisons_from = on.comparisons_from;
-        comparisons_most = omega (arith, on.comparisons_most, ap (λ (z : List ℕ). length z) places_are);
-      }
-
-      pub resident-found : true ≡ a h → (Found.Resident h ≡ first_known a b all) × (p' + 1 ≤ p + length (slots_among all)) × (q' ≤ q + length (places_among all))
-      resident-found it = (
-        sym (on.first ∙ rw (lt-ltb h first_remembered l, sym it) refl),
+      pub resident-found : true ≡ a s → (Found.Resident s ≡ first_known a b all) × (p' + 1 ≤ p + length (slots_among all)) × (q' ≤ q + length (places_among all))
+      resident-found it = let q = says-slot says in (
+        sym (on.first ∙ rw (lt-ltb h first_remembered q.1, q.0, sym it) refl),
         omega (arith, on.asked_most, ap (λ (z : List ℕ). length z) slots_are),
         omega (arith, on.comparisons_most),
       )
 
-    module _ (l : first_remembered ≤ h) where
-      slots_still : slots_among (h ∷ left) ≡ slots_among left
-      slots_still = slots-passed h left l
+    module _ {t : ℕ} (says : Handle.Remembered t ≡ unpacked h) where
+      places_still : places_among (h ∷ left) ≡ t ∷ places_among left
+      places_still = let q = says-place says in places-first h left q.1 ∙ ap (λ z. z ∷ places_among left) q.0
 
-      places_still : places_among (h ∷ left) ≡ (h - first_remembered) ∷ places_among left
-      places_still = places-first h left l
-
-      pub place-there : h - first_remembered < m
+      pub place-there : t < m
       place-there = (subst (λ z. AllByRecursion (λ s. s < m) z) places_still on.places).0
 
-      pub place-other : false ≡ b (h - first_remembered) → LooksOn all left n m p p' q (q' + 1)
-      place-other other = record {
-        first = on.first ∙ rw (le-ltb h first_remembered l, sym other) refl;
-        slots = subst (λ z. AllByRecursion (λ s. s < n) z) slots_still on.slots;
-        places = (subst (λ z. AllByRecursion (λ s. s < m) z) places_still on.places).1;
-        asked_from = on.asked_from;
-        asked_most = omega (arith, on.asked_most, ap (λ (z : List ℕ). length z) slots_still);
-        comparisons_from = omega (arith, on.comparisons_from);
-        comparisons_most = omega (arith, on.comparisons_most, ap (λ (z : List ℕ). length z) places_still);
-      }
-
-      pub place-found : true ≡ b (h - first_remembered)
-          → (Found.Remembered (h - first_remembered) ≡ first_known a b all) × (p' ≤ p + length (slots_among all)) × (q' + 1 ≤ q + length (places_among all))
-      place-found it = (
-        sym (on.first ∙ rw (le-ltb h first_remembered l, sym it) refl),
+      pub place-found : true ≡ b t → (Found.Remembered t ≡ first_known a b all) × (p' ≤ p + length (slots_among all)) × (q' + 1 ≤ q + length (places_among all))
+      place-found it = let q = says-place says in (
+        sym (on.first ∙ rw (le-ltb h first_remembered q.1, q.0, sym it) refl),
         omega (arith, on.asked_most),
         omega (arith, on.comparisons_most, ap (λ (z : List ℕ). length z) places_still),
       )

@@ -1,5 +1,5 @@
 -- What a lookup of a key through an index finds, and how many comparisons it makes.
-use Rattle.std.proofs.Common.{◌≡◌, ℕ, suc, ◌+◌, ◌<◌, ◌≤◌, Bool, true, false, eqb, Option, Some, None, slice_get, List, [], ◌∷◌, drop, length, inl, inr, refl, sym, ap, ◌∙◌, subst, arith}
+use Rattle.std.proofs.Common.{◌≡◌, ℕ, ◌+◌, ◌<◌, ◌≤◌, Bool, true, false, eqb, Option, Some, None, slice_get, List, [], ◌∷◌, drop, length, inl, inr, refl, sym, ap, ◌∙◌, subst, arith}
 use Rattle.std.specs.List.{find, AllByRecursion}
 use Rattle.std.specs.Cmp.{IsEquivalence}
 use Rattle.std.proofs.lemmas.Bool.{both_ways, cases_Bool, or_cases, eqb-true}
@@ -102,16 +102,6 @@ pub record Asked (test : ℕ → Bool) (n bound : ℕ) (all : List ℕ) (asked :
   pub found : find test all ≡ find test left
   pub comparisons : n + comparisons_of test all ≡ asked + comparisons_of test left
   pub there : AllByRecursion (λ place. place < bound) left
-
-pub asked-next : (test : ℕ → Bool) (n bound : ℕ) (all : List ℕ) (asked place : ℕ) (left : List ℕ)
-    → Asked test n bound all asked (place ∷ left) → false ≡ test place → Asked test n bound all (asked + 1) left
-asked-next test n bound all asked place left a other =
-    let m : comparisons_of test (place ∷ left) ≡ suc (comparisons_of test left) = rw (sym other) refl in
-    record {
-      found = a.found ∙ rw (sym other) refl;
-      comparisons = omega (arith, a.comparisons, m);
-      there = a.there.1;
-    }
 
 pub asked-found : {test : ℕ → Bool} {n bound : ℕ} {all : List ℕ} {asked : ℕ} (place : ℕ) (left : List ℕ) → Asked test n bound all asked (place ∷ left) → true ≡ test place
     → (Some place ≡ find test all) × (asked + 1 ≡ n + comparisons_of test all)

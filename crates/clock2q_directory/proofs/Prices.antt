@@ -38,9 +38,6 @@ module _ (v : IndexState) (within : IsWithinCapacity v) where
     within = record { shared = removed-room eqb v.shared x s within.shared; own = within.own };
   }
 
-  pub left-accesses : (x s : ℕ) → (left x s v).accesses ≤ v.accesses + most_reached v x
-  left-accesses x s = omega arith
-
   -- the key at a place is forgotten
   pub forgotten-dear : (x p : ℕ) → IsNoDearer v (forgotten_at x p v)
   forgotten-dear x p = elim (cases_Bool (is_shared v)) [

@@ -88,9 +88,6 @@ module _ {K V : Type 0} (eq : K → K → Bool) (hash slot : ℕ) (key : K) (val
   abbrev pub fewer : List ℕ
   fewer = take (order.limit - 1) order.places
 
-  pub write_fits : (place ≤ length keys.entries) × (place < keys.room)
-  write_fits = (m.next, omega (arith, m.below, h.room))
-
   fewer_now : total (known.places index1) < order.limit
   fewer_now = omega (arith, length-take (order.limit - 1) order.places, m.indexed.counted, some)
 

@@ -1,13 +1,11 @@
 -- What holds of every index, and what its calls rely on.
-use Rattle.std.proofs.Common.{◌≡◌, ℕ, zero, suc, ◌+◌, ◌-◌, ◌^◌, ◌<◌, true, false, ◌&&◌, ◌==◌, if◌then◌else◌, eqb, ltb, Result, Ok, Err, IsOk, List, [], ◌∷◌, length, inl, inr, refl, sym, ap, ◌∙◌, subst, arith, eq-eqb, ne_eqb, eqb-true}
+use Rattle.std.proofs.Common.{◌≡◌, ℕ, zero, suc, ◌+◌, ◌-◌, ◌^◌, ◌<◌, true, false, ◌&&◌, ◌==◌, if◌then◌else◌, eqb, ltb, List, [], ◌∷◌, length, inl, inr, refl, sym, ap, ◌∙◌, subst, arith, eq-eqb, ne_eqb, eqb-true}
 use Rattle.std.specs.List.{list_any}
 use Rattle.std.proofs.lemmas.Bool.{both_ways, cases_Bool}
 use Rattle.std.proofs.lemmas.List.{length-map, length-replicate}
 use Rattle.std.proofs.lemmas.List.Sums.{sum_by-cons}
-use Rattle.clock2q_handles.specs.Changes.{PutIn}
 use Rattle.clock2q_handles.specs.Homes.{top, listed, no_entries, capacity, total, candidates, with_handle, removed, is_entry_of}
 use Rattle.clock2q_handles.specs.TableStep.{made_for}
-use Rattle.clock2q_handles.specs.declared.error.TableError.{TableError}
 use Rattle.clock2q_handles.proofs.FewerEntries.{total-no_entries}
 use Rattle.clock2q_queues.specs.Rings.{has}
 use Rattle.clock2q_directory.specs.Index.{IndexState, index_state, IsSorted, HasSlotRoom, HasPlaceRoom, first_remembered, is_shared, slots, places, beside, slot_entries, place_entries, slots_in, places_in}
@@ -63,12 +61,6 @@ place_fits v h r = subst (λ b. total (if b then places_in v.shared else v.own) 
 
 pub place_is_few : (v : IndexState) → is_shared v ≡ false → HasPlaceRoom v → total v.own + 1 < 2 ^ 24
 place_is_few v h r = subst (λ b. total (if b then places_in v.shared else v.own) + 1 < 2 ^ 24) h (r.few h)
-
--- a put into a table with few entries succeeds
-pub put_done : (homes new : List (List (ℕ × ℕ))) (x h : ℕ) (r : Result (Unit {0}) TableError) → PutIn homes x h r new
-    → (total homes + 1 < 2 ^ 24 → IsOk r) → total homes + 1 < 2 ^ 24 → new ≡ with_handle homes x h
-put_done homes new x h (Ok u) put few short = put.0
-put_done homes new x h (Err e) put few short = let ok = few short in cc
 
 any-place : (x p : ℕ) (es : List (ℕ × ℕ)) → list_any (is_entry_of eqb x p) (place_entries es) ≡ true → list_any (is_entry_of eqb x (first_remembered + p)) es ≡ true
 any-place x p [] h = h

@@ -1,13 +1,13 @@
 -- What a search for the keys of one hash has still to find.
-use Rattle.std.proofs.Common.{◌≡◌, ℕ, zero, suc, ◌<◌, ◌==◌, Bool, true, false, Option, Some, None, slice_get, List, ◌∷◌, drop, refl, sym, ap, ◌∙◌, subst}
+use Rattle.std.proofs.Common.{◌≡◌, ℕ, zero, ◌<◌, ◌==◌, Bool, true, false, Option, Some, None, slice_get, List, ◌∷◌, drop, refl, sym, ◌∙◌, subst}
 use Rattle.std.specs.List.{filter, AllByRecursion}
 use Rattle.std.proofs.lemmas.Bool.{eq-eqb}
 use Rattle.clock2q_directory.specs.declared.keys.store.Entry.{Entry}
 use Rattle.clock2q_directory.specs.Hashed.{has_hash}
-use Rattle.clock2q_directory.specs.Index.{first_remembered, slots_among}
+use Rattle.clock2q_directory.specs.declared.handle.Handle.{Handle}
+use Rattle.clock2q_directory.specs.Index.{slots_among, unpacked}
 use Rattle.clock2q_directory.specs.Keys.{hash_at}
-use Rattle.clock2q_directory.proofs.Looking.{slots-first}
-use Rattle.clock2q_directory.proofs.Lookups.{begins_with}
+use Rattle.clock2q_directory.proofs.Looking.{next-slot}
 
 -- past `left` the number `more` is what number `nth` was
 pub record Sought (test : ℕ → Bool) (all : List ℕ) (nth bound : ℕ) (left : List ℕ) (more : ℕ) : Type 0 where
@@ -15,20 +15,13 @@ pub record Sought (test : ℕ → Bool) (all : List ℕ) (nth bound : ℕ) (left
   pub there : AllByRecursion (λ place. place < bound) left
 
 module _ {test : ℕ → Bool} {all : List ℕ} {nth bound : ℕ} (place : ℕ) (left : List ℕ) where
-  pub sought-other : {more : ℕ} → Sought test all nth bound (place ∷ left) more → false ≡ test place → Sought test all nth bound left more
-  sought-other s other = record { found = s.found ∙ rw (sym other) refl; there = s.there.1 }
-
-  pub sought-passed : {more less : ℕ} → Sought test all nth bound (place ∷ left) more → true ≡ test place → more ≡ suc less → Sought test all nth bound left less
-  sought-passed {more} {less} s it is = record { found = s.found ∙ rw (sym it, is) refl; there = s.there.1 }
-
   pub sought-found : {more : ℕ} → Sought test all nth bound (place ∷ left) more → true ≡ test place → more ≡ zero → Some place ≡ slice_get (filter test all) nth
   sought-found s it is = sym (s.found ∙ rw (sym it, is) refl)
 
--- if the next handle is a slot, it is the next to be looked at
-pub sought-slot : {test : ℕ → Bool} {all : List ℕ} {nth bound more : ℕ} (handles : List ℕ) {h : ℕ} → Sought test all nth bound (slots_among handles) more
-    → Some h ≡ slice_get handles 0 → h < first_remembered → Sought test all nth bound (h ∷ slots_among (drop 1 handles)) more
-sought-slot {test} {all} {nth} {bound} {more} handles {h} s is l =
-    subst (λ z. Sought test all nth bound z more) (ap slots_among (begins_with is) ∙ slots-first h (drop 1 handles) l) s
+-- if the next handle is a slot's, that slot is the next to be looked at
+pub sought-slot : {test : ℕ → Bool} {all : List ℕ} {nth bound more : ℕ} (handles : List ℕ) {h slot : ℕ} → Sought test all nth bound (slots_among handles) more
+    → Some h ≡ slice_get handles 0 → Handle.Resident slot ≡ unpacked h → Sought test all nth bound (slot ∷ slots_among (drop 1 handles)) more
+sought-slot {test} {all} {nth} {bound} {more} handles s is says = subst (λ z. Sought test all nth bound z more) (next-slot handles is says) s
 
 -- what is read there says whether the key has the hash
 pub hash-compared : {K V : Type 0} (entries : List (Entry K V)) (hash place : ℕ) {h : ℕ} → hash_at entries place ≡ Some h → h ≡ hash → true ≡ has_hash entries hash place

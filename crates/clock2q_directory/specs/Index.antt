@@ -6,12 +6,27 @@ use Rattle.clock2q_handles.specs.Homes.{total, capacity, no_entries, with_handle
 use Rattle.clock2q_handles.specs.Layout.{walk}
 use Rattle.clock2q_handles.specs.Positions.{handle_replaced}
 use Rattle.clock2q_handles.specs.TableStep.{made_for}
+use Rattle.clock2q_directory.specs.declared.handle.Handle.{Handle}
 use Rattle.clock2q_directory.specs.Accesses.{CountedTable, most_changed}
 use mathlib.Core.Path.{refl}
 
 -- a resident's handle is its slot, and a remembered key's handle is this plus its place
 abbrev pub first_remembered : ℕ
 first_remembered = 2147483648
+
+-- the slot or the place
+abbrev pub number_in : Handle → ℕ
+number_in (Handle.Resident slot) = slot
+number_in (Handle.Remembered place) = place
+
+-- the number that a table stores
+abbrev pub packed : Handle → ℕ
+packed (Handle.Resident slot) = slot
+packed (Handle.Remembered place) = first_remembered + place
+
+-- what a stored number says
+abbrev pub unpacked : ℕ → Handle
+unpacked h = if nat_lt h first_remembered then Handle.Resident h else Handle.Remembered (h - first_remembered)
 
 -- the slots among handles, in order
 abbrev pub slots_among : List ℕ → List ℕ

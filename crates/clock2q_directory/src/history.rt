@@ -12,7 +12,8 @@ ghost use Rattle.clock2q_directory.specs.Index as known;
 ghost use Rattle.clock2q_directory.specs.Index.{emptied, index_for, is_shared, entered, left, slots_among, places_among, IsWithinCapacity};
 ghost use Rattle.clock2q_directory.specs.History.{IsWholeHistory, MakesPlace, HasRoom, places_with, places_looked_up, pushed_places, freed_place, place_of, oldest_hash, remembered, is_remembered, forgotten, found_slot, found_place, first_known};
 
-use crate::index::{Index, REMEMBERED};
+use crate::handle::Handle;
+use crate::index::Index;
 use crate::keys::Keys;
 use clock2q_handles::Candidates;
 use clock2q_queues::order::Order;
@@ -115,8 +116,7 @@ impl<K: Eq, A: Allocator> History<K, A> {
         self.order.len() as usize
     }
 
-    /// Returns the handles under a hash: the slots of residents, and others from
-    /// [`REMEMBERED`] on.
+    /// Returns the numbers of the [handles](Handle) under a hash.
     #[inline(always)]
     pub fn handles(&self, hash: u64) -> Candidates<'_, u32>
         ensures slots { slots_among result.left ≡
@@ -415,12 +415,17 @@ fn look_among<K: Eq, V, A: Allocator>(
         (length (places_among handles.entry.left)) remembered.old.comparisons remembered.new.comparisons }
 {
     while let Some(handle) = handles.peek() {
-        if handle < REMEMBERED {
-            if residents.key_equals(handle, key) {
-                return Found::Resident(handle);
+        match Handle::unpack(handle) {
+            Handle::Resident(slot) => {
+                if residents.key_equals(slot, key) {
+                    return Found::Resident(slot);
+                }
             }
-        } else if remembered.key_equals(handle - REMEMBERED, key) {
-            return Found::Remembered(handle - REMEMBERED);
+            Handle::Remembered(place) => {
+                if remembered.key_equals(place, key) {
+                    return Found::Remembered(place);
+                }
+            }
         }
         handles.advance();
     }

@@ -7,14 +7,11 @@ ghost use Rattle.clock2q_directory.specs.Index.{emptied, index_for, index_room, 
 
 mod counted_table;
 
+use crate::handle::Handle;
 use crate::index::counted_table::CountedTable;
 use clock2q_handles::Candidates;
 use std::alloc::{AllocError, Allocator, Global};
 use std::marker::Model;
-
-/// The smallest handle of a remembered key. Such a handle is this plus the key's place. A
-/// resident's handle is its slot.
-pub const REMEMBERED: u32 = 1 << 31;
 
 /// The most entries with which no run of a table can be too long.
 const MOST_ENTRIES: usize = (1 << 24) - 1;
@@ -106,8 +103,7 @@ impl<A: Allocator> Index<A> {
         self.own.capacity() == 0
     }
 
-    /// Returns the handles under a hash in the table of the slots. Those from [`REMEMBERED`] on are
-    /// places.
+    /// Returns the numbers of the [handles](Handle) under a hash in the table of the slots.
     #[inline(always)]
     pub fn handles(&self, hash: u64) -> Candidates<'_, u32>
         ensures handles { result.left ≡ candidates self.now.shared hash }
@@ -163,7 +159,8 @@ impl<A: Allocator> Index<A> {
         ensures remembered { self.new ≡ remembered_at hash slot place self.old }
     {
         if self.is_shared() {
-            self.shared.replace_handle(hash, slot, REMEMBERED + place);
+            let handle = Handle::Remembered(place).pack();
+            self.shared.replace_handle(hash, slot, handle);
         } else {
             self.shared.remove_existing(hash, slot);
             self.own.insert(hash, place);
@@ -178,7 +175,8 @@ impl<A: Allocator> Index<A> {
         ensures forgotten { self.new ≡ forgotten_at hash place self.old }
     {
         if self.is_shared() {
-            self.shared.remove_existing(hash, REMEMBERED + place);
+            let handle = Handle::Remembered(place).pack();
+            self.shared.remove_existing(hash, handle);
         } else {
             self.own.remove_existing(hash, place);
         }

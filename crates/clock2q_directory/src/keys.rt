@@ -6,7 +6,7 @@ ghost use Rattle.clock2q_directory.specs.Index.{slots_among, places_among};
 mod hashed;
 mod store;
 
-use crate::index::REMEMBERED;
+use crate::handle::Handle;
 use clock2q_count::Count;
 use clock2q_handles::Candidates;
 use std::alloc::Allocator;
@@ -88,8 +88,8 @@ impl<K: Eq, V, A: Allocator> Keys<K, V, A> {
         is_key
     }
 
-    /// Returns the first of `handles` below [`REMEMBERED`] that has `key`, and counts each
-    /// comparison. The other handles are skipped.
+    /// Returns the first slot among `handles` that has `key`, and counts each comparison. Places
+    /// are skipped.
     pub fn find(&mut self, handles: Candidates<'_, u32>, key: &K) -> Option<u32>
         requires used { AllByRecursion (λ place. place < length self.old.entries)
             (slots_among handles.left) }
@@ -108,8 +108,8 @@ impl<K: Eq, V, A: Allocator> Keys<K, V, A> {
         found
     }
 
-    /// Returns the place of the first of `handles` from [`REMEMBERED`] on that has `key`, and
-    /// counts each comparison. Slots are skipped.
+    /// Returns the first place among `handles` that has `key`, and counts each comparison. Slots
+    /// are skipped.
     pub fn find_remembered(&mut self, mut handles: Candidates<'_, u32>, key: &K) -> Option<u32>
         requires used { AllByRecursion (λ place. place < length self.old.entries)
             (places_among handles.left) }
@@ -123,8 +123,7 @@ impl<K: Eq, V, A: Allocator> Keys<K, V, A> {
             } }
     {
         while let Some(handle) = handles.next() {
-            if handle >= REMEMBERED {
-                let place = handle - REMEMBERED;
+            if let Handle::Remembered(place) = Handle::unpack(handle) {
                 if self.key_equals(place, key) {
                     return Some(place);
                 }
@@ -133,8 +132,8 @@ impl<K: Eq, V, A: Allocator> Keys<K, V, A> {
         None
     }
 
-    /// Returns the first of `handles` below [`REMEMBERED`] that has `key`. The comparisons are
-    /// counted in `asked` instead.
+    /// Returns the first slot among `handles` that has `key`. The comparisons are counted in
+    /// `asked` instead.
     pub fn find_counting_in(
         &self,
         mut handles: Candidates<'_, u32>,
@@ -151,9 +150,9 @@ impl<K: Eq, V, A: Allocator> Keys<K, V, A> {
             (slots_among handles.entry.left) }
     {
         while let Some(handle) = handles.peek() {
-            if handle < REMEMBERED {
-                if self.is_counting_in(handle, key, asked) {
-                    return Some(handle);
+            if let Handle::Resident(slot) = Handle::unpack(handle) {
+                if self.is_counting_in(slot, key, asked) {
+                    return Some(slot);
                 }
             }
             handles.advance();

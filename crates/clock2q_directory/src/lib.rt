@@ -9,6 +9,7 @@
 #![tactic(auto)]
 
 pub mod directory;
+pub mod handle;
 pub mod history;
 pub mod index;
 pub mod keys;

@@ -2,7 +2,7 @@ use Rattle.std.proofs.Common.{◌≡◌, true, false, refl, sym, ap, ◌∙◌, 
 use Rattle.std.specs.Prelude.{nat_eq, ◌+◌}
 use Rattle.clock2q_handles.specs.Homes.{candidates, removed}
 use Rattle.clock2q_queues.specs.Rings.{has}
-use Rattle.clock2q_directory.specs.Accesses.{most_changed}
+use Rattle.clock2q_directory.specs.Accesses.{counted, most_changed}
 use Rattle.clock2q_directory.specs.Index.{index_state, index_of, is_shared, places, forgotten_at, first_remembered}
 use Rattle.clock2q_directory.proofs.Charging.{cost_first, cost_second}
 use Rattle.clock2q_directory.proofs.Sorted.{held_place, held_own}
@@ -14,7 +14,7 @@ remove_existing-requires g c =
     let v = index_state i.shared.homes i.own.homes in
     let shared : is_shared v ≡ true = ap is_shared c.self.view_is ∙ sym c.is_shared.ensures.shared ∙ c.if-is_shared.true in
     let held = subst (λ z. has c.args.place (candidates (places z) c.args.hash) ≡ true) (sym c.self.view_is) c.requires.held in
-    record { held = held_place v c.args.hash c.args.place shared held }
+    rw c.pack-handle.ensures.packed (record { held = held_place v c.args.hash c.args.place shared held })
 
 pub remove_existing-requires-else-is_shared : goal.remove_existing-requires-else-is_shared
 remove_existing-requires-else-is_shared g c =
@@ -32,7 +32,9 @@ returns-then-is_shared g c =
     let shared : is_shared (index_of i.shared i.own) ≡ true = ap is_shared c.self.view_is ∙ sym c.is_shared.ensures.shared ∙ c.if-is_shared.true in
     let is : forgotten_at c.args.hash c.args.place (index_of i.shared i.own) ≡ record { shared = homes; own = i.own.homes; accesses = i.shared.accesses + i.own.accesses + m } = rw shared refl in
     record {
-      forgotten = ap (λ t. index_of t i.own) c.remove_existing.ensures.removed ∙ ap (λ n. record { shared = homes; own = i.own.homes; accesses = n }) (cost_first i.shared.accesses m i.own.accesses)
+      forgotten = ap (λ t. index_of t i.own) c.remove_existing.ensures.removed
+          ∙ ap (λ h. index_of (counted (removed nat_eq i.shared.homes c.args.hash h) (i.shared.accesses + m)) i.own) c.pack-handle.ensures.packed
+          ∙ ap (λ n. record { shared = homes; own = i.own.homes; accesses = n }) (cost_first i.shared.accesses m i.own.accesses)
           ∙ sym is ∙ ap (λ z. forgotten_at c.args.hash c.args.place z) c.self.view_is;
     }
 

@@ -3,7 +3,7 @@ use Rattle.std.specs.Prelude.{nat_eq, ◌+◌}
 use Rattle.clock2q_handles.specs.Homes.{candidates, removed, with_handle}
 use Rattle.clock2q_handles.specs.Positions.{handle_replaced}
 use Rattle.clock2q_queues.specs.Rings.{has}
-use Rattle.clock2q_directory.specs.Accesses.{CountedTable, most_changed}
+use Rattle.clock2q_directory.specs.Accesses.{CountedTable, counted, most_changed}
 use Rattle.clock2q_directory.specs.Index.{index_state, index_of, is_shared, slots, remembered_at, first_remembered, HasPlaceRoom}
 use Rattle.clock2q_directory.proofs.Charging.{cost_first, cost_both}
 use Rattle.clock2q_directory.proofs.Views.{held_entry}
@@ -56,6 +56,7 @@ returns-then-is_shared g c =
     } = rw shared refl in
     record {
       remembered = ap (λ t. index_of t i.own) c.replace_handle.ensures.handle_replaced
+          ∙ ap (λ h. index_of (counted (handle_replaced nat_eq i.shared.homes c.args.hash c.args.slot h) (i.shared.accesses + most_changed i.shared.homes c.args.hash)) i.own) c.pack-handle.ensures.packed
           ∙ ap (λ n. record { shared = handle_replaced nat_eq i.shared.homes c.args.hash c.args.slot (first_remembered + c.args.place); own = i.own.homes; accesses = n })
           (cost_first i.shared.accesses (most_changed i.shared.homes c.args.hash) i.own.accesses)
           ∙ sym is ∙ ap (λ z. remembered_at c.args.hash c.args.slot c.args.place z) c.self.view_is;

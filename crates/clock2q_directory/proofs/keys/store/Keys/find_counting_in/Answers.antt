@@ -7,17 +7,17 @@ use Rattle.clock2q_directory.proofs.Lookups.{asked-found, is_empty}
 use Rattle.clock2q_directory.proofs.keys.store.Keys.find_counting_in.Goals as goal
 
 pub is_counting_in-requires : goal.is_counting_in-requires
-is_counting_in-requires g c = record { used = (asked-slot c.loop-handle.handles.left c.loop-handle.invariant c.in-Some.ensures.candidate c.if-handle-lt-REMEMBERED.true).there.0 }
+is_counting_in-requires g c = record { used = (asked-slot c.loop-handle.handles.left c.loop-handle.invariant c.in-Some.ensures.candidate c.in-Resident.ensures.unpacked).there.0 }
 
 pub returns-then-is_counting_in-clause-found : goal.returns-then-is_counting_in-clause-found
 returns-then-is_counting_in-clause-found g c =
-    (asked-found c.in-Some.handle (slots_among (drop 1 c.loop-handle.handles.left))
-    (asked-slot c.loop-handle.handles.left c.loop-handle.invariant c.in-Some.ensures.candidate c.if-handle-lt-REMEMBERED.true) (sym c.if-is_counting_in.true ∙ c.is_counting_in.ensures.value)).0
+    (asked-found c.in-Resident.slot (slots_among (drop 1 c.loop-handle.handles.left))
+    (asked-slot c.loop-handle.handles.left c.loop-handle.invariant c.in-Some.ensures.candidate c.in-Resident.ensures.unpacked) (sym c.if-is_counting_in.true ∙ c.is_counting_in.ensures.value)).0
 
 pub returns-then-is_counting_in-clause-counted : goal.returns-then-is_counting_in-clause-counted
 returns-then-is_counting_in-clause-counted g c =
-    c.is_counting_in.ensures.counted ∙ (asked-found c.in-Some.handle (slots_among (drop 1 c.loop-handle.handles.left))
-    (asked-slot c.loop-handle.handles.left c.loop-handle.invariant c.in-Some.ensures.candidate c.if-handle-lt-REMEMBERED.true) (sym c.if-is_counting_in.true ∙ c.is_counting_in.ensures.value)).1
+    c.is_counting_in.ensures.counted ∙ (asked-found c.in-Resident.slot (slots_among (drop 1 c.loop-handle.handles.left))
+    (asked-slot c.loop-handle.handles.left c.loop-handle.invariant c.in-Some.ensures.candidate c.in-Resident.ensures.unpacked) (sym c.if-is_counting_in.true ∙ c.is_counting_in.ensures.value)).1
 
 pub returns-clause-found : goal.returns-clause-found
 returns-clause-found g c =

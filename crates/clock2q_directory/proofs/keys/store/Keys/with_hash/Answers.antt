@@ -7,13 +7,13 @@ use Rattle.clock2q_directory.proofs.WithHash.{sought-slot, sought-found, hash-co
 use Rattle.clock2q_directory.proofs.keys.store.Keys.with_hash.Goals as goal
 
 pub hash-requires : goal.hash-requires
-hash-requires g c = record { used = (sought-slot c.loop-handle.handles.left c.loop-handle.invariant c.in-Some.ensures.candidate c.if-handle-lt-REMEMBERED.true).there.0 }
+hash-requires g c = record { used = (sought-slot c.loop-handle.handles.left c.loop-handle.invariant c.in-Some.ensures.candidate c.in-Resident.ensures.unpacked).there.0 }
 
 pub returns-then-more-eq0 : goal.returns-then-more-eq0
 returns-then-more-eq0 g c = record {
-  found = sought-found c.in-Some.handle (slots_among (drop 1 c.loop-handle.handles.left))
-      (sought-slot c.loop-handle.handles.left c.loop-handle.invariant c.in-Some.ensures.candidate c.if-handle-lt-REMEMBERED.true)
-      (hash-compared c.args.self.now.entries c.args.hash c.in-Some.handle c.hash.ensures.hash c.if-hash.true) c.if-more-eq0.true;
+  found = sought-found c.in-Resident.slot (slots_among (drop 1 c.loop-handle.handles.left))
+      (sought-slot c.loop-handle.handles.left c.loop-handle.invariant c.in-Some.ensures.candidate c.in-Resident.ensures.unpacked)
+      (hash-compared c.args.self.now.entries c.args.hash c.in-Resident.slot c.hash.ensures.hash c.if-hash.true) c.if-more-eq0.true;
 }
 
 pub returns : goal.returns
