@@ -36,10 +36,6 @@ fn keys_in_two_slots(rt: HostRuntime) -> Result<(), Fail> {
         (1, 0, false, false)
     );
     assert_eq!(rt;
-        parts(clock2q_next_victim(&mut handle)),
-        (0, 70, true, false)
-    );
-    assert_eq!(rt;
         parts(clock2q_enter_key(&mut handle, 90)),
         (0, 70, true, true)
     );
@@ -54,20 +50,40 @@ fn keys_in_two_slots(rt: HostRuntime) -> Result<(), Fail> {
     assert!(rt; !clock2q_contains(&mut handle, 90));
     assert_eq!(rt; clock2q_len(&mut handle), 1);
     assert_eq!(rt;
-        parts(clock2q_next_victim(&mut handle)),
-        (1, 80, true, false)
-    );
-    assert_eq!(rt;
         parts(clock2q_enter_key(&mut handle, 60)),
         (0, 90, true, false)
     );
     clock2q_clear(&mut handle);
     assert_eq!(rt; clock2q_len(&mut handle), 0);
+    assert_eq!(rt; clock2q_capacity(&mut handle), 2);
+    clock2q_release(handle);
+    Ok(())
+}
+
+#[test]
+fn the_key_that_leaves_next(rt: HostRuntime) -> Result<(), Fail> {
+    let alloc = rt.alloc();
+    let mut handle = Handle::none(alloc);
+    if clock2q_new(alloc, &mut handle, 2) != DONE {
+        handle.discard();
+        return Err("no memory".into());
+    }
     assert_eq!(rt;
         parts(clock2q_next_victim(&mut handle)),
         (0, 0, false, false)
     );
-    assert_eq!(rt; clock2q_capacity(&mut handle), 2);
+    clock2q_enter_key(&mut handle, 70);
+    clock2q_enter_key(&mut handle, 80);
+    assert_eq!(rt;
+        parts(clock2q_next_victim(&mut handle)),
+        (0, 70, true, false)
+    );
+    clock2q_enter_key(&mut handle, 90);
+    assert!(rt; clock2q_remove(&mut handle, 90));
+    assert_eq!(rt;
+        parts(clock2q_next_victim(&mut handle)),
+        (1, 80, true, false)
+    );
     clock2q_release(handle);
     Ok(())
 }
