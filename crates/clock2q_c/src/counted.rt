@@ -111,7 +111,7 @@ fn rounds(alloc: Global, count: u64) -> bool {
 }
 
 /// If each round kept a block of one byte, which takes 32 bytes, the process would have 781 more
-/// pages.
+/// pages. Under `rt try` this fails, since its checks keep what was freed.
 #[test]
 fn exports_keep_nothing(rt: HostRuntime) -> Result<(), Fail> {
     assert!(rt; rounds(rt.alloc(), 1_000));
