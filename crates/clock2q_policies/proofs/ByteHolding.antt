@@ -1,5 +1,6 @@
 -- The entries of a cache of bytes when a key of a trace is accessed.
-use Rattle.std.proofs.Common.{◌≡◌, ◌≢◌, ℕ, suc, ◌+◌, ◌-◌, ◌<◌, ◌≤◌, inl, inr, refl, sym, ap, ◌∙◌, subst, arith, add-one, true, false, ◌||◌, eqb, ltb, List, [], ◌∷◌, ◌++◌, length, length-set, map, get_or, set, get_or-set_same, get_or-set_other}
+use Rattle.std.proofs.Common.{◌≡◌, ◌≢◌, ℕ, suc, ◌+◌, ◌-◌, ◌<◌, ◌≤◌, inl, inr, refl, sym, ap, ◌∙◌, subst, arith, add-one, true, false, ◌||◌, eqb, ltb, List, [], ◌∷◌, ◌++◌, length, length-set}
+use Rattle.std.proofs.Common.{map, get_or, set, get_or-set_same, get_or-set_other}
 use Rattle.std.proofs.lemmas.Bool.{cases_eq, cases_lt, eq-eqb, ne_eqb, le-leb, lt-leb, le-ltb, ltb-false, or_parts}
 use Rattle.std.proofs.lemmas.List.{get_or_default, map-append}
 use Rattle.clock2q_policies.specs.declared.byte_caches.ByteResidents.{ByteResidents}
@@ -150,7 +151,9 @@ module _ {A : Type 0} (trace : List ℕ) (at : ℕ) (old : ByteResidents A) (hol
       begun = omega (arith, l, holding.begun);
       used = u ∙ holding.used ∙ sym (moved-total old.sizes.items key keys inside (once trace old.stamps.items old.left key at holding.stamped inside))
           ∙ ap (λ ks. total (map (entry old.sizes.items) ks)) (sym front)
-          ∙ sym (ap (λ ss. total (entries_at trace ss new.sizes.items new.left (at + 1))) s ∙ ap (λ zs. total (entries_at trace stamps zs.items new.left (at + 1))) z ∙ ap (λ n. total (entries_at trace stamps old.sizes.items n (at + 1))) l);
+          ∙ sym (ap (λ ss. total (entries_at trace ss new.sizes.items new.left (at + 1))) s
+          ∙ ap (λ zs. total (entries_at trace stamps zs.items new.left (at + 1))) z
+          ∙ ap (λ n. total (entries_at trace stamps old.sizes.items n (at + 1))) l);
     }
 
   -- a key that comes, after room was made for it
@@ -164,7 +167,9 @@ module _ {A : Type 0} (trace : List ℕ) (at : ℕ) (old : ByteResidents A) (hol
         ∙ ap (λ n. record { key = key; size = n } ∷ map (entry (set old.sizes.items key size)) keys) (get_or-set_same old.sizes.items key size 0 (holding.sized at before))
         ∙ ap (λ rest. record { key = key; size = size } ∷ rest) (other-sizes old.sizes.items key size keys absent)
 
-    pub byte-holds-came : (new : ByteResidents A) → new.stamps.items ≡ stamps → new.sizes.items ≡ set old.sizes.items key size → new.left ≡ old.left → new.used ≡ old.used + size → IsByteHolding trace (at + 1) new
+    pub byte-holds-came : (new : ByteResidents A) → new.stamps.items ≡ stamps
+        → new.sizes.items ≡ set old.sizes.items key size → new.left ≡ old.left
+        → new.used ≡ old.used + size → IsByteHolding trace (at + 1) new
     byte-holds-came new s z l u = record {
       known = subst (AreKnown trace) (sym s) now-known;
       sized = λ index w. omega (arith, holding.sized index w, ap length z, length-set old.sizes.items key size);
@@ -186,8 +191,12 @@ module _ (trace stamps sizes : List ℕ) (left at : ℕ) where
   pub stale-index : get_or stamps (get_or trace left 0) 0 ≢ suc left → entries_at trace stamps sizes (left + 1) at ≡ entries_at trace stamps sizes left at
   stale-index stale = rw add-one (ap (map (entry sizes)) (held-stale trace stamps left at stale))
 
-  pub oldest-index : get_or stamps (get_or trace left 0) 0 ≡ suc left → left < at → entries_at trace stamps sizes left at ≡ entries_at trace stamps sizes (left + 1) at ++ entry sizes (get_or trace left 0) ∷ []
-  oldest-index stamp within = rw add-one (ap (map (entry sizes)) (held-oldest trace stamps left at stamp within) ∙ map-append (entry sizes) (held_at trace stamps (suc left) at) (get_or trace left 0 ∷ []))
+  pub oldest-index : get_or stamps (get_or trace left 0) 0 ≡ suc left → left < at
+      → entries_at trace stamps sizes left at ≡ entries_at trace stamps sizes (left + 1) at
+      ++ entry sizes (get_or trace left 0) ∷ []
+  oldest-index stamp within = rw add-one
+      (ap (map (entry sizes)) (held-oldest trace stamps left at stamp within)
+      ∙ map-append (entry sizes) (held_at trace stamps (suc left) at) (get_or trace left 0 ∷ []))
 
   pub none-held : at ≤ left → entries_at trace stamps sizes left at ≡ []
   none-held past = ap (map (entry sizes)) (held-none trace stamps left at past)
@@ -245,4 +254,6 @@ still-absent trace at old new holding within s order absent =
     let key = get_or trace at 0 in
     let before : is_in key (held_at trace old.stamps.items old.left at) ≡ false = sym (holds-entries old.sizes.items key (held_at trace old.stamps.items old.left at)) ∙ absent in
     let low : get_or old.stamps.items key 0 ≤ old.left = ltb-false old.left (get_or old.stamps.items key 0) (sym (is_in-stamp trace old.stamps.items old.left key at holding.stamped) ∙ before) in
-    ap (λ ss. is_in key (held_at trace ss.items new.left at)) s ∙ is_in-stamp trace old.stamps.items new.left key at holding.stamped ∙ le-ltb new.left (get_or old.stamps.items key 0) (omega (arith, low, order))
+    ap (λ ss. is_in key (held_at trace ss.items new.left at)) s
+    ∙ is_in-stamp trace old.stamps.items new.left key at holding.stamped
+    ∙ le-ltb new.left (get_or old.stamps.items key 0) (omega (arith, low, order))

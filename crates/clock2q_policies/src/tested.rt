@@ -6,7 +6,6 @@ mod index_set;
 mod lirs;
 mod lists;
 mod lru_2;
-mod marks;
 mod replayed;
 mod s3_fifo;
 mod sieve;

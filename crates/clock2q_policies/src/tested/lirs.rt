@@ -1,7 +1,6 @@
 //! LIRS.
 
 use crate::tested::lists::Lists;
-use crate::tested::marks::Marks;
 use crate::tested::replayed::Replayed;
 use std::alloc::{AllocError, Allocator};
 
@@ -23,10 +22,10 @@ pub(crate) struct Lirs<A: Allocator> {
     /// The largest number of low keys.
     most_low: usize,
     low: usize,
+    /// The low keys are marked.
     stack: Lists<A>,
     /// The residents that are high.
     queue: Lists<A>,
-    marks: Marks<A>,
 }
 
 impl<A: Allocator + Copy> Lirs<A> {
@@ -38,14 +37,13 @@ impl<A: Allocator + Copy> Lirs<A> {
             low: 0,
             stack: Lists::new(alloc, keys)?,
             queue: Lists::new(alloc, keys)?,
-            marks: Marks::new(alloc, keys)?,
         })
     }
 }
 
 impl<A: Allocator> Lirs<A> {
     fn is_low(&self, key: u32) -> bool {
-        self.marks.get(key) == LOW
+        self.stack.mark(key) == LOW
     }
 
     /// Removes keys that aren't low from the bottom of the stack.
@@ -61,7 +59,7 @@ impl<A: Allocator> Lirs<A> {
     /// Makes a key low.
     fn raise(&mut self, key: u32) {
         self.queue.take(key);
-        self.marks.set(key, LOW);
+        self.stack.set_mark(key, LOW);
         self.low = self.low.saturating_add(1);
         if self.low > self.most_low {
             self.lower_oldest();
@@ -72,7 +70,7 @@ impl<A: Allocator> Lirs<A> {
     fn lower_oldest(&mut self) {
         self.prune();
         if let Some(bottom) = self.stack.oldest(KEYS) {
-            self.marks.set(bottom, 0);
+            self.stack.set_mark(bottom, 0);
             self.low = self.low.saturating_sub(1);
             self.queue.put(KEYS, bottom);
             self.prune();

@@ -8,13 +8,22 @@ const NONE: u8 = u8::MAX;
 /// The largest number of lists.
 const LISTS: usize = 4;
 
-/// Lists with a newest and an oldest key. Each key is in at most one of them.
+/// A key's neighbours in its list, which list that is, and a number that a policy keeps beside it:
+/// together, since one access needs them all.
+#[derive(Clone, Copy)]
+struct Node {
+    newer: u32,
+    older: u32,
+    list: u8,
+    mark: u8,
+}
+
+/// Lists with a newest and an oldest key. Each key is in at most one of them, and has a mark, 0 at
+/// first.
 #[derive(Drop)]
 pub(crate) struct Lists<A: Allocator> {
-    /// The next newer node of each key, and then of the node that closes each list to a ring.
-    newer: Vec<u32, A>,
-    older: Vec<u32, A>,
-    lists: Vec<u8, A>,
+    /// The node of each key, and then the one that closes each list to a ring.
+    nodes: Vec<Node, A>,
     lengths: [usize; LISTS],
     keys: u32,
 }
@@ -22,11 +31,14 @@ pub(crate) struct Lists<A: Allocator> {
 impl<A: Allocator + Copy> Lists<A> {
     /// Returns empty lists for keys below `keys`.
     pub(crate) fn new(alloc: A, keys: u32) -> Result<Lists<A>, AllocError> {
-        let nodes = (keys as usize).saturating_add(LISTS);
+        let node = Node {
+            newer: 0,
+            older: 0,
+            list: NONE,
+            mark: 0,
+        };
         let mut lists = Lists {
-            newer: vec![in alloc; 0; nodes]?,
-            older: vec![in alloc; 0; nodes]?,
-            lists: vec![in alloc; NONE; nodes]?,
+            nodes: vec![in alloc; node; (keys as usize).saturating_add(LISTS)]?,
             lengths: [0; LISTS],
             keys,
         };
@@ -46,46 +58,66 @@ impl<A: Allocator> Lists<A> {
 
     /// Returns true if a key is in a list.
     pub(crate) fn has(&self, list: u8, key: u32) -> bool {
-        self.lists.get(key as usize) == Some(&list)
+        match self.nodes.get(key as usize) {
+            Some(node) => node.list == list,
+            None => false,
+        }
     }
 
     /// Returns the oldest key of a list.
     pub(crate) fn oldest(&self, list: u8) -> Option<u32> {
-        let key = at(&self.newer, self.ring(list));
-        (key < self.keys).then_some(key)
+        self.newer(self.ring(list))
     }
 
     /// Returns the next newer key of the same list, if there is any.
     pub(crate) fn newer(&self, key: u32) -> Option<u32> {
-        let key = at(&self.newer, key);
-        (key < self.keys).then_some(key)
+        let newer = self.nodes.get(key as usize)?.newer;
+        (newer < self.keys).then_some(newer)
+    }
+
+    /// Returns the mark of a key.
+    pub(crate) fn mark(&self, key: u32) -> u8 {
+        match self.nodes.get(key as usize) {
+            Some(node) => node.mark,
+            None => 0,
+        }
+    }
+
+    /// Replaces the mark of a key.
+    pub(crate) fn set_mark(&mut self, key: u32, mark: u8) {
+        if let Some(node) = self.nodes.get_mut(key as usize) {
+            node.mark = mark;
+        }
     }
 
     /// Makes a key the newest of a list, and removes it from the list it was in.
     pub(crate) fn put(&mut self, list: u8, key: u32) {
         self.take(key);
         let ring = self.ring(list);
-        let newest = at(&self.older, ring);
+        let Some(newest) = self.nodes.get(ring as usize) else {
+            return;
+        };
+        let newest = newest.older;
         self.join(newest, key);
         self.join(key, ring);
         self.count(list, 1);
-        if let Some(list_of) = self.lists.get_mut(key as usize) {
-            *list_of = list;
+        if let Some(node) = self.nodes.get_mut(key as usize) {
+            node.list = list;
         }
     }
 
     /// Removes a key from its list, if it is in one.
     pub(crate) fn take(&mut self, key: u32) {
-        let list = self.lists.get(key as usize).copied().unwrap_or(NONE);
+        let Some(node) = self.nodes.get_mut(key as usize) else {
+            return;
+        };
+        let (older, newer, list) = (node.older, node.newer, node.list);
         if list == NONE {
             return;
         }
-        let (older, newer) = (at(&self.older, key), at(&self.newer, key));
+        node.list = NONE;
         self.join(older, newer);
         self.count(list, -1);
-        if let Some(list_of) = self.lists.get_mut(key as usize) {
-            *list_of = NONE;
-        }
     }
 
     /// Returns the node that closes a list to a ring.
@@ -95,11 +127,11 @@ impl<A: Allocator> Lists<A> {
 
     /// Makes a node the next one after another.
     fn join(&mut self, older: u32, newer: u32) {
-        if let Some(next) = self.newer.get_mut(older as usize) {
-            *next = newer;
+        if let Some(node) = self.nodes.get_mut(older as usize) {
+            node.newer = newer;
         }
-        if let Some(before) = self.older.get_mut(newer as usize) {
-            *before = older;
+        if let Some(node) = self.nodes.get_mut(newer as usize) {
+            node.older = older;
         }
     }
 
@@ -108,8 +140,4 @@ impl<A: Allocator> Lists<A> {
             *length = length.saturating_add_signed(more);
         }
     }
-}
-
-fn at(links: &[u32], node: u32) -> u32 {
-    links.get(node as usize).copied().unwrap_or(u32::MAX)
 }

@@ -3,7 +3,6 @@ ghost use Rattle.std.specs.Prelude.{◌≡◌, IfOk, length};
 
 use crate::tested::index_set::IndexSet;
 use crate::tested::lists::Lists;
-use crate::tested::marks::Marks;
 use std::alloc::{AllocError, Allocator};
 use std::num::NonZeroUsize;
 
@@ -20,11 +19,11 @@ const RESIDENT: u8 = 1;
 #[derive(Drop)]
 struct Lru2<A: Allocator> {
     capacity: usize,
+    /// The residents accessed once. All residents are marked.
     once: Lists<A>,
     /// The last access but one of each other resident.
     again: IndexSet<A>,
     count_again: usize,
-    residents: Marks<A>,
     /// One more than the index of each key's last access, or 0 if there was none.
     last: Vec<usize, A>,
     /// The same of the access before it.
@@ -38,7 +37,6 @@ impl<A: Allocator + Copy> Lru2<A> {
             once: Lists::new(alloc, keys)?,
             again: IndexSet::new(alloc, trace.len())?,
             count_again: 0,
-            residents: Marks::new(alloc, keys)?,
             last: vec![in alloc; 0usize; keys as usize]?,
             before: vec![in alloc; 0usize; keys as usize]?,
         })
@@ -51,7 +49,7 @@ impl<A: Allocator> Lru2<A> {
         let Some(key) = trace.get(at).copied() else {
             return false;
         };
-        let is_hit = self.residents.get(key) == RESIDENT;
+        let is_hit = self.once.mark(key) == RESIDENT;
         if is_hit {
             self.take(key);
         } else {
@@ -73,7 +71,7 @@ impl<A: Allocator> Lru2<A> {
     }
 
     fn put(&mut self, key: u32) {
-        self.residents.set(key, RESIDENT);
+        self.once.set_mark(key, RESIDENT);
         match entry(&self.before, key).checked_sub(1) {
             Some(index) => {
                 self.again.insert(index);
@@ -84,7 +82,7 @@ impl<A: Allocator> Lru2<A> {
     }
 
     fn take(&mut self, key: u32) {
-        self.residents.set(key, 0);
+        self.once.set_mark(key, 0);
         match entry(&self.before, key).checked_sub(1) {
             Some(index) => {
                 self.again.remove(index);
@@ -121,7 +119,7 @@ fn entry(accesses: &[usize], key: u32) -> usize {
 ///
 /// # Cost
 ///
-/// Time in proportion to the trace and to `keys`, whatever the capacity; 9 bits an access and 26
+/// Time in proportion to the trace and to `keys`, whatever the capacity; 9 bits an access and 28
 /// bytes a key.
 pub fn lru_2_outcomes<A: Allocator + Copy>(
     alloc: A,

@@ -42,7 +42,7 @@ where
 ///
 /// # Cost
 ///
-/// Time in proportion to the trace and to `keys`, whatever the capacity; a byte an access and 10
+/// Time in proportion to the trace and to `keys`, whatever the capacity; a byte an access and 12
 /// bytes a key.
 pub fn sieve_outcomes<A: Allocator + Copy>(
     alloc: A,
@@ -65,7 +65,7 @@ pub fn sieve_outcomes<A: Allocator + Copy>(
 ///
 /// # Cost
 ///
-/// Time in proportion to the trace and to `keys`, whatever the capacity; a byte an access and 10
+/// Time in proportion to the trace and to `keys`, whatever the capacity; a byte an access and 12
 /// bytes a key.
 pub fn s3_fifo_outcomes<A: Allocator + Copy>(
     alloc: A,
@@ -87,7 +87,7 @@ pub fn s3_fifo_outcomes<A: Allocator + Copy>(
 ///
 /// # Cost
 ///
-/// Time in proportion to the trace and to `keys`, whatever the capacity; a byte an access and 9
+/// Time in proportion to the trace and to `keys`, whatever the capacity; a byte an access and 12
 /// bytes a key.
 pub fn arc_outcomes<A: Allocator + Copy>(
     alloc: A,
@@ -111,7 +111,7 @@ pub fn arc_outcomes<A: Allocator + Copy>(
 ///
 /// # Cost
 ///
-/// Time in proportion to the trace and to `keys`, whatever the capacity; a byte an access and 9
+/// Time in proportion to the trace and to `keys`, whatever the capacity; a byte an access and 12
 /// bytes a key.
 pub fn two_q_outcomes<A: Allocator + Copy>(
     alloc: A,
@@ -135,7 +135,7 @@ pub fn two_q_outcomes<A: Allocator + Copy>(
 ///
 /// # Cost
 ///
-/// Time in proportion to the trace and to `keys`, whatever the capacity; a byte an access and 19
+/// Time in proportion to the trace and to `keys`, whatever the capacity; a byte an access and 24
 /// bytes a key.
 pub fn lirs_outcomes<A: Allocator + Copy>(
     alloc: A,
@@ -161,7 +161,7 @@ pub fn lirs_outcomes<A: Allocator + Copy>(
 ///
 /// # Cost
 ///
-/// Time in proportion to the trace and to `keys`; a byte an access, 9 bytes a key, and 4 to 8 bytes
+/// Time in proportion to the trace and to `keys`; a byte an access, 12 bytes a key, and 4 to 8 bytes
 /// a key of the capacity.
 pub fn w_tiny_lfu_outcomes<A: Allocator + Copy>(
     alloc: A,

@@ -1,7 +1,6 @@
 //! S3-FIFO.
 
 use crate::tested::lists::Lists;
-use crate::tested::marks::Marks;
 use crate::tested::replayed::Replayed;
 use std::alloc::{AllocError, Allocator};
 
@@ -25,8 +24,8 @@ pub(crate) struct S3Fifo<A: Allocator> {
     capacity: usize,
     small: usize,
     main: usize,
+    /// The mark of a key is the number of its hits.
     queues: Lists<A>,
-    hits: Marks<A>,
 }
 
 impl<A: Allocator + Copy> S3Fifo<A> {
@@ -37,7 +36,6 @@ impl<A: Allocator + Copy> S3Fifo<A> {
             small,
             main: capacity.saturating_sub(small),
             queues: Lists::new(alloc, keys)?,
-            hits: Marks::new(alloc, keys)?,
         })
     }
 }
@@ -60,14 +58,14 @@ impl<A: Allocator> S3Fifo<A> {
             let Some(key) = self.queues.oldest(SMALL) else {
                 return;
             };
-            if self.hits.get(key) <= 1 {
+            if self.queues.mark(key) <= 1 {
                 self.remember(key);
                 return;
             }
             if self.queues.len(MAIN) >= self.main {
                 self.evict_main();
             }
-            self.hits.set(key, 0);
+            self.queues.set_mark(key, 0);
             self.queues.put(MAIN, key);
         }
     }
@@ -78,12 +76,12 @@ impl<A: Allocator> S3Fifo<A> {
             let Some(key) = self.queues.oldest(MAIN) else {
                 return;
             };
-            let hits = self.hits.get(key);
+            let hits = self.queues.mark(key);
             if hits == 0 {
                 self.queues.take(key);
                 return;
             }
-            self.hits.set(key, hits.saturating_sub(1));
+            self.queues.set_mark(key, hits.saturating_sub(1));
             self.queues.put(MAIN, key);
         }
     }
@@ -102,8 +100,8 @@ impl<A: Allocator> S3Fifo<A> {
 impl<A: Allocator> Replayed for S3Fifo<A> {
     fn access(&mut self, key: u32) -> bool {
         if self.queues.has(SMALL, key) || self.queues.has(MAIN, key) {
-            let hits = self.hits.get(key).saturating_add(1);
-            self.hits.set(key, hits.min(MOST));
+            let hits = self.queues.mark(key).saturating_add(1);
+            self.queues.set_mark(key, hits.min(MOST));
             return true;
         }
         // if all keys of the small queue move on, none may have been evicted
@@ -117,7 +115,7 @@ impl<A: Allocator> Replayed for S3Fifo<A> {
         } else {
             SMALL
         };
-        self.hits.set(key, 0);
+        self.queues.set_mark(key, 0);
         self.queues.put(list, key);
         false
     }

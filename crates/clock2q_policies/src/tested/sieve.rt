@@ -1,7 +1,6 @@
 //! SIEVE.
 
 use crate::tested::lists::Lists;
-use crate::tested::marks::Marks;
 use crate::tested::replayed::Replayed;
 use std::alloc::{AllocError, Allocator};
 
@@ -13,8 +12,8 @@ const RESIDENT: u8 = 0;
 #[derive(Drop)]
 pub(crate) struct Sieve<A: Allocator> {
     capacity: usize,
+    /// A key is marked if it was hit.
     residents: Lists<A>,
-    hit: Marks<A>,
     hand: Option<u32>,
 }
 
@@ -23,7 +22,6 @@ impl<A: Allocator + Copy> Sieve<A> {
         Ok(Sieve {
             capacity,
             residents: Lists::new(alloc, keys)?,
-            hit: Marks::new(alloc, keys)?,
             hand: None,
         })
     }
@@ -36,11 +34,11 @@ impl<A: Allocator> Sieve<A> {
                 return;
             };
             self.hand = self.residents.newer(key);
-            if self.hit.get(key) == 0 {
+            if self.residents.mark(key) == 0 {
                 self.residents.take(key);
                 return;
             }
-            self.hit.set(key, 0);
+            self.residents.set_mark(key, 0);
         }
     }
 }
@@ -48,13 +46,13 @@ impl<A: Allocator> Sieve<A> {
 impl<A: Allocator> Replayed for Sieve<A> {
     fn access(&mut self, key: u32) -> bool {
         if self.residents.has(RESIDENT, key) {
-            self.hit.set(key, 1);
+            self.residents.set_mark(key, 1);
             return true;
         }
         if self.residents.len(RESIDENT) >= self.capacity {
             self.evict();
         }
-        self.hit.set(key, 0);
+        self.residents.set_mark(key, 0);
         self.residents.put(RESIDENT, key);
         false
     }

@@ -16,7 +16,10 @@ returns-then-is_hit-clause-hit g c = sym (byte-held-iff _ _ c.args.self.now c.re
 
 pub returns-then-is_hit-clause-held : goal.returns-then-is_hit-clause-held
 returns-then-is_hit-clause-held g c =
-    let is : holds (get_or c.args.trace.now c.args.at 0) (entries_by c.args.trace.now c.args.at c.args.self.now) ≡ true = byte-held-iff _ _ c.args.self.now c.requires.holding c.requires.at c.index.result.now c.index.ensures ∙ lt-ltb _ _ c.if-is_hit.true in
+    let is : holds (get_or c.args.trace.now c.args.at 0)
+    (entries_by c.args.trace.now c.args.at c.args.self.now) ≡ true =
+    byte-held-iff _ _ c.args.self.now c.requires.holding c.requires.at c.index.result.now
+    c.index.ensures ∙ lt-ltb _ _ c.if-is_hit.true in
     rw is c.hit.ensures.held
 
 pub returns-else-is_hit-clause-hit : goal.returns-else-is_hit-clause-hit
@@ -24,5 +27,8 @@ returns-else-is_hit-clause-hit g c = sym (byte-held-iff _ _ c.args.self.now c.re
 
 pub returns-else-is_hit-clause-held : goal.returns-else-is_hit-clause-held
 returns-else-is_hit-clause-held g c =
-    let is : holds (get_or c.args.trace.now c.args.at 0) (entries_by c.args.trace.now c.args.at c.args.self.now) ≡ false = byte-held-iff _ _ c.args.self.now c.requires.holding c.requires.at c.index.result.now c.index.ensures ∙ le-ltb _ _ c.if-is_hit.false in
+    let is : holds (get_or c.args.trace.now c.args.at 0)
+    (entries_by c.args.trace.now c.args.at c.args.self.now) ≡ false =
+    byte-held-iff _ _ c.args.self.now c.requires.holding c.requires.at c.index.result.now
+    c.index.ensures ∙ le-ltb _ _ c.if-is_hit.false in
     rw is c.bring.ensures.held

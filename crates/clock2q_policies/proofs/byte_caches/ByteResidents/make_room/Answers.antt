@@ -9,7 +9,9 @@ use Rattle.clock2q_policies.proofs.byte_caches.ByteResidents.make_room.Goals as 
 pub overflow_sub-self : goal.overflow_sub-self
 overflow_sub-self g c =
     let s = c.loop-self.self in
-    let paid = pays c.args.trace.now c.args.at c.args.room s (record { stamps = s.stamps; sizes = s.sizes; left = s.left + 1; used = s.used }) c.loop-self.invariant.holding c.requires.at c.if-self-at.true
+    let paid = pays c.args.trace.now c.args.at c.args.room s
+    (record { stamps = s.stamps; sizes = s.sizes; left = s.left + 1; used = s.used })
+    c.loop-self.invariant.holding c.requires.at c.if-self-at.true
     refl refl refl c.index.result.now c.index.ensures c.if-index-self.true c.index-then-index-self.result.now c.index-then-index-self.ensures in
     omega (arith, paid)
 
