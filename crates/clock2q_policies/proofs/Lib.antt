@@ -19,6 +19,7 @@ pub mod StackDistances
 pub mod LastAccesses
 pub mod Curve
 pub mod IndexTrees
+pub mod IndexWords
 pub mod Awaited
 pub mod AwaitedSteps
 pub mod ByteHolding

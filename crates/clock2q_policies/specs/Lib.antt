@@ -7,6 +7,7 @@ pub mod StackDistances
 pub mod CountTree
 pub mod LastAccesses
 pub mod IndexTree
+pub mod Indices
 pub mod Awaited
 pub mod ByteCaches
 pub mod ByteResidents

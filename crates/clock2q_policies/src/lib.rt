@@ -7,6 +7,7 @@
 mod byte_caches;
 mod count_tree;
 mod index_tree;
+mod indices;
 mod last_accesses;
 mod lru_curve;
 mod optimal;

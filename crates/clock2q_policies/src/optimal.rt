@@ -5,7 +5,7 @@ ghost use Rattle.clock2q_policies.specs.Policies.{is_in, without, AreBelow};
 ghost use Rattle.clock2q_policies.specs.Optimum.{optimal_hits, optimal_outcomes};
 ghost use Rattle.clock2q_policies.specs.Awaited.{optimal_at, AreNextUses, IsAwaiting};
 
-use crate::index_tree::IndexTree;
+use crate::indices::Indices;
 use std::alloc::{AllocError, Allocator};
 use std::num::NonZeroUsize;
 
@@ -15,7 +15,7 @@ struct Awaited<A: Allocator> {
     /// For each access of the trace the index of its key's next one, or the number of accesses.
     next: Vec<usize, A>,
     /// The indices of the next accesses of the held keys.
-    waiting: IndexTree<A>,
+    waiting: Indices<A>,
     /// The number of held keys that are accessed again.
     count: usize,
 }
@@ -104,8 +104,8 @@ fn next_uses<A: Allocator + Copy>(
 ///
 /// # Cost
 ///
-/// Time in proportion to n log n for n accesses at most, and to `keys`, whatever the capacity; 10
-/// to 12 bytes an access, and at first 8 bytes a key.
+/// Time in proportion to n log n for n accesses at most, and to `keys`, whatever the capacity; a
+/// little over 8 bytes an access, and at first 8 bytes a key.
 ///
 /// # Example
 ///
@@ -125,7 +125,7 @@ pub fn optimal_hits<A: Allocator + Copy>(
 {
     let mut awaited = Awaited {
         next: next_uses(alloc, trace, keys)?,
-        waiting: IndexTree::new(alloc, trace.len())?,
+        waiting: Indices::new(alloc, trace.len())?,
         count: 0,
     };
     let mut hits = 0;
@@ -168,7 +168,7 @@ pub fn optimal_outcomes<A: Allocator + Copy>(
 {
     let mut awaited = Awaited {
         next: next_uses(alloc, trace, keys)?,
-        waiting: IndexTree::new(alloc, trace.len())?,
+        waiting: Indices::new(alloc, trace.len())?,
         count: 0,
     };
     let mut outcomes = Vec::with_capacity(alloc, trace.len())?;

@@ -2,7 +2,7 @@ use Rattle.std.proofs.Common.{◌≡◌, ◌∙◌, ◌<◌, suc, arith, add-one
 use Rattle.std.specs.NonZero.{non_zero_usize_get}
 use Rattle.std.proofs.lemmas.List.{get_or_default}
 use Rattle.clock2q_policies.specs.Awaited.{use_from}
-use Rattle.clock2q_policies.specs.IndexTree.{has}
+use Rattle.clock2q_policies.specs.Indices.{contains}
 use Rattle.clock2q_policies.proofs.AwaitedSteps.{joined, not_joined}
 use Rattle.clock2q_policies.proofs.optimal.Awaited.access.Goals as goal
 
@@ -13,11 +13,11 @@ returns-then-next-trace-clause-awaiting g c =
     let next : c.index-next.result.now ≡ use_from c.args.trace.now (suc c.args.at) (get_or c.args.trace.now c.args.at 0) =
     c.index-next.ensures ∙ get_or_default c.leave-is_hit.new.self.next.items c.args.at c.index-next.result.now 0 (omega (arith, c.requires.at, a.next.long)) ∙ a.next.each c.args.at c.requires.at in
     rw add-one (record {
-      tree = c.insert.ensures.tree;
-      wide = omega (arith, a.wide, c.insert.ensures.leaves);
+      set = c.insert.ensures.set;
+      wide = omega (arith, a.wide, c.insert.ensures.long);
       next = a.next;
-      waiting = joined (non_zero_usize_get c.args.capacity) some c.args.trace.now c.args.at (has c.leave-is_hit.new.self.waiting) c.leave-is_hit.new.self.count a.waiting
-          c.index-next.result.now (has c.insert.new.self) next c.if-next-trace.true c.insert.ensures.added c.insert.ensures.others;
+      waiting = joined (non_zero_usize_get c.args.capacity) some c.args.trace.now c.args.at (contains c.leave-is_hit.new.self.waiting) c.leave-is_hit.new.self.count a.waiting
+          c.index-next.result.now (contains c.insert.new.self) next c.if-next-trace.true c.insert.ensures.added c.insert.ensures.others;
     })
 
 pub returns-else-next-trace-clause-awaiting : goal.returns-else-next-trace-clause-awaiting
@@ -27,10 +27,10 @@ returns-else-next-trace-clause-awaiting g c =
     let next : c.index-next.result.now ≡ use_from c.args.trace.now (suc c.args.at) (get_or c.args.trace.now c.args.at 0) =
     c.index-next.ensures ∙ get_or_default c.leave-is_hit.new.self.next.items c.args.at c.index-next.result.now 0 (omega (arith, c.requires.at, a.next.long)) ∙ a.next.each c.args.at c.requires.at in
     rw add-one (record {
-      tree = a.tree;
+      set = a.set;
       wide = a.wide;
       next = a.next;
       waiting = not_joined (non_zero_usize_get c.args.capacity) some c.args.trace.now c.args.at
-          (has c.leave-is_hit.new.self.waiting) c.leave-is_hit.new.self.count a.waiting c.index-next.result.now next
+          (contains c.leave-is_hit.new.self.waiting) c.leave-is_hit.new.self.count a.waiting c.index-next.result.now next
           c.if-next-trace.false;
     })
