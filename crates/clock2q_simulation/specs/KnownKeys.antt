@@ -1,15 +1,13 @@
 -- Different keys, whose bytes are stored one after another, and a table of their numbers.
 use Rattle.std.specs.Prelude.{◌≡◌, ◌<◌, ◌≤◌, ◌-◌, ◌^◌, ◌↔◌, ℕ, Bool, List, [], ◌∷◌, ◌++◌, length, get_or, take, drop, slice_get, Some, MatchBool}
-use Rattle.std.specs.Hash.{slice, u8}
-use Rattle.std.specs.List.{fold}
 use Rattle.std.specs.declared.hash.Hasher as hasher
 use Rattle.std.specs.declared.hash.BuildHasher as builder
 use Rattle.clock2q_handles.specs.Rehash.{IsHeld}
 use Rattle.clock2q_handles.specs.TableStep.{IsHashOf}
 
--- the hash of a key by the hashers that `s` makes
+-- the hash of a key by the hashers that `s` makes: all its bytes are written at once
 unfoldable pub hash_of : {S H : Type 0} → builder.Ghosts S H → hasher.Ghosts H → S → List ℕ → ℕ
-hash_of b h s key = h.finish (fold h.write (b.build_hasher s) (slice u8 key))
+hash_of b h s key = h.finish (h.write (b.build_hasher s) key)
 
 -- the keys that start at these places among the bytes: each extends to the next one, and the last to the end
 abbrev pub keys_in : List ℕ → List ℕ → List (List ℕ)

@@ -3,13 +3,16 @@ ghost use Rattle.std.specs.Cmp.Lexicographic.{pointwise};
 ghost use Rattle.std.specs.Prelude.{◌≡◌, ◌<◌, ◌+◌, [], get_or, length, nat_eq};
 ghost use Rattle.clock2q_simulation.specs.KnownKeys.{AreStarts, hash_of, keys_in};
 
-use std::hash::BuildHasher;
+use std::hash::{BuildHasher, Hasher};
 
-/// Returns the hash of a key.
+/// Returns the hash of a key, whose bytes are written at once. [`BuildHasher::hash_one`] writes a
+/// length and each byte by itself, which takes several times as long.
 pub(crate) fn hash_of<S: BuildHasher>(key: &[u8], hasher: &S) -> u64
     ensures hash { result ≡ hash_of S.BuildHasher S.Hasher.Hasher hasher.now key.now }
 {
-    hasher.hash_one(key)
+    let mut state = hasher.build_hasher();
+    state.write(key);
+    state.finish()
 }
 
 /// Returns where the key with a number ends: where the next one starts, or at the end of all bytes.
