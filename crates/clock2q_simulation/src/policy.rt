@@ -2,13 +2,17 @@
 ghost use Rattle.std.specs.Prelude.{◌≡◌, ◌≤◌, ◌^◌, IfErr, IfOk};
 ghost use Rattle.std.specs.NonZero.{non_zero_usize_get};
 ghost use Rattle.clock2q_policies.specs.Policies.{AreBelow};
+ghost use Rattle.clock2q_policies.specs.SecondChance.{clock_outcomes};
 ghost use Rattle.clock2q_simulation.specs.ByteRows.{in_bytes};
+ghost use Rattle.clock2q_simulation.specs.ChosenShares.{shares_for};
+ghost use Rattle.clock2q_simulation.specs.MachineHits.{machine_outcomes};
 ghost use Rattle.clock2q_simulation.specs.Rows.{IsReplay};
 ghost use Rattle.clock2q_simulation.specs.SimulationError.{IsOfNoDevice};
 
 use crate::clock::{clock_outcomes, clock2q_outcomes};
 use crate::error::SimulationError;
 use crate::shares::ChosenShares;
+use clock2q_policies::PlainPolicy::{FirstInFirstOut, LeastRecentlyUsed};
 use clock2q_policies::tested::{
     arc_outcomes, lirs_outcomes, lru_2_outcomes, s3_fifo_outcomes, sieve_outcomes, two_q_outcomes,
     w_tiny_lfu_outcomes,
@@ -164,29 +168,17 @@ pub fn policy_outcomes<A: Allocator + Copy>(
         return Err(SimulationError::Memory);
     };
     let outcomes = match policy {
-        Policy::Clock2Q => match clock2q_outcomes(alloc, capacity, shares, numbers) {
-            Ok(outcomes) => outcomes,
-            Err(error) => return Err(SimulationError::of_cache(error, capacity.get())),
-        },
+        Policy::Clock2Q => clock2q_replay(alloc, capacity, shares, numbers)?,
         Policy::Sieve => sieve_outcomes(alloc, capacity, numbers, keys)?,
         Policy::S3Fifo => s3_fifo_outcomes(alloc, capacity, numbers, keys)?,
         Policy::LeastRecentlyUsed => {
-            plain_outcomes(
-                alloc,
-                PlainPolicy::LeastRecentlyUsed,
-                capacity,
-                numbers,
-                keys,
-            )?
+            plain_outcomes(alloc, LeastRecentlyUsed, capacity, numbers, keys)?
         }
         Policy::Optimal => optimal_outcomes(alloc, capacity, numbers, keys)?,
         Policy::FirstInFirstOut => {
-            plain_outcomes(alloc, PlainPolicy::FirstInFirstOut, capacity, numbers, keys)?
+            plain_outcomes(alloc, FirstInFirstOut, capacity, numbers, keys)?
         }
-        Policy::Clock => match clock_outcomes(alloc, capacity, numbers) {
-            Ok(outcomes) => outcomes,
-            Err(error) => return Err(SimulationError::of_cache(error, capacity.get())),
-        },
+        Policy::Clock => clock_replay(alloc, capacity, numbers)?,
         Policy::Arc => arc_outcomes(alloc, capacity, numbers, keys)?,
         Policy::TwoQ => two_q_outcomes(alloc, capacity, numbers, keys)?,
         Policy::Lirs => lirs_outcomes(alloc, capacity, numbers, keys)?,
@@ -194,4 +186,37 @@ pub fn policy_outcomes<A: Allocator + Copy>(
         Policy::WTinyLfu => w_tiny_lfu_outcomes(alloc, capacity, numbers, keys)?,
     };
     Ok(outcomes)
+}
+
+/// Does what [`clock2q_outcomes`] does, with the refusals of a simulation.
+fn clock2q_replay<A: Allocator + Copy>(
+    alloc: A,
+    capacity: NonZeroUsize,
+    shares: Option<ChosenShares>,
+    numbers: &[u32],
+) -> Result<Vec<bool, A>, SimulationError>
+    ensures outcomes { IfOk result (λ outcomes. outcomes.items
+        ≡ machine_outcomes (shares_for shares (non_zero_usize_get capacity)) numbers.now) }
+    ensures devices { IfErr result IsOfNoDevice }
+{
+    match clock2q_outcomes(alloc, capacity, shares, numbers) {
+        Ok(outcomes) => Ok(outcomes),
+        Err(error) => Err(SimulationError::of_cache(error, capacity.get())),
+    }
+}
+
+/// Does what [`clock_outcomes`] does, with the refusals of a simulation.
+fn clock_replay<A: Allocator + Copy>(
+    alloc: A,
+    capacity: NonZeroUsize,
+    numbers: &[u32],
+) -> Result<Vec<bool, A>, SimulationError>
+    ensures outcomes { IfOk result (λ outcomes. outcomes.items
+        ≡ clock_outcomes (non_zero_usize_get capacity) numbers.now) }
+    ensures devices { IfErr result IsOfNoDevice }
+{
+    match clock_outcomes(alloc, capacity, numbers) {
+        Ok(outcomes) => Ok(outcomes),
+        Err(error) => Err(SimulationError::of_cache(error, capacity.get())),
+    }
 }
