@@ -1,5 +1,6 @@
 -- Which words are amounts.
-use Rattle.std.proofs.Common.{◌≡◌, ℕ, zero, suc, ◌+◌, ◌-◌, ◌<◌, ◌≤◌, Bool, true, false, cond, ◌&&◌, List, [], ◌∷◌, ◌++◌, length, length-append, take, drop, get_or, Option, None, Some, min, ltb, eqb, refl, sym, ap, ◌∙◌, append_assoc, arith}
+use Rattle.std.proofs.Common.{◌≡◌, ℕ, zero, suc, ◌+◌, ◌-◌, ◌<◌, ◌≤◌, Bool, true, false, cond, ◌&&◌, List, [], ◌∷◌, ◌++◌, length, length-append, take, drop, get_or, Option, None, Some, min}
+use Rattle.std.proofs.Common.{ltb, eqb, refl, sym, ap, ◌∙◌, append_assoc, arith}
 use Rattle.std.specs.Option.{MatchOption, option_map}
 use Rattle.std.specs.Str.Pattern.{FindsText}
 use denote.Ref.{Bor}
@@ -80,7 +81,9 @@ ends-later byte bytes h = cases bytes (eqb byte 46) h refl where
     second true f = absurd (h rest (let one : byte ≡ 46 = eqb-true byte 46 e in let two : other ≡ 46 = eqb-true other 46 f in cc))
 
 -- the first two dots of a word are the first that a search finds
-pub ends-at : (word : List ℕ) (i : ℕ) (rest : List ℕ) → ((k : ℕ) → k < i → (after : List ℕ) → drop k word ≡ 46 ∷ 46 ∷ after → ⊥) → drop i word ≡ 46 ∷ 46 ∷ rest → ends_of word ≡ Some (take i word, rest)
+pub ends-at : (word : List ℕ) (i : ℕ) (rest : List ℕ)
+    → ((k : ℕ) → k < i → (after : List ℕ) → drop k word ≡ 46 ∷ 46 ∷ after → ⊥)
+    → drop i word ≡ 46 ∷ 46 ∷ rest → ends_of word ≡ Some (take i word, rest)
 ends-at [] zero rest h e = absurd (cc)
 ends-at [] (suc i) rest h e = absurd (cc)
 ends-at (byte ∷ bytes) zero rest h e = ends-here byte bytes rest e
@@ -95,7 +98,10 @@ ends-nowhere (byte ∷ bytes) h =
 
 -- what `split_once` at two dots returns
 pub split-ends : (word : List ℕ) (r : Option (Bor (List ℕ) × Bor (List ℕ)))
-    → MatchOption r (FindsText (46 ∷ 46 ∷ []) word None) (λ x. (i : ℕ) × (j : ℕ) × FindsText (46 ∷ 46 ∷ []) word (Some (i, j)) × (x.0.now ≡ take i word) × (x.1.now ≡ drop j word) × (i ≤ j) × (length x.0.now ≡ i) × (length x.1.now + j ≡ length word))
+    → MatchOption r (FindsText (46 ∷ 46 ∷ []) word None) (λ x. (i : ℕ) × (j : ℕ)
+    × FindsText (46 ∷ 46 ∷ []) word (Some (i, j)) × (x.0.now ≡ take i word)
+    × (x.1.now ≡ drop j word) × (i ≤ j) × (length x.0.now ≡ i)
+    × (length x.1.now + j ≡ length word))
     → MatchOption r (ends_of word ≡ None) (λ x. ends_of word ≡ Some (x.0.now, x.1.now))
 split-ends word None h = ends-nowhere word h
 split-ends word (Some x) h = ends-at word h.0 (drop h.1 word) h.2.0 h.2.1.split ∙ (λ k. Some (sym h.3 k, sym h.4 k))
@@ -118,6 +124,8 @@ joined_bytes_more some bytes None = refl
 joined_bytes_more some bytes (Some rest) = ap Some (append_assoc some (bytes ∷ []) rest)
 
 -- that one is what a word spells
-pub one_more_after : (word old new : List ℕ) (bytes : ℕ) (more : Option (List ℕ)) → bytes_in word ≡ Some bytes → new ≡ old ++ bytes ∷ [] → joined_bytes new more ≡ joined_bytes old (one_more (bytes_in word) more)
+pub one_more_after : (word old new : List ℕ) (bytes : ℕ) (more : Option (List ℕ))
+    → bytes_in word ≡ Some bytes → new ≡ old ++ bytes ∷ []
+    → joined_bytes new more ≡ joined_bytes old (one_more (bytes_in word) more)
 one_more_after word old new bytes more spelled items =
     ap (λ all. joined_bytes all more) items ∙ joined_bytes_more old bytes more ∙ sym (ap (λ found. joined_bytes old (one_more found more)) spelled)

@@ -1,5 +1,5 @@
 -- Sums of sizes, one access at a time.
-use Rattle.std.proofs.Common.{◌≡◌, ℕ, ◌+◌, ◌-◌, ◌^◌, ◌<◌, ◌≤◌, Bool, true, false, cond, List, [], ◌∷◌, Option, length, take, drop, get_or, min, refl, sym, ap, ◌∙◌, arith}
+use Rattle.std.proofs.Common.{◌≡◌, ℕ, ◌+◌, ◌-◌, ◌<◌, ◌≤◌, Bool, false, cond, List, [], ◌∷◌, Option, length, take, drop, get_or, min, refl, sym, ap, ◌∙◌, arith}
 use Rattle.std.specs.List.{sum}
 use Rattle.std.proofs.lemmas.List.{drop_all, drop_more, get_or-take, length-drop, length-take, take_all}
 use Rattle.std.proofs.lemmas.List.Sums.{sum_by-drop_more}
@@ -53,7 +53,9 @@ no-bytes first last outcomes =
     let nothing : between first last [] ≡ [] = ap (drop first) (take_all last [] (omega arith)) ∙ drop_all first [] (omega arith) in
     ap (λ sizes. capped (hit_bytes (between first last outcomes) sizes)) nothing ∙ ap capped (unsized_hits (between first last outcomes))
 
-pub known-bytes : (shares : Option ChosenShares) (numbers sizes : List ℕ) (room first last : ℕ) (policy : Policy) → policy ≡ LeastRecentlyUsed → sizes ≡ [] → AreBytes shares numbers sizes room first last policy 0
+pub known-bytes : (shares : Option ChosenShares) (numbers sizes : List ℕ) (room first last : ℕ)
+    (policy : Policy) → policy ≡ LeastRecentlyUsed → sizes ≡ []
+    → AreBytes shares numbers sizes room first last policy 0
 known-bytes shares numbers sizes room first last policy is none =
     let outcomes = plain_outcomes plain.LeastRecentlyUsed room numbers in
     record {

@@ -72,7 +72,9 @@ module _ (left : ℕ) (key : List ℕ) (place next : Place) (byte : ℕ) (step :
   pub ends : (less : ℕ) → step ≡ End → less ≡ left - 1 → IsEarly left key → (rest : List ℕ) → found_in left key (fields_from place (byte ∷ rest)) ≡ found_in less key (fields_from Start rest)
   ends less e l early rest = steps End e rest ∙ found-end left key (fields_from Start rest) less l early
 
-  pub adds : (longer : List ℕ) → step ≡ Add next → left ≡ 1 → longer ≡ key ++ byte ∷ [] → (rest : List ℕ) → found_in left key (fields_from place (byte ∷ rest)) ≡ found_in left longer (fields_from next rest)
+  pub adds : (longer : List ℕ) → step ≡ Add next → left ≡ 1 → longer ≡ key ++ byte ∷ []
+      → (rest : List ℕ) → found_in left key (fields_from place (byte ∷ rest)) ≡ found_in
+      left longer (fields_from next rest)
   adds longer e one l rest = steps (Add next) e rest ∙ found-byte left key byte (fields_from next rest) one ∙ ap (λ k. found_in left k (fields_from next rest)) (sym l)
 
   pub passes : step ≡ Add next → (left ≡ 1 → ⊥) → (rest : List ℕ) → found_in left key (fields_from place (byte ∷ rest)) ≡ found_in left key (fields_from next rest)

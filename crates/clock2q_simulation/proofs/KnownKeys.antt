@@ -1,5 +1,6 @@
 -- Different keys, and a table of their numbers that one more is added to.
-use Rattle.std.proofs.Common.{◌≡◌, ◌≢◌, ◌⊎◌, ℕ, zero, suc, ◌<◌, ◌^◌, inl, inr, refl, ap, sym, ◌∙◌, subst, arith, Bool, true, false, nat_eq, List, [], ◌∷◌, ◌++◌, length, length-append, get_or, Option, Some, None, Result, Ok, Err, slice_get}
+use Rattle.std.proofs.Common.{◌≡◌, ◌≢◌, ◌⊎◌, ℕ, zero, suc, ◌<◌, ◌^◌, inl, inr, refl, ap, sym, ◌∙◌, subst, arith, Bool, true, false, nat_eq, List, [], ◌∷◌, ◌++◌, length, length-append}
+use Rattle.std.proofs.Common.{get_or, Option, Some, None, Result, Ok, Err, slice_get}
 use Rattle.std.specs.Cmp.Lexicographic.{pointwise}
 use Rattle.std.specs.Prelude.{IfOk, OnErr}
 use Rattle.std.proofs.lemmas.Bool.{cases_lt}
@@ -152,8 +153,12 @@ module _ (hash : List ℕ → ℕ) (known : List (List ℕ)) (homes : List (List
       let same : key_of known c ≡ key = (bytes_eq-Decides (key_of known c) key).0 f.0 in
       subst (λ r. IsDone r new) (sym s.0) (slice_get-get_or known c [] within ∙ ap Some same, subst (IsIndexed hash known) (sym s.1) (grown_index hash known homes is))
   numbered None (Ok r) new few s f =
-      subst (λ r. IsDone (Ok r) new) (sym s.0)
-      (refl, subst (IsIndexed hash (known ++ key ∷ [])) (sym s.1) (index_more hash known key grew (keyed_grown (hash_at hash known) homes is.hashes).0 (grown_index hash known homes is) few (none_equal f)))
+      subst (λ r. IsDone (Ok r) new) (sym s.0) (
+        refl,
+        subst (IsIndexed hash (known ++ key ∷ [])) (sym s.1)
+            (index_more hash known key grew (keyed_grown (hash_at hash known) homes is.hashes).0
+            (grown_index hash known homes is) few (none_equal f)),
+      )
   numbered None (Err e) new few s f = subst (IsIndexed hash known) (sym s.1) (grown_index hash known homes is)
 
   -- however the lookup ends

@@ -19,7 +19,9 @@ mapped-at f (capacity ∷ capacities) zero within = refl
 mapped-at f (capacity ∷ capacities) (suc place) within = mapped-at f capacities place (omega (arith, within))
 
 -- LRU's hits after the first accesses are hits of a row
-pub lru_are : (skipped : ℕ) (shares : Option ChosenShares) (numbers : List ℕ) (room hits : ℕ) → hits ≡ lru_hits_after skipped numbers room → AreHitsAfter skipped shares numbers room LeastRecentlyUsed hits
+pub lru_are : (skipped : ℕ) (shares : Option ChosenShares) (numbers : List ℕ) (room hits : ℕ)
+    → hits ≡ lru_hits_after skipped numbers room
+    → AreHitsAfter skipped shares numbers room LeastRecentlyUsed hits
 lru_are skipped shares numbers room hits is = record {
   all = plain_hits plain.LeastRecentlyUsed room numbers;
   before = plain_hits plain.LeastRecentlyUsed room (take skipped numbers);
@@ -29,7 +31,10 @@ lru_are skipped shares numbers room hits is = record {
 }
 
 -- the hits of one pass minus those of a pass over the skipped accesses are the hits after them
-pub hits_after_are : (skipped : ℕ) (numbers : List ℕ) (capacities : List NonZeroUsize) (all before rest : List ℕ) → all ≡ map (λ capacity. plain_hits plain.LeastRecentlyUsed (non_zero_usize_get capacity) numbers) capacities
+pub hits_after_are : (skipped : ℕ) (numbers : List ℕ) (capacities : List NonZeroUsize)
+    (all before rest : List ℕ) → all
+    ≡ map (λ capacity. plain_hits plain.LeastRecentlyUsed (non_zero_usize_get capacity) numbers)
+    capacities
     → before ≡ map (λ capacity. plain_hits plain.LeastRecentlyUsed (non_zero_usize_get capacity) (take skipped numbers)) capacities → length rest ≡ length all
     → ((place : ℕ) → place < length all → get_or rest place 0 ≡ get_or all place 0 - get_or before place 0) → AreLruHits skipped numbers capacities rest
 hits_after_are skipped numbers capacities all before rest all_are before_are long each = λ place within.

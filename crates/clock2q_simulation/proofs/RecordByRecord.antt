@@ -1,5 +1,6 @@
 -- Records put together byte by byte, and read from a source.
-use Rattle.std.proofs.Common.{◌≡◌, ℕ, suc, ◌+◌, ◌-◌, ◌/◌, ◌%◌, ◌<◌, ◌≤◌, Bool, true, false, cond, List, [], ◌∷◌, ◌++◌, length, length-append, map, take, drop, get_or, eqb, refl, sym, ap, subst, ◌∙◌, arith, rules, append_assoc, append-nil, option_map, Option, None, Some, Result, Ok, Err}
+use Rattle.std.proofs.Common.{◌≡◌, ℕ, suc, ◌+◌, ◌-◌, ◌/◌, ◌%◌, ◌<◌, ◌≤◌, Bool, true, false, cond, List, [], ◌∷◌, ◌++◌, length, length-append, map, take, drop, get_or, eqb, refl, sym, ap}
+use Rattle.std.proofs.Common.{subst, ◌∙◌, arith, rules, append_assoc, append-nil, option_map, Option, None, Some, Result, Ok, Err}
 use Rattle.std.proofs.lemmas.Bool.{eqb-true, ne_eqb}
 use Rattle.std.proofs.lemmas.List.{drop_more, drop_all}
 use Rattle.std.proofs.lemmas.List.Elements.{All-append}
@@ -86,7 +87,9 @@ module _ (part next : List ℕ) (h : length part ≡ 24) where
       let rest : drop 24 (part ++ next) ≡ next = ap (λ k. drop k (part ++ next)) (sym h) ∙ drop-append_seam part next in
       rw (first, rest) refl
 
-  pub piece-first : (keys : List Access) (count counted : ℕ) → joined keys (accesses_after OracleGeneral count (part ++ next)) ≡ joined (keys ++ record_of part ∷ []) (accesses_after OracleGeneral counted next)
+  pub piece-first : (keys : List Access) (count counted : ℕ)
+      → joined keys (accesses_after OracleGeneral count (part ++ next))
+      ≡ joined (keys ++ record_of part ∷ []) (accesses_after OracleGeneral counted next)
   piece-first keys count counted =
       let long : length (part ++ next) ≡ 24 + length next = length-append part next ∙ ap (λ n. n + length next) h in
       let left : length (part ++ next) % 24 ≡ length next % 24 = omega (arith, long) in
@@ -188,7 +191,10 @@ none-begun (Csv column sizes) = no-line
 none-begun OracleGeneral = omega arith
 
 -- the last line is as if it had its end
-pub last-ends : (format : TraceFormat) (part : List ℕ) (count : ℕ) → IsOfLines format → IsBegun format part → 0 < length part → accesses_after format count part ≡ accesses_after format count (part ++ (between format ++ []))
+pub last-ends : (format : TraceFormat) (part : List ℕ) (count : ℕ) → IsOfLines format
+    → IsBegun format part → 0 < length part
+    → accesses_after format count part
+    ≡ accesses_after format count (part ++ (between format ++ []))
 last-ends format part count l h some = cases format l h where
   same : HasNoEnd part → lines_of part ≡ lines_of (part ++ 10 ∷ [])
   same h = last-line part h some ∙ sym (ended-lines part [] h ∙ ap (λ ls. part ∷ ls) (lines_of-empty [] refl))
@@ -257,7 +263,9 @@ read-none old left format = record {
   none : old ≡ traffic_after old [] false false
   none = sym (rw (append-nil old.bytes, zero_more old.stops, zero_more old.failures) refl)
 
-module _ (old mid new : Traffic) (left some remain : Option (List ℕ)) (format : TraceFormat) (keys : List Access) (count : ℕ) (line bytes : List ℕ) (is : IsReadUpTo old mid left some format keys count line) where
+module _ (old mid new : Traffic) (left some remain : Option (List ℕ)) (format : TraceFormat)
+    (keys : List Access) (count : ℕ) (line bytes : List ℕ)
+    (is : IsReadUpTo old mid left some format keys count line) where
   -- the bytes of one more read
   pub read-more : (more : List Access) (counted : ℕ) (rest : List ℕ) → new ≡ traffic_after mid bytes false false → Consumes some remain bytes → Takes format keys count line bytes more counted rest
       → IsReadUpTo old new left remain format more counted rest
@@ -283,7 +291,9 @@ module _ (old mid new : Traffic) (left some remain : Option (List ℕ)) (format 
   }
 
 -- the end was reached
-module _ (old mid new : Traffic) (left some remain : Option (List ℕ)) (format : TraceFormat) (keys : List Access) (count : ℕ) (line : List ℕ) (is : IsReadUpTo old mid left some format keys count line) where
+module _ (old mid new : Traffic) (left some remain : Option (List ℕ)) (format : TraceFormat)
+    (keys : List Access) (count : ℕ) (line : List ℕ)
+    (is : IsReadUpTo old mid left some format keys count line) where
   ended-given : new ≡ traffic_after mid [] true false → new ≡ traffic_after old is.input true false
   ended-given given =
       given ∙ ap (λ t. traffic_after t [] true false) is.given ∙ went-on old is.input [] true false ∙ ap (λ bs. traffic_after old bs true false) (append-nil is.input)
@@ -307,7 +317,9 @@ module _ (old mid new : Traffic) (left some remain : Option (List ℕ)) (format 
   }
 
 -- a refusal of records, as one of reading
-pub given-up : (old new : Traffic) (left remain : Option (List ℕ)) (format : TraceFormat) (refusal : SimulationError) {P : Type 0} → ((bytes : List ℕ) × (stopped : Bool) × (new ≡ traffic_after old bytes stopped false))
+pub given-up : (old new : Traffic) (left remain : Option (List ℕ)) (format : TraceFormat)
+    (refusal : SimulationError) {P : Type 0}
+    → ((bytes : List ℕ) × (stopped : Bool) × (new ≡ traffic_after old bytes stopped false))
     → (P → IsNoTrace old new left remain format) → IsBad refusal P → IsGivenUp old new left remain format refusal
 given-up old new left remain format (Line _ _) m f b = f b
 given-up old new left remain format (Size _ _) m f b = f b
@@ -368,7 +380,9 @@ after-piece (Csv column sizes) e = absurd (cc)
 after-piece OracleGeneral e = refl
 
 -- the last byte of a record that is bad
-pub piece-bad : (format now : TraceFormat) (first keys : List Access) (start count counted : ℕ) (begun part longer bytes : List ℕ) (i : ℕ) → i < length bytes → now ≡ format → format ≡ OracleGeneral → counted ≡ count
+pub piece-bad : (format now : TraceFormat) (first keys : List Access) (start count counted : ℕ)
+    (begun part longer bytes : List ℕ) (i : ℕ) → i < length bytes → now ≡ format
+    → format ≡ OracleGeneral → counted ≡ count
     → longer ≡ part ++ get_or bytes i 0 ∷ []
     → ((next : List ℕ) → joined first (accesses_after format start (begun ++ (bytes ++ next))) ≡ joined keys (accesses_after format count (part ++ (drop i bytes ++ next))))
     → ((next : List ℕ) → accesses_after now counted (longer ++ (between now ++ next)) ≡ None)
@@ -386,13 +400,19 @@ no-elements [] e = refl
 no-elements (byte ∷ bytes) e = absurd (omega (arith, eqb-true (length (byte ∷ bytes)) 0 e))
 
 -- a trace before its first byte
-pub read-new : (old : Traffic) (left : Option (List ℕ)) (format : TraceFormat) (keys : List Access) (count : ℕ) (part : List ℕ) → keys ≡ [] → count ≡ 0 → part ≡ [] → IsReadUpTo old old left left format keys count part
+pub read-new : (old : Traffic) (left : Option (List ℕ)) (format : TraceFormat) (keys : List Access)
+    (count : ℕ) (part : List ℕ) → keys ≡ [] → count ≡ 0 → part ≡ []
+    → IsReadUpTo old old left left format keys count part
 read-new old left format keys count part p q r = rw (p, q, r) (read-none old left format)
 
 -- a trace after its last byte
-module _ (old mid new : Traffic) (left some remain : Option (List ℕ)) (format now : TraceFormat) (keys : List Access) (count : ℕ) (line : List ℕ) (is : IsReadUpTo old mid left some format keys count line) where
+module _ (old mid new : Traffic) (left some remain : Option (List ℕ)) (format now : TraceFormat)
+    (keys : List Access) (count : ℕ) (line : List ℕ)
+    (is : IsReadUpTo old mid left some format keys count line) where
   pub finished : {X : Type 0} (view : X → List Access) (result : Result X SimulationError) → now ≡ format → new ≡ traffic_after mid [] true false → Consumes some remain [] → IsAtEnd remain
-      → IfOk result (λ trace. joined keys (accesses_after now count line) ≡ Some (view trace)) → IfErr result (λ refusal. IsBad refusal (accesses_after now count line ≡ None)) → ReadsTrace old new left remain format view result
+      → IfOk result (λ trace. joined keys (accesses_after now count line) ≡ Some (view trace))
+      → IfErr result (λ refusal. IsBad refusal (accesses_after now count line ≡ None))
+      → ReadsTrace old new left remain format view result
   finished view (Ok trace) e given consumed at_end ok bad =
       read-whole old mid new left some remain format keys count line is (view trace) given consumed at_end (ap (λ f. joined keys (accesses_after f count line)) (sym e) ∙ ok)
   finished view (Err refusal) e given consumed at_end ok bad =

@@ -113,7 +113,9 @@ module _ {A : Type 0} (compared : List Policy) (shares : Option ChosenShares) (n
   policies_same first last sizes (replay ∷ replays) = ap (λ policies. replay.policy ∷ policies) (policies_same first last sizes replays)
 
   -- the hits of replays from one access up to another are a row
-  pub row_is : 0 < room → (replays seen : List (Replayed A)) (first last : ℕ) (sizes : List ℕ) (row : Row A) → seen ≡ replays → AreReplays compared shares numbers room replays → first ≤ last → last ≤ length numbers
+  pub row_is : 0 < room → (replays seen : List (Replayed A)) (first last : ℕ) (sizes : List ℕ)
+      (row : Row A) → seen ≡ replays → AreReplays compared shares numbers room replays
+      → first ≤ last → last ≤ length numbers
       → row.hits.items ≡ map (counted first last sizes) seen → non_zero_usize_get row.capacity ≡ room → row.accesses ≡ last - first → IsRow compared shares first (take last numbers) room row
   row_is some replays seen first last sizes row same are order within hits capacity accesses =
       let items : row.hits.items ≡ map (counted first last sizes) replays = hits ∙ ap (map (counted first last sizes)) same in
@@ -127,7 +129,9 @@ module _ {A : Type 0} (compared : List Policy) (shares : Option ChosenShares) (n
       }
 
   -- and the row has their bytes
-  pub bytes_are : (replays seen : List (Replayed A)) (first last : ℕ) (found sizes : List ℕ) (row : Row A) → seen ≡ replays → AreReplays compared shares numbers room replays → found ≡ sizes → first + row.accesses ≡ last
+  pub bytes_are : (replays seen : List (Replayed A)) (first last : ℕ) (found sizes : List ℕ)
+      (row : Row A) → seen ≡ replays → AreReplays compared shares numbers room replays
+      → found ≡ sizes → first + row.accesses ≡ last
       → row.bytes ≡ asked_between first last found → row.hits.items ≡ map (counted first last found) seen → HasBytes shares numbers sizes room first (first + row.accesses) row
   bytes_are replays seen first last found sizes row same are whole ends asked hits = record {
     asked = asked ∙ ap (asked_between first last) whole ∙ ap (λ n. asked_between first n sizes) (sym ends);

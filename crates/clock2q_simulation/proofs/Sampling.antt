@@ -25,7 +25,9 @@ sampled_more (Some sample) keys key is =
     filter-append test keys (key ∷ []) ∙ ap (λ more. filter test keys ++ more) (one_kept test key is)
 
 -- its size comes last of those that are kept
-pub kept_more : (is_sized : Bool) (accesses : List Access) (more : Access) (sizes new : List ℕ) → sizes ≡ kept_sizes is_sized accesses → new ≡ cond is_sized (sizes ++ more.size ∷ []) sizes → new ≡ kept_sizes is_sized (accesses ++ more ∷ [])
+pub kept_more : (is_sized : Bool) (accesses : List Access) (more : Access) (sizes new : List ℕ)
+    → sizes ≡ kept_sizes is_sized accesses → new ≡ cond is_sized (sizes ++ more.size ∷ []) sizes
+    → new ≡ kept_sizes is_sized (accesses ++ more ∷ [])
 kept_more true accesses more sizes new old n = n ∙ ap (λ s. s ++ more.size ∷ []) old ∙ sym (map-append (λ access. access.size) accesses (more ∷ []))
 kept_more false accesses more sizes new old n = n ∙ old
 

@@ -16,7 +16,9 @@ module _ (skipped : ℕ) (numbers : List ℕ) (room : ℕ) where
       are.rest ∙ ap (λ n. n - are.before) are.all_are ∙ ap (λ n. machine_hits (shares_for shares room) numbers - n) are.before_are
 
   -- the hits of a row with Clock2Q+ are those with its shares
-  pub clock2q_are : (shares : Option ChosenShares) (policy : Policy) (hits : ℕ) → policy ≡ Clock2Q → AreHitsAfter skipped shares numbers room policy hits → hits ≡ clock2q_hits_after skipped numbers room shares
+  pub clock2q_are : (shares : Option ChosenShares) (policy : Policy) (hits : ℕ) → policy ≡ Clock2Q
+      → AreHitsAfter skipped shares numbers room policy hits
+      → hits ≡ clock2q_hits_after skipped numbers room shares
   clock2q_are shares policy hits is are = of_clock2q shares hits (subst (λ p. AreHitsAfter skipped shares numbers room p hits) is are)
 
   -- what hits no more than some hits no more than a larger number

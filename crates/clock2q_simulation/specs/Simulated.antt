@@ -28,7 +28,11 @@ module _ (given gives : Traffic) (left remain : Option (List ℕ)) (format : Tra
     pub read : AreRead given gives left remain format accesses
 
   -- the rows, the windows, their bytes and the best shares are those of a trace with the accesses that were read
-  pub record IsReplayed {A : Type 0} (sample : Option Sample) (policies : List Policy) (shares : Option ChosenShares) (skipped : ℕ) (window : Option NonZeroUsize) (is_best : Bool) (tried : List ChosenShares) (capacities : List Amount) (byte_capacities : List NonZeroUsize) (made made_in_bytes : List (Row A)) (all : List (Windows A)) (most : List BestShares) : Type 0 where
+  pub record IsReplayed {A : Type 0} (sample : Option Sample) (policies : List Policy)
+      (shares : Option ChosenShares) (skipped : ℕ) (window : Option NonZeroUsize) (is_best : Bool)
+      (tried : List ChosenShares) (capacities : List Amount) (byte_capacities : List NonZeroUsize)
+      (made made_in_bytes : List (Row A)) (all : List (Windows A))
+      (most : List BestShares) : Type 0 where
     pub trace : Numbered
     pub read : AreRead given gives left remain format trace.accesses
     pub sampled : trace.sample ≡ sample

@@ -150,7 +150,10 @@ impl<A: Allocator> ColumnReader<A> {
     fn take(&mut self, byte: u8) -> Result<bool, AllocError>
         requires early { IsEarly self.old.left self.old.key.items }
         ensures early { OnOk result (IsEarly self.new.left self.new.key.items) }
-        ensures taken { IfOk result (λ is_taken. MatchBool is_taken ((rest : List ℕ) → found_in self.old.left self.old.key.items (fields_from self.old.place (byte ∷ rest)) ≡ found_in self.new.left self.new.key.items (fields_from self.new.place rest)) ((rest : List ℕ) → fields_from self.old.place (byte ∷ rest) ≡ None)) }
+        ensures taken { IfOk result (λ is_taken. MatchBool is_taken ((rest : List ℕ)
+            → found_in self.old.left self.old.key.items (fields_from self.old.place (byte ∷ rest))
+            ≡ found_in self.new.left self.new.key.items (fields_from self.new.place rest))
+            ((rest : List ℕ) → fields_from self.old.place (byte ∷ rest) ≡ None)) }
     {
         let Some(step) = self.place.step(byte) else {
             return Ok(false);

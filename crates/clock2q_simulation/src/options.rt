@@ -168,7 +168,10 @@ impl<A: Allocator + Copy> Asked<A> {
     fn take(&mut self, alloc: A, argument: &str, index: usize) -> Result<(), SimulationError>
         requires within { All IsCapacity self.old.capacities.items }
         ensures within { OnOk result (All IsCapacity self.new.capacities.items) }
-        ensures asked { OnOk result ((rest : List (List ℕ)) → joined (Some self.new.capacities.items) (asked_from (is_some self.new.awaited) rest) ≡ joined (Some self.old.capacities.items) (asked_from (is_some self.old.awaited) (argument.now ∷ rest))) }
+        ensures asked { OnOk result ((rest : List (List ℕ))
+            → joined (Some self.new.capacities.items) (asked_from (is_some self.new.awaited) rest)
+            ≡ joined (Some self.old.capacities.items)
+            (asked_from (is_some self.old.awaited) (argument.now ∷ rest))) }
         ensures bytes { OnOk result ((rest : List (List ℕ)) → joined_bytes
             (map non_zero_usize_get self.new.byte_capacities.items) (bytes_from (is_some self.new.awaited) rest)
             ≡ joined_bytes (map non_zero_usize_get self.old.byte_capacities.items)

@@ -91,7 +91,9 @@ pub fn replay_source<'a, R: Source, P: Write, S: BuildHasher + Drop, A: Allocato
     progress: &mut Progress<P>,
 ) -> Result<Outcome<'a, A>, SimulationError>
     ensures ok { IfOk result (λ outcome. IsReplayed (R.given reader.old) (R.given reader.new) (R.remaining reader.old) (R.remaining reader.new) options.now.trace_format
-        options.now.sample options.now.policies.items options.now.shares options.now.skipped options.now.window options.now.best_shares TRIED_SHARES options.now.capacities.items options.now.byte_capacities.items
+        options.now.sample options.now.policies.items options.now.shares options.now.skipped
+        options.now.window options.now.best_shares TRIED_SHARES options.now.capacities.items
+        options.now.byte_capacities.items
         outcome.rows.items outcome.byte_rows.items outcome.windows.items outcome.best_shares.items) }
 
     // A failed source is always reported as `Read`, and nothing else is.

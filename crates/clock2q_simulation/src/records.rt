@@ -133,7 +133,11 @@ impl<S: BuildHasher + Drop, A: Allocator + Copy> Records<S, A> {
         ensures sample { self.new.trace.sample ≡ self.old.trace.sample }
         ensures sized { self.new.trace.is_sized ≡ self.old.trace.is_sized }
         ensures begun { OnOk result (self.new.begun.items ≡ []) }
-        ensures ended { OnOk result ((next : List ℕ) → joined self.old.trace.accesses (accesses_after self.old.format self.old.count (self.old.begun.items ++ (between self.old.format ++ next))) ≡ joined self.new.trace.accesses (accesses_after self.old.format self.new.count next)) }
+        ensures ended { OnOk result ((next : List ℕ)
+            → joined self.old.trace.accesses
+            (accesses_after self.old.format self.old.count
+            (self.old.begun.items ++ (between self.old.format ++ next)))
+            ≡ joined self.new.trace.accesses (accesses_after self.old.format self.new.count next)) }
         ensures bad { IfErr result (λ refusal. IsBad refusal ((next : List ℕ) → accesses_after self.old.format self.old.count (self.old.begun.items ++ (between self.old.format ++ next)) ≡ None)) }
     {
         self.add_access()?;
@@ -149,7 +153,11 @@ impl<S: BuildHasher + Drop, A: Allocator + Copy> Records<S, A> {
         ensures sample { self.new.trace.sample ≡ self.old.trace.sample }
         ensures sized { self.new.trace.is_sized ≡ self.old.trace.is_sized }
         ensures count { self.new.count ≡ self.old.count }
-        ensures ended { OnOk result ((counted : ℕ) → 0 < counted → (next : List ℕ) → joined self.old.trace.accesses (accesses_after self.old.format self.old.count (self.old.begun.items ++ (between self.old.format ++ next))) ≡ joined self.new.trace.accesses (accesses_after self.old.format counted next)) }
+        ensures ended { OnOk result ((counted : ℕ) → 0 < counted → (next : List ℕ)
+            → joined self.old.trace.accesses
+            (accesses_after self.old.format self.old.count
+            (self.old.begun.items ++ (between self.old.format ++ next)))
+            ≡ joined self.new.trace.accesses (accesses_after self.old.format counted next)) }
         ensures bad { IfErr result (λ refusal. IsBad refusal ((next : List ℕ) → accesses_after self.old.format self.old.count (self.old.begun.items ++ (between self.old.format ++ next)) ≡ None)) }
     {
         match self.format {

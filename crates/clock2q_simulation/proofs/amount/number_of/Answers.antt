@@ -14,5 +14,12 @@ loop-byte-preserved c =
     let digit : is_ascii_digit (get_or c.args.digits.now c.loop-byte.byte-index 0) ≡ true = sym c.is_ascii_digit.ensures.value ∙ c.if-not-is_ascii_digit.false in
     record {
       digits = digits-more c.args.digits.now c.loop-byte.byte-index c.loop-byte-test.true c.loop-byte.invariant.digits digit;
-      read = omega (arith, c.loop-byte.invariant.read, c.saturating_mul.ensures, c.from.ensures, c.saturating_add-number.ensures, value-more c.args.digits.now c.loop-byte.byte-index c.loop-byte-test.true digit);
+      read = omega (
+        arith,
+        c.loop-byte.invariant.read,
+        c.saturating_mul.ensures,
+        c.from.ensures,
+        c.saturating_add-number.ensures,
+        value-more c.args.digits.now c.loop-byte.byte-index c.loop-byte-test.true digit,
+      );
     }

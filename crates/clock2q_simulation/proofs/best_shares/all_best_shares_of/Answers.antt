@@ -10,7 +10,9 @@ loop-row-preserved g c =
     let best = c.in_ok-best.best in
     let is = c.in_ok-best.ensures.best in
     record {
-      capacities = zipped-more (λ best. non_zero_usize_get best.capacity) (λ row. non_zero_usize_get row.capacity) c.loop-row.all.items best c.push.new.self.items c.args.rows.now c.loop-row.row-index c.row-item.result
+      capacities = zipped-more (λ best. non_zero_usize_get best.capacity)
+          (λ row. non_zero_usize_get row.capacity) c.loop-row.all.items best c.push.new.self.items
+          c.args.rows.now c.loop-row.row-index c.row-item.result
           c.loop-row-test.true c.in-Ok.ensures.items c.loop-row.invariant.capacities (is.capacity ∙ ap (λ row. non_zero_usize_get row.capacity) c.row-item.is);
       each = All-more (λ best. AreBest c.args.skipped c.args.trace.now.numbers (non_zero_usize_get best.capacity) c.args.tried.now best) c.loop-row.all.items best c.push.new.self.items
           c.in-Ok.ensures.items c.loop-row.invariant.each (subst (λ room. AreBest c.args.skipped c.args.trace.now.numbers room c.args.tried.now best) (sym is.capacity) is);

@@ -40,5 +40,8 @@ returns-clause-best g c = record {
   usual = c.in_ok-usual.ensures.hits;
   hits = c.loop-shares.invariant.hits;
   no_fewer = c.loop-shares.invariant.no_fewer;
-  most = subst (All (HasNoMore c.args.skipped c.args.trace.now.numbers (non_zero_usize_get c.args.capacity) c.loop-shares.most)) (take_all c.loop-shares.shares-index c.args.tried.now c.loop-shares-test.false) c.loop-shares.invariant.each;
+  most = subst (All (HasNoMore c.args.skipped c.args.trace.now.numbers
+      (non_zero_usize_get c.args.capacity) c.loop-shares.most))
+      (take_all c.loop-shares.shares-index c.args.tried.now c.loop-shares-test.false)
+      c.loop-shares.invariant.each;
 }

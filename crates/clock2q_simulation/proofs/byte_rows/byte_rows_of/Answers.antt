@@ -8,7 +8,9 @@ use Rattle.clock2q_simulation.proofs.byte_rows.byte_rows_of.Goals as goal
 
 pub loop-capacity-preserved : goal.loop-capacity-preserved
 loop-capacity-preserved g c = record {
-  capacities = zipped-more (λ row. non_zero_usize_get row.capacity) non_zero_usize_get c.loop-capacity.rows.items c.in_ok-row.row c.push.new.self.items c.args.capacities.now c.loop-capacity.capacity-index _
+  capacities = zipped-more (λ row. non_zero_usize_get row.capacity) non_zero_usize_get
+      c.loop-capacity.rows.items c.in_ok-row.row c.push.new.self.items c.args.capacities.now
+      c.loop-capacity.capacity-index _
       c.loop-capacity-test.true c.in-Ok.ensures.items c.loop-capacity.invariant.capacities (ap non_zero_usize_get (c.in_ok-row.ensures.capacity ∙ c.capacity-item.is));
   each = All-more (IsByteRow c.args.skipped c.args.trace.now.numbers (sizes_of c.args.trace.now) c.args.policies.now) c.loop-capacity.rows.items c.in_ok-row.row c.push.new.self.items
       c.in-Ok.ensures.items c.loop-capacity.invariant.each c.in_ok-row.ensures.row;

@@ -19,7 +19,13 @@ loop-index-preserved c =
     let words : List (List ℕ) = map string_bytes c.args.arguments.now in
     let place = c.loop-index.index in
     let within : place < length words = omega (arith, c.loop-index-test.true, length-map c.args.arguments.now string_bytes) in
-    let word : get_or words place [] ≡ c.as_str.result.now = get_or-map string_bytes c.args.arguments.now place c.index-arguments-index.result [] c.loop-index-test.true ∙ search (rules, c.index-arguments-index.is, c.as_str.ensures.value) in
+    let word : get_or words place [] ≡ c.as_str.result.now =
+    get_or-map string_bytes c.args.arguments.now place c.index-arguments-index.result []
+    c.loop-index-test.true ∙ search (
+      rules,
+      c.index-arguments-index.is,
+      c.as_str.ensures.value,
+    ) in
     let not : is_help (get_or words place []) ≡ false = ap is_help word ∙ sym c.is_help.ensures.help ∙ c.if-is_help.false in
     sym (later words place within not) ∙ c.loop-index.invariant
 
@@ -28,6 +34,12 @@ returns-then-is_help c =
     let words : List (List ℕ) = map string_bytes c.args.arguments.now in
     let place = c.loop-index.index in
     let within : place < length words = omega (arith, c.loop-index-test.true, length-map c.args.arguments.now string_bytes) in
-    let word : get_or words place [] ≡ c.as_str.result.now = get_or-map string_bytes c.args.arguments.now place c.index-arguments-index.result [] c.loop-index-test.true ∙ search (rules, c.index-arguments-index.is, c.as_str.ensures.value) in
+    let word : get_or words place [] ≡ c.as_str.result.now =
+    get_or-map string_bytes c.args.arguments.now place c.index-arguments-index.result []
+    c.loop-index-test.true ∙ search (
+      rules,
+      c.index-arguments-index.is,
+      c.as_str.ensures.value,
+    ) in
     let is : is_help (get_or words place []) ≡ true = ap is_help word ∙ sym c.is_help.ensures.help ∙ c.if-is_help.true in
     record { help = ap Some (c.help_on.ensures.text ∙ ap help_on c.word_at.ensures.word) ∙ sym (here words place within is) ∙ c.loop-index.invariant }

@@ -13,13 +13,21 @@ loop-index-preserved g c =
     let place = c.loop-index.index in
     let asked = c.loop-index.asked in
     let within : place < length words = omega (arith, c.loop-index-test.true, length-map c.args.arguments.now string_bytes) in
-    let word : get_or words place [] ≡ c.as_str.result.now = get_or-map string_bytes c.args.arguments.now place c.index-arguments-index.result [] c.loop-index-test.true ∙ search (rules, c.index-arguments-index.is, c.as_str.ensures.value) in
+    let word : get_or words place [] ≡ c.as_str.result.now =
+    get_or-map string_bytes c.args.arguments.now place c.index-arguments-index.result []
+    c.loop-index-test.true ∙ search (
+      rules,
+      c.index-arguments-index.is,
+      c.as_str.ensures.value,
+    ) in
     record {
       within = c.in_ok-take.ensures.within;
       asked = c.in_ok-take.ensures.asked (drop (place + 1) words)
           ∙ sym (ap (λ ws. joined (Some asked.capacities.items) (asked_from (is_some asked.awaited) ws)) (drop_more words place [] within ∙ ap (λ w. w ∷ drop (place + 1) words) word))
           ∙ c.loop-index.invariant.asked;
       bytes = c.in_ok-take.ensures.bytes (drop (place + 1) words)
-          ∙ sym (ap (λ ws. joined_bytes (map non_zero_usize_get asked.byte_capacities.items) (bytes_from (is_some asked.awaited) ws)) (drop_more words place [] within ∙ ap (λ w. w ∷ drop (place + 1) words) word))
+          ∙ sym (ap (λ ws. joined_bytes (map non_zero_usize_get asked.byte_capacities.items)
+          (bytes_from (is_some asked.awaited) ws)) (drop_more words place [] within
+          ∙ ap (λ w. w ∷ drop (place + 1) words) word))
           ∙ c.loop-index.invariant.bytes;
     }

@@ -11,6 +11,10 @@ use Rattle.clock2q_simulation.proofs.options.parse_options.Given as goal
 abbrev pub invariant-loop-index : goal.invariant-loop-index
 invariant-loop-index g l = record {
   within : All IsCapacity l.asked.capacities.items;
-  asked : joined (Some l.asked.capacities.items) (asked_from (is_some l.asked.awaited) (drop l.index (map string_bytes l.arguments))) ≡ joined (Some []) (asked_from false (map string_bytes l.arguments));
-  bytes : joined_bytes (map non_zero_usize_get l.asked.byte_capacities.items) (bytes_from (is_some l.asked.awaited) (drop l.index (map string_bytes l.arguments))) ≡ joined_bytes [] (bytes_from false (map string_bytes l.arguments));
+  asked : joined (Some l.asked.capacities.items)
+      (asked_from (is_some l.asked.awaited) (drop l.index (map string_bytes l.arguments)))
+      ≡ joined (Some []) (asked_from false (map string_bytes l.arguments));
+  bytes : joined_bytes (map non_zero_usize_get l.asked.byte_capacities.items)
+      (bytes_from (is_some l.asked.awaited) (drop l.index (map string_bytes l.arguments)))
+      ≡ joined_bytes [] (bytes_from false (map string_bytes l.arguments));
 }

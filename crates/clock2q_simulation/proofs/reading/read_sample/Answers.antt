@@ -15,7 +15,10 @@ loop-index-init g c =
       format = made.ensures.format;
       sample = made.ensures.sample;
       sized = made.ensures.sized;
-      read = read-new (g.R.Source.given c.args.reader.now) (g.R.Source.remaining c.args.reader.now) c.args.format made.result.trace.accesses made.result.count made.result.begun.items made.ensures.accesses made.ensures.count made.ensures.begun;
+      read = read-new (g.R.Source.given c.args.reader.now)
+          (g.R.Source.remaining c.args.reader.now) c.args.format made.result.trace.accesses
+          made.result.count made.result.begun.items made.ensures.accesses made.ensures.count
+          made.ensures.begun;
     }
 
 pub loop-index-preserved : goal.loop-index-preserved
@@ -38,7 +41,9 @@ loop-index-preserved g c =
       format = c.in_ok-take.ensures.format ∙ c.loop-index.invariant.format;
       sample = c.in_ok-take.ensures.sample ∙ c.loop-index.invariant.sample;
       sized = c.in_ok-take.ensures.sized ∙ c.loop-index.invariant.sized;
-      read = read-more old mid new left some remain format records.trace.accesses records.count records.begun.items bytes is next.trace.accesses next.count next.begun.items given c.in-Ok.ensures.bytes.0 taken;
+      read = read-more old mid new left some remain
+          format records.trace.accesses records.count records.begun.items bytes is
+          next.trace.accesses next.count next.begun.items given c.in-Ok.ensures.bytes.0 taken;
     }
 
 pub returns-then-count-eq0-clause-sample : goal.returns-then-count-eq0-clause-sample

@@ -9,5 +9,8 @@ invariant-loop-index g l = record {
   format : l.records.format ≡ l.fn.format;
   sample : l.records.trace.sample ≡ l.fn.sample;
   sized : l.records.trace.is_sized ≡ has_sizes l.fn.format;
-  read : IsReadUpTo (g.R.Source.given l.initial.reader) (g.R.Source.given l.reader) (g.R.Source.remaining l.initial.reader) (g.R.Source.remaining l.reader) l.fn.format l.records.trace.accesses l.records.count l.records.begun.items;
+  read : IsReadUpTo (g.R.Source.given l.initial.reader) (g.R.Source.given l.reader)
+      (g.R.Source.remaining l.initial.reader)
+      (g.R.Source.remaining l.reader) l.fn.format l.records.trace.accesses l.records.count
+      l.records.begun.items;
 }

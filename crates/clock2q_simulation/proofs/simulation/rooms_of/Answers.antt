@@ -7,7 +7,9 @@ use Rattle.clock2q_simulation.proofs.simulation.rooms_of.Goals as goal
 
 pub loop-asked-preserved : goal.loop-asked-preserved
 loop-asked-preserved g c =
-    zipped-more non_zero_usize_get (λ amount. keys_of amount c.args.trace.now.different) c.loop-asked.rooms.items c.in_ok-keys.keys c.push.new.self.items c.args.capacities.now c.loop-asked.asked-index _
+    zipped-more non_zero_usize_get
+    (λ amount. keys_of amount c.args.trace.now.different) c.loop-asked.rooms.items
+    c.in_ok-keys.keys c.push.new.self.items c.args.capacities.now c.loop-asked.asked-index _
     c.loop-asked-test.true c.in-Ok.ensures.items c.loop-asked.invariant c.in_ok-keys.ensures.keys
 
 pub returns : goal.returns

@@ -16,7 +16,9 @@ loop-index-preserved g c =
           (omega (arith, c.loop-index-test.true, c.len-index-end.ensures)) c.in-Ok.ensures.items c.loop-index.invariant.capacities (is.capacity ∙ ap non_zero_usize_get c.index-capacity.ensures);
       bytes = All-more (λ row. HasBytes c.args.shares c.args.trace.now.numbers (sizes_of c.args.trace.now) (non_zero_usize_get row.capacity) c.args.skipped (length c.args.trace.now.numbers) row)
           c.loop-index.rows.items row c.push.new.self.items c.in-Ok.ensures.items c.loop-index.invariant.bytes
-          (subst (λ room. HasBytes c.args.shares c.args.trace.now.numbers (sizes_of c.args.trace.now) room c.args.skipped (length c.args.trace.now.numbers) row) (sym is.capacity) c.in_ok-row.ensures.bytes);
+          (subst (λ room. HasBytes c.args.shares c.args.trace.now.numbers
+          (sizes_of c.args.trace.now) room c.args.skipped (length c.args.trace.now.numbers) row)
+          (sym is.capacity) c.in_ok-row.ensures.bytes);
       each = All-more (λ row. IsRow c.args.policies.now c.args.shares c.args.skipped c.args.trace.now.numbers (non_zero_usize_get row.capacity) row) c.loop-index.rows.items row c.push.new.self.items
           c.in-Ok.ensures.items c.loop-index.invariant.each (subst (λ room. IsRow c.args.policies.now c.args.shares c.args.skipped c.args.trace.now.numbers room row) (sym is.capacity) is);
     }
@@ -24,7 +26,10 @@ loop-index-preserved g c =
 pub returns : goal.returns
 returns g c = record {
   rows = record {
-    capacities = c.loop-index.invariant.capacities ∙ ap (map non_zero_usize_get) (take_all c.loop-index.index c.in_ok-rooms.rooms.items (omega (arith, c.loop-index-test.false, c.len-index-end.ensures))) ∙ c.in_ok-rooms.ensures.keys;
+    capacities = c.loop-index.invariant.capacities
+        ∙ ap (map non_zero_usize_get) (take_all c.loop-index.index c.in_ok-rooms.rooms.items
+        (omega (arith, c.loop-index-test.false, c.len-index-end.ensures)))
+        ∙ c.in_ok-rooms.ensures.keys;
     each = c.loop-index.invariant.each;
   };
   bytes = c.loop-index.invariant.bytes;

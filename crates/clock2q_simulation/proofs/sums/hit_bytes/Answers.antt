@@ -11,7 +11,10 @@ loop-index-preserved c =
     let last = c.args.last in
     let i = c.loop-index.index in
     let rest = hit_bytes (between (i + 1) last outcomes) (between (i + 1) last sizes) in
-    let more = hit-more outcomes sizes last i (omega (arith, c.loop-index-test.true, c.min.ensures, c.min-end.ensures)) (omega (arith, c.loop-index-test.true, c.min.ensures, c.min-end.ensures)) (omega (arith, c.loop-index-test.true, c.min-end.ensures)) in
+    let more = hit-more outcomes sizes last i
+    (omega (arith, c.loop-index-test.true, c.min.ensures, c.min-end.ensures))
+    (omega (arith, c.loop-index-test.true, c.min.ensures, c.min-end.ensures))
+    (omega (arith, c.loop-index-test.true, c.min-end.ensures)) in
     let step : capped (c.if-outcomes-index.bytes + rest) ≡ capped (c.loop-index.bytes + (cond (get_or outcomes i false) (get_or sizes i 0) 0 + rest)) = elim c.if-outcomes-index.branch [
       | then-outcomes-index w ↦ rw w.if-outcomes-index.true (omega (arith, w.bytes-is, w.saturating_add-bytes.ensures))
       | else-outcomes-index w ↦ rw w.if-outcomes-index.false (omega (arith, w.bytes-is))

@@ -15,7 +15,9 @@ loop-row-preserved g c = record {
   bytes = All-more (λ windows. WindowsHaveBytes c.args.shares c.args.trace.now.numbers (sizes_of c.args.trace.now) (non_zero_usize_get windows.capacity) windows.windows.items)
       c.loop-row.all.items (record { capacity = c.row-item.result.capacity; windows = c.in_ok-windows.windows }) c.push.new.self.items
       c.in-Ok.ensures.items c.loop-row.invariant.bytes c.in_ok-windows.ensures.bytes;
-  each = All-more (λ windows. AreWindows c.args.policies.now c.args.shares c.args.trace.now.numbers c.args.skipped (non_zero_usize_get windows.capacity) (non_zero_usize_get c.args.size) windows.windows.items)
+  each = All-more (λ windows. AreWindows c.args.policies.now c.args.shares c.args.trace.now.numbers
+      c.args.skipped (non_zero_usize_get windows.capacity)
+      (non_zero_usize_get c.args.size) windows.windows.items)
       c.loop-row.all.items (record { capacity = c.row-item.result.capacity; windows = c.in_ok-windows.windows }) c.push.new.self.items
       c.in-Ok.ensures.items c.loop-row.invariant.each c.in_ok-windows.ensures.windows;
 }

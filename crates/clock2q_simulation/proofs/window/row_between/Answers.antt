@@ -20,4 +20,7 @@ loop-replay-preserved g c =
     mapped-more (counted c.args.first c.args.last c.args.sizes.now) c.args.replays.now c.loop-replay.replay-index c.replay-item.result c.loop-replay.hits.items c.push.new.self.items
     c.loop-replay-test.true c.replay-item.is c.loop-replay.invariant
     (c.in-Ok.ensures.items ∙ ap (λ n. c.loop-replay.hits.items ++ hits_of c.replay-item.result.policy n c.hit_bytes-bytes.result ∷ []) count
-    ∙ ap (λ n. c.loop-replay.hits.items ++ hits_of c.replay-item.result.policy (hit_count (take c.args.last c.replay-item.result.outcomes.items) - hit_count (take c.args.first c.replay-item.result.outcomes.items)) n ∷ []) bytes)
+    ∙ ap (λ n. c.loop-replay.hits.items
+    ++ hits_of c.replay-item.result.policy
+    (hit_count (take c.args.last c.replay-item.result.outcomes.items) - hit_count
+    (take c.args.first c.replay-item.result.outcomes.items)) n ∷ []) bytes)

@@ -8,10 +8,16 @@ use Rattle.clock2q_simulation.proofs.amount.Amount.written.Goals as goal
 
 pub returns-in_err-count_of-in-None : goal.returns-in_err-count_of-in-None
 returns-in_err-count_of-in-None c =
-    let none : ends_in 37 c.args.word.now ≡ false = ends-none 37 c.args.word.now (rw c.in-None.is at (strip_suffix_char 37 c.args.word.now c.strip_suffix.result c.strip_suffix.ensures.cases (omega arith))) in
+    let none : ends_in 37 c.args.word.now ≡ false =
+    ends-none 37 c.args.word.now (rw c.in-None.is at
+    (strip_suffix_char 37 c.args.word.now c.strip_suffix.result c.strip_suffix.ensures.cases
+    (omega arith))) in
     record { amount = c.from_residual-in_err-count_of-in-None.ensures ∙ ap (option_map (amount Keys)) c.in_err-count_of-in-None.ensures.count ∙ sym (amount-plain c.args.word.now none) }
 
 pub returns-in_ok-count_of-in-None : goal.returns-in_ok-count_of-in-None
 returns-in_ok-count_of-in-None c =
-    let none : ends_in 37 c.args.word.now ≡ false = ends-none 37 c.args.word.now (rw c.in-None.is at (strip_suffix_char 37 c.args.word.now c.strip_suffix.result c.strip_suffix.ensures.cases (omega arith))) in
+    let none : ends_in 37 c.args.word.now ≡ false =
+    ends-none 37 c.args.word.now (rw c.in-None.is at
+    (strip_suffix_char 37 c.args.word.now c.strip_suffix.result c.strip_suffix.ensures.cases
+    (omega arith))) in
     record { amount = ap (option_map (amount Keys)) c.in_ok-count_of-in-None.ensures.count ∙ sym (amount-plain c.args.word.now none) }

@@ -10,7 +10,9 @@ returns-in-Skip-clause-taken g c =
 pub returns-in-End-clause-taken : goal.returns-in-End-clause-taken
 returns-in-End-clause-taken g c =
     let self = c.args.self.now in
-    ends self.left self.key.items self.place self.place c.args.byte c.in-Some.step c.in-Some.ensures.step c.saturating_sub-self.result c.in-End.is (omega (arith, c.saturating_sub-self.ensures)) c.requires.early
+    ends self.left self.key.items self.place self.place c.args.byte c.in-Some.step
+    c.in-Some.ensures.step c.saturating_sub-self.result c.in-End.is
+    (omega (arith, c.saturating_sub-self.ensures)) c.requires.early
 
 pub returns-in_ok-reserve-in-Add-clause-taken : goal.returns-in_ok-reserve-in-Add-clause-taken
 returns-in_ok-reserve-in-Add-clause-taken g c =

@@ -6,7 +6,9 @@ use Rattle.clock2q_simulation.proofs.known_keys.KnownKeys.number_of.Goals as goa
 
 pub invariant_of-self-in-Ok-extend_from_slice : goal.invariant_of-self-in-Ok-extend_from_slice
 invariant_of-self-in-Ok-extend_from_slice g c =
-    let is = added (hash_of g.S.BuildHasher g.S.Hasher.Hasher c.self.inside.hasher) c.self.inside.bytes.items c.self.inside.starts.items c.reserve-2.new.self.items c.reserve.new.self.items c.extend_from_slice.new.self.items c.push_reserved.new.self.items
+    let is = added (hash_of g.S.BuildHasher g.S.Hasher.Hasher c.self.inside.hasher)
+    c.self.inside.bytes.items c.self.inside.starts.items c.reserve-2.new.self.items
+    c.reserve.new.self.items c.extend_from_slice.new.self.items c.push_reserved.new.self.items
     c.as_slice-bytes.result.now c.as_slice-starts.result.now c.args.key.now c.len-then-is_new.result c.in-Ok-find_or_number.number c.in-Ok-find_or_number.is_new c.find_or_number.new.numbers.homes
     (record {
       bytes_are = c.reserve-2.ensures.items;
@@ -24,7 +26,9 @@ pub returns-in-Ok-extend_from_slice : goal.returns-in-Ok-extend_from_slice
 returns-in-Ok-extend_from_slice g c =
     let known = keys_in c.self.inside.bytes.items c.self.inside.starts.items in
     let key = c.args.key.now in
-    let is = added (hash_of g.S.BuildHasher g.S.Hasher.Hasher c.self.inside.hasher) c.self.inside.bytes.items c.self.inside.starts.items c.reserve-2.new.self.items c.reserve.new.self.items c.extend_from_slice.new.self.items c.push_reserved.new.self.items
+    let is = added (hash_of g.S.BuildHasher g.S.Hasher.Hasher c.self.inside.hasher)
+    c.self.inside.bytes.items c.self.inside.starts.items c.reserve-2.new.self.items
+    c.reserve.new.self.items c.extend_from_slice.new.self.items c.push_reserved.new.self.items
     c.as_slice-bytes.result.now c.as_slice-starts.result.now key c.len-then-is_new.result c.in-Ok-find_or_number.number c.in-Ok-find_or_number.is_new c.find_or_number.new.numbers.homes
     (record {
       bytes_are = c.reserve-2.ensures.items;

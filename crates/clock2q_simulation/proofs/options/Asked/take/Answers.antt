@@ -32,5 +32,7 @@ returns-then-is_in_bytes-clause-bytes g c =
     let bytes : is_in_bytes word ≡ true = search rules in
     on_ok c.take_bytes.result
     (λ taken rest. rw (c.take_bytes.ensures.awaited, none, plain, bytes)
-    (one_more_after word (map non_zero_usize_get c.args.self.now.byte_capacities.items) (map non_zero_usize_get c.take_bytes.new.self.byte_capacities.items) taken.0 (bytes_from false rest) taken.1 taken.2))
+    (one_more_after word (map non_zero_usize_get c.args.self.now.byte_capacities.items)
+    (map non_zero_usize_get c.take_bytes.new.self.byte_capacities.items) taken.0
+    (bytes_from false rest) taken.1 taken.2))
     c.take_bytes.ensures.bytes

@@ -34,7 +34,9 @@ returns-in-Csv-2-clause-bad g c =
     let csv : IsCsv column sizes self.format = subst (IsCsv column sizes) (sym c.in-Csv-2.is) (refl, refl) in
     let later : 0 < self.count = omega (arith, c.if-self-eq0.false) in
     bad-result c.add_fields.result
-    (λ (none : access_in column sizes self.begun.items ≡ None). λ next. no-field-ends self.trace.accesses self.trace.accesses self.count 0 self.begun.items self.format column sizes csv c.requires.whole later none next)
+    (λ (none : access_in column sizes self.begun.items
+    ≡ None). λ next. no-field-ends self.trace.accesses self.trace.accesses self.count 0
+    self.begun.items self.format column sizes csv c.requires.whole later none next)
     c.add_fields.ensures.bad
 
 pub returns-in_ok-push-in-Lines-clause-ended : goal.returns-in_ok-push-in-Lines-clause-ended

@@ -42,7 +42,9 @@ loop-byte-preserved g c =
             sized = ap (λ s. s.trace.is_sized) w.self-is ∙ w.in_ok-end_record.ensures.sized ∙ c.loop-byte.invariant.sized;
             begun = begun-line format c.if-byte-eq10.self.begun.items c.requires.lines (subst HasNoEnd (sym (ap (λ s. s.begun.items) w.self-is ∙ w.in_ok-end_record.ensures.begun)) no-line);
             same = λ next. c.loop-byte.invariant.same next
-                ∙ byte-ends format was.trace.accesses new.trace.accesses was.count new.count was.begun.items new.begun.items bytes i c.loop-byte-test.true c.requires.lines w.if-byte-eq10.true w.in_ok-end_record.ensures.begun ends next
+                ∙ byte-ends format was.trace.accesses new.trace.accesses was.count new.count
+                was.begun.items new.begun.items bytes i c.loop-byte-test.true c.requires.lines
+                w.if-byte-eq10.true w.in_ok-end_record.ensures.begun ends next
                 ∙ ap (λ s. joined s.trace.accesses (accesses_after format s.count (s.begun.items ++ (drop (i + 1) bytes ++ next)))) (sym w.self-is);
           }
       | else-byte-eq10+in_ok-push w ↦

@@ -35,5 +35,7 @@ returns-clause-taken g c =
     let was = c.loop-byte.self in
     record {
       begun = c.loop-byte.invariant.begun;
-      same = λ next. c.loop-byte.invariant.same next ∙ bytes-done c.args.self.now.format was.trace.accesses was.count was.begun.items c.args.bytes.now c.loop-byte.byte-index c.loop-byte-test.false next;
+      same = λ next. c.loop-byte.invariant.same next
+          ∙ bytes-done c.args.self.now.format was.trace.accesses was.count was.begun.items
+          c.args.bytes.now c.loop-byte.byte-index c.loop-byte-test.false next;
     }
