@@ -29,21 +29,29 @@ fn call(beside: &mut Beside, key: u64, drawn: u64) -> Option<(bool, bool)> {
     Some(beside.renew(key))
 }
 
+/// Renews keys that were not remembered.
+fn renew_new(beside: &mut Beside, keys: &[u64]) -> Result<(), Fail> {
+    for key in keys {
+        same_at(beside.renew(*key), (false, true), *key)?;
+    }
+    Ok(())
+}
+
 /// Two keys fit: a third one takes the place of the oldest.
 fn a_third_key_takes_a_place(beside: &mut Beside) -> Result<(), Fail> {
-    same(beside.renew(1), (false, true))?;
-    same(beside.renew(5), (false, true))?;
+    renew_new(beside, &[1, 5])?;
     same(beside.forget(1), true)?;
-    same(beside.renew(6), (false, true))?;
-    same(beside.renew(7), (false, true))?;
+    renew_new(beside, &[6, 7])?;
     same(beside.len(), 2)?;
     same(beside.pass(6), true)?;
-    same(beside.forget(6), false)?;
-    same(beside.forget(5), false)?;
+    same((beside.forget(6), beside.forget(5)), (false, false))
+}
+
+/// A key that is renewed twice is remembered once.
+fn a_key_comes_twice(beside: &mut Beside) -> Result<(), Fail> {
     same(beside.renew(8), (false, true))?;
     same(beside.renew(8), (true, true))?;
-    same(beside.len(), 2)?;
-    Ok(())
+    same(beside.len(), 2)
 }
 
 /// A cleared history takes keys again.
@@ -51,16 +59,19 @@ fn cleared(beside: &mut Beside) -> Result<(), Fail> {
     beside.clear();
     same(beside.len(), 0)?;
     same(beside.renew(8), (false, true))?;
-    same(beside.len(), 1)?;
-    Ok(())
+    same(beside.len(), 1)
+}
+
+/// A history of two keys that is cleared in the end.
+fn two_keys_fit(beside: &mut Beside) -> Result<(), Fail> {
+    a_third_key_takes_a_place(beside)?;
+    a_key_comes_twice(beside)?;
+    cleared(beside)
 }
 
 #[test]
 fn two_keys(rt: HostRuntime) -> Result<(), Fail> {
-    let mut beside = Beside::new(rt.alloc(), 2, 100)?;
-    a_third_key_takes_a_place(&mut beside)?;
-    cleared(&mut beside)?;
-    Ok(())
+    two_keys_fit(&mut Beside::new(rt.alloc(), 2, 100)?)
 }
 
 /// Takes a key out of the list, and returns true if it was there.
@@ -101,28 +112,30 @@ fn step(
     Ok(())
 }
 
-/// 2,000 calls beside a plain list of keys, newest first. The keys are few, and those with the same
-/// remainder modulo `hashes` have the same hash.
+/// 2,000 calls beside a plain list of keys, newest first.
+fn go_along(beside: &mut Beside, list: &mut Vec<u64>, limit: usize, seed: u64) -> Result<(), Fail> {
+    for turn in 0..2000u64 {
+        let drawn = mixed(turn.wrapping_add(seed));
+        step(beside, list, limit, turn, drawn)?;
+    }
+    Ok(())
+}
+
+/// The keys are few, and those with the same remainder modulo `hashes` have the same hash.
 fn beside_a_list(alloc: Global, limit: usize, hashes: u64) -> Result<(), Fail>
     requires few { limit < 10 }
     requires some { 0 < hashes }
 {
     let mut beside = Beside::new(alloc, limit, hashes)?;
-    let mut list: Vec<u64> = Vec::new(alloc);
-    for turn in 0..2000u64 {
-        let drawn = mixed(turn.wrapping_add(hashes));
-        step(&mut beside, &mut list, limit, turn, drawn)?;
-    }
-    Ok(())
+    go_along(&mut beside, &mut Vec::new(alloc), limit, hashes)
 }
 
 #[test]
 fn two_thousand_calls(rt: HostRuntime) -> Result<(), Fail> {
     for hashes in [1, 3, 100] {
-        beside_a_list(rt.alloc(), 0, hashes)?;
-        beside_a_list(rt.alloc(), 1, hashes)?;
-        beside_a_list(rt.alloc(), 2, hashes)?;
-        beside_a_list(rt.alloc(), 7, hashes)?;
+        for limit in [0, 1, 2, 7] {
+            beside_a_list(rt.alloc(), limit, hashes)?;
+        }
     }
     Ok(())
 }

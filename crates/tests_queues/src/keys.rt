@@ -20,28 +20,73 @@ fn set_value(keys: &mut Keys<u64, u64>, place: u32, value: u64)
     *keys.value_mut(place) = value;
 }
 
-/// Two keys, of which one is replaced and one is overwritten.
+/// The entries at the first two places have these keys.
+fn have(keys: &mut Keys<u64, u64>, first: u64, second: u64) -> Result<(), Fail>
+    requires two { 2 ≤ length keys.old.entries }
+    ensures len { length keys.new.entries ≡ length keys.old.entries }
+    ensures room { keys.new.room ≡ keys.old.room }
+{
+    same((*keys.key(0), *keys.key(1)), (first, second))?;
+    same(
+        (keys.key_equals(0, &first), keys.key_equals(1, &first)),
+        (true, false),
+    )
+}
+
+/// They have these values.
+fn have_values(keys: &Keys<u64, u64>, first: u64, second: u64) -> Result<(), Fail>
+    requires two { 2 ≤ length keys.now.entries }
+{
+    same((*keys.value(0), *keys.value(1)), (first, second))
+}
+
+/// The key at the first place is replaced, and keeps its value.
+fn replace_first(keys: &mut Keys<u64, u64>) -> Result<(), Fail>
+    requires two { 2 ≤ length keys.old.entries }
+    ensures len { length keys.new.entries ≡ length keys.old.entries }
+    ensures room { keys.new.room ≡ keys.old.room }
+{
+    same(keys.replace(0, 9, 90), (7, 70))?;
+    same(keys.hash(0), 9)?;
+    have(keys, 90, 80)?;
+    have_values(keys, 700, 800)
+}
+
+/// The value at the first place is replaced.
+fn replace_first_value(keys: &mut Keys<u64, u64>) -> Result<(), Fail>
+    requires two { 2 ≤ length keys.old.entries }
+    ensures len { length keys.new.entries ≡ length keys.old.entries }
+    ensures room { keys.new.room ≡ keys.old.room }
+{
+    set_value(keys, 0, 900);
+    same(keys.replace_value(0, 901), 900)
+}
+
+/// One of two keys is replaced, and the other is overwritten.
+fn replace_both(keys: &mut Keys<u64, u64>) -> Result<(), Fail>
+    requires two { length keys.old.entries ≡ 2 }
+    requires room { keys.old.room ≡ 2 }
+{
+    have(keys, 70, 80)?;
+    replace_first(keys)?;
+    replace_first_value(keys)?;
+    keys.write(1, 6, 60, 600);
+    if keys.len() != 2 {
+        return Err(Fail::from("not two keys"));
+    }
+    have(keys, 90, 60)?;
+    have_values(keys, 901, 600)?;
+    keys.clear();
+    same(keys.len(), 0)
+}
+
 #[test]
 fn two_keys(rt: HostRuntime) -> Result<(), Fail> {
     let mut keys: Keys<u64, u64> = Keys::new(rt.alloc(), 2)?;
     keys.push(7, 70, 700);
     keys.write(1, 8, 80, 800);
     same(keys.len(), 2)?;
-    same(keys.key_equals(0, &70), true)?;
-    same(keys.key_equals(1, &70), false)?;
-    same(keys.replace(0, 9, 90), (7, 70))?;
-    same(keys.hash(0), 9)?;
-    same(*keys.key(0), 90)?;
-    same(*keys.value(0), 700)?;
-    set_value(&mut keys, 0, 900);
-    same(keys.replace_value(0, 901), 900)?;
-    keys.write(1, 6, 60, 600);
-    same(keys.key_equals(1, &60), true)?;
-    same(*keys.value(1), 600)?;
-    same(*keys.value(0), 901)?;
-    keys.clear();
-    same(keys.len(), 0)?;
-    Ok(())
+    replace_both(&mut keys)
 }
 
 /// Pushes a key, and inserts its place into an index of all keys.
@@ -77,6 +122,16 @@ fn place_of(keys: &mut Keys<u64, ()>, index: &Table<u32>, hash: u64, key: u64) -
 }
 
 /// Two of three keys have the same hash, and an index can't distinguish the third's from it.
+fn three_are_found(keys: &mut Keys<u64, ()>, index: &Table<u32>) -> Result<(), Fail>
+    requires indexed { (places : List ℕ) × IsIndex index.now.homes keys.old.entries places }
+{
+    same(place_of(keys, index, 7, 70), Some(0))?;
+    same(place_of(keys, index, 7, 71), Some(1))?;
+    same(place_of(keys, index, 7, 73), None)?;
+    same(place_of(keys, index, 7 + 16, 72), Some(2))?;
+    same(place_of(keys, index, 8, 71), None)
+}
+
 #[test]
 fn keys_of_one_hash(rt: HostRuntime) -> Result<(), Fail> {
     let mut keys: Keys<u64, ()> = Keys::new(rt.alloc(), 3)?;
@@ -84,12 +139,7 @@ fn keys_of_one_hash(rt: HostRuntime) -> Result<(), Fail> {
     put(&mut keys, &mut index, 7, 70);
     put(&mut keys, &mut index, 7, 71);
     put(&mut keys, &mut index, 7 + 16, 72);
-    same(place_of(&mut keys, &index, 7, 70), Some(0))?;
-    same(place_of(&mut keys, &index, 7, 71), Some(1))?;
-    same(place_of(&mut keys, &index, 7, 73), None)?;
-    same(place_of(&mut keys, &index, 7 + 16, 72), Some(2))?;
-    same(place_of(&mut keys, &index, 8, 71), None)?;
-    Ok(())
+    three_are_found(&mut keys, &index)
 }
 
 /// A small index is made for three times as many entries, one of medium size for twice as many, and
@@ -102,6 +152,5 @@ fn room_of_an_index(rt: HostRuntime) -> Result<(), Fail> {
     same(index_room(16_385), 32_770)?;
     same(index_room(262_144), 524_288)?;
     same(index_room(262_145), 262_145)?;
-    same(index_room(16_777_215), 16_777_215)?;
-    Ok(())
+    same(index_room(16_777_215), 16_777_215)
 }

@@ -68,21 +68,34 @@ fn admit_again(queues: &mut Queues)
     queues.admit(3);
 }
 
+/// The tail of Small leaves; whether it is promoted was known before.
+fn leaves(queues: &mut Queues, slot: u32, is_promoted: bool) -> Result<(), Fail> {
+    same(queues.tail_is_promoted(), is_promoted)?;
+    same(queues.take_tail(), Some(slot))
+}
+
 /// Slot 2 is old by the second admission of slot 3, though only one slot is newer: a hit on it
 /// counts, and it goes on to Main.
-#[test]
-fn admissions_count_after_a_removal(rt: HostRuntime) -> Result<(), Fail> {
-    let mut queues = Queues::new(rt.alloc(), 4, 2)?;
-    admit_again(&mut queues);
+fn second_admission_counts(queues: &mut Queues) -> Result<(), Fail>
+    requires slots { queues.old.slots ≡ 4 }
+    requires window { queues.old.window ≡ 2 }
+    requires small { queues.old.small ≡ [] }
+    requires main { queues.old.main ≡ [] }
+{
+    admit_again(queues);
     same(queues.is_resident(3), true)?;
-    hit(&mut queues, 2)?;
+    hit(queues, 2)?;
     same(queues.small_len(), 4)?;
     same(queues.tail_is_promoted(), false)?;
     queues.leave(0);
-    same(queues.tail_is_promoted(), false)?;
-    same(queues.take_tail(), Some(1))?;
-    same(queues.tail_is_promoted(), true)?;
-    same(queues.take_tail(), Some(2))
+    leaves(queues, 1, false)?;
+    leaves(queues, 2, true)
+}
+
+#[test]
+fn admissions_count_after_a_removal(rt: HostRuntime) -> Result<(), Fail> {
+    let mut queues = Queues::new(rt.alloc(), 4, 2)?;
+    second_admission_counts(&mut queues)
 }
 
 /// Slot 3 leaves and is admitted once more, and then slot 0 is. The positions that slot 3 left were
@@ -105,15 +118,19 @@ fn empty_places(queues: &mut Queues)
     queues.hit(3);
 }
 
+/// The slots that are older leave in their order.
+fn older_slots_leave(queues: &mut Queues) -> Result<(), Fail> {
+    same(queues.main_len(), 0)?;
+    same(queues.take_tail(), Some(1))?;
+    same(queues.take_tail(), Some(2))?;
+    leaves(queues, 3, false)
+}
+
 #[test]
 fn an_emptied_position_makes_no_slot_old(rt: HostRuntime) -> Result<(), Fail> {
     let mut queues = Queues::new(rt.alloc(), 4, 2)?;
     empty_places(&mut queues);
-    same(queues.main_len(), 0)?;
-    same(queues.take_tail(), Some(1))?;
-    same(queues.take_tail(), Some(2))?;
-    same(queues.tail_is_promoted(), false)?;
-    same(queues.take_tail(), Some(3))
+    older_slots_leave(&mut queues)
 }
 
 /// Puts the slots from 2 to 19 into Main, and hits each.
@@ -155,26 +172,43 @@ fn give_up(queues: &mut Queues, slot: u32) -> Result<(), Fail>
     same(queues.take_victim(), slot)
 }
 
+/// The hand was at slot 3: it evicts others in this order, and passes 3 and 19, which are hit.
+fn give_up_others(queues: &mut Queues) -> Result<(), Fail>
+    requires slots { queues.old.slots ≡ 20 }
+{
+    hit(queues, 3)?;
+    hit(queues, 19)?;
+    give_up(queues, 4)?;
+    hit(queues, 3)?;
+    same(queues.main_len(), 16)?;
+    for slot in 5..19 {
+        give_up(queues, slot)?;
+    }
+    Ok(())
+}
+
+/// The bits of the last two are set: the hand clears both, and evicts the first.
+fn give_up_last_two(queues: &mut Queues) -> Result<(), Fail> {
+    same(queues.main_len(), 2)?;
+    give_up(queues, 19)?;
+    same(queues.main_len(), 1)?;
+    give_up(queues, 3)
+}
+
+/// Each bit is cleared on the way, and a bit behind a victim stays set.
+fn give_up_all(queues: &mut Queues) -> Result<(), Fail>
+    requires slots { queues.old.slots ≡ 20 }
+{
+    same(queues.main_len(), 17)?;
+    give_up_others(queues)?;
+    give_up_last_two(queues)
+}
+
 #[test]
 fn the_hand_comes_round(rt: HostRuntime) -> Result<(), Fail> {
     let mut queues = Queues::new(rt.alloc(), 20, 1)?;
     same(go_round(&mut queues), 2)?;
-    same(queues.main_len(), 17)?;
-    // Each bit was cleared on the way, and a bit behind a victim stays set.
-    hit(&mut queues, 3)?;
-    hit(&mut queues, 19)?;
-    give_up(&mut queues, 4)?;
-    hit(&mut queues, 3)?;
-    same(queues.main_len(), 16)?;
-    for slot in 5..19 {
-        give_up(&mut queues, slot)?;
-    }
-    // The bits of the last two are set: the hand clears both, and evicts the first.
-    same(queues.main_len(), 2)?;
-    give_up(&mut queues, 19)?;
-    same(queues.main_len(), 1)?;
-    give_up(&mut queues, 3)?;
-    Ok(())
+    give_up_all(&mut queues)
 }
 
 /// One slot in Main whose bit is set: it is evicted after two inspections.
@@ -192,14 +226,21 @@ fn look_twice(queues: &mut Queues) -> u32
     queues.take_victim()
 }
 
-#[test]
-fn a_single_slot_gets_one_more_look(rt: HostRuntime) -> Result<(), Fail> {
-    let mut queues = Queues::new(rt.alloc(), 1, 0)?;
-    same(look_twice(&mut queues), 0)?;
+/// The slot comes back, and leaves as Main is cleared.
+fn comes_back(queues: &mut Queues) -> Result<(), Fail>
+    requires slots { queues.old.slots ≡ 1 }
+{
     same(queues.main_len(), 0)?;
-    append(&mut queues, 0)?;
+    append(queues, 0)?;
     same(queues.main_len(), 1)?;
     queues.clear();
     same(queues.main_len(), 0)?;
     same(queues.is_resident(0), false)
+}
+
+#[test]
+fn a_single_slot_gets_one_more_look(rt: HostRuntime) -> Result<(), Fail> {
+    let mut queues = Queues::new(rt.alloc(), 1, 0)?;
+    same(look_twice(&mut queues), 0)?;
+    comes_back(&mut queues)
 }

@@ -20,8 +20,7 @@ fn queues(rt: HostRuntime) -> Result<(), Fail> {
     let alloc = Refusing::new(rt.alloc());
     let tried = try_in_turn(&alloc, (0, true), AllocError, || new_queues(&alloc));
     same(tried, Tried::Done(3))?;
-    same(alloc.held(), 0)?;
-    Ok(())
+    same(alloc.held(), 0)
 }
 
 /// Makes a directory for up to `limit` remembered keys, and returns how many it has and whether
@@ -84,8 +83,7 @@ fn pass_and_look(queues: &mut Queues<&Refusing<Global>>) -> Result<(), Fail>
     pass_through(queues);
     same(queues.small_len(), 1)?;
     same(queues.main_len(), 0)?;
-    same(queues.take_tail(), Some(3))?;
-    Ok(())
+    same(queues.take_tail(), Some(3))
 }
 
 /// Once made, queues request no memory and give none back.
@@ -103,16 +101,14 @@ fn pass_with_all_refused(
     alloc.refuse_after(0);
     pass_and_look(queues)?;
     same(alloc.requests(), asked)?;
-    same(alloc.held(), held)?;
-    Ok(())
+    same(alloc.held(), held)
 }
 
 #[test]
 fn queues_ask_for_nothing_more(rt: HostRuntime) -> Result<(), Fail> {
     let alloc = Refusing::new(rt.alloc());
     let mut queues = Queues::new(&alloc, 4, 2)?;
-    pass_with_all_refused(&alloc, &mut queues)?;
-    Ok(())
+    pass_with_all_refused(&alloc, &mut queues)
 }
 
 /// More keys than fit, each with the same hash as others.
@@ -124,16 +120,14 @@ fn fill_and_forget(beside: &mut Beside<&Refusing<Global>>) -> Result<(), Fail> {
     same(beside.forget(15), true)?;
     same(beside.forget(12), false)?;
     same(beside.renew(13), (true, true))?;
-    same(beside.len(), 6)?;
-    Ok(())
+    same(beside.len(), 6)
 }
 
 /// A key that is forgotten is new again.
 fn clear_and_renew(beside: &mut Beside<&Refusing<Global>>) -> Result<(), Fail> {
     beside.clear();
     same(beside.renew(13), (false, true))?;
-    same(beside.len(), 1)?;
-    Ok(())
+    same(beside.len(), 1)
 }
 
 /// Once made, a directory requests no memory and gives none back.
@@ -147,14 +141,12 @@ fn renew_with_all_refused(
     fill_and_forget(beside)?;
     clear_and_renew(beside)?;
     same(alloc.requests(), asked)?;
-    same(alloc.held(), held)?;
-    Ok(())
+    same(alloc.held(), held)
 }
 
 #[test]
 fn directories_ask_for_nothing_more(rt: HostRuntime) -> Result<(), Fail> {
     let alloc = Refusing::new(rt.alloc());
     let mut beside = Beside::new(&alloc, 7, 3)?;
-    renew_with_all_refused(&alloc, &mut beside)?;
-    Ok(())
+    renew_with_all_refused(&alloc, &mut beside)
 }

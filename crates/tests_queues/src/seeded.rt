@@ -130,20 +130,27 @@ fn step(queues: &mut Queues, lists: &mut Lists, small: usize, random: u32) -> Re
     Ok(())
 }
 
-fn seeded_run(alloc: Global, small: usize, window: u32) -> Result<(), Fail>
-    requires { 0 < window }
+/// 2,000 steps, with a comparison after each, until both are emptied.
+fn go_along(queues: &mut Queues, lists: &mut Lists, small: usize) -> Result<(), Fail>
+    requires slots { queues.old.slots ≡ 12 }
+    requires window { 0 < queues.old.window }
 {
-    let mut queues = Queues::new(alloc, SLOTS, window)?;
-    let mut lists = Lists::new(alloc, window);
     let mut seed: u64 = 1;
     for _ in 0..2000 {
         seed = seed
             .wrapping_mul(6364136223846793005)
             .wrapping_add(1442695040888963407);
-        step(&mut queues, &mut lists, small, (seed >> 33) as u32)?;
-        compare(&mut queues, &lists)?;
+        step(queues, lists, small, (seed >> 33) as u32)?;
+        compare(queues, lists)?;
     }
-    drain(&mut queues, &mut lists)
+    drain(queues, lists)
+}
+
+fn seeded_run(alloc: Global, small: usize, window: u32) -> Result<(), Fail>
+    requires { 0 < window }
+{
+    let mut queues = Queues::new(alloc, SLOTS, window)?;
+    go_along(&mut queues, &mut Lists::new(alloc, window), small)
 }
 
 #[test]
