@@ -1,16 +1,21 @@
 -- A block that is read is what was written last, and a mark changes no other block's.
 use Rattle.std.proofs.Common.{◌≡◌, ℕ, zero, suc, ◌<◌, Bool, true, false, eqb, List, [], ◌∷◌, length, Option, Some, None, refl, sym, ap, ◌∙◌, subst, arith, ne_eqb}
-use Rattle.std.specs.Prelude.{slice_get, slice_set, if◌then◌else◌, IfSome}
+use Rattle.std.specs.Prelude.{slice_get, slice_set, if◌then◌else◌, is_some, IfSome}
 use Rattle.std.specs.Cmp.{nat_eq_equiv}
+use Rattle.std.specs.List.{list_any}
 use Rattle.std.specs.Option.{option_map, option_and_then, unwrap_or}
 use Rattle.std.proofs.lemmas.Bool.{eqb-false}
 use Rattle.clock2q_machine.specs.Calls.{Get}
-use Rattle.clock2q_machine.specs.Machine.{Machine, slot_of, value_of, hit}
-use Rattle.clock2q_machine.specs.Steps.{put}
+use Rattle.clock2q_machine.specs.Leaving.{leaves_for, with_value}
+use Rattle.clock2q_machine.specs.Machine.{Machine, slot_of, value_of, hit, inserted}
+use Rattle.clock2q_machine.specs.Steps.{fetched, put}
 use Rattle.clock2q_machine.specs.Whole.{IsWhole}
 use Rattle.clock2q_machine.proofs.Entering.{weight-hit, same_slots}
-use Rattle.clock2q_machine.proofs.MachineInvariant.{lasting-after}
-use Rattle.clock2q_uses.specs.WriteBack.{is_dirty, blocks, other_than, written_if_left, left_by, IsInStep}
+use Rattle.clock2q_machine.proofs.MachineInvariant.{lasting-after, resident_made}
+use Rattle.clock2q_machine.proofs.Residents.{hit-absent}
+use Rattle.clock2q_machine.proofs.Standing.{get-within}
+use Rattle.clock2q_machine.proofs.Whole.{none_is}
+use Rattle.clock2q_uses.specs.WriteBack.{is_dirty, blocks, cleaned_if_left, other_than, written_if_left, left_by, IsInStep}
 use Rattle.clock2q_uses.proofs.WritingBack.{same_list, block_seen, stored_seen, handed_left, handed_within, blocks_put, in_step_put}
 
 -- a mark
@@ -68,6 +73,26 @@ module _ {T : Type 0} (m : Machine ℕ T) (whole : IsWhole eqb m) (dirty : List 
   blocks_hit = same_list (blocks now device) (blocks m device) (λ k. block_seen now device k
       ∙ ap (λ o. option_map (λ stored. unwrap_or o stored) (slice_get device k)) (value_hit k) ∙ sym (block_seen m device k))
 
+  -- a block that the cache has is hit, and none leaves
+  is_there : (block : T) → value_of (eqb number) m ≡ Some block → is_some (slot_of (eqb number) m) ≡ true
+  is_there block had = by_slot (slot_of (eqb number) m) refl
+    where
+      by_slot : (o : Option ℕ) → slot_of (eqb number) m ≡ o → is_some o ≡ true
+      by_slot None none = absurd (none_is block (sym (ap (option_and_then (slice_get m.values)) none) ∙ had))
+      by_slot (Some slot) found = refl
+
+  pub had_machine : (block : T) → value_of (eqb number) m ≡ Some block → now ≡ fetched (eqb number) number block m
+  had_machine block had = ap (λ (b : Bool). if b then now else inserted (eqb number) number block m) (sym (is_there block had))
+
+  abbrev left_if : T → Bool → Option (ℕ × T)
+  left_if block b = option_map (λ (v : ℕ × (ℕ × T)). (v.0, v.1.1)) (with_value m (if b then None else leaves_for (list_any (eqb number) m.history) m))
+
+  pub had_dirty : (block : T) → value_of (eqb number) m ≡ Some block → dirty ≡ cleaned_if_left (left_by number block m) dirty
+  had_dirty block had = ap (λ (b : Bool). cleaned_if_left (left_if block b) dirty) (sym (is_there block had))
+
+  pub had_device : (block : T) → value_of (eqb number) m ≡ Some block → device ≡ written_if_left dirty (left_by number block m) device
+  had_device block had = ap (λ (b : Bool). written_if_left dirty (left_if block b) device) (sym (is_there block had))
+
   -- a block that the cache has, and one that it doesn't have
   pub seen_there : (block : T) → value_of (eqb number) m ≡ Some block → number < length device → slice_get (blocks m device) number ≡ Some block
   seen_there block had within = block_seen m device number ∙ by (slice_get device number) refl where
@@ -113,6 +138,30 @@ module _ {T : Type 0} (m : Machine ℕ T) (whole : IsWhole eqb m) (dirty : List 
 
   is_left : other_than number handed ≡ left_by number block looked
   is_left = handed_left looked whole_looked number block handed replaced evicted
+
+  slot_absent : slot_of (eqb number) m ≡ None
+  slot_absent = by_slot (slot_of (eqb number) m) refl
+    where
+      by_slot : (o : Option ℕ) → slot_of (eqb number) m ≡ o → o ≡ None
+      by_slot None none = refl
+      by_slot (Some slot) found =
+          let v = get-within m.values slot (resident_made eqb nat_eq_equiv (eqb number) m whole slot found) in
+          absurd (none_is v.0 (sym absent ∙ ap (option_and_then (slice_get m.values)) found ∙ v.1))
+
+  same_machine : looked ≡ m
+  same_machine = after ∙ hit-absent (eqb number) m slot_absent
+
+  put_anew : put (eqb number) number block m ≡ fetched (eqb number) number block m
+  put_anew = rw slot_absent refl
+
+  pub missed_machine : put (eqb number) number block looked ≡ fetched (eqb number) number block m
+  missed_machine = ap (put (eqb number) number block) same_machine ∙ put_anew
+
+  pub missed_device : written_if_left dirty (other_than number handed) device ≡ written_if_left dirty (left_by number block m) device
+  missed_device = ap (λ o. written_if_left dirty o device) (is_left ∙ ap (left_by number block) same_machine)
+
+  pub missed_dirty : cleaned_if_left (other_than number handed) dirty ≡ cleaned_if_left (left_by number block m) dirty
+  missed_dirty = ap (λ o. cleaned_if_left o dirty) (is_left ∙ ap (left_by number block) same_machine)
 
   pub missed_within : IfSome handed (λ r. r.0 < length device)
   missed_within = handed_within looked whole_looked number block handed replaced evicted step_looked within

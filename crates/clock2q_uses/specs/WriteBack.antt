@@ -29,6 +29,11 @@ module _ {T : Type 0} where
   written_if_left dirty None device = device
   written_if_left dirty (Some block) device = written_back dirty block device
 
+  -- the marks once the block that left the cache, if any, is clean
+  abbrev pub cleaned_if_left : Option (ℕ × T) → List Bool → List Bool
+  cleaned_if_left None dirty = dirty
+  cleaned_if_left (Some block) dirty = slice_set dirty block.0 false
+
   -- what a put hands over, if it is of another number
   abbrev pub other_than : ℕ → Option (ℕ × T) → Option (ℕ × T)
   other_than number None = None

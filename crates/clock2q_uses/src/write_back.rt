@@ -1,7 +1,8 @@
 //! A write-back cache of a device's blocks: a block that is written goes to the device when it is
 //! evicted or flushed. Whatever is evicted, a block that is read is the one that was written last.
-ghost use Rattle.clock2q_uses.specs.WriteBack.{IsInStep, blocks, is_dirty, other_than, written_back, written_if_left};
-ghost use Rattle.std.specs.Prelude.{◌≡◌, ◌<◌, ℕ, eqb, false, Some, IfSome, length, replicate, slice_get, slice_set};
+ghost use Rattle.clock2q_machine.specs.Steps.{fetched, put};
+ghost use Rattle.clock2q_uses.specs.WriteBack.{IsInStep, blocks, cleaned_if_left, is_dirty, left_by, other_than, written_back, written_if_left};
+ghost use Rattle.std.specs.Prelude.{◌≡◌, ◌<◌, ℕ, eqb, true, false, Some, IfSome, length, replicate, slice_get, slice_set};
 
 use clock2q::Cache;
 use std::hash::BuildHasher;
@@ -20,6 +21,11 @@ pub fn write_block<T: Copy, S: BuildHasher>(
     requires in_step { IsInStep cache.old.machine dirty.old device.old }
     ensures blocks { blocks cache.new.machine device.new ≡
         slice_set (blocks cache.old.machine device.old) number block }
+    ensures machine { cache.new.machine ≡ put (eqb number) number block cache.old.machine }
+    ensures device { device.new ≡
+        written_if_left dirty.old (left_by number block cache.old.machine) device.old }
+    ensures dirty { dirty.new ≡
+        slice_set (cleaned_if_left (left_by number block cache.old.machine) dirty.old) number true }
     ensures in_step { IsInStep cache.new.machine dirty.new device.new }
     ensures marks { length dirty.new ≡ length dirty.old }
     ensures as_many { length device.new ≡ length device.old }
@@ -43,6 +49,11 @@ pub fn read_block<T: Copy, S: BuildHasher>(
     requires in_step { IsInStep cache.old.machine dirty.old device.old }
     ensures block { slice_get (blocks cache.old.machine device.old) number ≡ Some result }
     ensures blocks { blocks cache.new.machine device.new ≡ blocks cache.old.machine device.old }
+    ensures machine { cache.new.machine ≡ fetched (eqb number) number result cache.old.machine }
+    ensures device { device.new ≡
+        written_if_left dirty.old (left_by number result cache.old.machine) device.old }
+    ensures dirty { dirty.new ≡
+        cleaned_if_left (left_by number result cache.old.machine) dirty.old }
     ensures in_step { IsInStep cache.new.machine dirty.new device.new }
     ensures marks { length dirty.new ≡ length dirty.old }
     ensures as_many { length device.new ≡ length device.old }
@@ -105,6 +116,7 @@ fn write_left<T: Copy>(
     requires within { IfSome handed (λ block. block.0 < length device.old) }
     requires marks { length dirty.old ≡ length device.old }
     ensures written { device.new ≡ written_if_left dirty.old (other_than number handed) device.old }
+    ensures dirty { dirty.new ≡ cleaned_if_left (other_than number handed) dirty.old }
     ensures clean { (k : ℕ) →
         ((r : ℕ × T) → other_than number handed ≡ Some r → eqb k r.0 ≡ false) →
         is_dirty dirty.new k ≡ is_dirty dirty.old k }

@@ -1,5 +1,7 @@
 -- What the put hands over of another number is the block that leaves, and it is on the device if it was dirty.
-use Rattle.std.proofs.Common.{sym, ◌∙◌, arith}
+use Rattle.std.proofs.Common.{true, sym, ap, ◌∙◌, arith}
+use Rattle.std.specs.Prelude.{slice_set}
+use Rattle.clock2q_uses.specs.WriteBack.{cleaned_if_left, written_if_left}
 use Rattle.clock2q_uses.proofs.WritingBack.{handed_left, handed_within, blocks_put}
 use Rattle.clock2q_uses.proofs.ReadingBack.{step_marked}
 use Rattle.clock2q_uses.proofs.write_back.write_block.Goals as goal
@@ -8,6 +10,21 @@ pub write_left-requires-clause-within : goal.write_left-requires-clause-within
 write_left-requires-clause-within g c =
     let e = c.put_evicting-handed.ensures in
     handed_within c.args.cache.now.machine c.len.ensures.whole c.args.number c.args.block c.put_evicting-handed.result e.replaced e.evicted c.requires.in_step c.requires.within
+
+pub returns-clause-device : goal.returns-clause-device
+returns-clause-device g c =
+    let e = c.put_evicting-handed.ensures in
+    c.write_left.ensures.written
+    ∙ ap (λ o. written_if_left c.args.dirty.now o c.args.device.now)
+    (handed_left c.args.cache.now.machine c.len.ensures.whole c.args.number c.args.block c.put_evicting-handed.result e.replaced e.evicted)
+
+pub returns-clause-dirty : goal.returns-clause-dirty
+returns-clause-dirty g c =
+    let e = c.put_evicting-handed.ensures in
+    ap (λ ds. slice_set ds c.args.number true)
+    (c.write_left.ensures.dirty
+    ∙ ap (λ o. cleaned_if_left o c.args.dirty.now)
+    (handed_left c.args.cache.now.machine c.len.ensures.whole c.args.number c.args.block c.put_evicting-handed.result e.replaced e.evicted))
 
 pub returns-clause-blocks : goal.returns-clause-blocks
 returns-clause-blocks g c =
