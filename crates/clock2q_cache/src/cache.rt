@@ -17,6 +17,7 @@ use crate::hashes::hash_of;
 use crate::shares::Shares;
 use clock2q_directory::directory::Directory;
 use clock2q_directory::history::Found;
+use clock2q_directory::place::Place;
 use clock2q_queues::queues::Queues;
 pub use iteration::{Iter, Keys, Values};
 use std::alloc::{Allocator, Global};
@@ -321,7 +322,7 @@ impl<K: Hash + Eq, V, S: BuildHasher, A: Allocator> Cache<K, V, S, A> {
     }
 
     /// Returns the place of a remembered key.
-    pub(crate) fn find_place(&mut self, hash: u64, key: &K) -> Option<u32>
+    pub(crate) fn find_place(&mut self, hash: u64, key: &K) -> Option<Place>
         requires { hash ≡
             hash_of S.BuildHasher S.Hasher.Hasher self.old.hasher (K.hash_input key.now) }
         ensures place { result ≡
@@ -359,7 +360,7 @@ impl<K: Hash + Eq, V, S: BuildHasher, A: Allocator> Cache<K, V, S, A> {
     }
 
     /// Removes the key, which is at `place`, from the history, and returns true if it was there.
-    pub(crate) fn forget(&mut self, hash: u64, key: &K, place: Option<u32>) -> bool
+    pub(crate) fn forget(&mut self, hash: u64, key: &K, place: Option<Place>) -> bool
         requires place { place ≡
             place_of (K.eq key.now) self.old.machine.history self.old.known.taken }
         requires hash { hash ≡

@@ -16,6 +16,7 @@ mod hashed;
 
 use crate::history::{Found, History};
 use crate::keys::Keys;
+use crate::place::Place;
 use clock2q_count::Count;
 use std::alloc::{AllocError, Allocator, Global};
 use std::marker::Model;
@@ -177,7 +178,7 @@ impl<K: Eq, V, A: Allocator> Directory<K, V, A> {
 
     /// Returns the place of a remembered key, and counts each comparison. Slots are skipped. The
     /// index is charged one lookup.
-    pub fn find_remembered(&mut self, hash: u64, key: &K) -> Option<u32>
+    pub fn find_remembered(&mut self, hash: u64, key: &K) -> Option<Place>
         requires hash { HasHash K.eq hash key.now self.old.history.entries }
         ensures place { result ≡
             place_of (K.eq key.now)

@@ -2,6 +2,8 @@
 ghost use Rattle.std.specs.Prelude.{◌≡◌, ◌<◌, ◌^◌};
 ghost use Rattle.clock2q_directory.specs.Index.{number_in, packed, unpacked};
 
+use crate::place::Place;
+
 /// The smallest number of a remembered key's handle.
 const REMEMBERED: u32 = 1 << 31;
 
@@ -12,14 +14,14 @@ const REMEMBERED: u32 = 1 << 31;
 ///
 /// ```
 /// assert_eq!(rt; Handle::Resident(7).pack(), 7);
-/// assert_eq!(rt; Handle::Remembered(7).pack(), 2_147_483_655);
+/// assert_eq!(rt; Handle::Remembered(Place::new(7)).pack(), 2_147_483_655);
 /// ```
 #[derive(Clone, Copy)]
 pub enum Handle {
     /// The slot of a resident.
     Resident(u32),
     /// The place of a remembered key.
-    Remembered(u32),
+    Remembered(Place),
 }
 
 impl Handle {
@@ -30,7 +32,7 @@ impl Handle {
     {
         match self {
             Handle::Resident(slot) => slot,
-            Handle::Remembered(place) => REMEMBERED + place,
+            Handle::Remembered(place) => REMEMBERED + place.number(),
         }
     }
 
@@ -41,7 +43,7 @@ impl Handle {
         if number < REMEMBERED {
             Handle::Resident(number)
         } else {
-            Handle::Remembered(number - REMEMBERED)
+            Handle::Remembered(Place::new(number - REMEMBERED))
         }
     }
 }

@@ -15,6 +15,7 @@ ghost use Rattle.clock2q_directory.specs.History.{IsWholeHistory, MakesPlace, Ha
 use crate::handle::Handle;
 use crate::index::Index;
 use crate::keys::Keys;
+use crate::place::Place;
 use clock2q_handles::Candidates;
 use clock2q_queues::order::Order;
 use std::alloc::{AllocError, Allocator, Global};
@@ -26,14 +27,14 @@ pub enum Found {
     /// The slot of a resident.
     Resident(u32),
     /// The place of a remembered key.
-    Remembered(u32),
+    Remembered(Place),
     /// Neither.
     Absent,
 }
 
 impl Found {
     /// Returns the place of a remembered key.
-    pub fn place(self) -> Option<u32>
+    pub fn place(self) -> Option<Place>
         ensures place { result ≡ found_place self }
     {
         match self {
@@ -191,7 +192,7 @@ impl<K: Eq, A: Allocator> History<K, A> {
 
     /// Returns the place of a remembered key. Slots of residents are skipped. The index is charged
     /// one lookup.
-    pub fn find(&mut self, hash: u64, key: &K) -> Option<u32>
+    pub fn find(&mut self, hash: u64, key: &K) -> Option<Place>
         requires hash { HasHash K.eq hash key.now self.old.entries }
         ensures place { result ≡
             place_of (K.eq key.now) (map (λ e. e.1) self.old.entries) self.old.places.taken }
@@ -242,7 +243,7 @@ impl<K: Eq, A: Allocator> History<K, A> {
 
     /// Returns the place of a remembered key. The index is not charged.
     #[inline(always)]
-    fn search_places(&mut self, hash: u64, key: &K) -> Option<u32>
+    fn search_places(&mut self, hash: u64, key: &K) -> Option<Place>
         requires hash { HasHash K.eq hash key.now self.old.entries }
         ensures place { result ≡
             place_of (K.eq key.now) (map (λ e. e.1) self.old.entries) self.old.places.taken }
@@ -254,7 +255,8 @@ impl<K: Eq, A: Allocator> History<K, A> {
         if self.index.is_shared() {
             return self.keys.find_remembered(self.index.handles(hash), key);
         }
-        self.keys.find(self.index.own_places(hash), key)
+        let place = self.keys.find(self.index.own_places(hash), key)?;
+        Some(Place::new(place))
     }
 
     /// Looks a key up as `search` does, if the places have a table of their own.
@@ -338,12 +340,12 @@ impl<K: Eq, A: Allocator> History<K, A> {
         }
         let place = make_place(&mut self.index, &mut self.order, &self.keys);
         self.index.remember(hash, slot, place);
-        self.keys.write(place, hash, key, ());
+        self.keys.write(place.number(), hash, key, ());
     }
 
     /// Forgets a key, which is at `place`, and returns true if it was remembered. The history drops
     /// its copy of the key when the place is used again.
-    pub fn forget(&mut self, hash: u64, key: &K, place: Option<u32>) -> bool
+    pub fn forget(&mut self, hash: u64, key: &K, place: Option<Place>) -> bool
         requires hash { HasHash K.eq hash key.now self.old.entries }
         requires place { place ≡
             place_of (K.eq key.now) (map (λ e. e.1) self.old.entries) self.old.places.taken }
@@ -366,7 +368,7 @@ impl<K: Eq, A: Allocator> History<K, A> {
             return false;
         };
         self.index.forget(hash, place);
-        self.order.unlink(place);
+        self.order.unlink(place.number());
         true
     }
 
@@ -422,7 +424,7 @@ fn look_among<K: Eq, V, A: Allocator>(
                 }
             }
             Handle::Remembered(place) => {
-                if remembered.key_equals(place, key) {
+                if remembered.key_equals(place.number(), key) {
                     return Found::Remembered(place);
                 }
             }
@@ -438,7 +440,7 @@ fn make_place<K, V, A: Allocator>(
     index: &mut Index<A>,
     order: &mut Order<A>,
     keys: &Keys<K, V, A>,
-) -> u32
+) -> Place
     requires indexed { IsIndex (known.places index.old) keys.now.entries order.old.places }
     requires as_many { length keys.now.entries ≡ used order.old }
     requires some { 0 < order.old.limit }
@@ -447,9 +449,10 @@ fn make_place<K, V, A: Allocator>(
     ensures whole { IsWholeOrder order.new }
 {
     if order.len() < order.limit() {
-        return order.push();
+        return Place::new(order.push());
     }
-    let place = order.reuse_oldest();
-    index.forget(keys.hash(place), place);
+    let oldest = order.reuse_oldest();
+    let place = Place::new(oldest);
+    index.forget(keys.hash(oldest), place);
     place
 }

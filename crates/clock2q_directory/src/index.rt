@@ -9,6 +9,7 @@ mod counted_table;
 
 use crate::handle::Handle;
 use crate::index::counted_table::CountedTable;
+use crate::place::Place;
 use clock2q_handles::Candidates;
 use std::alloc::{AllocError, Allocator, Global};
 use std::marker::Model;
@@ -151,7 +152,7 @@ impl<A: Allocator> Index<A> {
 
     /// Replaces the slot of a resident that leaves with the place at which it is remembered.
     #[inline(always)]
-    pub fn remember(&mut self, hash: u64, slot: u32, place: u32)
+    pub fn remember(&mut self, hash: u64, slot: u32, place: Place)
         requires below { slot < 2 ^ 31 }
         requires short { place < 2 ^ 31 }
         requires held { has slot (candidates (slots self.old) hash) ≡ true }
@@ -163,13 +164,13 @@ impl<A: Allocator> Index<A> {
             self.shared.replace_handle(hash, slot, handle);
         } else {
             self.shared.remove_existing(hash, slot);
-            self.own.insert(hash, place);
+            self.own.insert(hash, place.number());
         }
     }
 
     /// Removes the place of a key that is forgotten.
     #[inline(always)]
-    pub fn forget(&mut self, hash: u64, place: u32)
+    pub fn forget(&mut self, hash: u64, place: Place)
         requires short { place < 2 ^ 31 }
         requires held { has place (candidates (places self.old) hash) ≡ true }
         ensures forgotten { self.new ≡ forgotten_at hash place self.old }
@@ -178,7 +179,7 @@ impl<A: Allocator> Index<A> {
             let handle = Handle::Remembered(place).pack();
             self.shared.remove_existing(hash, handle);
         } else {
-            self.own.remove_existing(hash, place);
+            self.own.remove_existing(hash, place.number());
         }
     }
 

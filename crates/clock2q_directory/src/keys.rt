@@ -7,6 +7,7 @@ mod hashed;
 mod store;
 
 use crate::handle::Handle;
+use crate::place::Place;
 use clock2q_count::Count;
 use clock2q_handles::Candidates;
 use std::alloc::Allocator;
@@ -110,7 +111,7 @@ impl<K: Eq, V, A: Allocator> Keys<K, V, A> {
 
     /// Returns the first place among `handles` that has `key`, and counts each comparison. Slots
     /// are skipped.
-    pub fn find_remembered(&mut self, mut handles: Candidates<'_, u32>, key: &K) -> Option<u32>
+    pub fn find_remembered(&mut self, mut handles: Candidates<'_, u32>, key: &K) -> Option<Place>
         requires used { AllByRecursion (λ place. place < length self.old.entries)
             (places_among handles.left) }
         ensures found { result ≡
@@ -124,7 +125,7 @@ impl<K: Eq, V, A: Allocator> Keys<K, V, A> {
     {
         while let Some(handle) = handles.next() {
             if let Handle::Remembered(place) = Handle::unpack(handle) {
-                if self.key_equals(place, key) {
+                if self.key_equals(place.number(), key) {
                     return Some(place);
                 }
             }

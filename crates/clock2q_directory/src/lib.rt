@@ -13,3 +13,4 @@ pub mod handle;
 pub mod history;
 pub mod index;
 pub mod keys;
+pub mod place;

@@ -1,6 +1,7 @@
 //! A `put` that hands over what it replaces or evicts.
 use crate::cache::Cache;
 use clock2q_directory::history::Found;
+use clock2q_directory::place::Place;
 use std::alloc::Allocator;
 use std::hash::{BuildHasher, Hash};
 
@@ -52,7 +53,13 @@ impl<K: Hash + Eq + Copy, V: Drop, S: BuildHasher, A: Allocator> Cache<K, V, S, 
 
     /// Inserts a key that is not resident, and hands over the resident that leaves. If the history
     /// has the key, it is there at `place`.
-    fn insert_evicting(&mut self, hash: u64, key: K, value: V, place: Option<u32>) -> Option<(K, V)>
+    fn insert_evicting(
+        &mut self,
+        hash: u64,
+        key: K,
+        value: V,
+        place: Option<Place>,
+    ) -> Option<(K, V)>
         requires place { place ≡ place_of (K.eq key) self.old.machine.history self.old.known.taken }
         requires absent { IsAbsent K.Hash S.BuildHasher S.Hasher.Hasher key hash self.old }
         ensures evicted { result ≡

@@ -1,6 +1,7 @@
 //! Insertion of a key that is not resident.
 use crate::cache::Cache;
 use crate::vacancies::take_vacancy;
+use clock2q_directory::place::Place;
 use std::alloc::Allocator;
 use std::hash::{BuildHasher, Hash};
 
@@ -24,7 +25,7 @@ impl<K: Hash + Eq + Drop, V: Drop, S: BuildHasher, A: Allocator> Cache<K, V, S, 
     ghost use Rattle.clock2q_machine.specs.Machine.{vacancy, goes_to_main, into_main, into_small, placement, inserted};
 
     /// Inserts a key that is not resident. If the history has it, it is there at `place`.
-    pub(crate) fn insert(&mut self, hash: u64, key: K, value: V, place: Option<u32>) -> u32
+    pub(crate) fn insert(&mut self, hash: u64, key: K, value: V, place: Option<Place>) -> u32
         requires place { place ≡ place_of (K.eq key) self.old.machine.history self.old.known.taken }
         requires absent { IsAbsent K.Hash S.BuildHasher S.Hasher.Hasher key hash self.old }
         ensures slot { result ≡ (placement (K.eq key) key self.old.machine).slot }

@@ -1,5 +1,6 @@
 //! What happens to a key: it enters, leaves, is remembered or forgotten.
 use crate::directory::Directory;
+use crate::place::Place;
 use std::alloc::Allocator;
 
 impl<K: Eq, V, A: Allocator> Directory<K, V, A> {
@@ -54,7 +55,7 @@ impl<K: Eq, V, A: Allocator> Directory<K, V, A> {
     }
 
     /// Forgets a key, which is at `place`, and returns true if it was remembered.
-    pub fn forget(&mut self, hash: u64, key: &K, place: Option<u32>) -> bool
+    pub fn forget(&mut self, hash: u64, key: &K, place: Option<Place>) -> bool
         requires hash { HasHash K.eq hash key.now self.old.history.entries }
         requires place { place ≡
             place_of (K.eq key.now)

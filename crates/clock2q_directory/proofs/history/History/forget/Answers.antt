@@ -44,7 +44,7 @@ unlink-requires g c =
     let i = c.self.inside in
     let hashed = rw (← c.self.view_is) at c.requires.hash in
     let found = sym c.in-Some.is ∙ c.requires.place ∙ place-shown i.index i.order i.keys c.self.view_is c.args.hash g.met.K.Eq.laws c.self.invariant c.args.key.now c.requires.hash in
-    place_there g.K.PartialEq.eq g.met.K.Eq.laws c.args.hash c.args.key.now i.index i.order i.keys c.self.invariant hashed c.in-Some.place found
+    rw c.number.ensures.number (place_there g.K.PartialEq.eq g.met.K.Eq.laws c.args.hash c.args.key.now i.index i.order i.keys c.self.invariant hashed c.in-Some.place found)
 
 pub invariant_of-self : goal.invariant_of-self
 invariant_of-self g c =
@@ -53,7 +53,7 @@ invariant_of-self g c =
     let found = sym c.in-Some.is ∙ c.requires.place ∙ place-shown i.index i.order i.keys c.self.view_is c.args.hash g.met.K.Eq.laws c.self.invariant c.args.key.now c.requires.hash in
     let e = c.unlink.ensures in
     let f = forgets g.K.PartialEq.eq g.met.K.Eq.laws c.args.hash c.args.key.now i.index i.order i.keys c.self.invariant hashed c.in-Some.place found
-    c.forget.new.self c.unlink.new.self i.keys c.forget.ensures.forgotten e.whole e.order refl in
+    c.forget.new.self c.unlink.new.self i.keys c.forget.ensures.forgotten e.whole (rw c.number.ensures.number at e.order) refl in
     f.whole
 
 pub returns-clause-found : goal.returns-clause-found
@@ -63,7 +63,7 @@ returns-clause-found g c =
     let found = sym c.in-Some.is ∙ c.requires.place ∙ place-shown i.index i.order i.keys c.self.view_is c.args.hash g.met.K.Eq.laws c.self.invariant c.args.key.now c.requires.hash in
     let e = c.unlink.ensures in
     let f = forgets g.K.PartialEq.eq g.met.K.Eq.laws c.args.hash c.args.key.now i.index i.order i.keys c.self.invariant hashed c.in-Some.place found
-    c.forget.new.self c.unlink.new.self i.keys c.forget.ensures.forgotten e.whole e.order refl in
+    c.forget.new.self c.unlink.new.self i.keys c.forget.ensures.forgotten e.whole (rw c.number.ensures.number at e.order) refl in
     sym f.found ∙ ap (λ (z : Remembered _). is_remembered g.K.PartialEq.eq c.args.key.now z.entries) c.self.view_is
 
 pub returns-clause-forgotten : goal.returns-clause-forgotten
@@ -73,7 +73,7 @@ returns-clause-forgotten g c =
     let found = sym c.in-Some.is ∙ c.requires.place ∙ place-shown i.index i.order i.keys c.self.view_is c.args.hash g.met.K.Eq.laws c.self.invariant c.args.key.now c.requires.hash in
     let e = c.unlink.ensures in
     let f = forgets g.K.PartialEq.eq g.met.K.Eq.laws c.args.hash c.args.key.now i.index i.order i.keys c.self.invariant hashed c.in-Some.place found
-    c.forget.new.self c.unlink.new.self i.keys c.forget.ensures.forgotten e.whole e.order refl in
+    c.forget.new.self c.unlink.new.self i.keys c.forget.ensures.forgotten e.whole (rw c.number.ensures.number at e.order) refl in
     f.shown ∙ ap (λ (z : Remembered _). remembered (forgotten g.K.PartialEq.eq c.args.key.now z.entries) z.limit
     (places_from c.forget.new.self c.unlink.new.self) (accesses_of c.unlink.new.self i.keys) z.comparisons) c.self.view_is
 
@@ -84,7 +84,7 @@ returns-clause-accesses g c =
     let found = sym c.in-Some.is ∙ c.requires.place ∙ place-shown i.index i.order i.keys c.self.view_is c.args.hash g.met.K.Eq.laws c.self.invariant c.args.key.now c.requires.hash in
     let e = c.unlink.ensures in
     let f = forgets g.K.PartialEq.eq g.met.K.Eq.laws c.args.hash c.args.key.now i.index i.order i.keys c.self.invariant hashed c.in-Some.place found
-    c.forget.new.self c.unlink.new.self i.keys c.forget.ensures.forgotten e.whole e.order refl in
+    c.forget.new.self c.unlink.new.self i.keys c.forget.ensures.forgotten e.whole (rw c.number.ensures.number at e.order) refl in
     rw (← c.self.view_is) f.accesses
 
 pub returns-clause-places : goal.returns-clause-places
@@ -94,5 +94,5 @@ returns-clause-places g c =
     let found = sym c.in-Some.is ∙ c.requires.place ∙ place-shown i.index i.order i.keys c.self.view_is c.args.hash g.met.K.Eq.laws c.self.invariant c.args.key.now c.requires.hash in
     let e = c.unlink.ensures in
     let f = forgets g.K.PartialEq.eq g.met.K.Eq.laws c.args.hash c.args.key.now i.index i.order i.keys c.self.invariant hashed c.in-Some.place found
-    c.forget.new.self c.unlink.new.self i.keys c.forget.ensures.forgotten e.whole e.order refl in
+    c.forget.new.self c.unlink.new.self i.keys c.forget.ensures.forgotten e.whole (rw c.number.ensures.number at e.order) refl in
     f.places ∙ ap (λ (z : Remembered _). freed_place c.args.hash (place_of (g.K.PartialEq.eq c.args.key.now) (map (λ e. e.1) z.entries) z.places.taken) z.places) c.self.view_is

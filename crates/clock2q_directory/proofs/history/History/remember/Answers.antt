@@ -45,7 +45,7 @@ invariant_of-self-2 g c =
     let r =
     remembers g.K.PartialEq.eq c.args.hash c.args.slot c.args.key tt i.index c.make_place-place.new.index c.remember.new.self i.order c.make_place-place.new.order i.keys
     c.write.new.self c.make_place-place.result c.self.invariant some c.make_place-place.ensures.made
-    c.write.ensures.written c.requires.below held c.remember.ensures.remembered c.make_place-place.ensures.whole absent in
+    (rw c.number.ensures.number at c.write.ensures.written) c.requires.below held c.remember.ensures.remembered c.make_place-place.ensures.whole absent in
     r.whole
 
 pub invariant_of-self : goal.invariant_of-self
@@ -65,7 +65,7 @@ returns-clause-pushed g c =
     let r =
     remembers g.K.PartialEq.eq c.args.hash c.args.slot c.args.key tt i.index c.make_place-place.new.index c.remember.new.self i.order c.make_place-place.new.order i.keys
     c.write.new.self c.make_place-place.result c.self.invariant some c.make_place-place.ensures.made
-    c.write.ensures.written c.requires.below held c.remember.ensures.remembered c.make_place-place.ensures.whole absent in
+    (rw c.number.ensures.number at c.write.ensures.written) c.requires.below held c.remember.ensures.remembered c.make_place-place.ensures.whole absent in
     r.shown ∙ ap (λ (z : Remembered _). remembered (take z.limit ((c.args.hash, c.args.key) ∷ z.entries)) z.limit
     (places_from c.remember.new.self c.make_place-place.new.order) (accesses_of c.make_place-place.new.order c.write.new.self) z.comparisons) c.self.view_is
 
@@ -80,7 +80,7 @@ returns-clause-accesses g c =
     let r =
     remembers g.K.PartialEq.eq c.args.hash c.args.slot c.args.key tt i.index c.make_place-place.new.index c.remember.new.self i.order c.make_place-place.new.order i.keys
     c.write.new.self c.make_place-place.result c.self.invariant some c.make_place-place.ensures.made
-    c.write.ensures.written c.requires.below held c.remember.ensures.remembered c.make_place-place.ensures.whole absent in
+    (rw c.number.ensures.number at c.write.ensures.written) c.requires.below held c.remember.ensures.remembered c.make_place-place.ensures.whole absent in
     rw (← c.self.view_is) r.accesses
 
 pub returns-clause-places : goal.returns-clause-places
@@ -94,7 +94,7 @@ returns-clause-places g c =
     let r =
     remembers g.K.PartialEq.eq c.args.hash c.args.slot c.args.key tt i.index c.make_place-place.new.index c.remember.new.self i.order c.make_place-place.new.order i.keys
     c.write.new.self c.make_place-place.result c.self.invariant some c.make_place-place.ensures.made
-    c.write.ensures.written c.requires.below held c.remember.ensures.remembered c.make_place-place.ensures.whole absent in
+    (rw c.number.ensures.number at c.write.ensures.written) c.requires.below held c.remember.ensures.remembered c.make_place-place.ensures.whole absent in
     r.places ∙ ap (λ (z : Remembered _). pushed_places z.limit c.args.hash c.args.slot (oldest_hash (λ (e : ℕ × _). e.0) z.entries) z.places) c.self.view_is
 
 pub returns-then-limit-eq0-clause-places : goal.returns-then-limit-eq0-clause-places

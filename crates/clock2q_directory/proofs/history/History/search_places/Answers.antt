@@ -1,4 +1,4 @@
-use Rattle.std.proofs.Common.{◌≡◌, true, false, ap, sym, ◌∙◌, arith}
+use Rattle.std.proofs.Common.{◌≡◌, Some, true, false, ap, sym, ◌∙◌, arith}
 use Rattle.std.specs.List.{find}
 use Rattle.clock2q_directory.specs.Index.{is_shared, slots_among, places_among}
 use Rattle.clock2q_directory.specs.Keys.{KeyPlaces, is_key_at}
@@ -32,13 +32,31 @@ returns-then-is_shared-clause-comparisons g c =
 pub find-requires : goal.find-requires
 find-requires g c = record { used = rw c.own_places.ensures.places (own-there c.self.invariant c.args.hash (sym c.is_shared.ensures.shared ∙ c.if-is_shared.false)) }
 
+pub returns-in_err-place-clause-place : goal.returns-in_err-place-clause-place
+returns-in_err-place-clause-place g c =
+    let i = c.self.inside in
+    let own : is_shared i.index ≡ false = sym c.is_shared.ensures.shared ∙ c.if-is_shared.false in
+    let places = ap slots_among c.own_places.ensures.places ∙ own-places c.self.invariant c.args.hash own in
+    let at = place-shown i.index i.order i.keys c.self.view_is c.args.hash g.met.K.Eq.laws c.self.invariant c.args.key.now c.requires.hash in
+    c.from_residual.ensures ∙ sym c.in_err-place.was ∙ c.find.ensures.found ∙ ap (λ z. find (is_key_at g.K.PartialEq.eq c.args.key.now i.keys.entries) z) places ∙ sym at
+
+pub returns-in_err-place-clause-comparisons : goal.returns-in_err-place-clause-comparisons
+returns-in_err-place-clause-comparisons g c =
+    let i = c.self.inside in
+    let own : is_shared i.index ≡ false = sym c.is_shared.ensures.shared ∙ c.if-is_shared.false in
+    let places = ap slots_among c.own_places.ensures.places ∙ own-places c.self.invariant c.args.hash own in
+    let most = comparisons-within (is_key_at g.K.PartialEq.eq c.args.key.now i.keys.entries) _ places (places-shown i.index i.order i.keys c.self.view_is c.args.hash) in
+    let asked = ap (λ (z : KeyPlaces _ _). z.comparisons) c.find.ensures.counted in
+    let before = comparisons-shown i.index i.order i.keys c.self.view_is c.args.hash in
+    (omega (arith, asked, before), omega (arith, asked, before, most))
+
 pub returns-clause-place : goal.returns-clause-place
 returns-clause-place g c =
     let i = c.self.inside in
     let own : is_shared i.index ≡ false = sym c.is_shared.ensures.shared ∙ c.if-is_shared.false in
     let places = ap slots_among c.own_places.ensures.places ∙ own-places c.self.invariant c.args.hash own in
     let at = place-shown i.index i.order i.keys c.self.view_is c.args.hash g.met.K.Eq.laws c.self.invariant c.args.key.now c.requires.hash in
-    c.find.ensures.found ∙ ap (λ z. find (is_key_at g.K.PartialEq.eq c.args.key.now i.keys.entries) z) places ∙ sym at
+    ap (λ p. Some p) c.new.ensures.place ∙ sym c.in_ok-place.was ∙ c.find.ensures.found ∙ ap (λ z. find (is_key_at g.K.PartialEq.eq c.args.key.now i.keys.entries) z) places ∙ sym at
 
 pub returns-clause-comparisons : goal.returns-clause-comparisons
 returns-clause-comparisons g c =

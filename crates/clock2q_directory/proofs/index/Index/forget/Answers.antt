@@ -22,7 +22,7 @@ remove_existing-requires-else-is_shared g c =
     let v = index_state i.shared.homes i.own.homes in
     let own : is_shared v ≡ false = ap is_shared c.self.view_is ∙ sym c.is_shared.ensures.shared ∙ c.if-is_shared.false in
     let held = subst (λ z. has c.args.place (candidates (places z) c.args.hash) ≡ true) (sym c.self.view_is) c.requires.held in
-    record { held = held_own v c.args.hash c.args.place own held }
+    rw c.number.ensures.number (record { held = held_own v c.args.hash c.args.place own held })
 
 pub returns-then-is_shared : goal.returns-then-is_shared
 returns-then-is_shared g c =
@@ -47,6 +47,7 @@ returns-else-is_shared g c =
     let is : forgotten_at c.args.hash c.args.place (index_of i.shared i.own) ≡ record { shared = i.shared.homes; own = others; accesses = i.shared.accesses + i.own.accesses + n } = rw own refl in
     record {
       forgotten = ap (λ t. index_of i.shared t) c.remove_existing-else-is_shared.ensures.removed
+          ∙ ap (λ p. index_of i.shared (counted (removed nat_eq i.own.homes c.args.hash p) (i.own.accesses + n))) c.number.ensures.number
           ∙ ap (λ k. record { shared = i.shared.homes; own = others; accesses = k })
           (cost_second i.shared.accesses i.own.accesses n)
           ∙ sym is ∙ ap (λ z. forgotten_at c.args.hash c.args.place z) c.self.view_is;

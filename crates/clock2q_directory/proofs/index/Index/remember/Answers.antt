@@ -42,7 +42,7 @@ pub invariant_of-self-else-is_shared : goal.invariant_of-self-else-is_shared
 invariant_of-self-else-is_shared g c =
     let i = c.self.inside in
     sorted-remembered (index_state i.shared.homes i.own.homes) c.remove_existing.new.self.homes c.insert.new.self.homes c.args.hash c.args.slot c.args.place
-    c.requires.below c.self.invariant (ap (λ (t : CountedTable). t.homes) c.remove_existing.ensures.removed) (ap (λ (t : CountedTable). t.homes) c.insert.ensures.put)
+    c.requires.below c.self.invariant (ap (λ (t : CountedTable). t.homes) c.remove_existing.ensures.removed) (ap (λ (t : CountedTable). t.homes) (rw c.number.ensures.number at c.insert.ensures.put))
 
 pub returns-then-is_shared : goal.returns-then-is_shared
 returns-then-is_shared g c =
@@ -74,7 +74,7 @@ returns-else-is_shared g c =
     record { shared = homes; own = others; accesses = i.shared.accesses + i.own.accesses + m + n } = rw own refl in
     record {
       remembered = ap (λ t. index_of t c.insert.new.self) c.remove_existing.ensures.removed
-          ∙ ap (λ t. record { shared = homes; own = t.homes; accesses = i.shared.accesses + m + t.accesses }) c.insert.ensures.put
+          ∙ ap (λ t. record { shared = homes; own = t.homes; accesses = i.shared.accesses + m + t.accesses }) (rw c.number.ensures.number at c.insert.ensures.put)
           ∙ ap (λ k. record { shared = homes; own = others; accesses = k }) (cost_both i.shared.accesses m i.own.accesses n)
           ∙ sym is ∙ ap (λ z. remembered_at c.args.hash c.args.slot c.args.place z) c.self.view_is;
     }
