@@ -222,19 +222,25 @@ fn found_or_new(rt: HostRuntime) -> Result<(), Fail> {
     find_in_turn(&mut tested, &Seen::new(), &Seen::new())
 }
 
+fn has_one_in_twelve(alloc: Global, tested: &Hashed) -> Result<(), Fail> {
+    same(tested.table.capacity(), 12)?;
+    tested.has_layout(alloc, &[(15, 1, 0)])
+}
+
+fn refuses_room(alloc: Global, tested: &mut Hashed, asked: &Seen) -> Result<(), Fail> {
+    tested.insert(A, 1, asked)?;
+    for additional in [usize::MAX, usize::MAX - 1] {
+        let outcome = tested.reserve(additional, asked);
+        same_at(outcome, Err(TableError::Size), additional)?;
+        has_one_in_twelve(alloc, tested)?;
+    }
+    same(asked.count.get(), 0)
+}
+
 /// More room than can be counted, or whose slots can't be: nothing changes, and no hash is asked
 /// for.
 #[test]
 fn too_much_room(rt: HostRuntime) -> Result<(), Fail> {
-    let asked = Seen::new();
     let mut tested = Hashed::with_capacity(rt.alloc(), 12)?;
-    tested.insert(A, 1, &asked)?;
-    for additional in [usize::MAX, usize::MAX - 1] {
-        let outcome = tested.reserve(additional, &asked);
-        same_at(outcome, Err(TableError::Size), additional)?;
-        same_at(tested.table.capacity(), 12, additional)?;
-        tested.has_layout(rt.alloc(), &[(15, 1, 0)])?;
-    }
-    same(asked.count.get(), 0)?;
-    Ok(())
+    refuses_room(rt.alloc(), &mut tested, &Seen::new())
 }

@@ -1,9 +1,9 @@
 //! Entries that a search finds, and entries that are inserted or removed.
-use crate::walks::{A, B, yields};
+use crate::walks::{A, B, Lookups, each_yields};
 use clock2q_handles::Table;
 use std::alloc::Global;
 use std::test::Fail;
-use testing::same;
+use testing::{same, same_at};
 
 /// The outcome of a search.
 #[derive(Clone, Copy, Debug, PartialEq)]
@@ -13,12 +13,21 @@ enum Led {
     Refused,
 }
 
+/// Returns the position of a handle, if there is one.
+fn position_of(table: &Table<u32>, hash: u64, handle: u32) -> Option<usize> {
+    if table.capacity() == 0 {
+        return None;
+    }
+    let (_, position) = table.search(hash, |held| held == handle).ok()?;
+    Some(position)
+}
+
 /// Finds a handle or inserts it, unless the table is full.
 fn set(table: &mut Table<u32>, hash: u64, handle: u32) -> Led {
     if table.len() >= table.capacity() {
         return Led::Refused;
     }
-    if let Ok((_, position)) = table.search(hash, |held| held == handle) {
+    if let Some(position) = position_of(table, hash, handle) {
         return Led::Found(position);
     }
     match table.insert_within_capacity(hash, handle) {
@@ -29,10 +38,7 @@ fn set(table: &mut Table<u32>, hash: u64, handle: u32) -> Led {
 
 /// Removes a handle, and returns the position that it had.
 fn take(table: &mut Table<u32>, hash: u64, handle: u32) -> Option<usize> {
-    if table.capacity() == 0 {
-        return None;
-    }
-    let (_, position) = table.search(hash, |held| held == handle).ok()?;
+    let position = position_of(table, hash, handle)?;
     table.remove(hash, handle);
     Some(position)
 }
@@ -46,37 +52,52 @@ fn wrapped(alloc: Global) -> Result<Table<u32>, Fail> {
     Ok(table)
 }
 
-#[test]
-fn found_where_they_are(rt: HostRuntime) -> Result<(), Fail> {
-    let mut table = wrapped(rt.alloc())?;
-    same(set(&mut table, 15, 1), Led::Found(0))?;
-    same(set(&mut table, 0, 3), Led::Found(2))?;
-    same(table.len(), 4)?;
-    yields(table.get(15), &[0, 1], "last home")?;
-    yields(table.get(0), &[2, 3], "first home")?;
+/// Finds or inserts handles, each with its hash and the outcome.
+fn lead(table: &mut Table<u32>, steps: &[(u64, u32, Led)]) -> Result<(), Fail> {
+    for (hash, handle, wanted) in steps {
+        same_at(set(table, *hash, *handle), *wanted, *handle)?;
+    }
+    Ok(())
+}
+
+/// Removes handles, each with its hash and the position that it had.
+fn take_each(table: &mut Table<u32>, steps: &[(u64, u32, Option<usize>)]) -> Result<(), Fail> {
+    for (hash, handle, wanted) in steps {
+        same_at(take(table, *hash, *handle), *wanted, *handle)?;
+    }
     Ok(())
 }
 
 #[test]
+fn found_where_they_are(rt: HostRuntime) -> Result<(), Fail> {
+    let mut table = wrapped(rt.alloc())?;
+    lead(&mut table, &[(15, 1, Led::Found(0)), (0, 3, Led::Found(2))])?;
+    same(table.len(), 4)?;
+    each_yields(&table, &[(15, &[0, 1]), (0, &[2, 3])], "both homes")
+}
+
+const INSERTED: &[(u64, u32, Led)] = &[
+    (15, 4, Led::Inserted),
+    (A, 5, Led::Inserted),
+    (B, 5, Led::Found(2)),
+];
+
+const YIELDED: Lookups<'static, u32> = &[(15, &[0, 1, 4]), (0, &[2, 3]), (A, &[5])];
+
+#[test]
 fn inserted_where_they_are_not(rt: HostRuntime) -> Result<(), Fail> {
     let mut table = wrapped(rt.alloc())?;
-    same(set(&mut table, 15, 4), Led::Inserted)?;
-    yields(table.get(15), &[0, 1, 4], "last home")?;
-    yields(table.get(0), &[2, 3], "first home")?;
-    same(set(&mut table, A, 5), Led::Inserted)?;
-    same(set(&mut table, B, 5), Led::Found(2))?;
-    yields(table.get(A), &[5], "another fingerprint")?;
-    Ok(())
+    lead(&mut table, INSERTED)?;
+    each_yields(&table, YIELDED, "with two more")
 }
 
 #[test]
 fn removed_where_they_are(rt: HostRuntime) -> Result<(), Fail> {
     let mut table = wrapped(rt.alloc())?;
-    same(take(&mut table, 15, 0), Some(15))?;
-    same(take(&mut table, 0, 3), Some(1))?;
-    same(take(&mut table, 0, 3), None)?;
-    yields(table.get(15), &[1], "last home")?;
-    yields(table.get(0), &[2], "first home")?;
-    same(take(&mut Table::new(rt.alloc()), 0, 3), None)?;
-    Ok(())
+    take_each(
+        &mut table,
+        &[(15, 0, Some(15)), (0, 3, Some(1)), (0, 3, None)],
+    )?;
+    each_yields(&table, &[(15, &[1]), (0, &[2])], "with two less")?;
+    same(take(&mut Table::new(rt.alloc()), 0, 3), None)
 }

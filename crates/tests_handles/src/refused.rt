@@ -55,22 +55,33 @@ fn constructions(rt: HostRuntime) -> Result<(), Fail> {
     Ok(())
 }
 
-/// Looks up and removes in tables without slots.
-fn read_no_slots(none: &mut RefusedTable<'_>, empty: &RefusedTable<'_>) -> Result<(), Fail> {
-    same((none.capacity(), empty.capacity()), (0, 0))?;
-    same(none.get(5).next(), None)?;
-    same(none.remove(5, 5), false)
+/// Returns the first candidate of a hash.
+fn first_of(table: &RefusedTable<'_>, hash: u64) -> Option<u64> {
+    table.get(hash).next()
+}
+
+/// Looks up and removes in a table without slots.
+fn read_no_slots(table: &mut RefusedTable<'_>) -> Result<(), Fail> {
+    same(table.capacity(), 0)?;
+    same(first_of(table, 5), None)?;
+    same(table.remove(5, 5), false)
+}
+
+/// Lookups and removals in a table without slots request nothing.
+fn read_without_requests(
+    alloc: &Refusing<Global>,
+    table: &mut RefusedTable<'_>,
+) -> Result<(), Fail> {
+    read_no_slots(table)?;
+    same(alloc.requests(), 0)
 }
 
 /// A table without slots requests nothing, and neither do lookups and removals in it.
 #[test]
 fn no_slots(rt: HostRuntime) -> Result<(), Fail> {
     let alloc = Refusing::new(rt.alloc());
-    let mut none: RefusedTable = Table::new(&alloc);
-    let empty: RefusedTable = Table::with_capacity(&alloc, 0)?;
-    read_no_slots(&mut none, &empty)?;
-    same(alloc.requests(), 0)?;
-    Ok(())
+    read_without_requests(&alloc, &mut Table::new(&alloc))?;
+    read_without_requests(&alloc, &mut Table::with_capacity(&alloc, 0)?)
 }
 
 /// Makes insertions that the table has room for.
@@ -107,15 +118,22 @@ fn call_within_capacity(rt: &impl Abort, table: &mut RefusedTable<'_>) -> Result
     Ok(())
 }
 
+/// Makes these calls with all requests refused.
+fn call_without_requests(
+    rt: &impl Abort,
+    alloc: &Refusing<Global>,
+    table: &mut RefusedTable<'_>,
+) -> Result<(), Fail> {
+    let made = alloc.requests();
+    alloc.refuse_after(0);
+    call_within_capacity(rt, table)?;
+    same(alloc.requests(), made)
+}
+
 #[test]
 fn no_requests(rt: HostRuntime) -> Result<(), Fail> {
     let alloc = Refusing::new(rt.alloc());
-    let mut table: RefusedTable = Table::with_capacity(&alloc, 12)?;
-    let made = alloc.requests();
-    alloc.refuse_after(0);
-    call_within_capacity(&rt, &mut table)?;
-    same(alloc.requests(), made)?;
-    Ok(())
+    call_without_requests(&rt, &alloc, &mut Table::with_capacity(&alloc, 12)?)
 }
 
 /// Inserts as many handles as a table of 16 slots holds before it grows, each as its own hash.
@@ -187,18 +205,22 @@ fn insert_in_turn(alloc: &Refusing<Global>, table: &mut RefusedTable<'_>) -> Res
 /// Looks at a table that grew for its thirteenth handle.
 fn look_at_thirteen(table: &RefusedTable<'_>) -> Result<(), Fail> {
     same((table.len(), table.capacity()), (13, 24))?;
-    same(table.get(12).next(), Some(12))
+    same(first_of(table, 12), Some(12))
+}
+
+/// Inserts into a full table, in the turn in which no request is refused.
+fn insert_and_look(alloc: &Refusing<Global>, table: &mut RefusedTable<'_>) -> Result<(), Fail>
+    requires keyed { IsHashOf (λ handle. handle) table.old.homes }
+{
+    same(insert_in_turn(alloc, table)?, REFUSED_TURNS)?;
+    look_at_thirteen(table)
 }
 
 #[test]
 fn insertions(rt: HostRuntime) -> Result<(), Fail> {
     let alloc = Refusing::new(rt.alloc());
     let mut table = full(&rt, &alloc)?;
-    let turn = insert_in_turn(&alloc, &mut table)?;
-    look_at_thirteen(&table)?;
-    drop(table);
-    same(turn, REFUSED_TURNS)?;
-    Ok(())
+    insert_and_look(&alloc, &mut table)
 }
 
 /// Reserves room for a handle, and returns the number of handles whose hash was asked for.
@@ -240,15 +262,19 @@ fn look_at_twelve(table: &RefusedTable<'_>) -> Result<(), Fail> {
     same((table.len(), table.capacity()), (12, 24))
 }
 
+/// Reserves room in a full table, in the turn in which no request is refused.
+fn reserve_and_look(alloc: &Refusing<Global>, table: &mut RefusedTable<'_>) -> Result<(), Fail>
+    requires keyed { IsHashOf (λ handle. handle) table.old.homes }
+{
+    same(reserve_in_turn(alloc, table)?, REFUSED_TURNS)?;
+    look_at_twelve(table)
+}
+
 #[test]
 fn reservations(rt: HostRuntime) -> Result<(), Fail> {
     let alloc = Refusing::new(rt.alloc());
     let mut table = full(&rt, &alloc)?;
-    let turn = reserve_in_turn(&alloc, &mut table)?;
-    look_at_twelve(&table)?;
-    drop(table);
-    same(turn, REFUSED_TURNS)?;
-    Ok(())
+    reserve_and_look(&alloc, &mut table)
 }
 
 /// The outcome of a lookup that inserts, the number of handles that it offered, and the number
@@ -295,13 +321,17 @@ fn find_in_turn(alloc: &Refusing<Global>, table: &mut RefusedTable<'_>) -> Resul
     Ok(MANY)
 }
 
+/// Finds a handle in a full table, in the turn in which no request is refused.
+fn find_and_look(alloc: &Refusing<Global>, table: &mut RefusedTable<'_>) -> Result<(), Fail>
+    requires keyed { IsHashOf (λ handle. handle) table.old.homes }
+{
+    same(find_in_turn(alloc, table)?, REFUSED_TURNS)?;
+    look_at_twelve(table)
+}
+
 #[test]
 fn finds(rt: HostRuntime) -> Result<(), Fail> {
     let alloc = Refusing::new(rt.alloc());
     let mut table = full(&rt, &alloc)?;
-    let turn = find_in_turn(&alloc, &mut table)?;
-    look_at_twelve(&table)?;
-    drop(table);
-    same(turn, REFUSED_TURNS)?;
-    Ok(())
+    find_and_look(&alloc, &mut table)
 }

@@ -195,28 +195,49 @@ impl Pair {
         }
         Ok(())
     }
+    /// Compares both after the call with this number.
+    fn compare(
+        &mut self,
+        alloc: Global,
+        draws: &mut DrawnCalls,
+        number: u64,
+        shown: &str,
+    ) -> Result<(), Fail> {
+        self.sizes_are_same(shown)?;
+        self.slots_are_same(alloc, shown)?;
+        if number % (CALLS / 2) == CALLS / 2 - 1 {
+            self.order_is_same(shown)?;
+        }
+        if number % 5 == 4 {
+            self.lookups_are_same(draws, shown)?;
+        }
+        Ok(())
+    }
+
+    /// Makes the call with this number in a list of both, and compares them.
+    fn step(
+        &mut self,
+        alloc: Global,
+        draws: &mut DrawnCalls,
+        (list, number): (u64, u64),
+    ) -> Result<(), Fail> {
+        let call = draws.call(number, &self.plain);
+        let shown = format!(in alloc; "list {list}, call {number}: {call:?}")?;
+        self.call(call, shown.as_str())?;
+        self.compare(alloc, draws, number, shown.as_str())
+    }
 }
 
 #[test]
 fn plain_lists(rt: HostRuntime) -> Result<(), Fail> {
-    for seed in 0..LISTS {
+    for list in 0..LISTS {
         let mut draws = DrawnCalls {
-            draws: Draws::new(seed),
-            homes: 1 << (seed % 4),
+            draws: Draws::new(list),
+            homes: 1 << (list % 4),
         };
-        let mut pair = Pair::with_capacity(rt.alloc(), (seed % 3 * 10) as usize)?;
+        let mut pair = Pair::with_capacity(rt.alloc(), (list % 3 * 10) as usize)?;
         for number in 0..CALLS {
-            let call = draws.call(number, &pair.plain);
-            let shown = format!(in rt.alloc(); "list {seed}, call {number}: {call:?}")?;
-            pair.call(call, shown.as_str())?;
-            pair.sizes_are_same(shown.as_str())?;
-            pair.slots_are_same(rt.alloc(), shown.as_str())?;
-            if number % (CALLS / 2) == CALLS / 2 - 1 {
-                pair.order_is_same(shown.as_str())?;
-            }
-            if number % 5 == 4 {
-                pair.lookups_are_same(&mut draws, shown.as_str())?;
-            }
+            pair.step(rt.alloc(), &mut draws, (list, number))?;
         }
     }
     Ok(())

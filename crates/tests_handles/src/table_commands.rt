@@ -5,7 +5,9 @@ use clock2q_handles::{Table, TableError};
 use clock2q_table_commands::{TableCommand, TableReply, run_table};
 use std::alloc::{AllocError, Allocator, Global};
 use std::cell::Cell;
+use std::process::Abort;
 use std::test::Fail;
+use testing::same;
 
 const EVEN: u64 = 0xAB00_0000_0000_000F;
 
@@ -29,61 +31,100 @@ fn replies_of<A: Allocator + Copy>(
     run_table(alloc, &mut table, hash_of, commands)
 }
 
-/// Commands to a table that holds the handles from 0 to 11, each with its reply.
-fn worked_replies(alloc: Global) -> Result<[(TableCommand<u64>, TableReply<u64>); 10], AllocError> {
-    Ok([
-        (
-            TableCommand::Get(EVEN),
-            TableReply::Handles(vec![in alloc; 0, 1, 2, 3, 4, 5, 6, 7, 8, 9, 10, 11]?),
-        ),
-        (TableCommand::Reserve(1), TableReply::Done),
-        (
-            TableCommand::Get(EVEN),
-            TableReply::Handles(vec![in alloc; 2, 4, 6, 8, 10, 0]?),
-        ),
-        (
-            TableCommand::Get(ODD),
-            TableReply::Handles(vec![in alloc; 1, 3, 5, 7, 9, 11]?),
-        ),
-        (TableCommand::Remove(ODD, 3), TableReply::Removed(true)),
-        (
-            TableCommand::Get(ODD),
-            TableReply::Handles(vec![in alloc; 1, 5, 7, 9, 11]?),
-        ),
-        (
-            TableCommand::Find(12, vec![in alloc; 1]?),
-            TableReply::Found(12, true),
-        ),
-        (
-            TableCommand::Find(12, vec![in alloc; 0]?),
-            TableReply::Found(0, false),
-        ),
-        (
-            TableCommand::Reserve(usize::MAX),
-            TableReply::Refused(TableError::Size),
-        ),
-        (
-            TableCommand::Get(EVEN),
-            TableReply::Handles(vec![in alloc; 2, 4, 6, 8, 10, 0, 12]?),
-        ),
-    ])
+/// Commands, each with its reply.
+#[derive(Drop)]
+struct Run {
+    alloc: Global,
+    commands: Vec<TableCommand<u64>>,
+    wanted: Vec<TableReply<u64>>,
+}
+
+impl Run {
+    fn new(alloc: Global) -> Run {
+        Run {
+            alloc,
+            commands: Vec::new(alloc),
+            wanted: Vec::new(alloc),
+        }
+    }
+
+    fn add(
+        &mut self,
+        command: TableCommand<u64>,
+        reply: TableReply<u64>,
+    ) -> Result<(), AllocError> {
+        self.commands.push(command)?;
+        self.wanted.push(reply)?;
+        Ok(())
+    }
+
+    /// Inserts the handles from 0 to 11.
+    fn insert_twelve(&mut self) -> Result<(), AllocError> {
+        for handle in 0..12u64 {
+            self.add(TableCommand::Insert(handle), TableReply::Done)?;
+        }
+        Ok(())
+    }
+
+    /// A lookup, and the handles that it yields.
+    fn get(&mut self, hash: u64, yielded: &[u64]) -> Result<(), AllocError> {
+        let mut handles = Vec::new(self.alloc);
+        for handle in yielded {
+            handles.push(*handle)?;
+        }
+        self.add(TableCommand::Get(hash), TableReply::Handles(handles))
+    }
+
+    /// A search for the handle 12 that accepts another one, and its outcome.
+    fn find(&mut self, accepted: u64, (found, is_new): (u64, bool)) -> Result<(), AllocError> {
+        let accepted = vec![in self.alloc; accepted]?;
+        self.add(
+            TableCommand::Find(12, accepted),
+            TableReply::Found(found, is_new),
+        )
+    }
+
+    /// Calls of a table of these twelve: its growth, and lookups before and after it.
+    fn grow(&mut self) -> Result<(), AllocError> {
+        self.get(EVEN, &[0, 1, 2, 3, 4, 5, 6, 7, 8, 9, 10, 11])?;
+        self.add(TableCommand::Reserve(1), TableReply::Done)?;
+        self.get(EVEN, &[2, 4, 6, 8, 10, 0])?;
+        self.get(ODD, &[1, 3, 5, 7, 9, 11])
+    }
+
+    /// Calls of the larger table, by which a handle leaves and another comes.
+    fn exchange(&mut self) -> Result<(), AllocError> {
+        self.add(TableCommand::Remove(ODD, 3), TableReply::Removed(true))?;
+        self.get(ODD, &[1, 5, 7, 9, 11])?;
+        self.find(1, (12, true))?;
+        self.find(0, (0, false))?;
+        let refused = TableReply::Refused(TableError::Size);
+        self.add(TableCommand::Reserve(usize::MAX), refused)?;
+        self.get(EVEN, &[2, 4, 6, 8, 10, 0, 12])
+    }
+
+    /// All these calls.
+    fn worked(&mut self) -> Result<(), AllocError> {
+        self.insert_twelve()?;
+        self.grow()?;
+        self.exchange()
+    }
+}
+
+/// A new table for twelve entries gives the replies.
+fn is_answered(rt: &impl Abort, run: &Run) -> Result<(), Fail> {
+    assert_eq!(rt; replies_of(run.alloc, 12, &run.commands)?, run.wanted);
+    Ok(())
+}
+
+fn works(rt: &impl Abort, run: &mut Run) -> Result<(), Fail> {
+    run.worked()?;
+    is_answered(rt, run)
 }
 
 #[test]
 fn worked_run(rt: HostRuntime) -> Result<(), Fail> {
-    let alloc = rt.alloc();
-    let mut commands: Vec<TableCommand<u64>> = Vec::new(alloc);
-    let mut wanted: Vec<TableReply<u64>> = Vec::new(alloc);
-    for handle in 0..12u64 {
-        commands.push(TableCommand::Insert(handle))?;
-        wanted.push(TableReply::Done)?;
-    }
-    for (command, reply) in worked_replies(alloc)? {
-        commands.push(command)?;
-        wanted.push(reply)?;
-    }
-    assert_eq!(rt; replies_of(alloc, 12, &commands)?, wanted);
-    Ok(())
+    works(&rt, &mut Run::new(rt.alloc()))
 }
 
 #[test]
@@ -107,29 +148,47 @@ fn hashes_of(alloc: Global, commands: &[TableCommand<u64>]) -> Result<u64, Table
     Ok(asked.get())
 }
 
+impl Run {
+    /// With this command too, a run asks for this many more hashes.
+    fn asks(&mut self, command: TableCommand<u64>, more: u64) -> Result<(), Fail> {
+        let before = hashes_of(self.alloc, &self.commands)?;
+        self.commands.push(command)?;
+        let after = hashes_of(self.alloc, &self.commands)?;
+        same(after.wrapping_sub(before), more)
+    }
+
+    /// The same with a search that accepts one handle.
+    fn asks_to_find(&mut self, handle: u64, accepted: u64, more: u64) -> Result<(), Fail> {
+        let accepted = vec![in self.alloc; accepted]?;
+        self.asks(TableCommand::Find(handle, accepted), more)
+    }
+
+    /// After twelve insertions, which ask for a hash each.
+    fn asks_after_twelve(&mut self) -> Result<(), Fail> {
+        self.insert_twelve()?;
+        same(hashes_of(self.alloc, &self.commands)?, 12)?;
+        self.asks(TableCommand::Get(EVEN), 0)?;
+        self.asks(TableCommand::Remove(EVEN, 0), 0)?;
+        self.asks(TableCommand::Reserve(1), 0)?;
+        self.asks_to_find(2, 4, 1)
+    }
+
+    fn asks_as_it_grows(&mut self) -> Result<(), Fail> {
+        self.asks(TableCommand::Insert(0), 1)?;
+        self.asks(TableCommand::Reserve(1), 12)?;
+        self.asks_to_find(12, 11, 1)?;
+        self.asks(TableCommand::Reserve(usize::MAX), 0)
+    }
+
+    fn asks_in_all(&mut self) -> Result<(), Fail> {
+        self.asks_after_twelve()?;
+        self.asks_as_it_grows()
+    }
+}
+
 /// A run asks for the hash of the command's handle and, if the table grows, of each handle that it
 /// holds.
 #[test]
 fn hashes_asked_for(rt: HostRuntime) -> Result<(), Fail> {
-    let alloc = rt.alloc();
-    let mut commands: Vec<TableCommand<u64>> = Vec::new(alloc);
-    for handle in 0..12u64 {
-        commands.push(TableCommand::Insert(handle))?;
-    }
-    assert_eq!(rt; hashes_of(alloc, &commands)?, 12);
-    for (command, more) in [
-        (TableCommand::Get(EVEN), 0),
-        (TableCommand::Remove(EVEN, 0), 0),
-        (TableCommand::Reserve(1), 0),
-        (TableCommand::Find(2, vec![in alloc; 4]?), 1),
-        (TableCommand::Insert(0), 1),
-        (TableCommand::Reserve(1), 12),
-        (TableCommand::Find(12, vec![in alloc; 11]?), 1),
-        (TableCommand::Reserve(usize::MAX), 0),
-    ] {
-        let before = hashes_of(alloc, &commands)?;
-        commands.push(command)?;
-        assert_eq!(rt; hashes_of(alloc, &commands)?.wrapping_sub(before), more);
-    }
-    Ok(())
+    Run::new(rt.alloc()).asks_in_all()
 }

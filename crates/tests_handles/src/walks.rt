@@ -1,5 +1,5 @@
 //! What a lookup of a table yields, and two hashes that a small table can't distinguish.
-use clock2q_handles::Candidates;
+use clock2q_handles::{Candidates, Table};
 use std::fmt::Debug;
 use std::test::Fail;
 use testing::same_at;
@@ -8,6 +8,9 @@ use testing::same_at;
 pub(crate) const A: u64 = 0xAB00_0000_0000_000F;
 
 pub(crate) const B: u64 = 0xAB00_0000_0000_001F;
+
+/// Hashes, each with what a lookup yields.
+pub(crate) type Lookups<'a, H> = &'a [(u64, &'a [H])];
 
 /// Returns the failure of a test unless a walk yields exactly the wanted handles, and `None` from then on. It
 /// peeks twice before each call, which yields the same.
@@ -37,4 +40,16 @@ pub(crate) fn yields<H: Copy + Eq + Default + Debug>(
     }
     same_at(walk.next(), None, shown)?;
     same_at(walk.next(), None, shown)
+}
+
+/// Returns the failure of a test unless the lookup of each hash yields exactly its handles.
+pub(crate) fn each_yields<H: Copy + Eq + Default + Debug>(
+    table: &Table<H>,
+    lookups: Lookups<'_, H>,
+    shown: &str,
+) -> Result<(), Fail> {
+    for (hash, wanted) in lookups {
+        yields(table.get(*hash), wanted, shown)?;
+    }
+    Ok(())
 }

@@ -1,7 +1,7 @@
 use Rattle.std.proofs.Common.{rules}
 use denote.Param.Always.{mut_total}
 use Rattle.clock2q_handles.proofs.Offering.{offered_any}
-use Rattle.tests_handles.proofs.positions.set.Goals as goal
+use Rattle.tests_handles.proofs.positions.position_of.Goals as goal
 
 pub search-requires-clause-callable : goal.search-requires-clause-callable
 search-requires-clause-callable c = offered_any _ _ _ (mut_total _ _ (λ f a. search rules))
