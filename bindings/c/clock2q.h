@@ -90,7 +90,7 @@ clock2q_memory clock2q_use_memory(const clock2q_memory *memory);
 uint32_t clock2q_version(void);
 
 /* Makes a cache for `capacity` keys. Needs none there. Takes time and memory in proportion to the
- * capacity, 85 to 170 bytes a key from 100 keys on, in at most twelve requests. */
+ * capacity, 81 to 166 bytes a key from 100 keys on, in at most twelve requests. */
 uint32_t clock2q_new(clock2q *cache, size_t capacity);
 
 /* Makes a cache of which `small` slots are for new keys, each young until `window` more were

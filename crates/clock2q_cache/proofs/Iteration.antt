@@ -1,6 +1,6 @@
 -- What an iterator over the residents has left: slot by slot, and the number.
 use Rattle.std.proofs.Common.{◌≡◌, ℕ, zero, suc, ◌+◌, ◌-◌, ◌<◌, ◌≤◌, ◌==◌, Bool, true, false, cond, Option, Some, None, List, [], ◌∷◌, map, length, inl, inr, refl, sym, ap, ◌∙◌, arith, eq-eqb, ne_eqb}
-use Rattle.std.specs.Prelude.{is_some, slice_get, nat_lt, if◌then◌else◌}
+use Rattle.std.specs.Prelude.{is_some, IsSome, slice_get, nat_lt, if◌then◌else◌}
 use Rattle.std.specs.List.{filter_map, range_with_len, cons_option, find, sum_by, count_by}
 use Rattle.std.specs.Option.{option_map, option_and_then}
 use mathlib.Core.List.{map-map}
@@ -34,6 +34,18 @@ module _ {K V : Type 0} (m : Machine K V) where
   entries-there slot made key value there has =
       one_more slot made (Some (key, slot, value))
       (ap (option_and_then {U = K × ℕ × V} (λ (r : K × ℕ). option_map (λ value. (r.0, r.1, value)) (slice_get m.values slot))) there ∙ ap (option_map (λ value. (key, slot, value))) has)
+
+  -- so there is something left
+  pub some-left : (slot : ℕ) → slot < length m.values → IsSome (resident_at m slot) → 1 ≤ length (entries_from m slot)
+  some-left slot made there = by (resident_at m slot) refl there
+    where
+      by : (o : Option (K × ℕ)) → resident_at m slot ≡ o → IsSome o → 1 ≤ length (entries_from m slot)
+      by None is some = absurd (cc)
+      by (Some r) is some =
+          let v = get-within m.values slot made in
+          let at : entry_at m slot ≡ Some (r.0, r.1, v.0) =
+          ap (option_and_then {U = K × ℕ × V} (λ (z : K × ℕ). option_map (λ value. (z.0, z.1, value)) (slice_get m.values slot))) is ∙ ap (option_map (λ value. (r.0, r.1, value))) v.1 in
+          omega (arith, ap (length {A = K × ℕ × V}) (one_more slot made (Some (r.0, r.1, v.0)) at))
 
   -- nothing is left past the last slot
   pub entries-end : (slot : ℕ) → length m.values ≤ slot → entries_from m slot ≡ []

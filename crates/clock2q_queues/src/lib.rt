@@ -11,6 +11,7 @@
 mod link;
 mod links;
 mod main_ring;
+mod neighbours;
 pub mod order;
 pub mod queues;
 mod small;

@@ -6,7 +6,8 @@ ghost use Rattle.clock2q_queues.specs.Rings.{has, without};
 ghost use Rattle.clock2q_queues.specs.Order.{free_places};
 
 use crate::link::Link;
-use crate::links::{Cells, Location, Record, VACANT};
+use crate::links::{Cells, Location};
+use crate::neighbours::Neighbours;
 use std::alloc::{AllocError, Allocator, Global};
 use std::marker::Model;
 
@@ -19,7 +20,7 @@ struct Chain {
 
 impl Chain {
     /// Removes the head of the chain and returns it, if there is one.
-    fn take<A: Allocator>(&mut self, records: &mut Cells<Record, A>) -> Option<u32>
+    fn take<A: Allocator>(&mut self, records: &mut Cells<Neighbours, A>) -> Option<u32>
         requires { 0 < self.old.len → self.old.head < length records.old.items }
         ensures taken { result ≡ slice_get (free_places records.old.items self.old) 0 }
         ensures rest { free_places records.new.items self.new
@@ -31,13 +32,13 @@ impl Chain {
             return None;
         }
         let place = self.head;
-        self.head = records.read(place).next;
+        self.head = records.read(place).next();
         self.len -= 1;
         Some(place)
     }
 
     /// Puts a place that is in neither the order nor the chain at the head of the chain.
-    fn put<A: Allocator>(&mut self, records: &mut Cells<Record, A>, place: u32)
+    fn put<A: Allocator>(&mut self, records: &mut Cells<Neighbours, A>, place: u32)
         requires place_in { place < length records.old.items }
         requires absent { has place (free_places records.old.items self.old) ≡ false }
         requires countable { self.old.len + 1 < 2 ^ 32 }
@@ -47,13 +48,7 @@ impl Chain {
             × (records.new ≡ written place
             (record { previous = 0; next = next; location = Location.Free }) records.old) }
     {
-        records.write(
-            place,
-            Record {
-                next: self.head,
-                ..VACANT
-            },
-        );
+        records.write(place, Neighbours::of(0, self.head));
         self.head = place;
         self.len += 1;
     }
@@ -75,7 +70,7 @@ impl Chain {
 /// ```
 #[derive(Drop)]
 pub struct Order<A: Allocator = Global> {
-    records: Cells<Record, A>,
+    records: Cells<Neighbours, A>,
     newest: Link,
     len: u32,
     chain: Chain,
@@ -105,7 +100,7 @@ impl<A: Allocator> Order<A> {
         ensures whole { IfOk result IsWholeOrder }
     {
         Ok(Order {
-            records: Cells::new(Vec::from_elem(alloc, VACANT, limit as usize)?),
+            records: Cells::new(Vec::from_elem(alloc, Neighbours::of(0, 0), limit as usize)?),
             newest: Link::nowhere(),
             len: 0,
             chain: Chain { head: 0, len: 0 },
@@ -143,15 +138,8 @@ impl<A: Allocator> Order<A> {
     {
         let place = self.chain.take(&mut self.records).unwrap_or(self.len);
         match self.newest.slot() {
-            None => {
-                let alone = Record {
-                    previous: place,
-                    next: place,
-                    location: Location::Free,
-                };
-                self.records.write(place, alone);
-            }
-            Some(newest) => self.records.attach(place, newest, Location::Free),
+            None => self.records.write(place, Neighbours::of(place, place)),
+            Some(newest) => self.records.attach(place, newest),
         }
         self.newest = Link::to(place);
         self.len += 1;
@@ -170,7 +158,7 @@ impl<A: Allocator> Order<A> {
             } }
     {
         let newest = self.newest.target();
-        let oldest = self.records.read(newest).previous;
+        let oldest = self.records.read(newest).previous();
         self.newest = Link::to(oldest);
         oldest
     }
@@ -190,7 +178,7 @@ impl<A: Allocator> Order<A> {
         self.chain.put(&mut self.records, place);
         self.len -= 1;
         if self.newest.slot() == Some(place) {
-            self.newest = Link::only_if(self.len > 0, was.next);
+            self.newest = Link::only_if(self.len > 0, was.next());
         }
     }
 

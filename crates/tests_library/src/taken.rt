@@ -10,8 +10,8 @@ use testing::{Refusing, Spread, same_at};
 /// The bytes that a cache of 64-bit keys and values with the usual shares takes, by its capacity.
 ///
 /// Each slot takes 45: a record of 16, a byte of flags, a hash, a key and a value of 8 each, and 4
-/// for when it is free. Each place of the history, which has half as many, takes 32: a record, a
-/// hash and a key. Each position of the window takes 4: Small has a tenth of the slots, and the
+/// for when it is free. Each place of the history, which has half as many, takes 24: two
+/// neighbours, a hash and a key. Each position of the window takes 4: Small has a tenth of the slots, and the
 /// window half of Small. Each slot of the index takes 8: their number is the least power of two
 /// from 16 on such that three quarters of it are at least three times the number of slots and
 /// places together, or twice that number above 16,384 of those, or that number above 262,144.
@@ -19,25 +19,25 @@ const BYTES: [(usize, u64); 6] = [
     // 45, and 16 slots of the index
     (1, 173),
     // 90, a place, a position, and 16 slots of the index
-    (2, 254),
+    (2, 246),
     // 450, 5 places, a position, and 64 slots of the index
-    (10, 1_126),
+    (10, 1_086),
     // 45,000, 500 places, 50 positions, and 8,192 slots of the index
-    (1_000, 126_736),
+    (1_000, 122_736),
     // 4,500,000, 50,000 places, 5,000 positions, and 524,288 slots of the index
-    (100_000, 10_314_304),
+    (100_000, 9_914_304),
     // 9,000,000, 100,000 places, 10,000 positions, and as many slots of the index
-    (200_000, 16_434_304),
+    (200_000, 15_634_304),
 ];
 
 /// The same for a cache with chosen shares, by its capacity and the sizes of Small and the window.
 const CHOSEN: [((usize, usize, usize), u64); 3] = [
     // 900, 10 places, no position, and 128 slots of the index
-    ((20, 0, 0), 2_244),
+    ((20, 0, 0), 2_164),
     // and 19 positions
-    ((20, 19, 19), 2_320),
+    ((20, 19, 19), 2_240),
     // 45,000, 500 places, 1 position, and 8,192 slots of the index
-    ((1_000, 500, 1), 126_540),
+    ((1_000, 500, 1), 122_540),
 ];
 
 /// What a constructor makes with an allocator takes this many bytes, until it is dropped.

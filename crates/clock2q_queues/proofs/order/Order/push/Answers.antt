@@ -1,7 +1,7 @@
 use Rattle.std.proofs.Common.{◌≡◌, ◌+◌, ◌<◌, ◌∷◌, List, length, drop, ap, sym, subst, ◌∙◌, arith}
 use Rattle.std.proofs.lemmas.List.{length-set}
 use Rattle.std.specs.Option.{unwrap_or}
-use Rattle.clock2q_queues.specs.Cells.{CellsState}
+use Rattle.clock2q_queues.specs.Cells.{CellsState, written}
 use Rattle.clock2q_queues.specs.declared.links.Record.{Record}
 use Rattle.clock2q_queues.specs.Links.{slots_from}
 use Rattle.clock2q_queues.specs.Order.{PlaceOrder, IsOrderOf, free_places}
@@ -14,8 +14,8 @@ take-requires g c =
     let i = c.self.inside in
     head_fits i.records i.newest i.len i.chain c.self.invariant
 
-pub attach-requires-clause-slot_in : goal.attach-requires-clause-slot_in
-attach-requires-clause-slot_in g c =
+pub attach-requires-clause-place_in : goal.attach-requires-clause-place_in
+attach-requires-clause-place_in g c =
     let i = c.self.inside in
     let place = c.unwrap_or-place.result in
     let is = chosen i.records i.newest i.len i.chain c.self.invariant place (c.unwrap_or-place.ensures ∙ ap (λ z. unwrap_or z i.len) c.take.ensures.taken) in
@@ -51,7 +51,8 @@ invariant_of-self g c =
     c.match-slot.self-inside.chain (place ∷ slots_from i.records.items i.newest i.len) (drop 1 (free_places i.records.items i.chain)) =
     rw c.to-self-inside.ensures (elim c.match-slot.branch [
       | in-None w ↦ rw w.self-inside-is (Pushes-alone i.records i.newest i.len i.chain c.self.invariant c.take.new.records
-          c.take.new.self c.take.ensures.items c.take.ensures.rest w.write.new.self place is room (sym c.slot.ensures ∙ w.in-None.is) w.write.ensures)
+          c.take.new.self c.take.ensures.items c.take.ensures.rest w.write.new.self place is room (sym c.slot.ensures ∙ w.in-None.is)
+          (w.write.ensures ∙ ap (λ (r : Record). written place r c.take.new.records) w.of.ensures))
       | in-Some w ↦ rw w.self-inside-is (Pushes-attached i.records i.newest i.len i.chain c.self.invariant c.take.new.records
           c.take.new.self c.take.ensures.items c.take.ensures.rest w.attach.new.self place w.in-Some.newest is room (sym c.slot.ensures ∙ w.in-Some.is) w.attach.ensures)
     ]) in
@@ -67,7 +68,8 @@ returns-clause-whole g c =
     c.match-slot.self-inside.chain (place ∷ slots_from i.records.items i.newest i.len) (drop 1 (free_places i.records.items i.chain)) =
     rw c.to-self-inside.ensures (elim c.match-slot.branch [
       | in-None w ↦ rw w.self-inside-is (Pushes-alone i.records i.newest i.len i.chain c.self.invariant c.take.new.records
-          c.take.new.self c.take.ensures.items c.take.ensures.rest w.write.new.self place is room (sym c.slot.ensures ∙ w.in-None.is) w.write.ensures)
+          c.take.new.self c.take.ensures.items c.take.ensures.rest w.write.new.self place is room (sym c.slot.ensures ∙ w.in-None.is)
+          (w.write.ensures ∙ ap (λ (r : Record). written place r c.take.new.records) w.of.ensures))
       | in-Some w ↦ rw w.self-inside-is (Pushes-attached i.records i.newest i.len i.chain c.self.invariant c.take.new.records
           c.take.new.self c.take.ensures.items c.take.ensures.rest w.attach.new.self place w.in-Some.newest is room (sym c.slot.ensures ∙ w.in-Some.is) w.attach.ensures)
     ]) in
@@ -83,7 +85,8 @@ returns-clause-order g c =
     c.match-slot.self-inside.chain (place ∷ slots_from i.records.items i.newest i.len) (drop 1 (free_places i.records.items i.chain)) =
     rw c.to-self-inside.ensures (elim c.match-slot.branch [
       | in-None w ↦ rw w.self-inside-is (Pushes-alone i.records i.newest i.len i.chain c.self.invariant c.take.new.records
-          c.take.new.self c.take.ensures.items c.take.ensures.rest w.write.new.self place is room (sym c.slot.ensures ∙ w.in-None.is) w.write.ensures)
+          c.take.new.self c.take.ensures.items c.take.ensures.rest w.write.new.self place is room (sym c.slot.ensures ∙ w.in-None.is)
+          (w.write.ensures ∙ ap (λ (r : Record). written place r c.take.new.records) w.of.ensures))
       | in-Some w ↦ rw w.self-inside-is (Pushes-attached i.records i.newest i.len i.chain c.self.invariant c.take.new.records
           c.take.new.self c.take.ensures.items c.take.ensures.rest w.attach.new.self place w.in-Some.newest is room (sym c.slot.ensures ∙ w.in-Some.is) w.attach.ensures)
     ]) in

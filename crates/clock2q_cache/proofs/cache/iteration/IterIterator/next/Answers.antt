@@ -1,8 +1,18 @@
 -- The resident that is found is the first that is left.
 use Rattle.std.proofs.Common.{◌≡◌, ℕ, ◌+◌, ◌∷◌, List, length, arith, sym, ap, ◌∙◌}
 use Rattle.clock2q_cache.specs.Iteration.{entries_from}
-use Rattle.clock2q_cache.proofs.Iteration.{entries-there}
+use Rattle.clock2q_cache.proofs.Iteration.{entries-there, some-left}
 use Rattle.clock2q_cache.proofs.cache.iteration.IterIterator.next.Goals as goal
+
+pub overflow_sub-self : goal.overflow_sub-self
+overflow_sub-self g c =
+    let m = c.self.inside.cache.now.machine in
+    omega (
+      arith,
+      c.self.invariant,
+      ap (λ (entries : List (g.row.K.Denot × ℕ × g.row.V.Denot)). length entries) c.in_ok-slot.ensures.first,
+      some-left m c.in_ok-slot.slot c.in_ok-slot.ensures.made c.in_ok-slot.ensures.resident,
+    )
 
 pub invariant_of-self : goal.invariant_of-self
 invariant_of-self g c =

@@ -1,0 +1,101 @@
+//! The neighbours of a place: a record without a queue, in half of the room.
+ghost use Rattle.std.specs.Prelude.{◌≡◌, ◌<◌, length};
+ghost use Rattle.clock2q_queues.specs.Cells.{accessed};
+ghost use Rattle.clock2q_queues.specs.Links.{Attaches, Detaches, next_at, previous_at, record_at, with_next, with_previous};
+
+use crate::links::{Cells, Location, Record};
+use std::alloc::Allocator;
+use std::marker::Model;
+
+/// The places before and after another. In contracts it is the [`Record`] of these neighbours in no
+/// queue, since the places of an order are all in the same one.
+#[derive(Clone, Copy)]
+pub(crate) struct Neighbours {
+    previous: u32,
+    next: u32,
+}
+
+const _: () = prove!(size_of::<Neighbours>() == 8);
+
+impl Model for Neighbours {
+    ghost use Rattle.clock2q_queues.specs.declared.links.Record.{Record as Neighbouring};
+    ghost use Rattle.clock2q_queues.specs.declared.links.Location.TheVariants.{Free};
+
+    ghost Value = { Neighbouring };
+
+    ghost view = { λ n. record { previous = n.previous; next = n.next; location = Free } };
+
+    ghost inverse = { λ r. record { previous = r.previous; next = r.next } };
+}
+
+impl Neighbours {
+    /// Returns these two places as neighbours.
+    pub(crate) fn of(previous: u32, next: u32) -> Self
+        ensures { result
+            ≡ record { previous = previous; next = next; location = Location.Free } }
+    {
+        Neighbours { previous, next }
+    }
+
+    /// Returns the place before.
+    pub(crate) fn previous(self) -> u32
+        ensures { result ≡ self.previous }
+    {
+        self.previous
+    }
+
+    /// Returns the place after.
+    pub(crate) fn next(self) -> u32
+        ensures { result ≡ self.next }
+    {
+        self.next
+    }
+}
+
+impl<A: Allocator> Cells<Neighbours, A> {
+    /// Puts a place just before another.
+    pub(crate) fn attach(&mut self, place: u32, before: u32)
+        requires place_in { place < length self.old.items }
+        requires before_in { before < length self.old.items }
+        requires previous_in { previous_at self.old.items before < length self.old.items }
+        ensures { Attaches place before Location.Free self.old self.new }
+    {
+        let previous = self.read(before).previous();
+        self.write(place, Neighbours::of(previous, before));
+        self.set_next(previous, place);
+        self.set_previous(before, place);
+    }
+
+    /// Removes a place from between its neighbours, and returns those that it had.
+    pub(crate) fn detach(&mut self, place: u32) -> Neighbours
+        requires place_in { place < length self.old.items }
+        requires next_in { next_at self.old.items place < length self.old.items }
+        requires previous_in { previous_at self.old.items place < length self.old.items }
+        ensures detached { Detaches place self.old self.new }
+        ensures value { result ≡ record_at self.old.items place }
+    {
+        let was = self.read(place);
+        self.set_next(was.previous(), was.next());
+        self.set_previous(was.next(), was.previous());
+        self.write(place, Neighbours::of(0, 0));
+        was
+    }
+
+    /// Writes the place after another.
+    fn set_next(&mut self, place: u32, next: u32)
+        requires { place < length self.old.items }
+        ensures { self.new ≡ accessed (with_next place next self.old) }
+    {
+        let was = self.read(place);
+        self.write(place, Neighbours::of(was.previous(), next));
+    }
+
+    /// Writes the place before another.
+    fn set_previous(&mut self, place: u32, previous: u32)
+        requires { place < length self.old.items }
+        ensures { self.new ≡ accessed (with_previous place previous self.old) }
+    {
+        let was = self.read(place);
+        self.write(place, Neighbours::of(previous, was.next()));
+    }
+}
