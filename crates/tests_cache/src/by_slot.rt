@@ -5,7 +5,7 @@ use std::alloc::Global;
 use std::num::NonZeroUsize;
 use std::process::Abort;
 use std::test::Fail;
-use testing::{Draws, Spread};
+use testing::{Draws, Spread, same, same_at};
 
 type Numbers = Cache<u64, u64, Spread>;
 
@@ -39,6 +39,20 @@ fn slots_of(alloc: Global, cache: &Numbers, hash: u64) -> Result<Vec<usize>, Fai
     Ok(slots)
 }
 
+/// Each resident with this hash is listed, and nothing else is.
+fn list_is_right(rt: &impl Abort, slots: &[usize], cache: &Numbers, hash: u64, spread: Spread) {
+    let mut residents: usize = 0;
+    for other in 0..KEYS {
+        if hash_of(spread, other) == hash {
+            if let Some(slot) = cache.peek_slot(&other) {
+                assert!(rt; slots.contains(&slot), "{other} isn't listed");
+                residents = residents.wrapping_add(1);
+            }
+        }
+    }
+    assert_eq!(rt; slots.len(), residents);
+}
+
 /// Each resident is listed once for its hash, and nothing else is.
 fn lists_are_right(
     rt: &impl Abort,
@@ -49,18 +63,32 @@ fn lists_are_right(
     for key in 0..KEYS {
         let hash = hash_of(spread, key);
         let slots = slots_of(alloc, cache, hash)?;
-        let mut residents: usize = 0;
-        for other in 0..KEYS {
-            if hash_of(spread, other) == hash {
-                if let Some(slot) = cache.peek_slot(&other) {
-                    assert!(rt; slots.contains(&slot), "{other} isn't listed");
-                    residents = residents.wrapping_add(1);
-                }
-            }
-        }
-        assert_eq!(rt; slots.len(), residents);
+        list_is_right(rt, &slots, cache, hash, spread);
     }
     Ok(())
+}
+
+fn put(cache: &mut Numbers, key: u64, value: u64) {
+    cache.put(key, value);
+}
+
+fn remove(cache: &mut Numbers, key: u64) {
+    cache.remove(&key);
+}
+
+/// Removes a key by its slot, or by itself if there is no key at the slot.
+fn remove_by_slot(cache: &mut Numbers, slot: usize, key: u64) {
+    if !cache.remove_slot(slot) {
+        remove(cache, key);
+    }
+}
+
+fn get(cache: &mut Numbers, key: u64) {
+    cache.get(&key);
+}
+
+fn hit(cache: &mut Numbers, slot: usize) {
+    cache.hit_slot(slot);
 }
 
 /// Makes one call, by key on one cache, and by slot on the other.
@@ -68,18 +96,16 @@ fn call_both(by_key: &mut Numbers, by_slot: &mut Numbers, call: u64, key: u64) {
     let slot = by_slot.peek_slot(&key).unwrap_or(usize::MAX);
     match call {
         0 => {
-            by_key.put(key, call);
-            by_slot.put(key, call);
+            put(by_key, key, call);
+            put(by_slot, key, call);
         }
         1 => {
-            by_key.remove(&key);
-            if !by_slot.remove_slot(slot) {
-                by_slot.remove(&key);
-            }
+            remove(by_key, key);
+            remove_by_slot(by_slot, slot, key);
         }
         _ => {
-            by_key.get(&key);
-            by_slot.hit_slot(slot);
+            get(by_key, key);
+            hit(by_slot, slot);
         }
     }
 }
@@ -91,38 +117,100 @@ fn are_same(rt: &impl Abort, one: &Numbers, other: &Numbers) {
     }
 }
 
+/// The same calls of two empty caches leave the same keys at the same slots.
+fn calls_agree(
+    rt: &impl Abort,
+    alloc: Global,
+    by_key: &mut Numbers,
+    by_slot: &mut Numbers,
+    seed: u64,
+) -> Result<(), Fail> {
+    let mut draws = Draws::new(seed);
+    for _ in 0..500 {
+        let call = draws.below(4);
+        call_both(by_key, by_slot, call, draws.below(KEYS));
+        are_same(rt, by_key, by_slot);
+    }
+    lists_are_right(rt, alloc, by_slot, FOUR_HASHES)
+}
+
+/// The same, with caches made for it.
+fn caches_agree(rt: &impl Abort, alloc: Global, capacity: usize) -> Result<(), Fail> {
+    let mut by_key = cache_of(alloc, capacity, FOUR_HASHES)?;
+    let mut by_slot = cache_of(alloc, capacity, FOUR_HASHES)?;
+    calls_agree(rt, alloc, &mut by_key, &mut by_slot, capacity as u64)
+}
+
 #[test]
 fn by_slot_as_by_key(rt: HostRuntime) -> Result<(), Fail> {
     for capacity in [1, 2, 7, 30] {
-        let mut by_key = cache_of(rt.alloc(), capacity, FOUR_HASHES)?;
-        let mut by_slot = cache_of(rt.alloc(), capacity, FOUR_HASHES)?;
-        let mut draws = Draws::new(capacity as u64);
-        for _ in 0..500 {
-            let call = draws.below(4);
-            call_both(&mut by_key, &mut by_slot, call, draws.below(KEYS));
-            are_same(&rt, &by_key, &by_slot);
-        }
-        lists_are_right(&rt, rt.alloc(), &by_slot, FOUR_HASHES)?;
+        caches_agree(&rt, rt.alloc(), capacity)?;
     }
     Ok(())
 }
 
-/// A second key of a hash doesn't enter, and nothing changes.
+/// Offers keys, each with its value, and the slot and whether it is new.
+fn offer_each(cache: &mut Numbers, offers: &[(u64, u64, (usize, bool))]) -> Result<(), Fail> {
+    for (key, value, wanted) in offers {
+        let reply = cache.slot_with_hash_or_insert(*key, *value);
+        same_at(reply, *wanted, *key)?;
+    }
+    Ok(())
+}
+
+/// Hits slots, some of which hold a key.
+fn hit_each(cache: &mut Numbers, hits: &[(usize, bool)]) -> Result<(), Fail> {
+    for (slot, wanted) in hits {
+        same_at(cache.hit_slot(*slot), *wanted, *slot)?;
+    }
+    Ok(())
+}
+
+/// Removes the keys at slots, some of which hold one.
+fn remove_each(cache: &mut Numbers, removals: &[(usize, bool)]) -> Result<(), Fail> {
+    for (slot, wanted) in removals {
+        same_at(cache.remove_slot(*slot), *wanted, *slot)?;
+    }
+    Ok(())
+}
+
+/// These slots are listed for the hash of the key 0, and the next number lists none.
+fn listed_first(cache: &Numbers, wanted: &[Option<usize>]) -> Result<(), Fail> {
+    for (nth, slot) in wanted.iter().enumerate() {
+        same_at(
+            cache.slot_with_hash(hash_of(FOUR_HASHES, 0), nth),
+            *slot,
+            nth,
+        )?;
+    }
+    Ok(())
+}
+
+/// A key is resident with this value, and another isn't resident.
+fn holds(cache: &Numbers, (key, value): (u64, u64), absent: u64) -> Result<(), Fail> {
+    same(cache.peek(&key).copied(), Some(value))?;
+    same(cache.peek_slot(&absent), None)
+}
+
+/// Offers two keys of one hash, and one of another.
+const OFFERED: &[(u64, u64, (usize, bool))] = &[
+    (0, 10, (0, true)),
+    (4, 14, (0, false)),
+    (0, 11, (0, false)),
+    (1, 12, (1, true)),
+];
+
+/// A second key of a hash doesn't enter, and nothing changes. It enters once the first has left.
+fn second_key_enters_later(cache: &mut Numbers) -> Result<(), Fail> {
+    offer_each(cache, OFFERED)?;
+    holds(cache, (0, 10), 4)?;
+    hit_each(cache, &[(1, true), (2, false)])?;
+    remove_each(cache, &[(0, true), (0, false)])?;
+    offer_each(cache, &[(4, 14, (0, true))])?;
+    listed_first(cache, &[Some(0), None])
+}
+
 #[test]
 fn one_key_for_a_hash(rt: HostRuntime) -> Result<(), Fail> {
-    let mut cache = cache_of(rt.alloc(), 3, FOUR_HASHES)?;
-    assert_eq!(rt; cache.slot_with_hash_or_insert(0, 10), (0, true));
-    assert_eq!(rt; cache.slot_with_hash_or_insert(4, 14), (0, false));
-    assert_eq!(rt; cache.slot_with_hash_or_insert(0, 11), (0, false));
-    assert_eq!(rt; cache.slot_with_hash_or_insert(1, 12), (1, true));
-    assert_eq!(rt; cache.peek(&0), Some(&10));
-    assert_eq!(rt; cache.peek_slot(&4), None);
-    assert!(rt; cache.hit_slot(1));
-    assert!(rt; !cache.hit_slot(2));
-    assert!(rt; cache.remove_slot(0));
-    assert!(rt; !cache.remove_slot(0));
-    assert_eq!(rt; cache.slot_with_hash_or_insert(4, 14), (0, true));
-    assert_eq!(rt; cache.slot_with_hash(hash_of(FOUR_HASHES, 0), 0), Some(0));
-    assert_eq!(rt; cache.slot_with_hash(hash_of(FOUR_HASHES, 0), 1), None);
-    Ok(())
+    second_key_enters_later(&mut cache_of(rt.alloc(), 3, FOUR_HASHES)?)
 }

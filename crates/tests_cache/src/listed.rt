@@ -3,6 +3,7 @@
 use clock2q_cache::Cache;
 use std::alloc::{AllocError, Global};
 use std::num::NonZeroUsize;
+use std::process::Abort;
 use std::test::Fail;
 use testing::same;
 
@@ -17,23 +18,29 @@ fn listed(alloc: Global, cache: &Numbers) -> Result<Vec<(u64, usize, u64)>, Allo
     Ok(residents)
 }
 
+/// Puts a key with ten times itself as its value.
+fn put(cache: &mut Numbers, key: u64) {
+    cache.put(key, key.wrapping_mul(10));
+}
+
+fn remove(cache: &mut Numbers, key: u64) {
+    cache.remove(&key);
+}
+
 /// Puts the keys 1 to 4, removes two, and puts one more.
 fn put_and_removed(cache: &mut Numbers) {
     for key in 1..5u64 {
-        cache.put(key, key.wrapping_mul(10));
+        put(cache, key);
     }
-    cache.remove(&2);
-    cache.remove(&4);
-    cache.put(5, 50);
+    remove(cache, 2);
+    remove(cache, 4);
+    put(cache, 5);
 }
 
 /// A key takes the slot that was freed last, and a free slot yields nothing.
-#[test]
-fn by_slot(rt: HostRuntime) -> Result<(), Fail> {
-    let capacity = NonZeroUsize::new(5).ok_or("not zero")?;
-    let mut cache = Numbers::new(rt.alloc(), capacity)?;
-    put_and_removed(&mut cache);
-    let residents = listed(rt.alloc(), &cache)?;
+fn lists_three(rt: &impl Abort, alloc: Global, cache: &mut Numbers) -> Result<(), Fail> {
+    put_and_removed(cache);
+    let residents = listed(alloc, cache)?;
     assert_eq!(rt;
         residents.as_slice(),
         [(1, 0, 10), (3, 2, 30), (5, 3, 50)].as_slice()
@@ -57,6 +64,12 @@ fn apart(rt: HostRuntime) -> Result<(), Fail> {
     let (keys, values) = keys_and_values(rt.alloc(), &cache)?;
     same(keys.as_slice(), [1, 3, 5].as_slice())?;
     same(values.as_slice(), [10, 30, 50].as_slice())
+}
+
+#[test]
+fn by_slot(rt: HostRuntime) -> Result<(), Fail> {
+    let capacity = NonZeroUsize::new(5).ok_or("not zero")?;
+    lists_three(&rt, rt.alloc(), &mut Numbers::new(rt.alloc(), capacity)?)
 }
 
 #[test]
