@@ -5,9 +5,9 @@ use Rattle.std.specs.Hash as fed
 use Rattle.std.proofs.lemmas.Nat.{from_le_bytes-to_le_bytes_8}
 use Rattle.std.specs.declared.hash.Hasher as hasher
 use Rattle.std.specs.declared.hash.BuildHasher as builder
-use Rattle.clock2q_tokens.specs.Given.{written}
-use Rattle.clock2q_tokens.specs.declared.given.GivenHash.{GivenHash}
-use Rattle.clock2q_tokens.specs.contracts.given.GivenHashHasher.TheImpl as given
+use Rattle.clock2q_c.specs.Given.{written}
+use Rattle.clock2q_c.specs.declared.tokens.given.GivenHash.{GivenHash}
+use Rattle.clock2q_c.specs.contracts.tokens.given.GivenHashHasher.TheImpl as given
 use Rattle.clock2q_cache.specs.Hashes.{hash_of}
 
 -- a number of eight bytes is the hash after it was written

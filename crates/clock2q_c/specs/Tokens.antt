@@ -9,7 +9,7 @@ use Rattle.std.specs.Box.Ownership.{box_owns}
 use Rattle.std.specs.contracts.alloc.Global
 use Rattle.std.specs.contracts.impls.GlobalAllocator.TheImpl as heap
 use Rattle.clock2q_machine.specs.Machine.{Machine}
-use Rattle.clock2q_tokens.specs.declared.token.Token.{Token}
+use Rattle.clock2q_c.specs.declared.tokens.token.Token.{Token}
 use Rattle.clock2q_c.specs.contracts.tokens.held.HeldTokens as held
 
 -- the type of what a handle points to, in the logic

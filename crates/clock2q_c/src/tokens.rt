@@ -5,11 +5,13 @@ mod asking;
 mod calls;
 mod entering;
 mod evicting;
+mod given;
 mod handle;
 mod held;
 mod making;
 #[cfg(test)]
 mod tested;
+mod token;
 
 pub use asking::{
     clock2q_tokens_capacity, clock2q_tokens_len, clock2q_tokens_next_victim, clock2q_tokens_seek,
@@ -19,5 +21,7 @@ pub use calls::{
     clock2q_tokens_forget, clock2q_tokens_hit, clock2q_tokens_remove,
 };
 pub use evicting::clock2q_tokens_evict;
+pub use given::GivenHash;
 pub use handle::TokensHandle;
 pub use making::{clock2q_tokens_new, clock2q_tokens_release, clock2q_tokens_with_policy};
+pub use token::Token;

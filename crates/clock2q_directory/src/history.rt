@@ -6,7 +6,7 @@ ghost use Rattle.clock2q_handles.specs.Layout.{walk};
 ghost use Rattle.clock2q_queues.specs.Cells.{Rises};
 ghost use Rattle.clock2q_queues.specs.Rings.{has};
 ghost use Rattle.clock2q_queues.specs.Order.{IsWholeOrder, used};
-ghost use Rattle.clock2q_directory.specs.Keys.{is_key_at, comparisons_of};
+ghost use Rattle.clock2q_directory.specs.Keys.{entry, is_key_at, comparisons_of, written};
 ghost use Rattle.clock2q_directory.specs.Indexes.{IsIndex, HasHash};
 ghost use Rattle.clock2q_directory.specs.Index as known;
 ghost use Rattle.clock2q_directory.specs.Index.{emptied, index_for, is_shared, entered, left, slots_among, places_among, IsWithinCapacity};
@@ -338,9 +338,14 @@ impl<K: Eq, A: Allocator> History<K, A> {
             self.index.remove_slot(hash, slot);
             return;
         }
-        let place = make_place(&mut self.index, &mut self.order, &self.keys);
+        let place = place_key(
+            &mut self.index,
+            &mut self.order,
+            &mut self.keys,
+            hash,
+            key,
+        );
         self.index.remember(hash, slot, place);
-        self.keys.write(place.number(), hash, key, ());
     }
 
     /// Forgets a key, which is at `place`, and returns true if it was remembered. The history drops
@@ -434,25 +439,35 @@ fn look_among<K: Eq, V, A: Allocator>(
     Found::Absent
 }
 
-/// Moves a place to the front for a new key. If every place has a key, it is the oldest key's,
-/// which is removed from the index.
-fn make_place<K, V, A: Allocator>(
+/// Writes a key to a place at the front: to a free one, or, if every place has a key, to the oldest
+/// key's, which is removed from the index.
+fn place_key<K: Drop, A: Allocator>(
     index: &mut Index<A>,
     order: &mut Order<A>,
-    keys: &Keys<K, V, A>,
+    keys: &mut Keys<K, (), A>,
+    hash: u64,
+    key: K,
 ) -> Place
-    requires indexed { IsIndex (known.places index.old) keys.now.entries order.old.places }
-    requires as_many { length keys.now.entries ≡ used order.old }
+    requires indexed { IsIndex (known.places index.old) keys.old.entries order.old.places }
+    requires as_many { length keys.old.entries ≡ used order.old }
+    requires room { order.old.limit ≤ keys.old.room }
     requires some { 0 < order.old.limit }
     requires short { order.old.limit < 2 ^ 24 }
-    ensures made { MakesPlace index.old index.new order.old order.new keys.now.entries result }
+    ensures made { MakesPlace index.old index.new order.old order.new keys.old.entries result }
+    ensures written { keys.new ≡
+        record keys.old {
+          entries = written result (entry hash key tt) keys.old.entries;
+          writes = keys.old.writes + 1;
+        } }
     ensures whole { IsWholeOrder order.new }
 {
     if order.len() < order.limit() {
-        return Place::new(order.push());
+        let place = Place::new(order.push());
+        keys.write(place.number(), hash, key, ());
+        return place;
     }
-    let oldest = order.reuse_oldest();
-    let place = Place::new(oldest);
-    index.forget(keys.hash(oldest), place);
+    let place = Place::new(order.reuse_oldest());
+    let (oldest_hash, _) = keys.refill(place.number(), hash, key, Some(()));
+    index.forget(oldest_hash, place);
     place
 }

@@ -8,8 +8,9 @@ ghost use Rattle.std.specs.Option.{option_map, unwrap_or};
 ghost use Rattle.std.specs.Prelude.{◌≡◌, ◌<◌, ◌↔◌, if◌then◌else◌, false, None, Some, IsSome, IsTrue, IfSome, slice_get};
 
 use crate::calls::Found;
+use crate::tokens::given::GivenHash;
 use crate::tokens::handle::TokensHandle;
-use clock2q_tokens::{GivenHash, Token};
+use crate::tokens::token::Token;
 use std::hash::{BuildHasher, BuildHasherDefault, Hash, Hasher};
 
 /// Returns the slot that comes after `nth` others among those of the tokens that have this hash, if

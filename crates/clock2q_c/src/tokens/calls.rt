@@ -9,9 +9,10 @@ ghost use Rattle.std.specs.Option.{option_map};
 ghost use Rattle.std.specs.Prelude.{◌≡◌, ◌<◌, ◌↔◌, true, false, Some, None, [], IsSome, IsTrue, IfSome, IfNone, slice_get};
 
 use crate::tokens::entering::enter;
+use crate::tokens::given::GivenHash;
 use crate::tokens::handle::TokensHandle;
 use crate::tokens::held::HeldTokens;
-use clock2q_tokens::{GivenHash, Token};
+use crate::tokens::token::Token;
 use std::alloc::Global;
 use std::hash::{BuildHasher, BuildHasherDefault, Hash, Hasher};
 

@@ -8,8 +8,9 @@ ghost use Rattle.std.specs.Option.{option_map};
 ghost use Rattle.std.specs.Prelude.{◌≡◌, if◌then◌else◌, false, None, Some, IsSome, IfSome};
 
 use crate::calls::Found;
+use crate::tokens::given::GivenHash;
 use crate::tokens::handle::TokensHandle;
-use clock2q_tokens::{GivenHash, Token};
+use crate::tokens::token::Token;
 use std::hash::{BuildHasher, BuildHasherDefault, Hash, Hasher};
 
 /// Takes the slot away from the token that leaves next, and returns the slot, if a token has one.

@@ -1,6 +1,7 @@
 //! What a handle of tokens points to.
+use crate::tokens::given::GivenHash;
+use crate::tokens::token::Token;
 use clock2q_cache::Cache;
-use clock2q_tokens::{GivenHash, Token};
 use std::alloc::Allocator;
 use std::hash::BuildHasherDefault;
 

@@ -6,10 +6,11 @@ ghost use Rattle.clock2q_machine.specs.Shares.{usual_shares};
 ghost use Rattle.std.specs.Prelude.{◌≡◌, ◌≢◌, ◌<◌, ◌≤◌, ◌↔◌, ◌⊎◌, Some, None, IsSome, IfOk, IsErrOf, IsOkUnless, Err};
 
 use crate::status::{BAD_CAPACITY, BAD_POLICY, DONE, NO_MEMORY, status_of};
+use crate::tokens::given::GivenHash;
 use crate::tokens::handle::{TokensHandle, opened, put};
 use crate::tokens::held::HeldTokens;
+use crate::tokens::token::Token;
 use clock2q_cache::{Cache, CacheError, MAX_CAPACITY};
-use clock2q_tokens::{GivenHash, Token};
 use std::alloc::{Allocator, Global};
 use std::hash::BuildHasherDefault;
 use std::num::NonZeroUsize;

@@ -14,8 +14,8 @@ remember-requires-clause-short g c =
     let i = c.self.inside in
     let some : 0 < i.order.limit = omega (arith, c.if-limit-eq0.false, c.limit.ensures) in
     let below =
-    place_below g.K.PartialEq.eq c.args.hash c.args.slot c.args.key tt i.index c.make_place-place.new.index c.make_place-place.new.index
-    i.order c.make_place-place.new.order i.keys i.keys c.make_place-place.result c.self.invariant some c.make_place-place.ensures.made in
+    place_below g.K.PartialEq.eq c.args.hash c.args.slot c.args.key tt i.index c.place_key-place.new.index c.place_key-place.new.index
+    i.order c.place_key-place.new.order i.keys i.keys c.place_key-place.result c.self.invariant some c.place_key-place.ensures.made in
     omega (arith, below)
 
 pub remember-requires-clause-held : goal.remember-requires-clause-held
@@ -24,15 +24,15 @@ remember-requires-clause-held g c =
     let some : 0 < i.order.limit = omega (arith, c.if-limit-eq0.false, c.limit.ensures) in
     let held : has c.args.slot (candidates (known.slots i.index) c.args.hash) ≡ true =
     ap (λ (z : Remembered _). has c.args.slot (candidates (known.slots z.places.index) c.args.hash)) c.self.view_is ∙ c.requires.held in
-    still_held g.K.PartialEq.eq c.args.hash c.args.slot c.args.key tt i.index c.make_place-place.new.index c.make_place-place.new.index
-    i.order c.make_place-place.new.order i.keys i.keys c.make_place-place.result c.self.invariant some c.make_place-place.ensures.made held
+    still_held g.K.PartialEq.eq c.args.hash c.args.slot c.args.key tt i.index c.place_key-place.new.index c.place_key-place.new.index
+    i.order c.place_key-place.new.order i.keys i.keys c.place_key-place.result c.self.invariant some c.place_key-place.ensures.made held
 
 pub remember-requires-clause-room : goal.remember-requires-clause-room
 remember-requires-clause-room g c =
     let i = c.self.inside in
     let some : 0 < i.order.limit = omega (arith, c.if-limit-eq0.false, c.limit.ensures) in
-    place_room g.K.PartialEq.eq c.args.hash c.args.slot c.args.key tt i.index c.make_place-place.new.index c.make_place-place.new.index
-    i.order c.make_place-place.new.order i.keys i.keys c.make_place-place.result c.self.invariant some c.make_place-place.ensures.made
+    place_room g.K.PartialEq.eq c.args.hash c.args.slot c.args.key tt i.index c.place_key-place.new.index c.place_key-place.new.index
+    i.order c.place_key-place.new.order i.keys i.keys c.place_key-place.result c.self.invariant some c.place_key-place.ensures.made
 
 pub invariant_of-self-2 : goal.invariant_of-self-2
 invariant_of-self-2 g c =
@@ -43,9 +43,9 @@ invariant_of-self-2 g c =
     let held : has c.args.slot (candidates (known.slots i.index) c.args.hash) ≡ true =
     ap (λ (z : Remembered _). has c.args.slot (candidates (known.slots z.places.index) c.args.hash)) c.self.view_is ∙ c.requires.held in
     let r =
-    remembers g.K.PartialEq.eq c.args.hash c.args.slot c.args.key tt i.index c.make_place-place.new.index c.remember.new.self i.order c.make_place-place.new.order i.keys
-    c.write.new.self c.make_place-place.result c.self.invariant some c.make_place-place.ensures.made
-    (rw c.number.ensures.number at c.write.ensures.written) c.requires.below held c.remember.ensures.remembered c.make_place-place.ensures.whole absent in
+    remembers g.K.PartialEq.eq c.args.hash c.args.slot c.args.key tt i.index c.place_key-place.new.index c.remember.new.self i.order c.place_key-place.new.order i.keys
+    c.place_key-place.new.keys c.place_key-place.result c.self.invariant some c.place_key-place.ensures.made
+    c.place_key-place.ensures.written c.requires.below held c.remember.ensures.remembered c.place_key-place.ensures.whole absent in
     r.whole
 
 pub invariant_of-self : goal.invariant_of-self
@@ -63,11 +63,11 @@ returns-clause-pushed g c =
     let held : has c.args.slot (candidates (known.slots i.index) c.args.hash) ≡ true =
     ap (λ (z : Remembered _). has c.args.slot (candidates (known.slots z.places.index) c.args.hash)) c.self.view_is ∙ c.requires.held in
     let r =
-    remembers g.K.PartialEq.eq c.args.hash c.args.slot c.args.key tt i.index c.make_place-place.new.index c.remember.new.self i.order c.make_place-place.new.order i.keys
-    c.write.new.self c.make_place-place.result c.self.invariant some c.make_place-place.ensures.made
-    (rw c.number.ensures.number at c.write.ensures.written) c.requires.below held c.remember.ensures.remembered c.make_place-place.ensures.whole absent in
+    remembers g.K.PartialEq.eq c.args.hash c.args.slot c.args.key tt i.index c.place_key-place.new.index c.remember.new.self i.order c.place_key-place.new.order i.keys
+    c.place_key-place.new.keys c.place_key-place.result c.self.invariant some c.place_key-place.ensures.made
+    c.place_key-place.ensures.written c.requires.below held c.remember.ensures.remembered c.place_key-place.ensures.whole absent in
     r.shown ∙ ap (λ (z : Remembered _). remembered (take z.limit ((c.args.hash, c.args.key) ∷ z.entries)) z.limit
-    (places_from c.remember.new.self c.make_place-place.new.order) (accesses_of c.make_place-place.new.order c.write.new.self) z.comparisons) c.self.view_is
+    (places_from c.remember.new.self c.place_key-place.new.order) (accesses_of c.place_key-place.new.order c.place_key-place.new.keys) z.comparisons) c.self.view_is
 
 pub returns-clause-accesses : goal.returns-clause-accesses
 returns-clause-accesses g c =
@@ -78,9 +78,9 @@ returns-clause-accesses g c =
     let held : has c.args.slot (candidates (known.slots i.index) c.args.hash) ≡ true =
     ap (λ (z : Remembered _). has c.args.slot (candidates (known.slots z.places.index) c.args.hash)) c.self.view_is ∙ c.requires.held in
     let r =
-    remembers g.K.PartialEq.eq c.args.hash c.args.slot c.args.key tt i.index c.make_place-place.new.index c.remember.new.self i.order c.make_place-place.new.order i.keys
-    c.write.new.self c.make_place-place.result c.self.invariant some c.make_place-place.ensures.made
-    (rw c.number.ensures.number at c.write.ensures.written) c.requires.below held c.remember.ensures.remembered c.make_place-place.ensures.whole absent in
+    remembers g.K.PartialEq.eq c.args.hash c.args.slot c.args.key tt i.index c.place_key-place.new.index c.remember.new.self i.order c.place_key-place.new.order i.keys
+    c.place_key-place.new.keys c.place_key-place.result c.self.invariant some c.place_key-place.ensures.made
+    c.place_key-place.ensures.written c.requires.below held c.remember.ensures.remembered c.place_key-place.ensures.whole absent in
     rw (← c.self.view_is) r.accesses
 
 pub returns-clause-places : goal.returns-clause-places
@@ -92,9 +92,9 @@ returns-clause-places g c =
     let held : has c.args.slot (candidates (known.slots i.index) c.args.hash) ≡ true =
     ap (λ (z : Remembered _). has c.args.slot (candidates (known.slots z.places.index) c.args.hash)) c.self.view_is ∙ c.requires.held in
     let r =
-    remembers g.K.PartialEq.eq c.args.hash c.args.slot c.args.key tt i.index c.make_place-place.new.index c.remember.new.self i.order c.make_place-place.new.order i.keys
-    c.write.new.self c.make_place-place.result c.self.invariant some c.make_place-place.ensures.made
-    (rw c.number.ensures.number at c.write.ensures.written) c.requires.below held c.remember.ensures.remembered c.make_place-place.ensures.whole absent in
+    remembers g.K.PartialEq.eq c.args.hash c.args.slot c.args.key tt i.index c.place_key-place.new.index c.remember.new.self i.order c.place_key-place.new.order i.keys
+    c.place_key-place.new.keys c.place_key-place.result c.self.invariant some c.place_key-place.ensures.made
+    c.place_key-place.ensures.written c.requires.below held c.remember.ensures.remembered c.place_key-place.ensures.whole absent in
     r.places ∙ ap (λ (z : Remembered _). pushed_places z.limit c.args.hash c.args.slot (oldest_hash (λ (e : ℕ × _). e.0) z.entries) z.places) c.self.view_is
 
 pub returns-then-limit-eq0-clause-places : goal.returns-then-limit-eq0-clause-places

@@ -26,7 +26,7 @@ impl Default for GivenHash {
 }
 
 impl Hasher for GivenHash {
-    ghost use Rattle.clock2q_tokens.specs.Given.{written};
+    ghost use Rattle.clock2q_c.specs.Given.{written};
 
     ghost write = { λ s bytes. record { hash = written s.hash bytes } };
 
