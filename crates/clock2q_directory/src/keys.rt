@@ -31,8 +31,7 @@ impl<K: Drop, V: Drop, A: Allocator> Keys<K, V, A> {
         if place == self.len() as u32 {
             self.push(hash, key, value);
         } else {
-            self.replace(place, hash, key);
-            self.replace_value(place, value);
+            self.replace_entry(place, Entry { hash, key, value });
         }
     }
 
@@ -66,11 +65,13 @@ impl<K: Drop, V: Drop, A: Allocator> Keys<K, V, A> {
         ensures kept { self.new ≡
             record self.old { entries = self.new.entries; writes = self.old.writes + 1 } }
     {
-        let old = self.replace(place, hash, key);
-        if let Some(value) = value {
-            self.replace_value(place, value);
+        match value {
+            Some(value) => {
+                let old = self.replace_entry(place, Entry { hash, key, value });
+                (old.hash, old.key)
+            }
+            None => self.replace(place, hash, key),
         }
-        old
     }
 }
 

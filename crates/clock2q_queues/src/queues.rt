@@ -92,14 +92,13 @@ impl<A: Allocator> Queues<A> {
     /// Returns true if the oldest slot of Small goes on to Main instead of leaving: it is old, and
     /// its bit is set.
     pub fn tail_is_promoted(&mut self) -> bool
+        requires some { 0 < length self.old.small }
         ensures value { result ≡ tail_promoted (last_or None self.old.small) }
         ensures queues { self.new ≡ record self.old { accesses = self.new.accesses } }
         ensures accesses { Rises 0 1 self.old.accesses self.new.accesses }
     {
-        match self.small.tail() {
-            None => false,
-            Some(tail) => self.links.is_old_hit(tail),
-        }
+        let tail = self.small.oldest(&self.links);
+        self.links.is_old_hit(tail)
     }
 
     /// Admits a slot to Small, as its newest. All young slots grow older, and one may become old.

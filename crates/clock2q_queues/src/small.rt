@@ -53,6 +53,16 @@ impl Small {
         self.oldest.slot()
     }
 
+    /// Returns the oldest slot, given that there is one.
+    pub(crate) fn oldest<A: Allocator>(&self, links: &Links<A>) -> u32
+        requires whole { IsSmallQueue links.now self.now }
+        requires some { 0 < length (small_slots links.now self.now) }
+        ensures oldest { last_or None (small_slots links.now self.now) ≡ Some result }
+    {
+        let _ = links;
+        self.oldest.target()
+    }
+
     /// Admits a slot as the newest, and young. All other young slots grow older.
     pub(crate) fn push<A: Allocator>(&mut self, links: &mut Links<A>, slot: u32)
         requires whole { IsSmallQueue links.old self.old }

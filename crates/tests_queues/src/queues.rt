@@ -4,6 +4,7 @@ ghost use Rattle.std.specs.List.{range_with_len};
 ghost use Rattle.clock2q_machine.specs.Ages.{Young, Old};
 
 use clock2q_queues::queues::Queues;
+use std::alloc::Allocator;
 use std::test::Fail;
 use testing::same;
 
@@ -68,9 +69,16 @@ fn admit_again(queues: &mut Queues)
     queues.admit(3);
 }
 
+/// Returns true if Small has an oldest slot and that goes on to Main.
+pub(crate) fn is_tail_promoted<A: Allocator>(queues: &mut Queues<A>) -> bool
+    ensures { queues.new ≡ record queues.old { accesses = queues.new.accesses } }
+{
+    queues.small_len() > 0 && queues.tail_is_promoted()
+}
+
 /// The tail of Small leaves; whether it is promoted was known before.
 fn leaves(queues: &mut Queues, slot: u32, is_promoted: bool) -> Result<(), Fail> {
-    same(queues.tail_is_promoted(), is_promoted)?;
+    same(is_tail_promoted(queues), is_promoted)?;
     same(queues.take_tail(), Some(slot))
 }
 
@@ -86,7 +94,7 @@ fn second_admission_counts(queues: &mut Queues) -> Result<(), Fail>
     same(queues.is_resident(3), true)?;
     hit(queues, 2)?;
     same(queues.small_len(), 4)?;
-    same(queues.tail_is_promoted(), false)?;
+    same(is_tail_promoted(queues), false)?;
     queues.leave(0);
     leaves(queues, 1, false)?;
     leaves(queues, 2, true)

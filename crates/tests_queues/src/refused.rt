@@ -2,6 +2,7 @@
 ghost use Rattle.std.specs.Prelude.{◌≡◌, []};
 
 use crate::beside::Beside;
+use crate::queues::is_tail_promoted;
 use clock2q_directory::directory::Directory;
 use clock2q_queues::queues::Queues;
 use std::alloc::{AllocError, Global};
@@ -63,7 +64,7 @@ fn pass_through(queues: &mut Queues<&Refusing<Global>>)
     queues.admit(1);
     queues.admit(2);
     queues.hit(0);
-    let _ = queues.tail_is_promoted();
+    let _ = is_tail_promoted(queues);
     let _ = queues.take_tail();
     queues.append(0);
     queues.hit(0);

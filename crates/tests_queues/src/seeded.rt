@@ -2,7 +2,7 @@
 ghost use Rattle.std.specs.Prelude.{◌≡◌, ◌<◌, length};
 
 use crate::lists::Lists;
-use crate::queues::{admit, append, hit};
+use crate::queues::{admit, append, hit, is_tail_promoted};
 use clock2q_queues::queues::Queues;
 use std::alloc::Global;
 use std::test::Fail;
@@ -21,7 +21,7 @@ fn compare(queues: &mut Queues, lists: &Lists) -> Result<(), Fail>
     }
     same(queues.small_len(), lists.small.len())?;
     same(queues.main_len(), lists.main.len())?;
-    same(queues.tail_is_promoted(), lists.tail_is_promoted())
+    same(is_tail_promoted(queues), lists.tail_is_promoted())
 }
 
 /// Small's tail, if there is one, leaves.

@@ -1,5 +1,5 @@
 //! The keys themselves, and the counts of their comparisons and writes.
-ghost use Rattle.std.specs.Prelude.{◌≡◌, ℕ, ◌+◌, ◌<◌, [], ◌∷◌, ◌++◌, length, Some, IfOk};
+ghost use Rattle.std.specs.Prelude.{◌≡◌, ℕ, ◌+◌, ◌<◌, [], ◌∷◌, ◌++◌, length, slice_set, Some, IfOk};
 ghost use Rattle.std.specs.Borrow.{sem};
 
 use clock2q_count::Count;
@@ -18,7 +18,7 @@ pub struct Entry<K, V> {
 /// A key at each place, with its hash and a value. Places are numbered from 0, in the order in
 /// which they are first used.
 ///
-/// One function compares keys, and counts each comparison. Two functions write keys, and count each
+/// One function compares keys, and counts each comparison. Three functions write keys, and count each
 /// write.
 ///
 /// # Example
@@ -149,6 +149,21 @@ impl<K, V, A: Allocator> Keys<K, V, A> {
         let old_hash = mem::replace(&mut entry.hash, hash);
         let old_key = mem::replace(&mut entry.key, key);
         (old_hash, old_key)
+    }
+
+    /// Replaces the key, the hash and the value at a place, and returns the old ones.
+    pub(super) fn replace_entry(&mut self, place: u32, entry: Entry<K, V>) -> Entry<K, V>
+        requires used { place < length self.old.entries }
+        ensures hash { hash_at self.old.entries place ≡ Some result.hash }
+        ensures key { key_at self.old.entries place ≡ Some result.key }
+        ensures replaced { self.new ≡
+            record self.old {
+              entries = slice_set self.old.entries place entry;
+              writes = self.old.writes + 1;
+            } }
+    {
+        self.writes.tick();
+        mem::replace(&mut self.entries[place as usize], entry)
     }
 
     /// Drops every key and value. No place has a key afterwards.

@@ -1,6 +1,6 @@
 use Rattle.std.proofs.Common.{ap, sym, ◌∙◌, ◌+◌, arith}
-use Rattle.clock2q_directory.specs.Keys.{KeyPlaces, entry, key_places, with_value}
-use Rattle.clock2q_directory.proofs.Entries.{written-replaced, written-push}
+use Rattle.clock2q_directory.specs.Keys.{entry, key_places}
+use Rattle.clock2q_directory.proofs.Entries.{set-written, written-push}
 use Rattle.clock2q_directory.proofs.keys.store.Keys.write.Goals as goal
 
 pub returns-then-place-len : goal.returns-then-place-len
@@ -16,7 +16,7 @@ pub returns-else-place-len : goal.returns-else-place-len
 returns-else-place-len g c = record {
   written =
       let old = c.args.self.now in
-      c.replace_value.ensures.replaced ∙ ap (λ (z : KeyPlaces _ _). key_places (with_value c.args.place c.args.value z.entries) z.room z.writes z.comparisons) c.replace.ensures.replaced
+      c.replace_entry.ensures.replaced
       ∙ ap (λ z. key_places z old.room (old.writes + 1) old.comparisons)
-      (written-replaced c.args.place c.args.hash c.args.key c.args.value old.entries (omega (arith, c.requires.next, c.if-place-len.false, c.len.ensures.len)));
+      (set-written c.args.place (entry c.args.hash c.args.key c.args.value) old.entries (omega (arith, c.requires.next, c.if-place-len.false, c.len.ensures.len)));
 }
