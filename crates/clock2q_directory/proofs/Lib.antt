@@ -14,4 +14,5 @@ pub mod Sorted
 mod WorkedPlaces
 pub mod Taking
 pub mod Charging
+mod Replacing
 pub mod WithHash
