@@ -15,6 +15,7 @@
 #![deny(missing_docs, unsafe_op_in_unsafe_fn)]
 
 mod cache;
+mod chains;
 mod collect;
 mod entries;
 mod entry;

@@ -1,12 +1,11 @@
 //! Pairs by the hashes of their keys.
 
-use crate::entries::{Entries, Entry};
+use crate::entries::{Drained, Entries};
 use crate::slots::Slots;
 use crate::Refused;
 use std::borrow::Borrow;
 use std::hash::{BuildHasher, Hash, Hasher};
 use std::mem;
-use std::vec::Drain;
 
 /// Returns the hash of a key.
 #[inline]
@@ -109,7 +108,7 @@ impl<K, V> Store<K, V> {
     }
 
     /// Removes all pairs, and returns them with their number.
-    pub(crate) fn drain(&mut self) -> (Drain<'_, Option<Entry<K, V>>>, usize) {
+    pub(crate) fn drain(&mut self) -> (Drained<'_, K, V>, usize) {
         self.slots.clear();
         self.entries.drain()
     }
@@ -167,7 +166,7 @@ impl<K, V> Store<K, V> {
     /// Returns the pair that would leave next.
     pub(crate) fn next_victim(&mut self) -> Option<(&K, &V)> {
         let slot = self.slots.next_victim()?;
-        self.entries.pair(slot).map(|(key, value)| (key, value))
+        self.entries.pair(slot)
     }
 
     /// Removes the pair at a slot.
@@ -196,7 +195,7 @@ impl<K: Eq, V> Store<K, V> {
         Q: Eq + ?Sized,
     {
         // The pair is read before the library is called, since it is known then that there is one.
-        let found = self.entries.slot_and_pair(hash, key);
+        let found = self.entries.find_mut(hash, key);
         match found {
             Some((slot, _)) => {
                 self.hits += 1;

@@ -73,8 +73,8 @@ impl<K: Eq, V> Pairs<K, V> for Store<K, V> {
     }
 
     fn peek(&self, hash: u64, key: &K) -> Option<&V> {
-        let slot = self.entries.slot(hash, key)?;
-        self.entries.pair(slot).map(|(_, value)| value)
+        let (_, (_, value)) = self.entries.find(hash, key)?;
+        Some(value)
     }
 }
 
