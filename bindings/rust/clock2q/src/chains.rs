@@ -10,6 +10,9 @@ pub(crate) const SPREAD: u64 = 0x9E37_79B9_7F4A_7C15;
 /// How many bits a slot has: all are below the largest capacity.
 const SLOT_BITS: u32 = 24;
 
+/// The most slots that have twice as many chains: look-ups among few have nothing else to wait for.
+const SMALL: usize = 1 << 14;
+
 /// What 32 bits of a chain say: at which slot it goes on, with seven bits of the hash of the key there, or that
 /// it ends, and which chain it is.
 #[derive(Clone, Copy, PartialEq, Eq)]
@@ -77,8 +80,9 @@ pub(crate) struct Chains {
 impl Chains {
     /// Makes chains for this many slots, all of them empty.
     pub(crate) fn new(capacity: usize) -> Result<Chains, Refused> {
-        // Five for four slots at least, so that few chains are longer than one.
-        let count = (capacity + capacity / 4).next_power_of_two();
+        // So that few chains are longer than one: five for two slots at least, or for four if they are many.
+        let slots_for_five = if capacity <= SMALL { 2 } else { 4 };
+        let count = (capacity * 5 / slots_for_five).next_power_of_two();
         let (mut links, mut heads) = (Vec::new(), Vec::new());
         links
             .try_reserve_exact(capacity)

@@ -153,7 +153,7 @@ impl<K, V> Entries<K, V> {
     }
 
     /// Removes the pair at a slot, and returns it.
-    #[inline]
+    #[inline(always)]
     pub(crate) fn take(&mut self, slot: usize) -> Option<(K, V)> {
         if !self.chains.remove(slot) {
             return None;
