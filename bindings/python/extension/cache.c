@@ -130,10 +130,9 @@ static int cache_contains(Cache *self, PyObject *key) {
     return (int)find_key(self, key, &hash, &slot);
 }
 
-/* Reads the arguments `key` and `default` of a method, which may be named. Leaves the default as it was
- * if it isn't there. Returns the key, or NULL with an exception. */
-static inline PyObject *key_and_default(const char *name, PyObject *const *args, Py_ssize_t count, PyObject *names,
-                                        PyObject **otherwise) {
+/* Reads the arguments `key` and `default` of a method, of which some are named or too many or too few. */
+Py_NO_INLINE static PyObject *named_key_and_default(const char *name, PyObject *const *args, Py_ssize_t count,
+                                                    PyObject *names, PyObject **otherwise) {
     Py_ssize_t named = names == NULL ? 0 : PyTuple_GET_SIZE(names);
     PyObject *given[2] = {count > 0 ? args[0] : NULL, count > 1 ? args[1] : NULL};
     int is_wrong = count + named > 2;
@@ -149,6 +148,15 @@ static inline PyObject *key_and_default(const char *name, PyObject *const *args,
     }
     if (given[1] != NULL) *otherwise = given[1];
     return given[0];
+}
+
+/* Reads the arguments `key` and `default` of a method, which may be named. Leaves the default as it was
+ * if it isn't there. Returns the key, or NULL with an exception. */
+static inline PyObject *key_and_default(const char *name, PyObject *const *args, Py_ssize_t count, PyObject *names,
+                                        PyObject **otherwise) {
+    if (names != NULL || count < 1 || count > 2) return named_key_and_default(name, args, count, names, otherwise);
+    if (count == 2) *otherwise = args[1];
+    return args[0];
 }
 
 static PyObject *cache_get(Cache *self, PyObject *const *args, Py_ssize_t count, PyObject *names) {

@@ -5,6 +5,37 @@ outcome too_many_tries(void) {
     return FAILED;
 }
 
+/* Compares a key with one that a pair holds. */
+static outcome compare(Cache *cache, PyObject *held, PyObject *key) {
+    if (held == key) return PRESENT;
+    if (PyUnicode_CheckExact(held) && PyUnicode_CheckExact(key)) return PyUnicode_Compare(held, key) == 0;
+    uint64_t version = cache->version;
+    Py_INCREF(held);
+    int equal = PyObject_RichCompareBool(held, key, Py_EQ);
+    Py_DECREF(held);
+    if (equal < 0) return FAILED;
+    return version == cache->version ? (outcome)equal : CHANGED;
+}
+
+outcome compare_alike(Cache *cache, PyObject *key, uint64_t hash, size_t *slot) {
+    clock2q_found alike = {*slot, true};
+    for (size_t nth = 1; alike.is_found; nth++) {
+        outcome found = compare(cache, cache->pairs[alike.slot].key, key);
+        *slot = alike.slot;
+        if (found != ABSENT) return found;
+        alike = clock2q_tokens_seek(&cache->slots, clock2q_spread(hash), nth);
+    }
+    return ABSENT;
+}
+
+outcome look_again(Cache *cache, PyObject *key, uint64_t hash, size_t *slot) {
+    for (int tries = 1; tries < MOST_TRIES; tries++) {
+        outcome found = look_at_pairs(cache, key, hash, slot);
+        if (found != CHANGED) return found;
+    }
+    return too_many_tries();
+}
+
 int may_make_slots(int has_slots, Py_ssize_t capacity, const char *name) {
     if (has_slots) {
         PyErr_SetString(PyExc_RuntimeError, "__init__ is called once");

@@ -45,46 +45,36 @@ enum { MOST_TRIES = 8, MOST_ALIKE = 16 };
 /* Sets the exception after the last try, and returns FAILED. */
 outcome too_many_tries(void);
 
-/* Compares a key with one that a pair holds. */
-static inline outcome compare(Cache *cache, PyObject *held, PyObject *key) {
-    if (held == key) return PRESENT;
-    if (PyUnicode_CheckExact(held) && PyUnicode_CheckExact(key)) return PyUnicode_Compare(held, key) == 0;
-    uint64_t version = cache->version;
-    Py_INCREF(held);
-    int equal = PyObject_RichCompareBool(held, key, Py_EQ);
-    Py_DECREF(held);
-    if (equal < 0) return FAILED;
-    return version == cache->version ? (outcome)equal : CHANGED;
-}
-
 /* Writes a key's hash. Returns -1 with an exception if it has none. */
 static inline int hash_of(PyObject *key, uint64_t *hash) {
-    Py_hash_t value = PyObject_Hash(key);
+    Py_hash_t value = PyUnicode_CheckExact(key) ? ((PyASCIIObject *)key)->hash : -1; /* -1 before it is first asked for */
+    if (value == -1) value = PyObject_Hash(key);
     *hash = (uint64_t)value;
     return value == -1 ? -1 : 0;
 }
 
+/* Compares a key with those of its hash in turn, of which the first is at `slot`. Writes the slot of the last. */
+outcome compare_alike(Cache *cache, PyObject *key, uint64_t hash, size_t *slot);
+
 /* Finds the slot of a key, if no comparison changes the cache. */
 static inline outcome look_at_pairs(Cache *cache, PyObject *key, uint64_t hash, size_t *slot) {
     if (cache->pairs == NULL) return ABSENT;
-    for (size_t nth = 0;; nth++) {
-        clock2q_found alike = clock2q_tokens_seek(&cache->slots, clock2q_spread(hash), nth);
-        if (!alike.is_found) return ABSENT;
-        outcome found = compare(cache, cache->pairs[alike.slot].key, key);
-        *slot = alike.slot;
-        if (found != ABSENT) return found;
-    }
+    clock2q_found alike = clock2q_tokens_seek(&cache->slots, clock2q_spread(hash), 0);
+    if (!alike.is_found) return ABSENT;
+    *slot = alike.slot;
+    return cache->pairs[alike.slot].key == key ? PRESENT : compare_alike(cache, key, hash, slot);
 }
+
+/* Does so after a comparison has changed the cache, until none does. */
+outcome look_again(Cache *cache, PyObject *key, uint64_t hash, size_t *slot);
 
 /* Finds the slot of a key, and records a hit in the library if it has one. If PRESENT, the slot's pair
  * stays until other code runs. */
 static inline outcome find_pair(Cache *cache, PyObject *key, uint64_t hash, size_t *slot) {
-    for (int tries = 0; tries < MOST_TRIES; tries++) {
-        outcome found = look_at_pairs(cache, key, hash, slot);
-        if (found == PRESENT) clock2q_tokens_hit(&cache->slots, *slot);
-        if (found != CHANGED) return found;
-    }
-    return too_many_tries();
+    outcome found = look_at_pairs(cache, key, hash, slot);
+    if (found == CHANGED) found = look_again(cache, key, hash, slot);
+    if (found == PRESENT) clock2q_tokens_hit(&cache->slots, *slot);
+    return found;
 }
 
 /* Stores a value for a key. Returns -1 with an exception, and the cache as it was, if that fails; only if there
