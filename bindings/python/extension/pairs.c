@@ -17,23 +17,22 @@ static outcome compare(Cache *cache, PyObject *held, PyObject *key) {
     return version == cache->version ? (outcome)equal : CHANGED;
 }
 
-outcome compare_alike(Cache *cache, PyObject *key, uint64_t hash, size_t *slot) {
-    clock2q_found alike = {*slot, true};
+found_pair compare_alike(Cache *cache, PyObject *key, uint64_t hash, size_t slot) {
+    clock2q_found alike = {slot, true};
     for (size_t nth = 1; alike.is_found; nth++) {
         outcome found = compare(cache, cache->pairs[alike.slot].key, key);
-        *slot = alike.slot;
-        if (found != ABSENT) return found;
+        if (found != ABSENT) return (found_pair){found, alike.slot};
         alike = clock2q_tokens_seek(&cache->slots, clock2q_spread(hash), nth);
     }
-    return ABSENT;
+    return (found_pair){ABSENT, 0};
 }
 
-outcome look_again(Cache *cache, PyObject *key, uint64_t hash, size_t *slot) {
+found_pair look_again(Cache *cache, PyObject *key, uint64_t hash) {
     for (int tries = 1; tries < MOST_TRIES; tries++) {
-        outcome found = look_at_pairs(cache, key, hash, slot);
-        if (found != CHANGED) return found;
+        found_pair found = look_at_pairs(cache, key, hash);
+        if (found.is != CHANGED) return found;
     }
-    return too_many_tries();
+    return (found_pair){too_many_tries(), 0};
 }
 
 int may_make_slots(int has_slots, Py_ssize_t capacity, const char *name) {
@@ -113,11 +112,10 @@ int store_pair(Cache *cache, PyObject *key, uint64_t hash, PyObject *value) {
     if (cache->weigher != NULL || cache->maxsize < cache->capacity) return store_within(cache, key, hash, value);
     for (int tries = 0; tries < MOST_TRIES; tries++) {
         if (cache->pairs == NULL && make_pairs(cache) < 0) return -1;
-        size_t slot;
-        outcome found = look_at_pairs(cache, key, hash, &slot);
-        if (found == FAILED) return -1;
-        if (found == CHANGED) continue;
-        if (found == PRESENT) replace_value(cache, slot, value, 0);
+        found_pair found = look_at_pairs(cache, key, hash);
+        if (found.is == FAILED) return -1;
+        if (found.is == CHANGED) continue;
+        if (found.is == PRESENT) replace_value(cache, found.slot, value, 0);
         else add_pair(cache, key, hash, value, 0);
         return 0;
     }

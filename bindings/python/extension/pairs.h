@@ -39,6 +39,12 @@ typedef struct {
 /* What a look-up or a comparison finds. FAILED comes with an exception, CHANGED if the cache's pairs did. */
 typedef enum { FAILED = -1, ABSENT = 0, PRESENT = 1, CHANGED = 2 } outcome;
 
+/* What a look-up finds, and the slot if that is PRESENT. Two registers return it. */
+typedef struct {
+    outcome is;
+    size_t slot;
+} found_pair;
+
 /* How often a look-up is repeated before it fails, and the most keys of one hash. */
 enum { MOST_TRIES = 8, MOST_ALIKE = 16 };
 
@@ -53,27 +59,27 @@ static inline int hash_of(PyObject *key, uint64_t *hash) {
     return value == -1 ? -1 : 0;
 }
 
-/* Compares a key with those of its hash in turn, of which the first is at `slot`. Writes the slot of the last. */
-outcome compare_alike(Cache *cache, PyObject *key, uint64_t hash, size_t *slot);
+/* Compares a key with those of its hash in turn, of which the first is at `slot`. */
+found_pair compare_alike(Cache *cache, PyObject *key, uint64_t hash, size_t slot);
 
 /* Finds the slot of a key, if no comparison changes the cache. */
-static inline outcome look_at_pairs(Cache *cache, PyObject *key, uint64_t hash, size_t *slot) {
-    if (cache->pairs == NULL) return ABSENT;
+static inline found_pair look_at_pairs(Cache *cache, PyObject *key, uint64_t hash) {
+    if (cache->pairs == NULL) return (found_pair){ABSENT, 0};
     clock2q_found alike = clock2q_tokens_seek(&cache->slots, clock2q_spread(hash), 0);
-    if (!alike.is_found) return ABSENT;
-    *slot = alike.slot;
-    return cache->pairs[alike.slot].key == key ? PRESENT : compare_alike(cache, key, hash, slot);
+    if (!alike.is_found) return (found_pair){ABSENT, 0};
+    if (cache->pairs[alike.slot].key == key) return (found_pair){PRESENT, alike.slot};
+    return compare_alike(cache, key, hash, alike.slot);
 }
 
 /* Does so after a comparison has changed the cache, until none does. */
-outcome look_again(Cache *cache, PyObject *key, uint64_t hash, size_t *slot);
+found_pair look_again(Cache *cache, PyObject *key, uint64_t hash);
 
 /* Finds the slot of a key, and records a hit in the library if it has one. If PRESENT, the slot's pair
  * stays until other code runs. */
-static inline outcome find_pair(Cache *cache, PyObject *key, uint64_t hash, size_t *slot) {
-    outcome found = look_at_pairs(cache, key, hash, slot);
-    if (found == CHANGED) found = look_again(cache, key, hash, slot);
-    if (found == PRESENT) clock2q_tokens_hit(&cache->slots, *slot);
+static inline found_pair find_pair(Cache *cache, PyObject *key, uint64_t hash) {
+    found_pair found = look_at_pairs(cache, key, hash);
+    if (found.is == CHANGED) found = look_again(cache, key, hash);
+    if (found.is == PRESENT) clock2q_tokens_hit(&cache->slots, found.slot);
     return found;
 }
 
@@ -100,7 +106,8 @@ void set_weight(Cache *cache, size_t slot, uint64_t weight);
 /* Takes out the pair that is to leave next, and returns the slot that it had, if there is one. The caller drops it. */
 clock2q_found evict_pair(Cache *cache, pair *left);
 
-/* The method that returns this pair, or None. */
+/* The methods that remove and return this pair, or raise KeyError, and that return it or None. */
+PyObject *cache_popitem(Cache *self, PyObject *unused);
 PyObject *cache_next_victim(Cache *self, PyObject *unused);
 
 /* Has at most `maxsize` pairs be there, for which there are slots. Returns -1 with an exception if there is no
