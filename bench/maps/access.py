@@ -98,8 +98,8 @@ def measure_mapping(form, capacity, keys):
         return hits
 
     took, hits = timed(accesses)
-    if form == "dict":  # as many keys as the others have
-        cache = {key: key for key in list(dict.fromkeys(reversed(keys)))[:capacity]}
+    if form == "dict":  # as many keys as the others have, and not in the order of the accesses
+        cache = {key: key for key in sorted(list(dict.fromkeys(reversed(keys)))[:capacity])}
     there = [key for key in dict.fromkeys(keys[-3000:]) if cache.get(key) is not None][:500]
     there *= 200_000 // len(there)
 
