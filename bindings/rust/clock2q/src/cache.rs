@@ -291,7 +291,7 @@ impl<K: Hash + Eq, V, S: BuildHasher> Cache<K, V, S> {
 
     fn store_pair(&mut self, key: K, value: V) -> Before<K, V> {
         let hash = hash_of(&self.hasher, &key);
-        self.store.push(hash, key, value).1
+        self.store.push(hash, key, value)
     }
 
     /// Returns where a key belongs, after a hit if it is here.

@@ -12,7 +12,11 @@
 //! assert_eq!(cache.get("seven"), Some(&7));
 //! # Ok::<(), clock2q::Refused>(())
 //! ```
-#![deny(missing_docs, unsafe_op_in_unsafe_fn, clippy::undocumented_unsafe_blocks)]
+#![deny(
+    missing_docs,
+    unsafe_op_in_unsafe_fn,
+    clippy::undocumented_unsafe_blocks
+)]
 
 mod cache;
 mod chains;

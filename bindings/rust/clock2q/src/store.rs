@@ -116,17 +116,25 @@ impl<K, V> Store<K, V> {
     /// Stores a pair whose key isn't here, and returns its slot and the pair that left for it.
     #[inline(always)]
     pub(crate) fn admit(&mut self, hash: u64, key: K, value: V) -> (usize, Option<(K, V)>) {
-        if self.entries.len() >= self.limit {
-            return self.admit_to_fewer(hash, key, value);
+        if self.entries.len() < self.limit {
+            if let Some(slot) = self.slots.admit(hash) {
+                return (slot, self.entries.put(slot, hash, key, value));
+            }
         }
-        match self.slots.admit(hash) {
-            Some(slot) => (slot, self.entries.put(slot, hash, key, value)),
-            None => self.admit_beside(hash, key, value),
+        self.admit_with_care(hash, key, value)
+    }
+
+    /// Does so if there may not be more pairs, or else beside keys of the same hash.
+    #[cold]
+    #[inline(never)]
+    fn admit_with_care(&mut self, hash: u64, key: K, value: V) -> (usize, Option<(K, V)>) {
+        match self.entries.len() < self.limit {
+            true => self.admit_beside(hash, key, value),
+            false => self.admit_to_fewer(hash, key, value),
         }
     }
 
     /// Does so beside keys of the same hash, of which one gives way if there are [`MOST_ALIKE`].
-    #[cold]
     fn admit_beside(&mut self, hash: u64, key: K, value: V) -> (usize, Option<(K, V)>) {
         let crowded = self.entries.last_of_many(hash, MOST_ALIKE);
         let gave_way = crowded.and_then(|slot| self.remove_at(slot));
@@ -137,8 +145,6 @@ impl<K, V> Store<K, V> {
 
     /// Does so in place of another pair though there are slots, since there may not be more pairs. If two
     /// leave, one of them is dropped.
-    #[cold]
-    #[inline(never)]
     fn admit_to_fewer(&mut self, hash: u64, key: K, value: V) -> (usize, Option<(K, V)>) {
         let gone = match self.entries.last_of_many(hash, MOST_ALIKE) {
             Some(slot) => self.remove_at(slot),
@@ -206,16 +212,15 @@ impl<K: Eq, V> Store<K, V> {
         found
     }
 
-    /// Stores a pair, after a hit if its key is here, and returns its slot and what was replaced or left.
-    pub(crate) fn push(&mut self, hash: u64, key: K, value: V) -> (usize, Before<K, V>) {
-        if let Some(slot) = self.entries.slot(hash, &key) {
+    /// Stores a pair, after a hit if its key is here, and returns what was replaced or left.
+    pub(crate) fn push(&mut self, hash: u64, key: K, value: V) -> Before<K, V> {
+        if let Some((slot, (_, before))) = self.entries.find_mut(hash, &key) {
             self.slots.hit(slot);
-            let (_, before) = self.entries.pair_mut(slot).expect("a pair is at its slot");
-            return (slot, Before::Replaced(key, mem::replace(before, value)));
+            return Before::Replaced(key, mem::replace(before, value));
         }
         match self.admit(hash, key, value) {
-            (slot, Some((key, value))) => (slot, Before::Evicted(key, value)),
-            (slot, None) => (slot, Before::Nothing),
+            (_, Some((key, value))) => Before::Evicted(key, value),
+            (_, None) => Before::Nothing,
         }
     }
 

@@ -240,7 +240,7 @@ impl<K: Hash + Eq, V, S: BuildHasher> Cache<K, V, S> {
     /// for a new key is dropped.
     pub fn insert(&self, key: K, value: V) -> Option<V> {
         let hash = hash_of(&self.hasher, &key);
-        let (_, before) = self.shards.of(hash).lock().push(hash, key, value);
+        let before = self.shards.of(hash).lock().push(hash, key, value);
         before.replaced()
     }
 
@@ -248,7 +248,7 @@ impl<K: Hash + Eq, V, S: BuildHasher> Cache<K, V, S> {
     /// that had to leave for it.
     pub fn push(&self, key: K, value: V) -> Option<(K, V)> {
         let hash = hash_of(&self.hasher, &key);
-        let (_, before) = self.shards.of(hash).lock().push(hash, key, value);
+        let before = self.shards.of(hash).lock().push(hash, key, value);
         before.pair()
     }
 
