@@ -30,6 +30,15 @@ pub(crate) enum Before<K, V> {
 }
 
 impl<K, V> Before<K, V> {
+    /// Returns what had the slot if that was another key, or nothing.
+    #[inline(always)]
+    fn evicted(pair: Option<(K, V)>) -> Before<K, V> {
+        match pair {
+            Some((key, value)) => Before::Evicted(key, value),
+            None => Before::Nothing,
+        }
+    }
+
     /// Returns the value that was replaced. A pair that was evicted is dropped.
     pub(crate) fn replaced(self) -> Option<V> {
         match self {
@@ -218,10 +227,13 @@ impl<K: Eq, V> Store<K, V> {
             self.slots.hit(slot);
             return Before::Replaced(key, mem::replace(before, value));
         }
-        match self.admit(hash, key, value) {
-            (_, Some((key, value))) => Before::Evicted(key, value),
-            (_, None) => Before::Nothing,
+        // As `admit` does. The pair that leaves is moved once so, and not through a tuple with the slot.
+        if self.entries.len() < self.limit {
+            if let Some(slot) = self.slots.admit(hash) {
+                return Before::evicted(self.entries.put(slot, hash, key, value));
+            }
         }
+        Before::evicted(self.admit_with_care(hash, key, value).1)
     }
 
     /// Removes a key, and returns the pair. A key that isn't here is forgotten.
