@@ -98,8 +98,10 @@ def measure_mapping(form, capacity, keys):
         return hits
 
     took, hits = timed(accesses)
-    there = [key for key in dict.fromkeys(keys[-3000:]) if cache.get(key) is not None]
-    there = (there * (200_000 // len(there) + 1))[:200_000]
+    if form == "dict":  # as many keys as the others have, and not in the order of the accesses
+        cache = {key: key for key in sorted(list(dict.fromkeys(reversed(keys)))[:capacity])}
+    there = [key for key in dict.fromkeys(keys[-3000:]) if cache.get(key) is not None][:500]
+    there *= 200_000 // len(there)
 
     def gets():
         get = cache.get
@@ -136,6 +138,8 @@ def main():
         keys = [f"/articles/{key:016x}/index.html" for key in keys]
     if kind == "tuple":
         keys = [(key, "en") for key in keys]
+    objects = {}  # one for equal keys, so that no form compares more than another
+    keys = [objects.setdefault(key, key) for key in keys]
     measure = measure_function if form.startswith("@") else measure_mapping
     took, get, hits = measure(form, capacity, keys)
     print(f"{took / len(keys):.1f} {hits / len(keys):.4f} {get:.1f}")

@@ -1,9 +1,10 @@
 //! Runs the trace of the bench through a map of fixed capacity: a look-up, and an insertion after a miss.
-//! Prints the nanoseconds an access, of the thread's processor time, and the hit ratio.
+//! Prints the nanoseconds an access, of the thread's processor time, the hit ratio, and the nanoseconds of a get
+//! of what is there: of the accesses whose key is there at the end.
 //!
 //! usage: access FORM sip|ahash u64|string CAPACITY, of the forms `clock2q`, `entry`, `lru` and `hashlink`;
 //! access shared|lru sip|ahash threads CAPACITY THREADS, where each thread has its part of the trace and the
-//! time is that of the clock.
+//! time is that of the clock, and no gets are timed.
 
 use std::hash::{BuildHasher, Hash};
 use std::sync::Mutex;
@@ -57,6 +58,9 @@ fn processor_time() -> i64 {
 trait Form<K> {
     /// Looks a key up, and inserts it after a miss. Returns true after a hit.
     fn access(&mut self, key: &K, value: u64) -> bool;
+
+    /// Returns true, after a hit, if the key is there.
+    fn has(&mut self, key: &K) -> bool;
 }
 
 impl<K: Hash + Eq + Clone, S: BuildHasher> Form<K> for clock2q::Cache<K, u64, S> {
@@ -66,6 +70,10 @@ impl<K: Hash + Eq + Clone, S: BuildHasher> Form<K> for clock2q::Cache<K, u64, S>
             self.insert(key.clone(), value);
         }
         is_hit
+    }
+
+    fn has(&mut self, key: &K) -> bool {
+        self.get(key).is_some()
     }
 }
 
@@ -81,6 +89,10 @@ impl<K: Hash + Eq + Clone, S: BuildHasher> Form<K> for ByEntry<K, S> {
         });
         is_hit
     }
+
+    fn has(&mut self, key: &K) -> bool {
+        self.0.get(key).is_some()
+    }
 }
 
 impl<K: Hash + Eq + Clone, S: BuildHasher> Form<K> for lru::LruCache<K, u64, S> {
@@ -91,6 +103,10 @@ impl<K: Hash + Eq + Clone, S: BuildHasher> Form<K> for lru::LruCache<K, u64, S> 
         }
         is_hit
     }
+
+    fn has(&mut self, key: &K) -> bool {
+        self.get(key).is_some()
+    }
 }
 
 impl<K: Hash + Eq + Clone, S: BuildHasher> Form<K> for hashlink::LruCache<K, u64, S> {
@@ -100,6 +116,10 @@ impl<K: Hash + Eq + Clone, S: BuildHasher> Form<K> for hashlink::LruCache<K, u64
             self.insert(key.clone(), value);
         }
         is_hit
+    }
+
+    fn has(&mut self, key: &K) -> bool {
+        self.get(key).is_some()
     }
 }
 
@@ -113,13 +133,25 @@ fn accesses<K, F: Form<K>>(form: &mut F, keys: &[K]) -> usize {
     hits
 }
 
-fn measure<K, F: Form<K>>(mut form: F, keys: &[K]) {
+/// Looks up keys that are there.
+#[inline(never)]
+fn gets<K, F: Form<K>>(form: &mut F, keys: &[&K]) {
+    assert!(keys.iter().all(|key| form.has(key)));
+}
+
+/// Returns the nanoseconds that `run` takes for each of a number of calls, and what it returns.
+fn timed<T>(calls: usize, run: impl FnOnce() -> T) -> (f64, T) {
     let begun = processor_time();
-    let hits = accesses(&mut form, keys);
-    let time = processor_time() - begun;
+    let result = run();
+    ((processor_time() - begun) as f64 / calls as f64, result)
+}
+
+fn measure<K, F: Form<K>>(mut form: F, keys: &[K]) {
+    let (access, hits) = timed(keys.len(), || accesses(&mut form, keys));
+    let there: Vec<&K> = keys.iter().filter(|key| form.has(key)).collect();
+    let (get, ()) = timed(there.len(), || gets(&mut form, &there));
     println!(
-        "{:.2} {:.4}",
-        time as f64 / keys.len() as f64,
+        "{access:.2} {:.4} {get:.2}",
         hits as f64 / keys.len() as f64
     );
 }

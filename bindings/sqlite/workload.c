@@ -1,13 +1,14 @@
-/* workload CACHE KIND PAGES FILE: one workload on a database of its own in FILE, on the page cache
- * `clock2q` or `sqlite`, with this cache_size. Prints the misses, the spilled pages, the most pages
- * that there were, and a checksum of every answer and of all rows in the end, which doesn't depend on
- * the cache.
+/* workload CACHE KIND PAGES FILE [LIMIT]: one workload on a database of its own in FILE, on the page
+ * cache `clock2q` or `sqlite`, with this cache_size and this soft heap limit in bytes. Prints the
+ * misses, the spilled pages, the most pages that there were, a checksum of every answer and of all rows
+ * in the end, which doesn't depend on the cache, and the most bytes of SQLite's allocator once the
+ * database was made.
  *
  * The kinds: `reads` looks rows up, some far oftener than others, with a scan of the table now and
  * then; `updates` changes random rows, 100 in a transaction; `mixed` does both, with ranges and
- * rollbacks; `commits` changes one row in each transaction. Under valgrind --tool=callgrind
- * --toggle-collect=KIND it counts instructions, without those of making the database, and those of
- * all commits alone with --toggle-collect=commit. */
+ * rollbacks; `commits` changes one row in each transaction; `resizes` looks rows up, scans, and changes
+ * the cache_size in turn. Under valgrind --tool=callgrind --toggle-collect=KIND it counts instructions,
+ * without those of making the database, and those of all commits alone with --toggle-collect=commit. */
 #include "pcache_clock2q.h"
 
 #include <sqlite3.h>
@@ -109,6 +110,23 @@ __attribute__((noinline)) static void reads(sqlite3 *database) {
     sqlite3_finalize(scan);
 }
 
+/* Each 500 calls are followed by a scan and another cache_size, of a quarter to all of the first one. */
+__attribute__((noinline)) static void resizes(sqlite3 *database, int pages) {
+    sqlite3_stmt *get = prepared(database, "SELECT a, b, length(c), ?2 FROM t WHERE id = ?1");
+    sqlite3_stmt *scan = prepared(database, "SELECT count(*), sum(b), ?1, ?2 FROM t WHERE id BETWEEN ?1 AND ?2");
+    for (int call = 1; call <= CALLS; call++) {
+        run(get, drawn_row(), 0);
+        if (call % 500 != 0) continue;
+        char text[40];
+        sqlite3_int64 from = (sqlite3_int64)below(ROWS);
+        run(scan, from, from + ROWS / 20);
+        snprintf(text, sizeof text, "PRAGMA cache_size=%d", pages - pages * (call / 500 % 4) / 4);
+        execute(database, text);
+    }
+    sqlite3_finalize(get);
+    sqlite3_finalize(scan);
+}
+
 __attribute__((noinline)) static void updates(sqlite3 *database) {
     sqlite3_stmt *update = prepared(database, "UPDATE t SET a = a + ?2, b = b + 1 WHERE id = ?1");
     for (int call = 1; call <= CALLS; call++) {
@@ -175,25 +193,34 @@ static void add_rows(sqlite3 *database) {
     sqlite3_finalize(rows);
 }
 
-int main(int count, char **words) {
-    if (count != 5) return 2;
-    const char *kind = words[2];
-    if (strcmp(words[1], "clock2q") == 0) must(clock2q_sqlite() == SQLITE_OK, NULL, "no page cache");
-    count_pages();
-    sqlite3 *database = made_database(words[4], atoi(words[3]));
+static void run_kind(sqlite3 *database, const char *kind, int pages) {
     if (strcmp(kind, "reads") == 0) {
         reads(database);
     } else if (strcmp(kind, "updates") == 0) {
         updates(database);
     } else if (strcmp(kind, "commits") == 0) {
         commits(database);
+    } else if (strcmp(kind, "resizes") == 0) {
+        resizes(database, pages);
     } else {
         mixed(database);
     }
+}
+
+int main(int count, char **words) {
+    if (count != 5 && count != 6) return 2;
+    int pages = atoi(words[3]);
+    if (strcmp(words[1], "clock2q") == 0) must(clock2q_sqlite() == SQLITE_OK, NULL, "no page cache");
+    count_pages();
+    if (count == 6) sqlite3_soft_heap_limit64(atoll(words[5]));
+    sqlite3 *database = made_database(words[4], pages);
+    sqlite3_memory_highwater(1);
+    run_kind(database, words[2], pages);
+    sqlite3_int64 most_bytes = sqlite3_memory_highwater(0);
     int misses = counter(database, SQLITE_DBSTATUS_CACHE_MISS), spills = counter(database, SQLITE_DBSTATUS_CACHE_SPILL);
     check_integrity(database);
     add_rows(database);
     must(sqlite3_close(database) == SQLITE_OK, database, "close");
-    printf("%d %d %d %016llx\n", misses, spills, most_pages, (unsigned long long)checksum);
+    printf("%d %d %d %016llx %lld\n", misses, spills, most_pages, (unsigned long long)checksum, (long long)most_bytes);
     return 0;
 }

@@ -77,16 +77,16 @@ static Py_ssize_t cache_length(Cache *self) {
     return self->pairs == NULL ? 0 : (Py_ssize_t)clock2q_tokens_len(&self->slots);
 }
 
-/* Finds a key, and writes its hash and slot. */
-static inline outcome find_key(Cache *self, PyObject *key, uint64_t *hash, size_t *slot) {
-    return hash_of(key, hash) < 0 ? FAILED : find_pair(self, key, *hash, slot);
+/* Finds a key, and writes its hash. */
+static inline found_pair find_key(Cache *self, PyObject *key, uint64_t *hash) {
+    return hash_of(key, hash) < 0 ? (found_pair){FAILED, 0} : find_pair(self, key, *hash);
 }
 
 /* Finds a key and counts that. */
-static inline outcome count_key(Cache *self, PyObject *key, uint64_t *hash, size_t *slot) {
-    outcome found = find_key(self, key, hash, slot);
-    if (found == PRESENT) self->hits++;
-    if (found == ABSENT) self->misses++;
+static inline found_pair count_key(Cache *self, PyObject *key, uint64_t *hash) {
+    found_pair found = find_key(self, key, hash);
+    if (found.is == PRESENT) self->hits++;
+    if (found.is == ABSENT) self->misses++;
     return found;
 }
 
@@ -105,20 +105,18 @@ static PyObject *missing(Cache *self, PyObject *key) {
 
 static PyObject *cache_subscript(Cache *self, PyObject *key) {
     uint64_t hash;
-    size_t slot;
-    outcome found = count_key(self, key, &hash, &slot);
-    if (found == PRESENT) return Py_NewRef(self->pairs[slot].value);
-    return found == ABSENT ? missing(self, key) : NULL;
+    found_pair found = count_key(self, key, &hash);
+    if (found.is == PRESENT) return Py_NewRef(self->pairs[found.slot].value);
+    return found.is == ABSENT ? missing(self, key) : NULL;
 }
 
 static int cache_ass_subscript(Cache *self, PyObject *key, PyObject *value) {
     uint64_t hash;
-    size_t slot;
     if (value != NULL) return hash_of(key, &hash) < 0 ? -1 : store_pair(self, key, hash, value);
-    outcome found = find_key(self, key, &hash, &slot);
-    if (found == ABSENT) set_key_error(key);
-    if (found != PRESENT) return -1;
-    pair left = take_pair(self, slot);
+    found_pair found = find_key(self, key, &hash);
+    if (found.is == ABSENT) set_key_error(key);
+    if (found.is != PRESENT) return -1;
+    pair left = take_pair(self, found.slot);
     Py_DECREF(left.key);
     Py_DECREF(left.value);
     return 0;
@@ -126,14 +124,12 @@ static int cache_ass_subscript(Cache *self, PyObject *key, PyObject *value) {
 
 static int cache_contains(Cache *self, PyObject *key) {
     uint64_t hash;
-    size_t slot;
-    return (int)find_key(self, key, &hash, &slot);
+    return (int)find_key(self, key, &hash).is;
 }
 
-/* Reads the arguments `key` and `default` of a method, which may be named. Leaves the default as it was
- * if it isn't there. Returns the key, or NULL with an exception. */
-static inline PyObject *key_and_default(const char *name, PyObject *const *args, Py_ssize_t count, PyObject *names,
-                                        PyObject **otherwise) {
+/* Reads the arguments `key` and `default` of a method, of which some are named or too many or too few. */
+Py_NO_INLINE static PyObject *named_key_and_default(const char *name, PyObject *const *args, Py_ssize_t count,
+                                                    PyObject *names, PyObject **otherwise) {
     Py_ssize_t named = names == NULL ? 0 : PyTuple_GET_SIZE(names);
     PyObject *given[2] = {count > 0 ? args[0] : NULL, count > 1 ? args[1] : NULL};
     int is_wrong = count + named > 2;
@@ -151,73 +147,63 @@ static inline PyObject *key_and_default(const char *name, PyObject *const *args,
     return given[0];
 }
 
-static PyObject *cache_get(Cache *self, PyObject *const *args, Py_ssize_t count, PyObject *names) {
-    PyObject *otherwise = Py_None, *key = key_and_default("get", args, count, names, &otherwise);
+/* Reads the arguments `key` and `default` of a method, which may be named. Leaves the default as it was
+ * if it isn't there. Returns the key, or NULL with an exception. */
+static inline PyObject *key_and_default(const char *name, PyObject *const *args, Py_ssize_t count, PyObject *names,
+                                        PyObject **otherwise) {
+    if (names != NULL || count < 1 || count > 2) return named_key_and_default(name, args, count, names, otherwise);
+    if (count == 2) *otherwise = args[1];
+    return args[0];
+}
+
+/* Returns the value of a key, or the default, and counts that. */
+static inline PyObject *get_or(Cache *self, PyObject *key, PyObject *otherwise) {
     uint64_t hash;
-    size_t slot;
-    if (key == NULL) return NULL;
-    outcome found = count_key(self, key, &hash, &slot);
-    if (found == PRESENT) return Py_NewRef(self->pairs[slot].value);
-    return found == ABSENT ? Py_NewRef(otherwise) : NULL;
+    found_pair found = count_key(self, key, &hash);
+    if (found.is == PRESENT) return Py_NewRef(self->pairs[found.slot].value);
+    return found.is == ABSENT ? Py_NewRef(otherwise) : NULL;
+}
+
+Py_NO_INLINE static PyObject *get_named(Cache *self, PyObject *const *args, Py_ssize_t count, PyObject *names) {
+    PyObject *otherwise = Py_None, *key = named_key_and_default("get", args, count, names, &otherwise);
+    return key == NULL ? NULL : get_or(self, key, otherwise);
+}
+
+static PyObject *cache_get(Cache *self, PyObject *const *args, Py_ssize_t count, PyObject *names) {
+    if (names != NULL || count < 1 || count > 2) return get_named(self, args, count, names);
+    return get_or(self, args[0], count == 2 ? args[1] : Py_None);
 }
 
 static PyObject *cache_peek(Cache *self, PyObject *const *args, Py_ssize_t count, PyObject *names) {
     PyObject *otherwise = Py_None, *key = key_and_default("peek", args, count, names, &otherwise);
     uint64_t hash;
-    size_t slot;
     if (key == NULL) return NULL;
-    outcome found = find_key(self, key, &hash, &slot);
-    if (found == PRESENT) return Py_NewRef(self->pairs[slot].value);
-    return found == ABSENT ? Py_NewRef(otherwise) : NULL;
+    found_pair found = find_key(self, key, &hash);
+    if (found.is == PRESENT) return Py_NewRef(self->pairs[found.slot].value);
+    return found.is == ABSENT ? Py_NewRef(otherwise) : NULL;
 }
 
 static PyObject *cache_setdefault(Cache *self, PyObject *const *args, Py_ssize_t count, PyObject *names) {
     PyObject *otherwise = Py_None, *key = key_and_default("setdefault", args, count, names, &otherwise);
     uint64_t hash;
-    size_t slot;
     if (key == NULL) return NULL;
-    outcome found = count_key(self, key, &hash, &slot);
-    if (found == PRESENT) return Py_NewRef(self->pairs[slot].value);
-    return found == ABSENT && store_pair(self, key, hash, otherwise) == 0 ? Py_NewRef(otherwise) : NULL;
+    found_pair found = count_key(self, key, &hash);
+    if (found.is == PRESENT) return Py_NewRef(self->pairs[found.slot].value);
+    return found.is == ABSENT && store_pair(self, key, hash, otherwise) == 0 ? Py_NewRef(otherwise) : NULL;
 }
 
 static PyObject *cache_pop(Cache *self, PyObject *const *args, Py_ssize_t count, PyObject *names) {
     PyObject *otherwise = NULL, *key = key_and_default("pop", args, count, names, &otherwise);
     uint64_t hash;
-    size_t slot;
     if (key == NULL) return NULL;
-    outcome found = find_key(self, key, &hash, &slot);
-    if (found == PRESENT) {
-        pair left = take_pair(self, slot);
+    found_pair found = find_key(self, key, &hash);
+    if (found.is == PRESENT) {
+        pair left = take_pair(self, found.slot);
         Py_DECREF(left.key);
         return left.value;
     }
-    if (found == ABSENT && otherwise == NULL) set_key_error(key);
-    return found == ABSENT ? Py_XNewRef(otherwise) : NULL;
-}
-
-/* Raises a KeyError, whose traceback doesn't show the exception that is being handled, as MutableMapping's. */
-static PyObject *nothing_to_pop(void) {
-    PyObject *error = PyObject_CallFunction(PyExc_KeyError, "s", "popitem(): the cache is empty");
-    if (error == NULL) return NULL;
-    PyException_SetCause(error, NULL);
-    PyErr_SetObject(PyExc_KeyError, error);
-    Py_DECREF(error);
-    return NULL;
-}
-
-static PyObject *cache_popitem(Cache *self, PyObject *unused) {
-    (void)unused;
-    PyObject *item = PyTuple_New(2); /* first, since the collector may run other code here */
-    pair left;
-    if (item == NULL) return NULL;
-    if (!evict_pair(self, &left).is_found) {
-        Py_DECREF(item);
-        return nothing_to_pop();
-    }
-    PyTuple_SET_ITEM(item, 0, left.key);
-    PyTuple_SET_ITEM(item, 1, left.value);
-    return item;
+    if (found.is == ABSENT && otherwise == NULL) set_key_error(key);
+    return found.is == ABSENT ? Py_XNewRef(otherwise) : NULL;
 }
 
 static PyObject *cache_resize(Cache *self, PyObject *number) {

@@ -37,13 +37,12 @@ static PyObject *call_kept(PyObject *object, PyObject *const *args, size_t flags
     Py_ssize_t count = PyVectorcall_NARGS(flags);
     PyObject *key = key_of(self, args, count, names), *value = NULL;
     uint64_t hash;
-    size_t slot;
     if (key == NULL) return NULL;
-    outcome found = hash_of(key, &hash) < 0 ? FAILED : find_pair(cache, key, hash, &slot);
-    if (found == PRESENT) {
+    found_pair found = hash_of(key, &hash) < 0 ? (found_pair){FAILED, 0} : find_pair(cache, key, hash);
+    if (found.is == PRESENT) {
         self->hits++;
-        value = Py_NewRef(cache->pairs[slot].value);
-    } else if (found == ABSENT) {
+        value = Py_NewRef(cache->pairs[found.slot].value);
+    } else if (found.is == ABSENT) {
         self->misses++;
         value = PyObject_Vectorcall(self->function, args, (size_t)count, names);
         if (value != NULL && store_pair(cache, key, hash, value) < 0) Py_CLEAR(value);

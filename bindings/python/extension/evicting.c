@@ -19,6 +19,30 @@ clock2q_found evict_pair(Cache *cache, pair *left) {
     return evicted;
 }
 
+/* Raises a KeyError, whose traceback doesn't show the exception that is being handled, as MutableMapping's. */
+static PyObject *nothing_to_pop(void) {
+    PyObject *error = PyObject_CallFunction(PyExc_KeyError, "s", "popitem(): the cache is empty");
+    if (error == NULL) return NULL;
+    PyException_SetCause(error, NULL);
+    PyErr_SetObject(PyExc_KeyError, error);
+    Py_DECREF(error);
+    return NULL;
+}
+
+PyObject *cache_popitem(Cache *self, PyObject *unused) {
+    (void)unused;
+    PyObject *item = PyTuple_New(2); /* first, since the collector may run other code here */
+    pair left;
+    if (item == NULL) return NULL;
+    if (!evict_pair(self, &left).is_found) {
+        Py_DECREF(item);
+        return nothing_to_pop();
+    }
+    PyTuple_SET_ITEM(item, 0, left.key);
+    PyTuple_SET_ITEM(item, 1, left.value);
+    return item;
+}
+
 PyObject *cache_next_victim(Cache *self, PyObject *unused) {
     (void)unused;
     PyObject *item = PyTuple_New(2); /* first, since the collector may run other code here */
@@ -99,13 +123,14 @@ int store_within(Cache *cache, PyObject *key, uint64_t hash, PyObject *value) {
     if (cache->weigher != NULL && weigh(cache, key, value, &stored.weight) < 0) return -1;
     PyObject *list = PyList_New(0);
     if (list == NULL) return -1;
-    outcome found = CHANGED;
-    size_t slot = SIZE_MAX;
-    for (int tries = 0; tries < MOST_TRIES && found == CHANGED; tries++) {
-        found = cache->pairs == NULL && make_pairs(cache) < 0 ? FAILED : look_at_pairs(cache, key, hash, &slot);
+    found_pair found = {CHANGED, 0};
+    for (int tries = 0; tries < MOST_TRIES && found.is == CHANGED; tries++) {
+        if (cache->pairs == NULL && make_pairs(cache) < 0) found.is = FAILED;
+        else found = look_at_pairs(cache, key, hash);
     }
-    if (found == CHANGED) found = too_many_tries();
-    int failed = found == FAILED || store_after(cache, key, hash, stored, found, found == PRESENT ? slot : SIZE_MAX, list) < 0;
+    if (found.is == CHANGED) found.is = too_many_tries();
+    size_t slot = found.is == PRESENT ? found.slot : SIZE_MAX;
+    int failed = found.is == FAILED || store_after(cache, key, hash, stored, found.is, slot, list) < 0;
     Py_DECREF(list);
     return failed ? -1 : 0;
 }

@@ -5,6 +5,36 @@ outcome too_many_tries(void) {
     return FAILED;
 }
 
+/* Compares a key with one that a pair holds. */
+static outcome compare(Cache *cache, PyObject *held, PyObject *key) {
+    if (held == key) return PRESENT;
+    if (PyUnicode_CheckExact(held) && PyUnicode_CheckExact(key)) return PyUnicode_Compare(held, key) == 0;
+    uint64_t version = cache->version;
+    Py_INCREF(held);
+    int equal = PyObject_RichCompareBool(held, key, Py_EQ);
+    Py_DECREF(held);
+    if (equal < 0) return FAILED;
+    return version == cache->version ? (outcome)equal : CHANGED;
+}
+
+found_pair compare_alike(Cache *cache, PyObject *key, uint64_t hash, size_t slot) {
+    clock2q_found alike = {slot, true};
+    for (size_t nth = 1; alike.is_found; nth++) {
+        outcome found = compare(cache, cache->pairs[alike.slot].key, key);
+        if (found != ABSENT) return (found_pair){found, alike.slot};
+        alike = clock2q_tokens_seek(&cache->slots, clock2q_spread(hash), nth);
+    }
+    return (found_pair){ABSENT, 0};
+}
+
+found_pair look_again(Cache *cache, PyObject *key, uint64_t hash) {
+    for (int tries = 1; tries < MOST_TRIES; tries++) {
+        found_pair found = look_at_pairs(cache, key, hash);
+        if (found.is != CHANGED) return found;
+    }
+    return (found_pair){too_many_tries(), 0};
+}
+
 int may_make_slots(int has_slots, Py_ssize_t capacity, const char *name) {
     if (has_slots) {
         PyErr_SetString(PyExc_RuntimeError, "__init__ is called once");
@@ -82,11 +112,10 @@ int store_pair(Cache *cache, PyObject *key, uint64_t hash, PyObject *value) {
     if (cache->weigher != NULL || cache->maxsize < cache->capacity) return store_within(cache, key, hash, value);
     for (int tries = 0; tries < MOST_TRIES; tries++) {
         if (cache->pairs == NULL && make_pairs(cache) < 0) return -1;
-        size_t slot;
-        outcome found = look_at_pairs(cache, key, hash, &slot);
-        if (found == FAILED) return -1;
-        if (found == CHANGED) continue;
-        if (found == PRESENT) replace_value(cache, slot, value, 0);
+        found_pair found = look_at_pairs(cache, key, hash);
+        if (found.is == FAILED) return -1;
+        if (found.is == CHANGED) continue;
+        if (found.is == PRESENT) replace_value(cache, found.slot, value, 0);
         else add_pair(cache, key, hash, value, 0);
         return 0;
     }

@@ -39,52 +39,48 @@ typedef struct {
 /* What a look-up or a comparison finds. FAILED comes with an exception, CHANGED if the cache's pairs did. */
 typedef enum { FAILED = -1, ABSENT = 0, PRESENT = 1, CHANGED = 2 } outcome;
 
+/* What a look-up finds, and the slot if that is PRESENT. Two registers return it. */
+typedef struct {
+    outcome is;
+    size_t slot;
+} found_pair;
+
 /* How often a look-up is repeated before it fails, and the most keys of one hash. */
 enum { MOST_TRIES = 8, MOST_ALIKE = 16 };
 
 /* Sets the exception after the last try, and returns FAILED. */
 outcome too_many_tries(void);
 
-/* Compares a key with one that a pair holds. */
-static inline outcome compare(Cache *cache, PyObject *held, PyObject *key) {
-    if (held == key) return PRESENT;
-    if (PyUnicode_CheckExact(held) && PyUnicode_CheckExact(key)) return PyUnicode_Compare(held, key) == 0;
-    uint64_t version = cache->version;
-    Py_INCREF(held);
-    int equal = PyObject_RichCompareBool(held, key, Py_EQ);
-    Py_DECREF(held);
-    if (equal < 0) return FAILED;
-    return version == cache->version ? (outcome)equal : CHANGED;
-}
-
 /* Writes a key's hash. Returns -1 with an exception if it has none. */
 static inline int hash_of(PyObject *key, uint64_t *hash) {
-    Py_hash_t value = PyObject_Hash(key);
+    Py_hash_t value = PyUnicode_CheckExact(key) ? ((PyASCIIObject *)key)->hash : -1; /* -1 before it is first asked for */
+    if (value == -1) value = PyObject_Hash(key);
     *hash = (uint64_t)value;
     return value == -1 ? -1 : 0;
 }
 
+/* Compares a key with those of its hash in turn, of which the first is at `slot`. */
+found_pair compare_alike(Cache *cache, PyObject *key, uint64_t hash, size_t slot);
+
 /* Finds the slot of a key, if no comparison changes the cache. */
-static inline outcome look_at_pairs(Cache *cache, PyObject *key, uint64_t hash, size_t *slot) {
-    if (cache->pairs == NULL) return ABSENT;
-    for (size_t nth = 0;; nth++) {
-        clock2q_found alike = clock2q_tokens_seek(&cache->slots, clock2q_spread(hash), nth);
-        if (!alike.is_found) return ABSENT;
-        outcome found = compare(cache, cache->pairs[alike.slot].key, key);
-        *slot = alike.slot;
-        if (found != ABSENT) return found;
-    }
+static inline found_pair look_at_pairs(Cache *cache, PyObject *key, uint64_t hash) {
+    if (cache->pairs == NULL) return (found_pair){ABSENT, 0};
+    clock2q_found alike = clock2q_tokens_seek(&cache->slots, clock2q_spread(hash), 0);
+    if (!alike.is_found) return (found_pair){ABSENT, 0};
+    if (cache->pairs[alike.slot].key == key) return (found_pair){PRESENT, alike.slot};
+    return compare_alike(cache, key, hash, alike.slot);
 }
+
+/* Does so after a comparison has changed the cache, until none does. */
+found_pair look_again(Cache *cache, PyObject *key, uint64_t hash);
 
 /* Finds the slot of a key, and records a hit in the library if it has one. If PRESENT, the slot's pair
  * stays until other code runs. */
-static inline outcome find_pair(Cache *cache, PyObject *key, uint64_t hash, size_t *slot) {
-    for (int tries = 0; tries < MOST_TRIES; tries++) {
-        outcome found = look_at_pairs(cache, key, hash, slot);
-        if (found == PRESENT) clock2q_tokens_hit(&cache->slots, *slot);
-        if (found != CHANGED) return found;
-    }
-    return too_many_tries();
+static inline found_pair find_pair(Cache *cache, PyObject *key, uint64_t hash) {
+    found_pair found = look_at_pairs(cache, key, hash);
+    if (found.is == CHANGED) found = look_again(cache, key, hash);
+    if (found.is == PRESENT) clock2q_tokens_hit(&cache->slots, found.slot);
+    return found;
 }
 
 /* Stores a value for a key. Returns -1 with an exception, and the cache as it was, if that fails; only if there
@@ -110,7 +106,8 @@ void set_weight(Cache *cache, size_t slot, uint64_t weight);
 /* Takes out the pair that is to leave next, and returns the slot that it had, if there is one. The caller drops it. */
 clock2q_found evict_pair(Cache *cache, pair *left);
 
-/* The method that returns this pair, or None. */
+/* The methods that remove and return this pair, or raise KeyError, and that return it or None. */
+PyObject *cache_popitem(Cache *self, PyObject *unused);
 PyObject *cache_next_victim(Cache *self, PyObject *unused);
 
 /* Has at most `maxsize` pairs be there, for which there are slots. Returns -1 with an exception if there is no

@@ -188,29 +188,29 @@ impl<K, V, S> Cache<K, V, S> {
 
     /// Returns the pairs, in any order. It records no hit.
     pub fn iter(&self) -> Iter<'_, K, V> {
-        Iter::new(self.store.entries.as_slice().iter(), self.len())
+        Iter::new(self.store.entries.iter(), self.len())
     }
 
     /// Returns the pairs, with values to write to, in any order. It records no hit.
     pub fn iter_mut(&mut self) -> IterMut<'_, K, V> {
         let len = self.len();
-        IterMut::new(self.store.entries.as_mut_slice().iter_mut(), len)
+        IterMut::new(self.store.entries.iter_mut(), len)
     }
 
     /// Returns the keys, in any order.
     pub fn keys(&self) -> Keys<'_, K, V> {
-        Keys::new(self.store.entries.as_slice().iter(), self.len())
+        Keys::new(self.store.entries.iter(), self.len())
     }
 
     /// Returns the values, in any order. It records no hit.
     pub fn values(&self) -> Values<'_, K, V> {
-        Values::new(self.store.entries.as_slice().iter(), self.len())
+        Values::new(self.store.entries.iter(), self.len())
     }
 
     /// Returns the values to write to, in any order. It records no hit.
     pub fn values_mut(&mut self) -> ValuesMut<'_, K, V> {
         let len = self.len();
-        ValuesMut::new(self.store.entries.as_mut_slice().iter_mut(), len)
+        ValuesMut::new(self.store.entries.iter_mut(), len)
     }
 }
 
@@ -252,9 +252,9 @@ impl<K: Hash + Eq, V, S: BuildHasher> Cache<K, V, S> {
         K: Borrow<Q>,
         Q: Hash + Eq + ?Sized,
     {
-        let entries = &self.store.entries;
-        let slot = entries.slot(hash_of(&self.hasher, key), key)?;
-        entries.pair(slot).map(|(_, value)| value)
+        let hash = hash_of(&self.hasher, key);
+        let (_, (_, value)) = self.store.entries.find(hash, key)?;
+        Some(value)
     }
 
     /// Returns the value of a key to write to. It records no hit.
@@ -263,9 +263,9 @@ impl<K: Hash + Eq, V, S: BuildHasher> Cache<K, V, S> {
         K: Borrow<Q>,
         Q: Hash + Eq + ?Sized,
     {
-        let entries = &mut self.store.entries;
-        let slot = entries.slot(hash_of(&self.hasher, key), key)?;
-        entries.pair_mut(slot).map(|(_, value)| value)
+        let hash = hash_of(&self.hasher, key);
+        let (_, (_, value)) = self.store.entries.find_mut(hash, key)?;
+        Some(value)
     }
 
     /// Returns true if the key is here. It records no hit.
@@ -291,7 +291,7 @@ impl<K: Hash + Eq, V, S: BuildHasher> Cache<K, V, S> {
 
     fn store_pair(&mut self, key: K, value: V) -> Before<K, V> {
         let hash = hash_of(&self.hasher, &key);
-        self.store.push(hash, key, value).1
+        self.store.push(hash, key, value)
     }
 
     /// Returns where a key belongs, after a hit if it is here.

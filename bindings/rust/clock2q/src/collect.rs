@@ -56,7 +56,7 @@ impl<K, V, S> IntoIterator for Cache<K, V, S> {
 
     fn into_iter(self) -> IntoIter<K, V> {
         let len = self.len();
-        IntoIter::new(self.store.entries.into_vec().into_iter(), len)
+        IntoIter::new(self.store.entries.into_pairs(), len)
     }
 }
 

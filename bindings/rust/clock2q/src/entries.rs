@@ -1,104 +1,110 @@
 //! Pairs at their slots.
 
+use crate::chains::{Chains, Link, Mark};
 use crate::Refused;
 use std::borrow::Borrow;
-use std::mem;
-use std::num::NonZeroU32;
-use std::vec::Drain;
-
-/// No slot: it is above the largest capacity.
-const NONE: u32 = u32::MAX;
-
-/// 2 to the 64th divided by the golden ratio: its products have bits that are spread.
-pub(crate) const SPREAD: u64 = 0x9E37_79B9_7F4A_7C15;
-
-/// A pair, in a chain of those whose marks have the same low bits.
-pub(crate) struct Entry<K, V> {
-    /// Of the key's hash. An `Option` of an entry is no larger, since it isn't 0.
-    mark: NonZeroU32,
-    /// The slot of the next pair of the chain.
-    next: u32,
-    pub(crate) pair: (K, V),
-}
+use std::iter::Zip;
+use std::mem::{self, MaybeUninit};
+use std::{slice, vec};
 
 /// Pairs of keys and values by their slots, and chains of slots by the hashes of their keys, by which a
 /// key is found without the library. No two pairs have equal keys.
+///
+/// A slot has a pair if and only if it is in a chain, so a pair takes no bytes to say that it is there.
 pub(crate) struct Entries<K, V> {
-    entries: Vec<Option<Entry<K, V>>>,
-    /// The first slot of each chain.
-    heads: Box<[u32]>,
+    chains: Chains,
+    /// As many as there are links. Those of slots that are in a chain are initialized, and no others.
+    pairs: Vec<MaybeUninit<(K, V)>>,
     len: usize,
 }
 
-/// Spreads a hash over 31 bits. The low ones choose a chain; a shard is chosen by the high ones.
-#[inline]
-fn mark(hash: u64) -> NonZeroU32 {
-    let spread = (hash.wrapping_mul(SPREAD) >> 32) as u32;
-    NonZeroU32::new(spread | 1 << 31).expect("a bit is set")
-}
+/// The pairs of a cache in the order of their slots, by reference.
+pub(crate) type Pairs<'a, K, V> =
+    Held<Zip<slice::Iter<'a, Link>, slice::Iter<'a, MaybeUninit<(K, V)>>>>;
+
+/// The same, to write to.
+pub(crate) type PairsMut<'a, K, V> =
+    Held<Zip<slice::Iter<'a, Link>, slice::IterMut<'a, MaybeUninit<(K, V)>>>>;
+
+/// The pairs that a cache had.
+pub(crate) type Drained<'a, K, V> =
+    Owned<Zip<vec::Drain<'a, Link>, vec::Drain<'a, MaybeUninit<(K, V)>>>>;
+
+/// The pairs of a cache that is no more.
+pub(crate) type IntoPairs<K, V> =
+    Owned<Zip<vec::IntoIter<Link>, vec::IntoIter<MaybeUninit<(K, V)>>>>;
 
 impl<K, V> Entries<K, V> {
     /// Makes room for a pair at each slot below the capacity.
     pub(crate) fn new(capacity: usize) -> Result<Entries<K, V>, Refused> {
-        // Five for four pairs at least, so that few chains are longer than one.
-        let chains = (capacity + capacity / 4).next_power_of_two();
-        let mut entries = Vec::new();
-        let mut heads = Vec::new();
-        entries
+        let mut pairs = Vec::new();
+        pairs
             .try_reserve_exact(capacity)
             .map_err(|_| Refused::Memory)?;
-        heads
-            .try_reserve_exact(chains)
-            .map_err(|_| Refused::Memory)?;
-        heads.resize(chains, NONE);
         Ok(Entries {
-            entries,
-            heads: heads.into_boxed_slice(),
+            chains: Chains::new(capacity)?,
+            pairs,
             len: 0,
         })
     }
 
-    /// Returns the slot of a key. Whatever `Eq` does, nothing has changed.
+    /// Returns the slot of a key and its pair. Whatever `Eq` does, nothing has changed.
+    #[inline]
+    pub(crate) fn find<Q>(&self, hash: u64, key: &Q) -> Option<(usize, &(K, V))>
+    where
+        K: Borrow<Q>,
+        Q: Eq + ?Sized,
+    {
+        let mark = Mark::of(hash);
+        let mut link = self.chains.first(mark);
+        while let Some(slot) = link.slot() {
+            if link.may_have(mark) {
+                // SAFETY: the slot is in a chain, so it has a pair.
+                let pair = unsafe { self.pairs.get_unchecked(slot).assume_init_ref() };
+                if pair.0.borrow() == key {
+                    return Some((slot, pair));
+                }
+            }
+            link = self.chains.after(slot);
+        }
+        None
+    }
+
+    /// Returns the slot of a key and its pair, to write to.
+    #[inline]
+    pub(crate) fn find_mut<Q>(&mut self, hash: u64, key: &Q) -> Option<(usize, &mut (K, V))>
+    where
+        K: Borrow<Q>,
+        Q: Eq + ?Sized,
+    {
+        let (slot, _) = self.find(hash, key)?;
+        // SAFETY: the slot has a pair.
+        let pair = unsafe { self.pairs.get_unchecked_mut(slot).assume_init_mut() };
+        Some((slot, pair))
+    }
+
+    /// Returns the slot of a key.
     #[inline]
     pub(crate) fn slot<Q>(&self, hash: u64, key: &Q) -> Option<usize>
     where
         K: Borrow<Q>,
         Q: Eq + ?Sized,
     {
-        let mark = mark(hash);
-        let mut at = self.heads[self.chain(mark)] as usize;
-        while let Some(Some(entry)) = self.entries.get(at) {
-            if entry.mark == mark && entry.pair.0.borrow() == key {
-                return Some(at);
-            }
-            at = entry.next as usize;
-        }
-        None
+        self.find(hash, key).map(|(slot, _)| slot)
     }
 
-    /// Returns the slot of a key and its pair.
-    #[inline]
-    pub(crate) fn slot_and_pair<Q>(&mut self, hash: u64, key: &Q) -> Option<(usize, &mut (K, V))>
-    where
-        K: Borrow<Q>,
-        Q: Eq + ?Sized,
-    {
-        let slot = self.slot(hash, key)?;
-        Some((slot, &mut self.entries.get_mut(slot)?.as_mut()?.pair))
-    }
-
-    /// Returns the last slot of those whose keys have a mark as this hash, if there are so many.
+    /// Returns the last slot of a hash's chain whose key may have the hash, if there are so many.
     #[cold]
     pub(crate) fn last_of_many(&self, hash: u64, many: usize) -> Option<usize> {
-        let mark = mark(hash);
-        let mut at = self.heads[self.chain(mark)] as usize;
+        let mark = Mark::of(hash);
+        let mut link = self.chains.first(mark);
         let (mut count, mut last) = (0, None);
-        while let Some(Some(entry)) = self.entries.get(at) {
-            if entry.mark == mark {
+        while let Some(slot) = link.slot() {
+            if link.may_have(mark) {
                 count += 1;
-                last = Some(at);
+                last = Some(slot);
             }
-            at = entry.next as usize;
+            link = self.chains.after(slot);
         }
         last.filter(|_| count >= many)
     }
@@ -106,101 +112,207 @@ impl<K, V> Entries<K, V> {
     /// Returns the pair at a slot.
     #[inline]
     pub(crate) fn pair(&self, slot: usize) -> Option<(&K, &V)> {
-        let (key, value) = &self.entries.get(slot)?.as_ref()?.pair;
+        if !self.chains.has(slot) {
+            return None;
+        }
+        // SAFETY: the slot is in a chain.
+        let (key, value) = unsafe { self.pairs[slot].assume_init_ref() };
         Some((key, value))
     }
 
     /// Returns the pair at a slot, with a value to write to.
     #[inline]
     pub(crate) fn pair_mut(&mut self, slot: usize) -> Option<(&K, &mut V)> {
-        let (key, value) = &mut self.entries.get_mut(slot)?.as_mut()?.pair;
+        if !self.chains.has(slot) {
+            return None;
+        }
+        // SAFETY: the slot is in a chain.
+        let (key, value) = unsafe { self.pairs[slot].assume_init_mut() };
         Some((key, value))
     }
 
     /// Stores a pair at a slot, and returns the one that was there.
     #[inline(always)]
     pub(crate) fn put(&mut self, slot: usize, hash: u64, key: K, value: V) -> Option<(K, V)> {
-        while self.entries.len() <= slot {
-            self.entries.push(None);
-        }
-        if let Some(left) = &self.entries[slot] {
-            let (mark, next) = (left.mark, left.next);
-            self.unlink(slot, mark, next);
-            self.len -= 1;
-        }
-        let mark = mark(hash);
-        let chain = self.chain(mark);
-        let entry = Entry {
-            mark,
-            next: mem::replace(&mut self.heads[chain], slot as u32),
-            pair: (key, value),
+        let left = match slot < self.bound() {
+            true => self.take(slot),
+            false => self.reach(slot),
         };
+        self.pairs[slot].write((key, value));
+        self.chains.insert(slot, Mark::of(hash));
         self.len += 1;
-        let left = self.entries[slot].replace(entry)?;
-        Some(left.pair)
+        left
+    }
+
+    /// Lets this slot, and all below, have pairs. This one has none yet.
+    #[cold]
+    fn reach(&mut self, slot: usize) -> Option<(K, V)> {
+        self.chains.reach(slot);
+        self.pairs.resize_with(slot + 1, MaybeUninit::uninit);
+        None
     }
 
     /// Removes the pair at a slot, and returns it.
+    #[inline(always)]
     pub(crate) fn take(&mut self, slot: usize) -> Option<(K, V)> {
-        let entry = self.entries.get_mut(slot)?.take()?;
-        self.unlink(slot, entry.mark, entry.next);
+        if !self.chains.remove(slot) {
+            return None;
+        }
         self.len -= 1;
-        Some(entry.pair)
-    }
-
-    /// Takes a slot out of its chain.
-    fn unlink(&mut self, slot: usize, mark: NonZeroU32, next: u32) {
-        let chain = self.chain(mark);
-        let mut at = self.heads[chain] as usize;
-        if at == slot {
-            self.heads[chain] = next;
-            return;
-        }
-        while let Some(Some(entry)) = self.entries.get_mut(at) {
-            if entry.next as usize == slot {
-                entry.next = next;
-                return;
-            }
-            at = entry.next as usize;
-        }
+        // SAFETY: the slot was in a chain, and is in none now, so that nobody reads the pair again.
+        Some(unsafe { self.pairs[slot].assume_init_read() })
     }
 
     /// Removes all pairs, and drops them last.
     pub(crate) fn clear(&mut self) {
-        self.heads.fill(NONE);
-        self.len = 0;
-        self.entries.clear();
+        drop(self.drain());
     }
 
     /// Removes all pairs, and returns them with their number.
-    pub(crate) fn drain(&mut self) -> (Drain<'_, Option<Entry<K, V>>>, usize) {
-        self.heads.fill(NONE);
-        (self.entries.drain(..), mem::take(&mut self.len))
+    pub(crate) fn drain(&mut self) -> (Drained<'_, K, V>, usize) {
+        let links = self.chains.clear();
+        let pairs = Held(links.zip(self.pairs.drain(..)));
+        (Owned(pairs), mem::take(&mut self.len))
     }
 
     /// Returns how many slots any key has entered: those of all pairs are below.
     pub(crate) fn bound(&self) -> usize {
-        self.entries.len()
+        self.pairs.len()
     }
 
     pub(crate) fn len(&self) -> usize {
         self.len
     }
 
-    pub(crate) fn as_slice(&self) -> &[Option<Entry<K, V>>] {
-        &self.entries
+    /// Returns the pairs.
+    pub(crate) fn iter(&self) -> Pairs<'_, K, V> {
+        Held(self.chains.links().iter().zip(&self.pairs))
     }
 
-    pub(crate) fn as_mut_slice(&mut self) -> &mut [Option<Entry<K, V>>] {
-        &mut self.entries
+    /// Returns the pairs, to write to.
+    pub(crate) fn iter_mut(&mut self) -> PairsMut<'_, K, V> {
+        Held(self.chains.links().iter().zip(&mut self.pairs))
     }
 
-    pub(crate) fn into_vec(self) -> Vec<Option<Entry<K, V>>> {
-        self.entries
+    /// Returns the pairs, of which there is no cache any more.
+    pub(crate) fn into_pairs(mut self) -> IntoPairs<K, V> {
+        let links = self.chains.take_links().into_iter();
+        Owned(Held(links.zip(mem::take(&mut self.pairs))))
     }
+}
 
-    #[inline]
-    fn chain(&self, mark: NonZeroU32) -> usize {
-        mark.get() as usize & (self.heads.len() - 1)
+impl<K, V> Drop for Entries<K, V> {
+    fn drop(&mut self) {
+        self.clear();
+    }
+}
+
+/// Room for a pair, by reference or by value.
+pub(crate) trait Room {
+    type Pair;
+
+    /// Returns the pair.
+    ///
+    /// # Safety
+    ///
+    /// There is one, and if it is returned by value nobody reads it again.
+    unsafe fn pair(self) -> Self::Pair;
+}
+
+impl<'a, K, V> Room for &'a MaybeUninit<(K, V)> {
+    type Pair = &'a (K, V);
+
+    unsafe fn pair(self) -> &'a (K, V) {
+        // SAFETY: as this function asks.
+        unsafe { self.assume_init_ref() }
+    }
+}
+
+impl<'a, K, V> Room for &'a mut MaybeUninit<(K, V)> {
+    type Pair = &'a mut (K, V);
+
+    unsafe fn pair(self) -> &'a mut (K, V) {
+        // SAFETY: as this function asks.
+        unsafe { self.assume_init_mut() }
+    }
+}
+
+impl<K, V> Room for MaybeUninit<(K, V)> {
+    type Pair = (K, V);
+
+    unsafe fn pair(self) -> (K, V) {
+        // SAFETY: as this function asks.
+        unsafe { self.assume_init() }
+    }
+}
+
+/// The pairs in the rooms of slots, each with the slot's link, that are in a chain.
+#[derive(Clone)]
+pub(crate) struct Held<I>(I);
+
+/// Returns the pair of a slot, if there is one.
+fn held<L: Borrow<Link>, R: Room>((link, room): (L, R)) -> Option<R::Pair> {
+    // SAFETY: `Held` is made only above, of the links of a cache and its rooms. So there is a pair if the slot is in
+    // a chain, and by value each is read once.
+    link.borrow().is_present().then(|| unsafe { room.pair() })
+}
+
+impl<L: Borrow<Link>, R: Room, I: Iterator<Item = (L, R)>> Iterator for Held<I> {
+    type Item = R::Pair;
+
+    fn next(&mut self) -> Option<R::Pair> {
+        self.0.find_map(held)
+    }
+}
+
+impl<L: Borrow<Link>, R: Room, I: DoubleEndedIterator<Item = (L, R)>> DoubleEndedIterator
+    for Held<I>
+{
+    fn next_back(&mut self) -> Option<R::Pair> {
+        self.0.by_ref().rev().find_map(held)
+    }
+}
+
+/// The same by value. Those that it doesn't return are dropped with it.
+pub(crate) struct Owned<I>(Held<I>)
+where
+    Held<I>: Iterator;
+
+impl<I> Iterator for Owned<I>
+where
+    Held<I>: Iterator,
+{
+    type Item = <Held<I> as Iterator>::Item;
+
+    fn next(&mut self) -> Option<Self::Item> {
+        self.0.next()
+    }
+}
+
+impl<I> DoubleEndedIterator for Owned<I>
+where
+    Held<I>: DoubleEndedIterator,
+{
+    fn next_back(&mut self) -> Option<Self::Item> {
+        self.0.next_back()
+    }
+}
+
+impl<I> Drop for Owned<I>
+where
+    Held<I>: Iterator,
+{
+    fn drop(&mut self) {
+        /// Drops the rest, also after the `drop` of one has panicked.
+        struct Rest<'a, I: Iterator>(&'a mut I);
+
+        impl<I: Iterator> Drop for Rest<'_, I> {
+            fn drop(&mut self) {
+                self.0.for_each(drop);
+            }
+        }
+
+        let rest = Rest(&mut self.0);
+        rest.0.for_each(drop);
     }
 }

@@ -1,21 +1,21 @@
 //! Iterators over pairs, in the order of their slots. None of them records a hit.
 
-use crate::entries::Entry;
+use crate::entries::{Drained, IntoPairs, Pairs, PairsMut};
+use std::fmt;
 use std::iter::FusedIterator;
-use std::{fmt, slice, vec};
 
-/// Declares an iterator over entries, of which `left` still have pairs.
+/// Declares an iterator over pairs, of which `left` are still to come.
 macro_rules! iterator {
-    ($(#[$doc:meta])* $name:ident<$($life:lifetime)?>, $entries:ty, $item:ty, $pair:expr) => {
+    ($(#[$doc:meta])* $name:ident<$($life:lifetime)?>, $pairs:ty, $item:ty, $item_of:expr) => {
         $(#[$doc])*
         pub struct $name<$($life,)? K, V> {
-            entries: $entries,
+            pairs: $pairs,
             left: usize,
         }
 
         impl<$($life,)? K, V> $name<$($life,)? K, V> {
-            pub(crate) fn new(entries: $entries, left: usize) -> Self {
-                $name { entries, left }
+            pub(crate) fn new(pairs: $pairs, left: usize) -> Self {
+                $name { pairs, left }
             }
         }
 
@@ -23,7 +23,7 @@ macro_rules! iterator {
             type Item = $item;
 
             fn next(&mut self) -> Option<$item> {
-                let item = self.entries.find_map($pair)?;
+                let item = self.pairs.next().map($item_of)?;
                 self.left -= 1;
                 Some(item)
             }
@@ -35,7 +35,7 @@ macro_rules! iterator {
 
         impl<$($life,)? K, V> DoubleEndedIterator for $name<$($life,)? K, V> {
             fn next_back(&mut self) -> Option<$item> {
-                let item = self.entries.by_ref().rev().find_map($pair)?;
+                let item = self.pairs.next_back().map($item_of)?;
                 self.left -= 1;
                 Some(item)
             }
@@ -58,7 +58,7 @@ macro_rules! cloned {
     ($name:ident) => {
         impl<K, V> Clone for $name<'_, K, V> {
             fn clone(&self) -> Self {
-                $name::new(self.entries.clone(), self.left)
+                $name::new(self.pairs.clone(), self.left)
             }
         }
     };
@@ -70,42 +70,42 @@ cloned!(Values);
 
 iterator!(
     /// The pairs of a cache, by reference.
-    Iter<'a>, slice::Iter<'a, Option<Entry<K, V>>>, (&'a K, &'a V),
-    |entry| entry.as_ref().map(|entry| (&entry.pair.0, &entry.pair.1))
+    Iter<'a>, Pairs<'a, K, V>, (&'a K, &'a V),
+    |(key, value)| (key, value)
 );
 
 iterator!(
     /// The pairs of a cache, with values to write to.
-    IterMut<'a>, slice::IterMut<'a, Option<Entry<K, V>>>, (&'a K, &'a mut V),
-    |entry| entry.as_mut().map(|entry| (&entry.pair.0, &mut entry.pair.1))
+    IterMut<'a>, PairsMut<'a, K, V>, (&'a K, &'a mut V),
+    |(key, value)| (&*key, value)
 );
 
 iterator!(
     /// The pairs of a cache that is no more.
-    IntoIter<>, vec::IntoIter<Option<Entry<K, V>>>, (K, V),
-    |entry| entry.map(|entry| entry.pair)
+    IntoIter<>, IntoPairs<K, V>, (K, V),
+    |pair| pair
 );
 
 iterator!(
     /// The keys of a cache.
-    Keys<'a>, slice::Iter<'a, Option<Entry<K, V>>>, &'a K,
-    |entry| entry.as_ref().map(|entry| &entry.pair.0)
+    Keys<'a>, Pairs<'a, K, V>, &'a K,
+    |(key, _)| key
 );
 
 iterator!(
     /// The values of a cache.
-    Values<'a>, slice::Iter<'a, Option<Entry<K, V>>>, &'a V,
-    |entry| entry.as_ref().map(|entry| &entry.pair.1)
+    Values<'a>, Pairs<'a, K, V>, &'a V,
+    |(_, value)| value
 );
 
 iterator!(
     /// The values of a cache, to write to.
-    ValuesMut<'a>, slice::IterMut<'a, Option<Entry<K, V>>>, &'a mut V,
-    |entry| entry.as_mut().map(|entry| &mut entry.pair.1)
+    ValuesMut<'a>, PairsMut<'a, K, V>, &'a mut V,
+    |(_, value)| value
 );
 
 iterator!(
     /// The pairs that a cache had. Those that it doesn't return are dropped with it.
-    Drain<'a>, vec::Drain<'a, Option<Entry<K, V>>>, (K, V),
-    |entry| entry.map(|entry| entry.pair)
+    Drain<'a>, Drained<'a, K, V>, (K, V),
+    |pair| pair
 );

@@ -12,9 +12,14 @@
 //! assert_eq!(cache.get("seven"), Some(&7));
 //! # Ok::<(), clock2q::Refused>(())
 //! ```
-#![deny(missing_docs, unsafe_op_in_unsafe_fn)]
+#![deny(
+    missing_docs,
+    unsafe_op_in_unsafe_fn,
+    clippy::undocumented_unsafe_blocks
+)]
 
 mod cache;
+mod chains;
 mod collect;
 mod entries;
 mod entry;

@@ -103,7 +103,7 @@ impl PageCache {
 
     /// Returns the slot of a key, after a hit or after giving it one that another key may lose.
     pub fn enter(&mut self, key: u64) -> Place {
-        // SAFETY: there is a cache, here and below.
+        // SAFETY: there is a cache.
         let place = unsafe { sys::clock2q_enter_key(self.handle(), key) };
         Place {
             slot: place.slot,
@@ -114,51 +114,60 @@ impl PageCache {
 
     /// Returns the slot of a key that has one, after a hit.
     pub fn find(&mut self, key: u64) -> Option<usize> {
+        // SAFETY: there is a cache.
         let found = unsafe { sys::clock2q_find_key(self.handle(), key) };
         found.is_found.then_some(found.slot)
     }
 
     /// Returns true, after a hit, if the key is at this slot. Hashes nothing.
     pub fn is_at(&mut self, slot: usize, key: u64) -> bool {
+        // SAFETY: there is a cache.
         unsafe { sys::clock2q_at(self.handle(), slot, key) }
     }
 
     /// Returns true if the key has a slot, and records nothing.
     pub fn contains(&self, key: u64) -> bool {
+        // SAFETY: there is a cache.
         unsafe { sys::clock2q_contains(self.handle(), key) }
     }
 
     /// Returns the slot of a key that has one, and records nothing.
     pub fn peek(&self, key: u64) -> Option<usize> {
+        // SAFETY: there is a cache.
         let found = unsafe { sys::clock2q_peek_key(self.handle(), key) };
         found.is_found.then_some(found.slot)
     }
 
     /// Takes the slot of a key away and returns true. A key that has none is forgotten.
     pub fn remove(&mut self, key: u64) -> bool {
+        // SAFETY: there is a cache.
         unsafe { sys::clock2q_remove(self.handle(), key) }
     }
 
     /// Takes the slot away from the key that would lose it next, and returns the key and the slot. It is
     /// remembered as those that lost their slots to others are.
     pub fn evict(&mut self) -> Option<(u64, usize)> {
+        // SAFETY: there is a cache.
         let place = unsafe { sys::clock2q_evict_key(self.handle()) };
         place.evicted.then_some((place.last, place.slot))
     }
 
     /// Returns the key and the slot that [`evict`](PageCache::evict) would return, and changes nothing.
     pub fn next_victim(&self) -> Option<(u64, usize)> {
+        // SAFETY: there is a cache.
         let place = unsafe { sys::clock2q_next_victim(self.handle()) };
         place.has_last.then_some((place.last, place.slot))
     }
 
     /// Takes all slots away, and forgets all keys.
     pub fn clear(&mut self) {
+        // SAFETY: there is a cache.
         unsafe { sys::clock2q_clear(self.handle()) }
     }
 
     /// Returns how many keys have a slot.
     pub fn len(&self) -> usize {
+        // SAFETY: there is a cache.
         unsafe { sys::clock2q_len(self.handle()) }
     }
 
@@ -169,6 +178,7 @@ impl PageCache {
 
     /// Returns how many keys can have a slot.
     pub fn capacity(&self) -> usize {
+        // SAFETY: there is a cache.
         unsafe { sys::clock2q_capacity(self.handle()) }
     }
 }

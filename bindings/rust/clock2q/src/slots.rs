@@ -1,6 +1,6 @@
 //! The library's cache of tokens, which may go from thread to thread.
 
-use crate::entries::SPREAD;
+use crate::chains::SPREAD;
 use crate::{sys, Refused};
 use std::ptr;
 

@@ -1,12 +1,11 @@
 //! Pairs by the hashes of their keys.
 
-use crate::entries::{Entries, Entry};
+use crate::entries::{Drained, Entries};
 use crate::slots::Slots;
 use crate::Refused;
 use std::borrow::Borrow;
 use std::hash::{BuildHasher, Hash, Hasher};
 use std::mem;
-use std::vec::Drain;
 
 /// Returns the hash of a key.
 #[inline]
@@ -31,6 +30,15 @@ pub(crate) enum Before<K, V> {
 }
 
 impl<K, V> Before<K, V> {
+    /// Returns what had the slot if that was another key, or nothing.
+    #[inline(always)]
+    fn evicted(pair: Option<(K, V)>) -> Before<K, V> {
+        match pair {
+            Some((key, value)) => Before::Evicted(key, value),
+            None => Before::Nothing,
+        }
+    }
+
     /// Returns the value that was replaced. A pair that was evicted is dropped.
     pub(crate) fn replaced(self) -> Option<V> {
         match self {
@@ -109,7 +117,7 @@ impl<K, V> Store<K, V> {
     }
 
     /// Removes all pairs, and returns them with their number.
-    pub(crate) fn drain(&mut self) -> (Drain<'_, Option<Entry<K, V>>>, usize) {
+    pub(crate) fn drain(&mut self) -> (Drained<'_, K, V>, usize) {
         self.slots.clear();
         self.entries.drain()
     }
@@ -117,17 +125,25 @@ impl<K, V> Store<K, V> {
     /// Stores a pair whose key isn't here, and returns its slot and the pair that left for it.
     #[inline(always)]
     pub(crate) fn admit(&mut self, hash: u64, key: K, value: V) -> (usize, Option<(K, V)>) {
-        if self.entries.len() >= self.limit {
-            return self.admit_to_fewer(hash, key, value);
+        if self.entries.len() < self.limit {
+            if let Some(slot) = self.slots.admit(hash) {
+                return (slot, self.entries.put(slot, hash, key, value));
+            }
         }
-        match self.slots.admit(hash) {
-            Some(slot) => (slot, self.entries.put(slot, hash, key, value)),
-            None => self.admit_beside(hash, key, value),
+        self.admit_with_care(hash, key, value)
+    }
+
+    /// Does so if there may not be more pairs, or else beside keys of the same hash.
+    #[cold]
+    #[inline(never)]
+    fn admit_with_care(&mut self, hash: u64, key: K, value: V) -> (usize, Option<(K, V)>) {
+        match self.entries.len() < self.limit {
+            true => self.admit_beside(hash, key, value),
+            false => self.admit_to_fewer(hash, key, value),
         }
     }
 
     /// Does so beside keys of the same hash, of which one gives way if there are [`MOST_ALIKE`].
-    #[cold]
     fn admit_beside(&mut self, hash: u64, key: K, value: V) -> (usize, Option<(K, V)>) {
         let crowded = self.entries.last_of_many(hash, MOST_ALIKE);
         let gave_way = crowded.and_then(|slot| self.remove_at(slot));
@@ -138,8 +154,6 @@ impl<K, V> Store<K, V> {
 
     /// Does so in place of another pair though there are slots, since there may not be more pairs. If two
     /// leave, one of them is dropped.
-    #[cold]
-    #[inline(never)]
     fn admit_to_fewer(&mut self, hash: u64, key: K, value: V) -> (usize, Option<(K, V)>) {
         let gone = match self.entries.last_of_many(hash, MOST_ALIKE) {
             Some(slot) => self.remove_at(slot),
@@ -167,7 +181,7 @@ impl<K, V> Store<K, V> {
     /// Returns the pair that would leave next.
     pub(crate) fn next_victim(&mut self) -> Option<(&K, &V)> {
         let slot = self.slots.next_victim()?;
-        self.entries.pair(slot).map(|(key, value)| (key, value))
+        self.entries.pair(slot)
     }
 
     /// Removes the pair at a slot.
@@ -196,7 +210,7 @@ impl<K: Eq, V> Store<K, V> {
         Q: Eq + ?Sized,
     {
         // The pair is read before the library is called, since it is known then that there is one.
-        let found = self.entries.slot_and_pair(hash, key);
+        let found = self.entries.find_mut(hash, key);
         match found {
             Some((slot, _)) => {
                 self.hits += 1;
@@ -207,17 +221,19 @@ impl<K: Eq, V> Store<K, V> {
         found
     }
 
-    /// Stores a pair, after a hit if its key is here, and returns its slot and what was replaced or left.
-    pub(crate) fn push(&mut self, hash: u64, key: K, value: V) -> (usize, Before<K, V>) {
-        if let Some(slot) = self.entries.slot(hash, &key) {
+    /// Stores a pair, after a hit if its key is here, and returns what was replaced or left.
+    pub(crate) fn push(&mut self, hash: u64, key: K, value: V) -> Before<K, V> {
+        if let Some((slot, (_, before))) = self.entries.find_mut(hash, &key) {
             self.slots.hit(slot);
-            let (_, before) = self.entries.pair_mut(slot).expect("a pair is at its slot");
-            return (slot, Before::Replaced(key, mem::replace(before, value)));
+            return Before::Replaced(key, mem::replace(before, value));
         }
-        match self.admit(hash, key, value) {
-            (slot, Some((key, value))) => (slot, Before::Evicted(key, value)),
-            (slot, None) => (slot, Before::Nothing),
+        // As `admit` does. The pair that leaves is moved once so, and not through a tuple with the slot.
+        if self.entries.len() < self.limit {
+            if let Some(slot) = self.slots.admit(hash) {
+                return Before::evicted(self.entries.put(slot, hash, key, value));
+            }
         }
+        Before::evicted(self.admit_with_care(hash, key, value).1)
     }
 
     /// Removes a key, and returns the pair. A key that isn't here is forgotten.

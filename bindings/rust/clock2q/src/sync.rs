@@ -73,8 +73,8 @@ impl<K: Eq, V> Pairs<K, V> for Store<K, V> {
     }
 
     fn peek(&self, hash: u64, key: &K) -> Option<&V> {
-        let slot = self.entries.slot(hash, key)?;
-        self.entries.pair(slot).map(|(_, value)| value)
+        let (_, (_, value)) = self.entries.find(hash, key)?;
+        Some(value)
     }
 }
 
@@ -240,7 +240,7 @@ impl<K: Hash + Eq, V, S: BuildHasher> Cache<K, V, S> {
     /// for a new key is dropped.
     pub fn insert(&self, key: K, value: V) -> Option<V> {
         let hash = hash_of(&self.hasher, &key);
-        let (_, before) = self.shards.of(hash).lock().push(hash, key, value);
+        let before = self.shards.of(hash).lock().push(hash, key, value);
         before.replaced()
     }
 
@@ -248,7 +248,7 @@ impl<K: Hash + Eq, V, S: BuildHasher> Cache<K, V, S> {
     /// that had to leave for it.
     pub fn push(&self, key: K, value: V) -> Option<(K, V)> {
         let hash = hash_of(&self.hasher, &key);
-        let (_, before) = self.shards.of(hash).lock().push(hash, key, value);
+        let before = self.shards.of(hash).lock().push(hash, key, value);
         before.pair()
     }
 

@@ -129,7 +129,7 @@ impl<K, V, W, S> WeightedCache<K, V, W, S> {
     /// Returns the pairs, in any order. It records no hit.
     pub fn iter(&self) -> impl ExactSizeIterator<Item = (&K, &V)> {
         let pairs = &self.store.pairs.entries;
-        Iter::new(pairs.as_slice().iter(), self.len()).map(|(key, held)| (key, &held.value))
+        Iter::new(pairs.iter(), self.len()).map(|(key, held)| (key, &held.value))
     }
 }
 

@@ -109,8 +109,7 @@ impl<K: Eq, V> WeightedStore<K, V> {
         K: Borrow<Q>,
         Q: Eq + ?Sized,
     {
-        let slot = self.pairs.entries.slot(hash, key)?;
-        let (_, held) = self.pairs.entries.pair(slot)?;
+        let (_, (_, held)) = self.pairs.entries.find(hash, key)?;
         Some(&held.value)
     }
 

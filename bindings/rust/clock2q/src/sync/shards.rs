@@ -1,7 +1,7 @@
 //! What is divided among shards.
 
 use super::shard::Shard;
-use crate::entries::SPREAD;
+use crate::chains::SPREAD;
 use crate::Refused;
 use std::ops::Deref;
 
@@ -44,7 +44,7 @@ impl<P, K, V> Shards<P, K, V> {
 
     /// Returns the shard of the keys of a hash.
     pub(super) fn of(&self, hash: u64) -> &Shard<P, K, V> {
-        // As `entries::mark` does, so that a poor hasher does no harm.
+        // As `chains::Mark` does, so that a poor hasher does no harm.
         let spread = u128::from(hash.wrapping_mul(SPREAD));
         &self.0[((spread * self.0.len() as u128) >> 64) as usize]
     }
