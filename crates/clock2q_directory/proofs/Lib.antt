@@ -14,5 +14,4 @@ pub mod Sorted
 mod WorkedPlaces
 pub mod Taking
 pub mod Charging
-mod Replacing
 pub mod WithHash

@@ -12,7 +12,7 @@ use Rattle.clock2q_queues.specs.Rings.{has}
 use Rattle.clock2q_queues.specs.Order.{PlaceOrder, IsWholeOrder, used, place_for}
 use Rattle.clock2q_directory.specs.Keys.{KeyPlaces, entry, key_places, written, hash_at, hashed_at, entries_of}
 use Rattle.clock2q_directory.specs.Indexes.{IsIndex, AllDistinct, has_key}
-use Rattle.clock2q_directory.specs.History.{Places, IsHistory, MakesPlace, Remembers, remembered, accesses_of, places_with, places_from, pushed_places, freed_place, oldest_hash, taking_free, taking_oldest}
+use Rattle.clock2q_directory.specs.History.{Places, IsHistory, MakesPlace, remembered, accesses_of, places_with, places_from, pushed_places, freed_place, oldest_hash, taking_free, taking_oldest}
 use Rattle.clock2q_queues.specs.Cells.{Rises}
 use Rattle.clock2q_queues.proofs.Rings.{differs, AllBelow-left}
 use Rattle.clock2q_directory.proofs.Entries.{slice_get-written, slice_get-written_other, length-written, entries-agree, entries-cons, entries-take}
@@ -73,6 +73,15 @@ slots-freed hash (Some place) p = slots-forgotten p.index hash place
 pub shared-freed : (hash : ℕ) (o : Option ℕ) (p : Places) → known.is_shared (freed_place hash o p).index ≡ known.is_shared p.index
 shared-freed hash None p = refl
 shared-freed hash (Some place) p = (forgotten-like p.index hash place).shared
+
+-- a key was put at the front
+pub record Remembers {K V : Type 0} (eq : K → K → Bool) (hash slot : ℕ) (key : K) (index : IndexState) (order : PlaceOrder)
+    (keys : KeyPlaces K V) (index' : IndexState) (order' : PlaceOrder) (keys' : KeyPlaces K V) : Type 0 where
+  pub whole : IsHistory eq index' order' keys'
+  pub shown : remembered (entries_of keys'.entries order'.places) order'.limit (places_from index' order') (accesses_of order' keys') keys'.comparisons
+      ≡ remembered (take order.limit ((hash, key) ∷ entries_of keys.entries order.places)) order.limit (places_from index' order') (accesses_of order' keys') keys.comparisons
+  pub accesses : Rises 0 8 (accesses_of order keys) (accesses_of order' keys')
+  pub places : places_from index' order' ≡ pushed_places order.limit hash slot (oldest_hash (λ (e : ℕ × K). e.0) (entries_of keys.entries order.places)) (places_from index order)
 
 module _ {K V : Type 0} (eq : K → K → Bool) (hash slot : ℕ) (key : K) (value : V) (index index1 index' : IndexState) (order order' : PlaceOrder) (keys keys' : KeyPlaces K V) (place : ℕ)
     (h : IsHistory eq index order keys) (some : 0 < order.limit) (m : MakesPlace index index1 order order' keys.entries place) where

@@ -9,7 +9,7 @@ use Rattle.clock2q_handles.specs.TableStep.{made_for}
 use Rattle.clock2q_handles.proofs.FewerEntries.{total-no_entries}
 use Rattle.clock2q_queues.specs.Rings.{has}
 use Rattle.clock2q_directory.specs.Index.{IndexState, index_state, IsSorted, HasSlotRoom, HasPlaceRoom, first_remembered, is_shared, slots, places, beside, slot_entries, place_entries, slots_in, places_in}
-use Rattle.clock2q_directory.proofs.Indexes.{any-candidate, length-put, length-taken, fits_new, total_new}
+use Rattle.clock2q_directory.proofs.Indexes.{any-candidate, length-put, fits_new, total_new}
 use Rattle.clock2q_directory.proofs.Views.{place_of, listed-view, others-entered, others-left}
 
 -- The number of entries
@@ -102,9 +102,6 @@ sorted-entered v homes x s below sorts is = sorted v (index_state homes v.own) s
 
 pub sorted-left : (v : IndexState) (homes : List (List (ℕ × ℕ))) (x s : ℕ) → s < first_remembered → IsSorted v → homes ≡ removed eqb v.shared x s → IsSorted (index_state homes v.own)
 sorted-left v homes x s below sorts is = sorted v (index_state homes v.own) sorts refl (λ _. ap (λ z. places_in z) is ∙ others-left v.shared x s below)
-
-pub sorted-forgotten : (v : IndexState) (own : List (List (ℕ × ℕ))) (x p : ℕ) → IsSorted v → own ≡ removed eqb v.own x p → IsSorted (index_state v.shared own)
-sorted-forgotten v own x p sorts is = sorted v (index_state v.shared own) sorts (ap (λ (z : List (List (ℕ × ℕ))). length z) is ∙ length-taken v.own x p) (λ _. refl)
 
 pub sorted-remembered : (v : IndexState) (homes own : List (List (ℕ × ℕ))) (x s p : ℕ) → s < first_remembered → IsSorted v
     → homes ≡ removed eqb v.shared x s → own ≡ with_handle v.own x p → IsSorted (index_state homes own)

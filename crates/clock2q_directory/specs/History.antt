@@ -152,15 +152,6 @@ pub record MakesPlace {K V : Type 0} (index index' : IndexState) (order order' :
 abbrev pub accesses_of : {K V : Type 0} → PlaceOrder → KeyPlaces K V → ℕ
 accesses_of order keys = order.accesses + keys.writes
 
--- the key of the resident at a slot was put at the front, and the place of an order that was full was the oldest key's
-pub record Remembers {K V : Type 0} (eq : K → K → Bool) (hash slot : ℕ) (key : K) (index : IndexState) (order : PlaceOrder)
-    (keys : KeyPlaces K V) (index' : IndexState) (order' : PlaceOrder) (keys' : KeyPlaces K V) : Type 0 where
-  pub whole : IsHistory eq index' order' keys'
-  pub shown : remembered (entries_of keys'.entries order'.places) order'.limit (places_from index' order') (accesses_of order' keys') keys'.comparisons
-      ≡ remembered (take order.limit ((hash, key) ∷ entries_of keys.entries order.places)) order.limit (places_from index' order') (accesses_of order' keys') keys.comparisons
-  pub accesses : Rises 0 8 (accesses_of order keys) (accesses_of order' keys')
-  pub places : places_from index' order' ≡ pushed_places order.limit hash slot (oldest_hash (λ (e : ℕ × K). e.0) (entries_of keys.entries order.places)) (places_from index order)
-
 -- the first handle that has a key, as a resident or as a remembered key
 module _ (resident remembered_key : ℕ → Bool) where
   abbrev pub first_known : List ℕ → Found

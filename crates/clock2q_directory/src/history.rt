@@ -6,11 +6,11 @@ ghost use Rattle.clock2q_handles.specs.Layout.{walk};
 ghost use Rattle.clock2q_queues.specs.Cells.{Rises};
 ghost use Rattle.clock2q_queues.specs.Rings.{has};
 ghost use Rattle.clock2q_queues.specs.Order.{IsWholeOrder, used};
-ghost use Rattle.clock2q_directory.specs.Keys.{entries_of, is_key_at, comparisons_of};
+ghost use Rattle.clock2q_directory.specs.Keys.{entry, is_key_at, comparisons_of, written};
 ghost use Rattle.clock2q_directory.specs.Indexes.{IsIndex, HasHash};
 ghost use Rattle.clock2q_directory.specs.Index as known;
 ghost use Rattle.clock2q_directory.specs.Index.{emptied, index_for, is_shared, entered, left, slots_among, places_among, IsWithinCapacity};
-ghost use Rattle.clock2q_directory.specs.History.{IsHistory, IsWholeHistory, Remembers, HasRoom, places_with, places_looked_up, pushed_places, freed_place, place_of, oldest_hash, remembered, is_remembered, forgotten, found_slot, found_place, first_known};
+ghost use Rattle.clock2q_directory.specs.History.{IsWholeHistory, MakesPlace, HasRoom, places_with, places_looked_up, pushed_places, freed_place, place_of, oldest_hash, remembered, is_remembered, forgotten, found_slot, found_place, first_known};
 
 use crate::handle::Handle;
 use crate::index::Index;
@@ -338,14 +338,14 @@ impl<K: Eq, A: Allocator> History<K, A> {
             self.index.remove_slot(hash, slot);
             return;
         }
-        remember_key(
+        let place = place_key(
             &mut self.index,
             &mut self.order,
             &mut self.keys,
             hash,
-            slot,
             key,
         );
+        self.index.remember(hash, slot, place);
     }
 
     /// Forgets a key, which is at `place`, and returns true if it was remembered. The history drops
@@ -439,32 +439,35 @@ fn look_among<K: Eq, V, A: Allocator>(
     Found::Absent
 }
 
-/// Puts the key of the resident at a slot at the front: at a free place, or, if every place has a key,
-/// at the oldest key's, which is forgotten.
-#[inline(always)]
-fn remember_key<K: Eq + Drop, A: Allocator>(
+/// Writes a key to a place at the front: to a free one, or, if every place has a key, to the oldest
+/// key's, which is removed from the index.
+fn place_key<K: Drop, A: Allocator>(
     index: &mut Index<A>,
     order: &mut Order<A>,
     keys: &mut Keys<K, (), A>,
     hash: u64,
-    slot: u32,
     key: K,
-)
-    requires history { IsHistory K.eq index.old order.old keys.old }
+) -> Place
+    requires indexed { IsIndex (known.places index.old) keys.old.entries order.old.places }
+    requires as_many { length keys.old.entries ≡ used order.old }
+    requires room { order.old.limit ≤ keys.old.room }
     requires some { 0 < order.old.limit }
-    requires below { slot < 2 ^ 31 }
-    requires held { has slot (candidates (known.slots index.old) hash) ≡ true }
-    requires absent { is_remembered K.eq key (entries_of keys.old.entries order.old.places) ≡ false }
-    ensures remembers { Remembers K.eq hash slot key index.old order.old keys.old index.new order.new
-        keys.new }
+    requires short { order.old.limit < 2 ^ 24 }
+    ensures made { MakesPlace index.old index.new order.old order.new keys.old.entries result }
+    ensures written { keys.new ≡
+        record keys.old {
+          entries = written result (entry hash key tt) keys.old.entries;
+          writes = keys.old.writes + 1;
+        } }
+    ensures whole { IsWholeOrder order.new }
 {
     if order.len() < order.limit() {
         let place = Place::new(order.push());
         keys.write(place.number(), hash, key, ());
-        index.remember(hash, slot, place);
-        return;
+        return place;
     }
     let place = Place::new(order.reuse_oldest());
     let (oldest_hash, _) = keys.refill(place.number(), hash, key, Some(()));
-    index.remember_instead(oldest_hash, hash, slot, place);
+    index.forget(oldest_hash, place);
+    place
 }

@@ -183,29 +183,6 @@ impl<A: Allocator> Index<A> {
         }
     }
 
-    /// Removes the place of a key that is forgotten, and replaces the slot of a resident that leaves
-    /// with it. `forgotten` and `remembered` are the hashes of their keys.
-    #[inline(always)]
-    pub fn remember_instead(&mut self, forgotten: u64, remembered: u64, slot: u32, place: Place)
-        requires below { slot < 2 ^ 31 }
-        requires short { place < 2 ^ 31 }
-        requires taken { has place (candidates (places self.old) forgotten) ≡ true }
-        requires held { has slot (candidates (slots self.old) remembered) ≡ true }
-        requires room { HasPlaceRoom (forgotten_at forgotten place self.old) }
-        ensures replaced { self.new ≡
-            remembered_at remembered slot place (forgotten_at forgotten place self.old) }
-    {
-        if self.is_shared() {
-            let handle = Handle::Remembered(place).pack();
-            self.shared.remove_existing(forgotten, handle);
-            self.shared.replace_handle(remembered, slot, handle);
-        } else {
-            self.own.remove_existing(forgotten, place.number());
-            self.shared.remove_existing(remembered, slot);
-            self.own.insert(remembered, place.number());
-        }
-    }
-
     /// Removes every slot and place.
     pub fn clear(&mut self)
         ensures cleared { self.new ≡ emptied self.old }

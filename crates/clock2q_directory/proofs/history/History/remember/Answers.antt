@@ -1,21 +1,52 @@
-use Rattle.std.proofs.Common.{◌≡◌, ℕ, ◌≤◌, ◌∷◌, true, false, length, take, sym, ap, ◌∙◌, arith}
+use Rattle.std.proofs.Common.{◌≡◌, ℕ, ◌<◌, ◌≤◌, ◌∷◌, true, false, length, take, sym, ap, ◌∙◌, arith}
 use Rattle.clock2q_handles.specs.Homes.{candidates}
 use Rattle.clock2q_queues.specs.Rings.{has}
+use Rattle.clock2q_directory.specs.Keys.{entries_of}
 use Rattle.clock2q_directory.specs.Index as known
 use Rattle.clock2q_directory.specs.History.{Remembered, remembered, accesses_of, is_remembered, places_from, pushed_places, oldest_hash}
 use Rattle.clock2q_directory.proofs.Histories.{IsHistory-index}
-use Rattle.clock2q_directory.proofs.Remembering.{pushed-nowhere}
+use Rattle.clock2q_directory.proofs.Remembering.{remembers, place_room, place_below, still_held, pushed-nowhere}
 use Rattle.clock2q_directory.proofs.Views.{places-left, left-like}
 use Rattle.clock2q_directory.proofs.history.History.remember.Goals as goal
 
-pub remember_key-requires : goal.remember_key-requires
-remember_key-requires g c = record {
-  history = c.self.invariant;
-  some = omega (arith, c.if-limit-eq0.false, c.limit.ensures);
-  below = c.requires.below;
-  held = ap (λ (z : Remembered _). has c.args.slot (candidates (known.slots z.places.index) c.args.hash)) c.self.view_is ∙ c.requires.held;
-  absent = ap (λ (z : Remembered _). is_remembered g.K.PartialEq.eq c.args.key z.entries) c.self.view_is ∙ c.requires.absent;
-}
+pub remember-requires-clause-short : goal.remember-requires-clause-short
+remember-requires-clause-short g c =
+    let i = c.self.inside in
+    let some : 0 < i.order.limit = omega (arith, c.if-limit-eq0.false, c.limit.ensures) in
+    let below =
+    place_below g.K.PartialEq.eq c.args.hash c.args.slot c.args.key tt i.index c.place_key-place.new.index c.place_key-place.new.index
+    i.order c.place_key-place.new.order i.keys i.keys c.place_key-place.result c.self.invariant some c.place_key-place.ensures.made in
+    omega (arith, below)
+
+pub remember-requires-clause-held : goal.remember-requires-clause-held
+remember-requires-clause-held g c =
+    let i = c.self.inside in
+    let some : 0 < i.order.limit = omega (arith, c.if-limit-eq0.false, c.limit.ensures) in
+    let held : has c.args.slot (candidates (known.slots i.index) c.args.hash) ≡ true =
+    ap (λ (z : Remembered _). has c.args.slot (candidates (known.slots z.places.index) c.args.hash)) c.self.view_is ∙ c.requires.held in
+    still_held g.K.PartialEq.eq c.args.hash c.args.slot c.args.key tt i.index c.place_key-place.new.index c.place_key-place.new.index
+    i.order c.place_key-place.new.order i.keys i.keys c.place_key-place.result c.self.invariant some c.place_key-place.ensures.made held
+
+pub remember-requires-clause-room : goal.remember-requires-clause-room
+remember-requires-clause-room g c =
+    let i = c.self.inside in
+    let some : 0 < i.order.limit = omega (arith, c.if-limit-eq0.false, c.limit.ensures) in
+    place_room g.K.PartialEq.eq c.args.hash c.args.slot c.args.key tt i.index c.place_key-place.new.index c.place_key-place.new.index
+    i.order c.place_key-place.new.order i.keys i.keys c.place_key-place.result c.self.invariant some c.place_key-place.ensures.made
+
+pub invariant_of-self-2 : goal.invariant_of-self-2
+invariant_of-self-2 g c =
+    let i = c.self.inside in
+    let some : 0 < i.order.limit = omega (arith, c.if-limit-eq0.false, c.limit.ensures) in
+    let absent : is_remembered g.K.PartialEq.eq c.args.key (entries_of i.keys.entries i.order.places) ≡ false =
+    ap (λ (z : Remembered _). is_remembered g.K.PartialEq.eq c.args.key z.entries) c.self.view_is ∙ c.requires.absent in
+    let held : has c.args.slot (candidates (known.slots i.index) c.args.hash) ≡ true =
+    ap (λ (z : Remembered _). has c.args.slot (candidates (known.slots z.places.index) c.args.hash)) c.self.view_is ∙ c.requires.held in
+    let r =
+    remembers g.K.PartialEq.eq c.args.hash c.args.slot c.args.key tt i.index c.place_key-place.new.index c.remember.new.self i.order c.place_key-place.new.order i.keys
+    c.place_key-place.new.keys c.place_key-place.result c.self.invariant some c.place_key-place.ensures.made
+    c.place_key-place.ensures.written c.requires.below held c.remember.ensures.remembered c.place_key-place.ensures.whole absent in
+    r.whole
 
 pub invariant_of-self : goal.invariant_of-self
 invariant_of-self g c =
@@ -23,22 +54,48 @@ invariant_of-self g c =
     rw c.remove_slot.ensures.left (IsHistory-index g.K.PartialEq.eq i.index _ i.order i.keys c.self.invariant
     (places-left i.index c.args.hash c.args.slot c.requires.below) (left-like i.index c.args.hash c.args.slot).shared)
 
-pub invariant_of-self-2 : goal.invariant_of-self-2
-invariant_of-self-2 g c = c.remember_key.ensures.remembers.whole
-
 pub returns-clause-pushed : goal.returns-clause-pushed
 returns-clause-pushed g c =
-    let n = c.remember_key.new in
-    c.remember_key.ensures.remembers.shown ∙ ap (λ (z : Remembered _). remembered (take z.limit ((c.args.hash, c.args.key) ∷ z.entries)) z.limit
-    (places_from n.index n.order) (accesses_of n.order n.keys) z.comparisons) c.self.view_is
+    let i = c.self.inside in
+    let some : 0 < i.order.limit = omega (arith, c.if-limit-eq0.false, c.limit.ensures) in
+    let absent : is_remembered g.K.PartialEq.eq c.args.key (entries_of i.keys.entries i.order.places) ≡ false =
+    ap (λ (z : Remembered _). is_remembered g.K.PartialEq.eq c.args.key z.entries) c.self.view_is ∙ c.requires.absent in
+    let held : has c.args.slot (candidates (known.slots i.index) c.args.hash) ≡ true =
+    ap (λ (z : Remembered _). has c.args.slot (candidates (known.slots z.places.index) c.args.hash)) c.self.view_is ∙ c.requires.held in
+    let r =
+    remembers g.K.PartialEq.eq c.args.hash c.args.slot c.args.key tt i.index c.place_key-place.new.index c.remember.new.self i.order c.place_key-place.new.order i.keys
+    c.place_key-place.new.keys c.place_key-place.result c.self.invariant some c.place_key-place.ensures.made
+    c.place_key-place.ensures.written c.requires.below held c.remember.ensures.remembered c.place_key-place.ensures.whole absent in
+    r.shown ∙ ap (λ (z : Remembered _). remembered (take z.limit ((c.args.hash, c.args.key) ∷ z.entries)) z.limit
+    (places_from c.remember.new.self c.place_key-place.new.order) (accesses_of c.place_key-place.new.order c.place_key-place.new.keys) z.comparisons) c.self.view_is
 
 pub returns-clause-accesses : goal.returns-clause-accesses
-returns-clause-accesses g c = rw (← c.self.view_is) c.remember_key.ensures.remembers.accesses
+returns-clause-accesses g c =
+    let i = c.self.inside in
+    let some : 0 < i.order.limit = omega (arith, c.if-limit-eq0.false, c.limit.ensures) in
+    let absent : is_remembered g.K.PartialEq.eq c.args.key (entries_of i.keys.entries i.order.places) ≡ false =
+    ap (λ (z : Remembered _). is_remembered g.K.PartialEq.eq c.args.key z.entries) c.self.view_is ∙ c.requires.absent in
+    let held : has c.args.slot (candidates (known.slots i.index) c.args.hash) ≡ true =
+    ap (λ (z : Remembered _). has c.args.slot (candidates (known.slots z.places.index) c.args.hash)) c.self.view_is ∙ c.requires.held in
+    let r =
+    remembers g.K.PartialEq.eq c.args.hash c.args.slot c.args.key tt i.index c.place_key-place.new.index c.remember.new.self i.order c.place_key-place.new.order i.keys
+    c.place_key-place.new.keys c.place_key-place.result c.self.invariant some c.place_key-place.ensures.made
+    c.place_key-place.ensures.written c.requires.below held c.remember.ensures.remembered c.place_key-place.ensures.whole absent in
+    rw (← c.self.view_is) r.accesses
 
 pub returns-clause-places : goal.returns-clause-places
 returns-clause-places g c =
-    c.remember_key.ensures.remembers.places
-    ∙ ap (λ (z : Remembered _). pushed_places z.limit c.args.hash c.args.slot (oldest_hash (λ (e : ℕ × _). e.0) z.entries) z.places) c.self.view_is
+    let i = c.self.inside in
+    let some : 0 < i.order.limit = omega (arith, c.if-limit-eq0.false, c.limit.ensures) in
+    let absent : is_remembered g.K.PartialEq.eq c.args.key (entries_of i.keys.entries i.order.places) ≡ false =
+    ap (λ (z : Remembered _). is_remembered g.K.PartialEq.eq c.args.key z.entries) c.self.view_is ∙ c.requires.absent in
+    let held : has c.args.slot (candidates (known.slots i.index) c.args.hash) ≡ true =
+    ap (λ (z : Remembered _). has c.args.slot (candidates (known.slots z.places.index) c.args.hash)) c.self.view_is ∙ c.requires.held in
+    let r =
+    remembers g.K.PartialEq.eq c.args.hash c.args.slot c.args.key tt i.index c.place_key-place.new.index c.remember.new.self i.order c.place_key-place.new.order i.keys
+    c.place_key-place.new.keys c.place_key-place.result c.self.invariant some c.place_key-place.ensures.made
+    c.place_key-place.ensures.written c.requires.below held c.remember.ensures.remembered c.place_key-place.ensures.whole absent in
+    r.places ∙ ap (λ (z : Remembered _). pushed_places z.limit c.args.hash c.args.slot (oldest_hash (λ (e : ℕ × _). e.0) z.entries) z.places) c.self.view_is
 
 pub returns-then-limit-eq0-clause-places : goal.returns-then-limit-eq0-clause-places
 returns-then-limit-eq0-clause-places g c =
