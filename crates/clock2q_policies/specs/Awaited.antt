@@ -1,9 +1,9 @@
 -- What the optimum holds, given by the indices of the next uses.
-use Rattle.std.specs.Prelude.{◌≡◌, ℕ, zero, suc, ◌+◌, ◌*◌, ◌<◌, ◌≤◌, Bool, true, nat_lt, if◌then◌else◌, List, [], ◌∷◌, length, get_or, drop}
+use Rattle.std.specs.Prelude.{◌≡◌, ℕ, zero, suc, ◌+◌, ◌<◌, ◌≤◌, Bool, true, nat_lt, if◌then◌else◌, List, [], ◌∷◌, length, get_or, drop}
 use Rattle.clock2q_policies.specs.declared.optimal.Awaited.{Awaited}
 use Rattle.clock2q_policies.specs.Policies.{is_in}
 use Rattle.clock2q_policies.specs.Optimum.{next_use, optimal_after}
-use Rattle.clock2q_policies.specs.Indices.{contains, IsIndices}
+use Rattle.clock2q_policies.specs.Indices.{AreLevels, bound_of, contains}
 
 -- what the optimum holds after this many keys of a trace
 abbrev pub optimal_at : ℕ → List ℕ → ℕ → List ℕ
@@ -39,7 +39,7 @@ module _ (trace : List ℕ) (at : ℕ) (held : List ℕ) where
 
 -- it waits for the next uses of the held keys
 pub record IsAwaiting {A : Type 0} (trace : List ℕ) (at : ℕ) (held : List ℕ) (awaited : Awaited A) : Type 0 where
-  pub set : IsIndices awaited.waiting
-  pub wide : length trace ≤ 64 * length awaited.waiting.words.items
+  pub set : AreLevels awaited.waiting
+  pub wide : length trace ≤ bound_of awaited.waiting
   pub next : AreNextUses trace awaited.next.items
   pub waiting : IsWaiting trace at held (contains awaited.waiting) awaited.count

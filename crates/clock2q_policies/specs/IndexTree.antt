@@ -1,5 +1,5 @@
 -- A tree of marks: its second half has a mark for each index, and each node before them is marked if one of its two is.
-use Rattle.std.specs.Prelude.{◌≡◌, ℕ, zero, suc, ◌+◌, ◌*◌, ◌<◌, ◌≤◌, Bool, true, false, ◌||◌, length, get_or}
+use Rattle.std.specs.Prelude.{◌≡◌, ℕ, zero, suc, ◌+◌, ◌*◌, ◌<◌, Bool, true, false, ◌||◌, length, get_or}
 use Rattle.clock2q_policies.specs.declared.index_tree.IndexTree.{IndexTree}
 
 abbrev pub is_marked : {A : Type 0} → IndexTree A → ℕ → Bool
@@ -22,7 +22,3 @@ pub record IsIndexTree {A : Type 0} (tree : IndexTree A) : Type 0 where
   pub long : length tree.marks.items ≡ 2 * tree.leaves
   pub top : is_marked tree 0 ≡ true
   pub pairs : (node : ℕ) → 0 < node → node < tree.leaves → is_marked tree node ≡ (is_marked tree (2 * node) || is_marked tree (2 * node + 1))
-
-pub record IsLast {A : Type 0} (tree : IndexTree A) (index : ℕ) : Type 0 where
-  pub inside : has tree index ≡ true
-  pub latest : (other : ℕ) → has tree other ≡ true → other ≤ index

@@ -6,6 +6,7 @@ pub mod Optimum
 pub mod StackDistances
 pub mod CountTree
 pub mod LastAccesses
+pub mod IndexSets
 pub mod IndexTree
 pub mod Indices
 pub mod Awaited

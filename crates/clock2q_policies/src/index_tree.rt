@@ -1,7 +1,8 @@
 //! A set of indices, and its last one.
 ghost use Rattle.std.specs.Prelude.{◌≡◌, ◌≢◌, ℕ, ◌+◌, ◌*◌, ◌<◌, ◌≤◌, ◌^◌, ◌||◌, IfOk, MatchOption, true, false, length};
-ghost use Rattle.clock2q_policies.specs.IndexTree.{has, is_marked, first_below, IsIndexTree, IsLast};
+ghost use Rattle.clock2q_policies.specs.IndexTree.{has, is_marked, first_below, IsIndexTree};
 
+use crate::index_set::IndexSet;
 use std::alloc::{AllocError, Allocator};
 
 /// A set of indices. Each leaf of the tree is an index, and is marked if the index is in the set;
@@ -28,24 +29,28 @@ impl<A: Allocator> IndexTree<A> {
         Ok(IndexTree { marks, leaves })
     }
 
-    /// Returns true if an index is in the set.
-    pub(crate) fn contains(&self, index: usize) -> bool
-        requires tree { IsIndexTree self.now }
-        requires index { index < self.now.leaves }
-        ensures { result ≡ has self.now index }
+    /// Returns true if one of the two below a node is marked.
+    fn has_below(&self, node: usize) -> bool
+        requires node { node < self.now.leaves }
+        requires long { length self.now.marks.items ≡ 2 * self.now.leaves }
+        ensures { result ≡ (is_marked self.now (2 * node) || is_marked self.now (2 * node + 1)) }
     {
+        self.marks[2 * node] || self.marks[2 * node + 1]
+    }
+}
+
+impl<A: Allocator> IndexSet for IndexTree<A> {
+    ghost is_whole = { λ tree. IsIndexTree tree };
+
+    ghost bound = { λ tree. tree.leaves };
+
+    ghost holds = { λ tree. has tree };
+
+    fn contains(&self, index: usize) -> bool {
         self.marks[self.leaves + index]
     }
 
-    /// Adds an index.
-    pub(crate) fn insert(&mut self, index: usize)
-        requires tree { IsIndexTree self.old }
-        requires index { index < self.old.leaves }
-        ensures tree { IsIndexTree self.new }
-        ensures leaves { self.new.leaves ≡ self.old.leaves }
-        ensures added { has self.new index ≡ true }
-        ensures others { (other : ℕ) → other ≢ index → has self.new other ≡ has self.old other }
-    {
+    fn insert(&mut self, index: usize) {
         let mut node = self.leaves + index;
         while !self.marks[node] {
             self.marks[node] = true;
@@ -53,16 +58,7 @@ impl<A: Allocator> IndexTree<A> {
         }
     }
 
-    /// Removes an index that is in the set.
-    pub(crate) fn remove(&mut self, index: usize)
-        requires tree { IsIndexTree self.old }
-        requires index { index < self.old.leaves }
-        requires inside { has self.old index ≡ true }
-        ensures tree { IsIndexTree self.new }
-        ensures leaves { self.new.leaves ≡ self.old.leaves }
-        ensures removed { has self.new index ≡ false }
-        ensures others { (other : ℕ) → other ≢ index → has self.new other ≡ has self.old other }
-    {
+    fn remove(&mut self, index: usize) {
         let leaf = self.leaves + index;
         self.marks[leaf] = false;
         let mut node = leaf / 2;
@@ -72,21 +68,7 @@ impl<A: Allocator> IndexTree<A> {
         }
     }
 
-    /// Returns true if one of the two below a node is marked.
-    fn has_below(&self, node: usize) -> bool
-        requires node { node < self.now.leaves }
-        requires long { length self.now.marks.items ≡ 2 * self.now.leaves }
-        ensures { result ≡ (is_marked self.now (2 * node) || is_marked self.now (2 * node + 1)) }
-    {
-        self.marks[2 * node] || self.marks[2 * node + 1]
-    }
-
-    /// Returns the last index.
-    pub(crate) fn last(&self) -> Option<usize>
-        requires tree { IsIndexTree self.now }
-        ensures last { MatchOption result ((index : ℕ) → has self.now index ≡ false)
-            (IsLast self.now) }
-    {
+    fn last(&self) -> Option<usize> {
         if !self.marks[1] {
             return None;
         }

@@ -1,71 +1,61 @@
 //! A set of indices, with a bit for each, and its last one.
-ghost use Rattle.std.specs.Prelude.{◌≡◌, ◌≢◌, ℕ, ◌-◌, ◌*◌, ◌%◌, ◌^◌, ◌<◌, ◌≤◌, IfOk, MatchOption, true, false, length};
-ghost use Rattle.clock2q_policies.specs.Indices.{contains, IsIndices, IsLastOf};
+ghost use Rattle.std.specs.Prelude.{◌≡◌, ℕ, ◌-◌, ◌*◌, ◌%◌, ◌^◌, ◌<◌, ◌≤◌, IfOk, false};
+ghost use Rattle.clock2q_policies.specs.Indices.{bound_of, contains, IsIndices};
 
-use crate::index_tree::IndexTree;
+use crate::index_set::IndexSet;
 use std::alloc::{AllocError, Allocator};
 
 /// The number of indices of a word.
-const BITS: usize = 64;
+pub(crate) const BITS: usize = 64;
 
-/// A set of indices.
+/// A set of indices, over another set that has the words with some.
 #[derive(Drop)]
-pub(crate) struct Indices<A: Allocator> {
+pub(crate) struct Indices<S, A: Allocator> {
     /// A bit for each index: the lowest of a word is that of its last index.
     words: Vec<u64, A>,
     /// The words that aren't 0.
-    some: IndexTree<A>,
+    some: S,
 }
 
-impl<A: Allocator + Copy> Indices<A> {
-    /// Returns an empty set for indices below `indices`.
-    pub(crate) fn new(alloc: A, indices: usize) -> Result<Indices<A>, AllocError>
-        requires few { indices < 2 ^ 62 }
-        ensures set { IfOk result (λ set. IsIndices set) }
-        ensures wide { IfOk result (λ set. indices ≤ 64 * length set.words.items) }
+impl<S: IndexSet + Drop, A: Allocator> Indices<S, A> {
+    /// Returns an empty set of a number of words over a set that is empty.
+    pub(crate) fn over(alloc: A, some: S, words: usize) -> Result<Indices<S, A>, AllocError>
+        requires few { words < 2 ^ 57 }
+        requires whole { S.is_whole some }
+        requires wide { words ≤ S.bound some }
+        requires empty { (word : ℕ) → S.holds some word ≡ false }
+        ensures set { IfOk result (λ set. IsIndices S.is_whole S.bound S.holds set) }
+        ensures wide { IfOk result (λ set. bound_of set ≡ 64 * words) }
         ensures empty { IfOk result (λ set. (index : ℕ) → contains set index ≡ false) }
     {
-        let words = indices / BITS + 1;
         Ok(Indices {
             words: vec![in alloc; 0; words]?,
-            some: IndexTree::new(alloc, words)?,
+            some,
         })
     }
 }
 
-impl<A: Allocator> Indices<A> {
-    /// Returns true if an index is in the set.
-    pub(crate) fn contains(&self, index: usize) -> bool
-        requires index { index < 64 * length self.now.words.items }
-        ensures { result ≡ contains self.now index }
-    {
+impl<S: IndexSet, A: Allocator> IndexSet for Indices<S, A> {
+    ghost is_whole = { λ set. IsIndices S.is_whole S.bound S.holds set };
+
+    ghost bound = { λ set. bound_of set };
+
+    ghost holds = { λ set. contains set };
+
+    fn contains(&self, index: usize) -> bool {
         (self.words[index / BITS] >> place_of(index)) & 1 == 1
     }
 
-    /// Adds an index.
-    pub(crate) fn insert(&mut self, index: usize)
-        requires set { IsIndices self.old }
-        requires index { index < 64 * length self.old.words.items }
-        ensures set { IsIndices self.new }
-        ensures long { length self.new.words.items ≡ length self.old.words.items }
-        ensures added { contains self.new index ≡ true }
-        ensures others { (other : ℕ) → other ≢ index → contains self.new other ≡ contains self.old other }
-    {
+    fn insert(&mut self, index: usize) {
         let word = index / BITS;
-        self.words[word] |= 1 << place_of(index);
-        self.some.insert(word);
+        let bits = self.words[word];
+        self.words[word] = bits | (1 << place_of(index));
+        if bits == 0 {
+            self.some.insert(word);
+        }
     }
 
-    /// Removes an index that is in the set.
-    pub(crate) fn remove(&mut self, index: usize)
-        requires set { IsIndices self.old }
-        requires index { index < 64 * length self.old.words.items }
-        requires inside { contains self.old index ≡ true }
-        ensures set { IsIndices self.new }
-        ensures long { length self.new.words.items ≡ length self.old.words.items }
-        ensures removed { contains self.new index ≡ false }
-        ensures others { (other : ℕ) → other ≢ index → contains self.new other ≡ contains self.old other }
-    {
+    fn remove(&mut self, index: usize) {
         let word = index / BITS;
         self.words[word] &= !(1 << place_of(index));
         if self.words[word] == 0 {
@@ -73,12 +63,7 @@ impl<A: Allocator> Indices<A> {
         }
     }
 
-    /// Returns the last index.
-    pub(crate) fn last(&self) -> Option<usize>
-        requires set { IsIndices self.now }
-        ensures last { MatchOption result ((index : ℕ) → contains self.now index ≡ false)
-            (IsLastOf self.now) }
-    {
+    fn last(&self) -> Option<usize> {
         let word = self.some.last()?;
         let lowest = self.words[word].trailing_zeros() as usize;
         Some(word * BITS + (BITS - 1 - lowest))

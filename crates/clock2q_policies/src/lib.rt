@@ -6,6 +6,7 @@
 
 mod byte_caches;
 mod count_tree;
+mod index_set;
 mod index_tree;
 mod indices;
 mod last_accesses;

@@ -1,13 +1,19 @@
 //! Belady's optimum.
-ghost use Rattle.std.specs.Prelude.{◌≡◌, ◌+◌, ◌<◌, IfOk, length, slice_index};
+ghost use Rattle.std.specs.Prelude.{◌≡◌, ℕ, ◌+◌, ◌<◌, ◌≤◌, ◌^◌, IfOk, false, length, slice_index};
 ghost use Rattle.std.specs.NonZero.{non_zero_usize_get};
 ghost use Rattle.clock2q_policies.specs.Policies.{is_in, without, AreBelow};
 ghost use Rattle.clock2q_policies.specs.Optimum.{optimal_hits, optimal_outcomes};
+ghost use Rattle.clock2q_policies.specs.Indices.{AreLevels, bound_of, contains};
 ghost use Rattle.clock2q_policies.specs.Awaited.{optimal_at, AreNextUses, IsAwaiting};
 
-use crate::indices::Indices;
+use crate::index_set::IndexSet;
+use crate::index_tree::IndexTree;
+use crate::indices::{BITS, Indices};
 use std::alloc::{AllocError, Allocator};
 use std::num::NonZeroUsize;
+
+/// Indices in three levels of words, over a tree.
+type Levels<A> = Indices<Indices<Indices<IndexTree<A>, A>, A>, A>;
 
 /// The next accesses of the keys that the optimum holds.
 #[derive(Drop)]
@@ -15,7 +21,7 @@ struct Awaited<A: Allocator> {
     /// For each access of the trace the index of its key's next one, or the number of accesses.
     next: Vec<usize, A>,
     /// The indices of the next accesses of the held keys.
-    waiting: Indices<A>,
+    waiting: Levels<A>,
     /// The number of held keys that are accessed again.
     count: usize,
 }
@@ -73,6 +79,21 @@ impl<A: Allocator> Awaited<A> {
     }
 }
 
+/// Returns an empty set for indices below `indices`.
+fn no_indices<A: Allocator + Copy>(alloc: A, indices: usize) -> Result<Levels<A>, AllocError>
+    requires few { indices < 2 ^ 62 }
+    ensures set { IfOk result AreLevels }
+    ensures wide { IfOk result (λ set. indices ≤ bound_of set) }
+    ensures empty { IfOk result (λ set. (index : ℕ) → contains set index ≡ false) }
+{
+    let words = indices / BITS + 1;
+    let second = words / BITS + 1;
+    let third = second / BITS + 1;
+    let tree = IndexTree::new(alloc, third)?;
+    let some = Indices::over(alloc, Indices::over(alloc, tree, third)?, second)?;
+    Indices::over(alloc, some, words)
+}
+
 /// Returns the index of the next access of each access's key, or the number of accesses if there is
 /// none.
 fn next_uses<A: Allocator + Copy>(
@@ -125,7 +146,7 @@ pub fn optimal_hits<A: Allocator + Copy>(
 {
     let mut awaited = Awaited {
         next: next_uses(alloc, trace, keys)?,
-        waiting: Indices::new(alloc, trace.len())?,
+        waiting: no_indices(alloc, trace.len())?,
         count: 0,
     };
     let mut hits = 0;
@@ -168,7 +189,7 @@ pub fn optimal_outcomes<A: Allocator + Copy>(
 {
     let mut awaited = Awaited {
         next: next_uses(alloc, trace, keys)?,
-        waiting: Indices::new(alloc, trace.len())?,
+        waiting: no_indices(alloc, trace.len())?,
         count: 0,
     };
     let mut outcomes = Vec::with_capacity(alloc, trace.len())?;

@@ -6,6 +6,8 @@ mod index_set;
 mod lirs;
 mod lists;
 mod lru_2;
+mod queue;
+mod remembered;
 mod replayed;
 mod s3_fifo;
 mod sieve;

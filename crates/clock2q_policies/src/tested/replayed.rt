@@ -42,8 +42,8 @@ where
 ///
 /// # Cost
 ///
-/// Time in proportion to the trace and to `keys`, whatever the capacity; a byte an access and 12
-/// bytes a key.
+/// Time in proportion to the trace and to `keys`, whatever the capacity; a byte an access, a byte a
+/// key, and 8 bytes for each key that the cache has room for, but for no more than `keys`.
 pub fn sieve_outcomes<A: Allocator + Copy>(
     alloc: A,
     capacity: NonZeroUsize,
@@ -65,8 +65,8 @@ pub fn sieve_outcomes<A: Allocator + Copy>(
 ///
 /// # Cost
 ///
-/// Time in proportion to the trace and to `keys`, whatever the capacity; a byte an access and 12
-/// bytes a key.
+/// Time in proportion to the trace and to `keys`, whatever the capacity; a byte an access, 6 bytes a
+/// key, and at most 16 bytes for each key that the cache has room for, but for no more than `keys`.
 pub fn s3_fifo_outcomes<A: Allocator + Copy>(
     alloc: A,
     capacity: NonZeroUsize,

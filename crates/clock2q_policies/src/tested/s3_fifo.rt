@@ -1,15 +1,9 @@
 //! S3-FIFO.
 
-use crate::tested::lists::Lists;
+use crate::tested::queue::Queue;
+use crate::tested::remembered::Remembered;
 use crate::tested::replayed::Replayed;
 use std::alloc::{AllocError, Allocator};
-
-const SMALL: u8 = 0;
-
-const MAIN: u8 = 1;
-
-/// Keys evicted from the small queue.
-const GHOST: u8 = 2;
 
 /// The most hits counted for a key.
 const MOST: u8 = 3;
@@ -22,31 +16,42 @@ const MOST: u8 = 3;
 #[derive(Drop)]
 pub(crate) struct S3Fifo<A: Allocator> {
     capacity: usize,
-    small: usize,
-    main: usize,
-    /// The mark of a key is the number of its hits.
-    queues: Lists<A>,
+    /// The number of keys that the small queue has room for.
+    small_room: usize,
+    /// The number of keys that the main queue has room for.
+    main_room: usize,
+    /// The number of hits of each resident key.
+    hits: Vec<Option<u8>, A>,
+    small: Queue<A>,
+    main: Queue<A>,
+    /// Keys evicted from the small queue, at most as many as the main queue has room for.
+    ghosts: Remembered<A>,
 }
 
 impl<A: Allocator + Copy> S3Fifo<A> {
     pub(crate) fn new(alloc: A, capacity: usize, keys: u32) -> Result<S3Fifo<A>, AllocError> {
-        let small = (capacity / 10).max(1);
+        let small_room = (capacity / 10).max(1);
+        let main_room = capacity.saturating_sub(small_room);
+        let most = capacity.min(keys as usize);
         Ok(S3Fifo {
             capacity,
-            small,
-            main: capacity.saturating_sub(small),
-            queues: Lists::new(alloc, keys)?,
+            small_room,
+            main_room,
+            hits: vec![in alloc; None; keys as usize]?,
+            small: Queue::new(alloc, most)?,
+            main: Queue::new(alloc, most)?,
+            ghosts: Remembered::new(alloc, main_room, keys)?,
         })
     }
 }
 
 impl<A: Allocator> S3Fifo<A> {
     fn len(&self) -> usize {
-        self.queues.len(SMALL).saturating_add(self.queues.len(MAIN))
+        self.small.len().saturating_add(self.main.len())
     }
 
     fn evict(&mut self) {
-        if self.queues.len(SMALL) >= self.small {
+        if self.small.len() >= self.small_room {
             self.evict_small();
         } else {
             self.evict_main();
@@ -54,54 +59,57 @@ impl<A: Allocator> S3Fifo<A> {
     }
 
     fn evict_small(&mut self) {
-        for _ in 0..self.queues.len(SMALL) {
-            let Some(key) = self.queues.oldest(SMALL) else {
+        for _ in 0..self.small.len() {
+            let Some(key) = self.small.pop() else {
                 return;
             };
-            if self.queues.mark(key) <= 1 {
-                self.remember(key);
+            if self.hits_of(key) <= 1 {
+                self.set_hits(key, None);
+                self.ghosts.add(key);
                 return;
             }
-            if self.queues.len(MAIN) >= self.main {
+            if self.main.len() >= self.main_room {
                 self.evict_main();
             }
-            self.queues.set_mark(key, 0);
-            self.queues.put(MAIN, key);
+            self.set_hits(key, Some(0));
+            self.main.push(key);
         }
     }
 
     fn evict_main(&mut self) {
         let rounds = usize::from(MOST) + 1;
-        for _ in 0..self.queues.len(MAIN).saturating_mul(rounds) {
-            let Some(key) = self.queues.oldest(MAIN) else {
+        for _ in 0..self.main.len().saturating_mul(rounds) {
+            let Some(key) = self.main.pop() else {
                 return;
             };
-            let hits = self.queues.mark(key);
+            let hits = self.hits_of(key);
             if hits == 0 {
-                self.queues.take(key);
+                self.set_hits(key, None);
                 return;
             }
-            self.queues.set_mark(key, hits.saturating_sub(1));
-            self.queues.put(MAIN, key);
+            self.set_hits(key, Some(hits.saturating_sub(1)));
+            self.main.push(key);
         }
     }
 
-    /// Remembers a key, and at most as many as the main queue has room for.
-    fn remember(&mut self, key: u32) {
-        self.queues.put(GHOST, key);
-        if self.queues.len(GHOST) > self.main {
-            if let Some(oldest) = self.queues.oldest(GHOST) {
-                self.queues.take(oldest);
-            }
+    fn hits_of(&self, key: u32) -> u8 {
+        match self.hits.get(key as usize) {
+            Some(Some(hits)) => *hits,
+            _ => 0,
+        }
+    }
+
+    fn set_hits(&mut self, key: u32, hits: Option<u8>) {
+        if let Some(place) = self.hits.get_mut(key as usize) {
+            *place = hits;
         }
     }
 }
 
 impl<A: Allocator> Replayed for S3Fifo<A> {
     fn access(&mut self, key: u32) -> bool {
-        if self.queues.has(SMALL, key) || self.queues.has(MAIN, key) {
-            let hits = self.queues.mark(key).saturating_add(1);
-            self.queues.set_mark(key, hits.min(MOST));
+        if let Some(Some(hits)) = self.hits.get_mut(key as usize) {
+            *hits = hits.saturating_add(1).min(MOST);
             return true;
         }
         // if all keys of the small queue move on, none may have been evicted
@@ -110,13 +118,12 @@ impl<A: Allocator> Replayed for S3Fifo<A> {
                 self.evict();
             }
         }
-        let list = if self.queues.has(GHOST, key) {
-            MAIN
+        self.set_hits(key, Some(0));
+        if self.ghosts.remove(key) {
+            self.main.push(key);
         } else {
-            SMALL
-        };
-        self.queues.set_mark(key, 0);
-        self.queues.put(list, key);
+            self.small.push(key);
+        }
         false
     }
 }

@@ -1,10 +1,17 @@
 //! SIEVE.
 
-use crate::tested::lists::Lists;
+use crate::tested::queue::Queue;
 use crate::tested::replayed::Replayed;
 use std::alloc::{AllocError, Allocator};
+use std::mem::swap;
 
-const RESIDENT: u8 = 0;
+/// Whether a key is resident, and whether it was hit since the hand passed it or it was admitted.
+#[derive(Clone, Copy, PartialEq, Eq)]
+enum State {
+    Absent,
+    Unmarked,
+    Marked,
+}
 
 /// SIEVE, of 'SIEVE is Simpler than LRU: an Efficient Turn-Key Eviction Algorithm for Web Caches'
 /// (2024): the hand goes from the oldest key towards the newest, clears the mark of each that was
@@ -12,48 +19,76 @@ const RESIDENT: u8 = 0;
 #[derive(Drop)]
 pub(crate) struct Sieve<A: Allocator> {
     capacity: usize,
-    /// A key is marked if it was hit.
-    residents: Lists<A>,
-    hand: Option<u32>,
+    states: Vec<State, A>,
+    /// The keys that the hand has passed since it began at the oldest one.
+    passed: Queue<A>,
+    /// The keys from the hand on, all newer than those that it has passed.
+    ahead: Queue<A>,
 }
 
 impl<A: Allocator + Copy> Sieve<A> {
     pub(crate) fn new(alloc: A, capacity: usize, keys: u32) -> Result<Sieve<A>, AllocError> {
+        let most = capacity.min(keys as usize);
         Ok(Sieve {
             capacity,
-            residents: Lists::new(alloc, keys)?,
-            hand: None,
+            states: vec![in alloc; State::Absent; keys as usize]?,
+            passed: Queue::new(alloc, most)?,
+            ahead: Queue::new(alloc, most)?,
         })
     }
 }
 
 impl<A: Allocator> Sieve<A> {
+    fn len(&self) -> usize {
+        self.passed.len().saturating_add(self.ahead.len())
+    }
+
     fn evict(&mut self) {
-        for _ in 0..=self.residents.len(RESIDENT) {
-            let Some(key) = self.hand.or(self.residents.oldest(RESIDENT)) else {
+        for _ in 0..=self.len() {
+            let Some(key) = self.ahead.pop() else {
                 return;
             };
-            self.hand = self.residents.newer(key);
-            if self.residents.mark(key) == 0 {
-                self.residents.take(key);
+            let was = self.leave(key);
+            if was == State::Marked {
+                self.passed.push(key);
+            }
+            if self.ahead.len() == 0 {
+                swap(&mut self.passed, &mut self.ahead);
+            }
+            if was != State::Marked {
                 return;
             }
-            self.residents.set_mark(key, 0);
         }
+    }
+
+    /// Clears the mark of a key, or makes it absent if it has none, and returns what it was.
+    fn leave(&mut self, key: u32) -> State {
+        let Some(state) = self.states.get_mut(key as usize) else {
+            return State::Absent;
+        };
+        let was = *state;
+        *state = match was {
+            State::Marked => State::Unmarked,
+            _ => State::Absent,
+        };
+        was
     }
 }
 
 impl<A: Allocator> Replayed for Sieve<A> {
     fn access(&mut self, key: u32) -> bool {
-        if self.residents.has(RESIDENT, key) {
-            self.residents.set_mark(key, 1);
+        let Some(state) = self.states.get_mut(key as usize) else {
+            return false;
+        };
+        if *state != State::Absent {
+            *state = State::Marked;
             return true;
         }
-        if self.residents.len(RESIDENT) >= self.capacity {
+        *state = State::Unmarked;
+        if self.len() >= self.capacity {
             self.evict();
         }
-        self.residents.set_mark(key, 0);
-        self.residents.put(RESIDENT, key);
+        self.ahead.push(key);
         false
     }
 }

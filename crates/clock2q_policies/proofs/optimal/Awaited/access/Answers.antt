@@ -14,7 +14,7 @@ returns-then-next-trace-clause-awaiting g c =
     c.index-next.ensures ∙ get_or_default c.leave-is_hit.new.self.next.items c.args.at c.index-next.result.now 0 (omega (arith, c.requires.at, a.next.long)) ∙ a.next.each c.args.at c.requires.at in
     rw add-one (record {
       set = c.insert.ensures.set;
-      wide = omega (arith, a.wide, c.insert.ensures.long);
+      wide = omega (arith, a.wide, c.insert.ensures.bound);
       next = a.next;
       waiting = joined (non_zero_usize_get c.args.capacity) some c.args.trace.now c.args.at (contains c.leave-is_hit.new.self.waiting) c.leave-is_hit.new.self.count a.waiting
           c.index-next.result.now (contains c.insert.new.self) next c.if-next-trace.true c.insert.ensures.added c.insert.ensures.others;

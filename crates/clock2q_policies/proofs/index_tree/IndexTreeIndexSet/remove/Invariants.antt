@@ -1,7 +1,7 @@
 -- A node has to be unmarked, unless one of the two below it is marked.
 use Rattle.std.proofs.Common.{◌≡◌, ◌+◌}
 use Rattle.clock2q_policies.proofs.IndexTrees.{IsUnmarking}
-use Rattle.clock2q_policies.proofs.index_tree.IndexTree.remove.Given as goal
+use Rattle.clock2q_policies.proofs.index_tree.IndexTreeIndexSet.remove.Given as goal
 
 abbrev pub invariant-loop-self : goal.invariant-loop-self
 invariant-loop-self g l = record {

@@ -2,9 +2,10 @@ use Rattle.std.proofs.Common.{◌≡◌, ◌∙◌, ℕ, ◌+◌, ◌*◌, ◌-�
 use Rattle.std.specs.Int.{trailing_zeros}
 use Rattle.std.proofs.lemmas.Bool.{lt-ltb, ltb-true, eqb-true}
 use Rattle.std.proofs.lemmas.List.{get_or_default}
-use Rattle.clock2q_policies.specs.Indices.{IsLastOf}
+use Rattle.clock2q_policies.specs.IndexSets.{IsLastIn}
+use Rattle.clock2q_policies.specs.Indices.{contains}
 use Rattle.clock2q_policies.proofs.IndexWords.{word_at, within_words, last_bit, none_later}
-use Rattle.clock2q_policies.proofs.indices.Indices.last.Goals as goal
+use Rattle.clock2q_policies.proofs.indices.IndicesIndexSet.last.Goals as goal
 
 pub overflow_mul-result : goal.overflow_mul-result
 overflow_mul-result g c =
@@ -35,7 +36,7 @@ returns g c =
     let last : (other : ℕ) → 0 < word_at words other → other ≤ word =
     λ other more. is.latest other (c.requires.set.each other ∙ lt-ltb 0 (word_at words other) more) in
     record {
-      last = subst (λ m. IsLastOf c.args.self.now (word * 64 + (63 - trailing_zeros w64 m))) read (record {
+      last = subst (λ m. IsLastIn (contains c.args.self.now) (word * 64 + (63 - trailing_zeros w64 m))) read (record {
         inside = ap (λ b. b == 1) (last_bit words word some fits last);
         latest = λ other here. none_later words word some fits last other (eqb-true _ 1 here);
       });

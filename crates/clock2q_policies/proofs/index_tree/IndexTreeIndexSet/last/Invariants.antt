@@ -1,7 +1,7 @@
 -- The last marked leaf is below a marked node.
 use Rattle.std.proofs.Common.{◌-◌, ◌*◌}
 use Rattle.clock2q_policies.proofs.IndexTrees.{IsAbove}
-use Rattle.clock2q_policies.proofs.index_tree.IndexTree.last.Given as goal
+use Rattle.clock2q_policies.proofs.index_tree.IndexTreeIndexSet.last.Given as goal
 
 abbrev pub invariant-loop-node : goal.invariant-loop-node
 invariant-loop-node g l = IsAbove l.self.marks.items l.self.leaves l.node

@@ -1,11 +1,11 @@
 use Rattle.std.proofs.Common.{◌≡◌, ◌∙◌, ◌+◌, ◌<◌, false, true, ap, refl, arith, length}
 use Rattle.clock2q_policies.proofs.IndexTrees.{mark, read, marking_starts, marking_on, marking_done, not_top}
-use Rattle.clock2q_policies.proofs.index_tree.IndexTree.insert.Goals as goal
+use Rattle.clock2q_policies.proofs.index_tree.IndexTreeIndexSet.insert.Goals as goal
 
 pub loop-self-init : goal.loop-self-init
 loop-self-init g c = record {
   leaves = refl;
-  marking = marking_starts c.args.self.now.marks.items c.args.self.now.leaves c.args.index c.requires.index c.requires.tree.long c.requires.tree.top c.requires.tree.pairs;
+  marking = marking_starts c.args.self.now.marks.items c.args.self.now.leaves c.args.index c.requires.index c.requires.set.long c.requires.set.top c.requires.set.pairs;
 }
 
 pub loop-self-preserved : goal.loop-self-preserved
@@ -37,16 +37,16 @@ returns g c =
     let done = marking_done c.args.self.now.marks.items xs c.loop-self.self.leaves (c.loop-self.self.leaves + c.args.index) c.loop-self.node m marked in
     let leaves = c.loop-self.invariant.leaves in
     record {
-      tree = record {
-        some = omega (arith, leaves, c.requires.tree.some);
-        levels = c.requires.tree.levels;
+      set = record {
+        some = omega (arith, leaves, c.requires.set.some);
+        levels = c.requires.set.levels;
         leaves = leaves
-            ∙ c.requires.tree.leaves;
+            ∙ c.requires.set.leaves;
         long = done.long;
         top = done.top;
         pairs = done.pairs;
       };
-      leaves = leaves;
+      bound = leaves;
       added = done.added;
       others = λ other apart. done.others (c.loop-self.self.leaves + other) (omega arith) (λ is. apart (omega (arith, is))) ∙ ap (λ n. mark c.args.self.now.marks.items (n + other)) leaves;
     }

@@ -1,7 +1,7 @@
 -- A node has to be marked.
 use Rattle.std.proofs.Common.{◌≡◌, ◌+◌}
 use Rattle.clock2q_policies.proofs.IndexTrees.{IsMarking}
-use Rattle.clock2q_policies.proofs.index_tree.IndexTree.insert.Given as goal
+use Rattle.clock2q_policies.proofs.index_tree.IndexTreeIndexSet.insert.Given as goal
 
 abbrev pub invariant-loop-self : goal.invariant-loop-self
 invariant-loop-self g l = record {

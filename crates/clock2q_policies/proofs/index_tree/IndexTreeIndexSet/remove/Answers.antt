@@ -1,12 +1,12 @@
 use Rattle.std.proofs.Common.{◌∙◌, ◌+◌, ap, sym, refl, arith}
 use Rattle.clock2q_policies.proofs.IndexTrees.{mark, unmarking_starts, unmarking_on, unmarking_done, under_top}
-use Rattle.clock2q_policies.proofs.index_tree.IndexTree.remove.Goals as goal
+use Rattle.clock2q_policies.proofs.index_tree.IndexTreeIndexSet.remove.Goals as goal
 
 pub loop-self-init : goal.loop-self-init
 loop-self-init g c = record {
   leaves = refl;
   unmarking = unmarking_starts c.args.self.now.marks.items c.args.self.now.leaves (c.args.self.now.leaves + c.args.index)
-      (omega arith) (omega (arith, c.requires.index)) c.requires.tree.long c.requires.tree.top c.requires.tree.pairs
+      (omega arith) (omega (arith, c.requires.index)) c.requires.set.long c.requires.set.top c.requires.set.pairs
       c.requires.inside;
 }
 
@@ -39,16 +39,16 @@ returns g c =
     (sym c.has_below.ensures ∙ c.loop-self-test.false) in
     let leaves = c.loop-self.invariant.leaves in
     record {
-      tree = record {
-        some = omega (arith, leaves, c.requires.tree.some);
-        levels = c.requires.tree.levels;
+      set = record {
+        some = omega (arith, leaves, c.requires.set.some);
+        levels = c.requires.set.levels;
         leaves = leaves
-            ∙ c.requires.tree.leaves;
+            ∙ c.requires.set.leaves;
         long = done.long;
         top = done.top;
         pairs = done.pairs;
       };
-      leaves = leaves;
+      bound = leaves;
       removed = done.removed;
       others = λ other apart. done.others (c.loop-self.self.leaves + other) (omega arith) (λ is. apart (omega (arith, is))) ∙ ap (λ n. mark c.args.self.now.marks.items (n + other)) leaves;
     }

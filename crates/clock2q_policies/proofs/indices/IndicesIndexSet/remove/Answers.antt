@@ -1,7 +1,7 @@
 use Rattle.std.proofs.Common.{◌≡◌, ◌∙◌, ◌/◌, ◌<◌, ◌==◌, ap, sym, arith, length}
 use Rattle.std.proofs.lemmas.List.{get_or_default}
 use Rattle.clock2q_policies.proofs.IndexWords.{word_at, removed_own, removed_others}
-use Rattle.clock2q_policies.proofs.indices.Indices.remove.Goals as goal
+use Rattle.clock2q_policies.proofs.indices.IndicesIndexSet.remove.Goals as goal
 
 pub returns-then-index-eq0-clause-others : goal.returns-then-index-eq0-clause-others
 returns-then-index-eq0-clause-others g c =

@@ -1,10 +1,10 @@
 use Rattle.std.proofs.Common.{◌≡◌, ◌∙◌, ◌+◌, ◌*◌, ◌<◌, false, arith, length}
 use Rattle.clock2q_policies.proofs.IndexTrees.{mark, read, starts_above, none_at_all, go_first, go_second, last_inside, last_latest}
-use Rattle.clock2q_policies.proofs.index_tree.IndexTree.last.Goals as goal
+use Rattle.clock2q_policies.proofs.index_tree.IndexTreeIndexSet.last.Goals as goal
 
 pub returns-then-not-index : goal.returns-then-not-index
 returns-then-not-index g c =
-    let t = c.requires.tree in
+    let t = c.requires.set in
     let xs = c.args.self.now.marks.items in
     let within : 1 < length xs = omega (arith, t.long, t.some) in
     let none : mark xs 1 ≡ false = read xs 1 c.index.result.now within c.index.ensures ∙ c.if-not-index.true in
@@ -12,14 +12,14 @@ returns-then-not-index g c =
 
 pub loop-node-init : goal.loop-node-init
 loop-node-init g c =
-    let t = c.requires.tree in
+    let t = c.requires.set in
     let xs = c.args.self.now.marks.items in
     let within : 1 < length xs = omega (arith, t.long, t.some) in
     starts_above xs c.args.self.now.leaves t.levels t.leaves t.long (read xs 1 c.index.result.now within c.index.ensures ∙ c.if-not-index.false)
 
 pub loop-node-preserved-then-index : goal.loop-node-preserved-then-index
 loop-node-preserved-then-index g c =
-    let t = c.requires.tree in
+    let t = c.requires.set in
     let xs = c.args.self.now.marks.items in
     let within : 2 * c.loop-node.node + 1 < length xs = omega (arith, t.long, c.loop-node-test.true) in
     go_second xs c.args.self.now.leaves t.pairs c.loop-node.node c.loop-node.invariant c.loop-node-test.true
@@ -27,7 +27,7 @@ loop-node-preserved-then-index g c =
 
 pub loop-node-preserved : goal.loop-node-preserved
 loop-node-preserved g c =
-    let t = c.requires.tree in
+    let t = c.requires.set in
     let xs = c.args.self.now.marks.items in
     let within : 2 * c.loop-node.node + 1 < length xs = omega (arith, t.long, c.loop-node-test.true) in
     go_first xs c.args.self.now.leaves t.pairs c.loop-node.node c.loop-node.invariant c.loop-node-test.true
@@ -36,7 +36,7 @@ loop-node-preserved g c =
 pub returns : goal.returns
 returns g c = record {
   last = record {
-    inside = last_inside c.args.self.now.marks.items c.args.self.now.leaves c.loop-node.node c.requires.tree.pairs c.loop-node.invariant (omega arith);
-    latest = last_latest c.args.self.now.marks.items c.args.self.now.leaves c.loop-node.node c.requires.tree.pairs c.loop-node.invariant (omega arith);
+    inside = last_inside c.args.self.now.marks.items c.args.self.now.leaves c.loop-node.node c.requires.set.pairs c.loop-node.invariant (omega arith);
+    latest = last_latest c.args.self.now.marks.items c.args.self.now.leaves c.loop-node.node c.requires.set.pairs c.loop-node.invariant (omega arith);
   };
 }
