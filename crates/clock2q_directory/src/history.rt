@@ -338,13 +338,7 @@ impl<K: Eq, A: Allocator> History<K, A> {
             self.index.remove_slot(hash, slot);
             return;
         }
-        let place = place_key(
-            &mut self.index,
-            &mut self.order,
-            &mut self.keys,
-            hash,
-            key,
-        );
+        let place = place_key(&mut self.index, &mut self.order, &mut self.keys, hash, key);
         self.index.remember(hash, slot, place);
     }
 

@@ -8,7 +8,7 @@ write-requires-clause-next g c =
     let e = c.push.ensures in
     let room : length c.args.order.now.places < c.args.order.now.limit = omega (arith, c.if-len-limit.true, c.len.ensures.len, c.limit.ensures) in
     let made = MakesPlace-new c.args.index.now c.args.order.now c.push.new.self c.args.keys.now.entries c.push.result c.requires.indexed c.requires.as_many c.len.ensures.whole
-        room e.place (ap (λ (z : PlaceOrder). z.places) e.order) (ap (λ (z : PlaceOrder). z.free) e.order) (ap (λ (z : PlaceOrder). z.limit) e.order) e.accesses in
+    room e.place (ap (λ (z : PlaceOrder). z.places) e.order) (ap (λ (z : PlaceOrder). z.free) e.order) (ap (λ (z : PlaceOrder). z.limit) e.order) e.accesses in
     rw (c.number.ensures.number, c.new-place.ensures.place) made.next
 
 pub returns-then-len-limit-clause-made : goal.returns-then-len-limit-clause-made
