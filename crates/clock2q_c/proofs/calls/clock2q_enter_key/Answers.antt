@@ -24,7 +24,6 @@ returns-clause-evicted c =
       c.place_of.ensures.which,
       c.place_of.ensures.slot,
       c.frame_of-slot.ensures.last,
-      c.len.ensures.count,
       c.len-count.ensures.count,
       c.frame_of-slot.ensures.machine,
     ) (left-is held.cache.machine c.len-count.ensures.whole held.last c.args.key c.frame_of-slot.result.0 there))
