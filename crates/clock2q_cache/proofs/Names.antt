@@ -25,7 +25,7 @@ pub use Rattle.clock2q_queues.specs.Small.{admitted, small_hit_at}
 pub use Rattle.clock2q_directory.specs.declared.keys.store.Entry.{Entry}
 pub use Rattle.clock2q_queues.proofs.Booleans.{or_parts, or_true, and_true, and_false}
 pub use Rattle.clock2q_directory.proofs.Emptied.{cleared_like, slots-cleared, for-new, new-none, emptied-slots}
-pub use Rattle.clock2q_directory.proofs.Entries.{key_at-own, key_at-others, values-written, length-values, slice_get-written, slice_get-written_other, length-written, set-written, all-written, same_place, key_there, any_entry, slice_get_some, value-there, hash_at-own, hash_at-others, written-replaced}
+pub use Rattle.clock2q_directory.proofs.Entries.{key_at-own, key_at-others, values-written, length-values, slice_get-written, slice_get-written_other, length-written, set-written, all-written, same_place, key_there, any_entry, slice_get_some, value-there, hash_at-own, hash_at-others}
 pub use Rattle.clock2q_directory.proofs.Indexes.{length-put, named-own, IsIndex-cleared, length-cleared, IsIndex-kept, candidate_there, length-taken, IsIndex-put, IsIndex-taken, candidates_there}
 pub use Rattle.clock2q_directory.proofs.Lookups.{lookup, found_there, not_found, comparisons-most}
 pub use Rattle.clock2q_directory.proofs.Remembering.{slots-pushed, shared-pushed, slots-freed, shared-freed}

@@ -8,7 +8,7 @@ use Rattle.std.proofs.lemmas.Bool.{both_ways, or_cases, eq-eqb, eqb-true, cases_
 use Rattle.std.proofs.lemmas.List.{map-append}
 use Rattle.clock2q_directory.specs.declared.keys.store.Entry.{Entry}
 use Rattle.clock2q_queues.specs.Rings.{has, AllBelow}
-use Rattle.clock2q_directory.specs.Keys.{entry, written, with_key, with_value, hash_at, hashed_at, entries_of, is_key_at, key_at, value_at}
+use Rattle.clock2q_directory.specs.Keys.{entry, written, hash_at, hashed_at, entries_of, is_key_at, key_at, value_at}
 use Rattle.clock2q_directory.specs.Indexes.{has_key, AllDistinct}
 use Rattle.clock2q_queues.proofs.Rings.{has_first, has_later}
 use Rattle.clock2q_queues.proofs.Booleans.{or_left, or_right}
@@ -83,18 +83,6 @@ module _ {K : Type 0} where
   distinct_tail eq (Some e) es d = d.1
 
 module _ {K V : Type 0} where
-  -- a key and then a value, at a place that has an entry
-  pub written-replaced : (place hash : ℕ) (key : K) (value : V) (xs : List (Entry K V)) → place < length xs
-      → with_value place value (with_key place hash key xs) ≡ written place (entry hash key value) xs
-  written-replaced place hash key value xs h =
-      let e = slice_get_some xs place h in
-      let d = entry hash key e.0.value in
-      let keyed : with_key place hash key xs ≡ slice_set xs place d = ap (λ z. elim z [ None ↦ xs | Some e ↦ slice_set xs place (entry hash key e.value) ]) e.1 in
-      let ys = slice_set xs place d in
-      let valued : with_value place value ys ≡ slice_set ys place (entry hash key value) =
-      ap (λ z. elim z [ None ↦ ys | Some e ↦ slice_set ys place (entry e.hash e.key value) ]) (get_set place d xs h) in
-      ap (λ z. with_value place value z) keyed ∙ valued ∙ set_twice place d (entry hash key value) xs h
-
   -- an entry that is written
   module _ (s h : ℕ) (k : K) (v : V) (es : List (Entry K V)) (next : s ≤ length es) where
     pub key_at-own : key_at (written s (entry h k v) es) s ≡ Some k

@@ -1,7 +1,7 @@
 -- The group of a hash: a field of its bits.
 use Rattle.std.proofs.Common.{◌≡◌, ℕ, ◌+◌, ◌-◌, ◌/◌, ◌%◌, ◌^◌, ◌<◌, ◌≤◌, inl, inr, sym, ap, ◌∙◌, subst, arith}
 use Rattle.std.proofs.lemmas.Bool.{cases_lt}
-use Rattle.std.proofs.lemmas.Nat.{field_of, and_mask, pow_below, shr-shr, pow_pos, mod_below}
+use Rattle.std.proofs.lemmas.Nat.{field_of, and_mask, pow_below, shr-shr, pow_pos}
 use Rattle.std.proofs.lemmas.Nat.Bits.{bit_at-trailing_zeros, bit_at-pow_other}
 use Rattle.std.specs.Int.{trailing_zeros, w64}
 use Rattle.std.specs.Int.Bits.{bit_and}
@@ -43,15 +43,6 @@ group_of x p t r is_count et er k ek =
     let small : k ≤ 16 = exponent_le k (subst (λ q. q ≤ 2 ^ 16) ek is_count.most) in
     let tk : t ≡ k = et ∙ ap (trailing_zeros w64) ek ∙ trailing_zeros-pow k small in
     er ∙ ap (λ n. bit_and (x / 2 ^ (56 - n)) (p - 1)) tk
-
--- the group is below the number of groups
-pub group_below : (x p r : ℕ) → IsPartitionCount p → IsGroupOf x p r → r < p
-group_below x p r is_count is_group =
-    let k : ℕ = is_count.power.0 in
-    let ek : p ≡ 2 ^ k = is_count.power.1 in
-    let er : r ≡ x / 2 ^ (56 - k) % 2 ^ k = is_group k ek ∙ ap (λ q. bit_and (x / 2 ^ (56 - k)) (q - 1)) ek ∙ and_mask (x / 2 ^ (56 - k)) k in
-    let below : x / 2 ^ (56 - k) % 2 ^ k < 2 ^ k = mod_below _ _ (pow_pos k) in
-    omega (arith, er, ek, below)
 
 -- hashes with the same middle have the same group
 pub group_from_middle : (x y p r : ℕ) → IsPartitionCount p → IsGroupOf x p r → SameMiddle x y → IsGroupOf y p r

@@ -1,5 +1,5 @@
 -- What users of a table rely on over single insertions: few entries are never refused, and removing an entry again restores the slots.
-use Rattle.std.proofs.Common.{◌≡◌, ℕ, suc, ◌+◌, ◌^◌, ◌<◌, refl, sym, ap, ◌∙◌, subst, arith, Bool, true, false, List, length, Option}
+use Rattle.std.proofs.Common.{◌≡◌, ℕ, suc, ◌+◌, ◌^◌, ◌<◌, sym, ap, ◌∙◌, subst, arith, Bool, true, false, List, length, Option}
 use Rattle.std.specs.Bool.{OnTrue, OnFalse}
 use Rattle.std.specs.Prelude.{Result, Ok, Err, IsOk, OnOk, OnErr, IfOk, IfErr}
 use Rattle.clock2q_handles.specs.Homes.{total, capacity, with_handle, top, removed, IsNew}
@@ -14,11 +14,6 @@ use Rattle.clock2q_handles.proofs.layout.FewerEntries.{total-put_last}
 use Rattle.clock2q_handles.proofs.layout.Placement.{best-placed}
 use Rattle.clock2q_handles.proofs.layout.TooLong.{too-long-total}
 use Rattle.clock2q_handles.proofs.shifts.Removals.{restored-slots}
-
--- a call whose every error is ruled out returned `Ok`
-pub ok_where_no_error : {T E P : Type 0} (r : Result T E) → OnErr r P → (P → ⊥) → IsOk r
-ok_where_no_error (Ok x) err none = refl
-ok_where_no_error (Err e) err none = absurd (none err)
 
 -- what follows if a call returned `Ok`
 pub on_ok : {T E P Q : Type 0} (r : Result T E) → (P → Q) → OnOk r P → OnOk r Q

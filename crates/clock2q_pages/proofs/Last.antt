@@ -49,9 +49,6 @@ module _ (m : Machine ℕ (Option ℕ)) (h : IsWhole eqb m) (last : AreLast m) w
   pub last-evicted : AreLast (evicted m)
   last-evicted other there = kept Evict other tt there
 
-pub last-empty : (shares : Shares) → AreLast (empty shares)
-last-empty shares page there = absurd (false≢true there)
-
 -- the page that enters gets the frame of the one that leaves
 module _ {K V : Type 0} (is : K → Bool) (key : K) (m : Machine K V) (r : K × ℕ) where
   in_main : (es : List (MainEntry K)) (n : Machine K V) → first_of es ≡ Some r → (replacing_victim key es n).slot ≡ r.1

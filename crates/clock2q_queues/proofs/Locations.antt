@@ -119,9 +119,6 @@ module _ (l : LinkState) (small : Small) (main : MainRing) (q : AreQueues l smal
       (ap (λ z. has slot z) (sym (main_slots-of l main)) ∙ out.0, out.1)
 
 module _ (l : LinkState) (small : Small) (is : last_or None (small_slots l small) ≡ None) where
-  pub tail_promoted-none : tail_promoted (last_or None (small_entries l small)) ≡ false
-  tail_promoted-none = ap tail_promoted (no_entry (λ s. age_at l small.cursor s) (small_slots l small) is)
-
   pub keeps_tail-none : keeps_tail (last_or None (small_entries l small)) ≡ true
   keeps_tail-none = ap keeps_tail (no_entry (λ s. age_at l small.cursor s) (small_slots l small) is)
 

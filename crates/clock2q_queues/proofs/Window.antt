@@ -51,9 +51,6 @@ admissions_since-other window cursor position h p d = elim (cases_lt (cursor + 1
       rw (a, le-ltb position 0 (omega arith), lt-ltb position cursor (omega arith)) (omega arith, omega arith)
 ]
 
-SmallYoung≢SmallOld : (position : ℕ) → SmallYoung position ≢ SmallOld
-SmallYoung≢SmallOld position e = cc
-
 -- The slot at a position
 
 is_there-true : (o : Option ℕ) (t : ℕ) → is_there o t ≡ true → o ≡ Some t

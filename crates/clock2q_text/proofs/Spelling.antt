@@ -17,15 +17,6 @@ abbrev pub gathered : List (Call ℕ ℕ) → Result (List (Call ℕ ℕ)) ℕ �
 gathered front (Ok calls) = Ok (front ++ calls)
 gathered front (Err line) = Err line
 
-pub gathered-none : (rest : Result (List (Call ℕ ℕ)) ℕ) → gathered [] rest ≡ rest
-gathered-none (Ok calls) = refl
-gathered-none (Err line) = refl
-
--- one more call collected
-pub gathered-more : (front : List (Call ℕ ℕ)) (call : Call ℕ ℕ) (rest : Result (List (Call ℕ ℕ)) ℕ) → gathered front (with_call call rest) ≡ gathered (front ++ call ∷ []) rest
-gathered-more front call (Ok calls) = ap Ok (sym (append_assoc front (call ∷ []) calls))
-gathered-more front call (Err line) = refl
-
 -- the lines of a text whose first line was found
 pub lines_of-found : (text : List ℕ) (found : Option (Bor (List ℕ) × Bor (List ℕ))) (first others : Bor (List ℕ))
     → lines_of text ≡ first_and_others found → found ≡ Some (first, others) → lines_of text ≡ first.now ∷ lines_of others.now

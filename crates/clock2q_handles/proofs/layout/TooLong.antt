@@ -5,10 +5,10 @@ use Rattle.clock2q_handles.specs.Homes.{capacity, listed, count, total, no_entri
 use Rattle.clock2q_handles.specs.Layout.{Placed, spill, spill_of, slot_at, layout, entries, reach, homes_of, IsTidy, IsTooLong}
 use Rattle.clock2q_handles.specs.TableStep.{put_all, rebuilt, IsHashOf}
 use Rattle.clock2q_handles.proofs.layout.Spill.{Roomy, spill-again, spill-found, spill-lt, within_lap}
-use Rattle.clock2q_handles.proofs.layout.Tiles.{IsGap, taken, apart}
-use Rattle.clock2q_handles.proofs.layout.Periods.{lap, lap-lt, lap-same, rem-same}
-use Rattle.clock2q_handles.proofs.layout.Laid.{IsLaid, get_some, part-reach, gap-reach, reach-none}
-use Rattle.clock2q_handles.proofs.layout.Walk.{Stops, after, stop}
+use Rattle.clock2q_handles.proofs.layout.Tiles.{taken}
+use Rattle.clock2q_handles.proofs.layout.Periods.{rem-same}
+use Rattle.clock2q_handles.proofs.layout.Laid.{IsLaid, part-reach, gap-reach, reach-none}
+use Rattle.clock2q_handles.proofs.layout.Walk.{Stops, after}
 use Rattle.clock2q_handles.proofs.layout.Reading.{slot-again, count-again}
 use Rattle.clock2q_handles.proofs.layout.TidyLayout.{capacity-lt, roomy-of, sum-window, length-homes_of, tidy-vacant, tidy-total, read-laid-homes}
 use Rattle.clock2q_handles.proofs.layout.Gaps.{IsOneMore}

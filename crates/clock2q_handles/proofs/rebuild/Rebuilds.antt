@@ -1,5 +1,5 @@
 -- A rebuild, slot by slot.
-use Rattle.std.proofs.Common.{◌≡◌, ℕ, ◌+◌, ◌*◌, ◌%◌, ◌<◌, ◌≤◌, inl, inr, refl, ap, sym, ◌∙◌, subst, arith, List, map, take, length, Option, None}
+use Rattle.std.proofs.Common.{◌≡◌, ℕ, ◌+◌, ◌*◌, ◌<◌, inl, inr, refl, ap, sym, ◌∙◌, subst, arith, List, map, take, length, Option, None}
 use Rattle.std.proofs.lemmas.Bool.{cases_lt}
 use Rattle.std.specs.Fn.{Called, Takes, Mut}
 use Rattle.clock2q_handles.specs.Homes.{capacity, total, no_entries}

@@ -1,5 +1,5 @@
 -- What putting an entry in does to a table, and when it is refused.
-use Rattle.std.proofs.Common.{◌≡◌, ℕ, suc, ◌+◌, ◌-◌, ◌%◌, ◌<◌, ◌≤◌, ◌⊎◌, inl, inr, refl, ap, sym, ◌∙◌, subst, arith, List, length, Option}
+use Rattle.std.proofs.Common.{◌≡◌, ℕ, suc, ◌+◌, ◌-◌, ◌%◌, ◌<◌, ◌≤◌, inl, inr, refl, ap, sym, ◌∙◌, subst, arith, List, length, Option}
 use Rattle.std.proofs.lemmas.Bool.{cases_lt}
 use Rattle.clock2q_handles.specs.Homes.{top, capacity, total, with_handle}
 use Rattle.clock2q_handles.specs.Layout.{Placed, slot_at, reach, longest_reach, homes_of, run, IsTooLong, AreNear}

@@ -1,5 +1,5 @@
 -- What removing the entry in a slot results in, if a search found it there.
-use Rattle.std.proofs.Common.{◌≡◌, ℕ, ◌%◌, ◌<◌, ap, ◌∙◌, arith, Bool, List, length, Option}
+use Rattle.std.proofs.Common.{ℕ, ◌<◌, ap, arith, Bool, List, Option}
 use Rattle.clock2q_handles.specs.Found.{FindsAt, TakesOut, TakesOutAt}
 use Rattle.clock2q_handles.specs.Layout.{Placed, slot_at, reach}
 use Rattle.clock2q_handles.specs.Shifts.{HasCome}

@@ -1,20 +1,18 @@
 -- Where a home's entries are and its walks end, as slots show it.
-use Rattle.std.proofs.Common.{◌≡◌, ℕ, suc, ◌+◌, ◌-◌, ◌%◌, ◌<◌, ◌≤◌, refl, ap, sym, ◌∙◌, arith, List, [], ◌∷◌, ◌++◌, length, take, drop, set, Option, Some, slice_get}
-use Rattle.std.proofs.Math.Seq.{take-append_seam, set-append_seam}
+use Rattle.std.proofs.Common.{◌≡◌, ℕ, suc, ◌+◌, ◌-◌, ◌%◌, ◌<◌, ◌≤◌, refl, ap, sym, ◌∙◌, arith, List, [], ◌∷◌, ◌++◌, length, set, Option, Some, slice_get}
+use Rattle.std.proofs.Math.Seq.{set-append_seam}
 use Rattle.clock2q_handles.specs.Homes.{top, listed, count, with_list}
 use Rattle.clock2q_handles.specs.Layout.{Placed, placed, slot_at, reach, met, homes_of, layout, spill_of, IsTidy}
 use Rattle.clock2q_handles.specs.Slots.{Mark, mark_reach}
-use Rattle.clock2q_handles.specs.Shifts.{HasCome}
 use Rattle.clock2q_handles.specs.Candidates.{EndsAt}
 use Rattle.clock2q_handles.specs.Positions.{IsEntryAt, gap_value, gap_of, with_entry}
 use Rattle.clock2q_handles.proofs.layout.Reading.{slot-again}
 use Rattle.clock2q_handles.proofs.layout.Periods.{rem-same}
-use Rattle.clock2q_handles.proofs.layout.Walk.{passed, stop}
 use Rattle.clock2q_handles.proofs.shifts.Carrying.{slot_from}
 use Rattle.clock2q_handles.proofs.walks.Cursors.{rem-plus}
 use Rattle.clock2q_handles.proofs.layout.FewerEntries.{walk-is}
-use Rattle.clock2q_handles.proofs.layout.TidyLayout.{length-homes_of, layout-standing, tidy-layout, tidy-room, tidy-vacant, capacity-lt}
-use Rattle.clock2q_handles.proofs.shifts.Changes.{read-split, read-stop, read-count, list_without}
+use Rattle.clock2q_handles.proofs.layout.TidyLayout.{length-homes_of, layout-standing, tidy-layout, tidy-room, capacity-lt}
+use Rattle.clock2q_handles.proofs.shifts.Changes.{read-split, read-count}
 use Rattle.clock2q_handles.proofs.shifts.Steps.{past_home}
 use Rattle.clock2q_handles.proofs.walks.Yields.{walk-at, walk-beyond}
 

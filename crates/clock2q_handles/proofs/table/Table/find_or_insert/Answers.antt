@@ -1,4 +1,4 @@
-use Rattle.std.proofs.Common.{◌≡◌, ◌+◌, false, sym, subst, inl, inr, length, arith}
+use Rattle.std.proofs.Common.{◌≡◌, false, sym, subst, inl, inr, length, arith}
 use Rattle.std.specs.Prelude.{IfOk}
 use Rattle.clock2q_handles.specs.Changes.{OnlyReads, ReadsAtMost}
 use Rattle.clock2q_handles.specs.Layout.{walk}

@@ -1,4 +1,4 @@
-use Rattle.std.proofs.Common.{◌≡◌, Some, None, refl, sym, ap, ◌∙◌, subst, arith}
+use Rattle.std.proofs.Common.{Some, refl, sym, ap, subst, arith}
 use Rattle.clock2q_handles.specs.Candidates.{EndsAt}
 use Rattle.clock2q_handles.proofs.table.Table.find_or_put.Goals as goal
 

@@ -1,7 +1,4 @@
-use Rattle.std.proofs.Common.{◌≡◌, ◌≤◌, refl, sym, ap, ◌∙◌, subst, arith}
-use Rattle.clock2q_handles.specs.Candidates.{EndsAt}
-use Rattle.clock2q_handles.specs.Shifts.{HasRoomAt}
-use Rattle.clock2q_handles.specs.Changes.{Inserts, IsLaidOut}
+use Rattle.std.proofs.Common.{refl, ap, arith}
 use Rattle.clock2q_handles.proofs.table.Table.insert_among_many.Goals as goal
 
 pub returns-then-not-has_room : goal.returns-then-not-has_room

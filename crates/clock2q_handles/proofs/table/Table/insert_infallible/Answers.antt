@@ -1,4 +1,4 @@
-use Rattle.std.proofs.Common.{sym, subst, arith}
+use Rattle.std.proofs.Common.{sym, subst}
 use Rattle.clock2q_handles.specs.Candidates.{EndsAt}
 use Rattle.clock2q_handles.specs.Shifts.{HasRoomAt}
 use Rattle.clock2q_handles.proofs.table.Table.insert_infallible.Goals as goal

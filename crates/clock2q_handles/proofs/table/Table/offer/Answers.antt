@@ -1,10 +1,9 @@
-use Rattle.std.proofs.Common.{◌≡◌, ◌<◌, ◌≤◌, ◌+◌, ◌-◌, ℕ, length, ap, sym, ◌∙◌, subst, arith}
+use Rattle.std.proofs.Common.{◌≡◌, ◌-◌, length, ap, sym, ◌∙◌, subst, arith}
 use Rattle.clock2q_handles.specs.Candidates.{left_from, unread_from, EndsAt}
 use Rattle.clock2q_handles.specs.Homes.{candidates}
 use Rattle.clock2q_handles.specs.Layout.{homes_of, walk}
 use Rattle.clock2q_handles.specs.Offers.{Offers, MayBeOffered, handle_in}
 use Rattle.clock2q_handles.specs.TableStep.{table_value}
-use Rattle.clock2q_handles.specs.Changes.{RisesAtMost}
 use Rattle.clock2q_handles.proofs.layout.TidyLayout.{length-homes_of}
 use Rattle.clock2q_handles.proofs.shifts.Steps.{table-laid}
 use Rattle.clock2q_handles.proofs.walks.Yields.{left_at_start}

@@ -1,4 +1,4 @@
-use Rattle.std.proofs.Common.{ℕ, None, length, sym, ap, ◌∙◌, arith}
+use Rattle.std.proofs.Common.{ℕ, None, length, ap, ◌∙◌, arith}
 use Rattle.std.specs.List.{last_or}
 use Rattle.std.proofs.lemmas.List.{length-map}
 use Rattle.clock2q_machine.specs.Ages.{Age}

@@ -1,4 +1,4 @@
-use Rattle.std.proofs.Common.{◌≡◌, ◌%◌, length, ◌-◌, bit_and, arith, ap, ◌∙◌}
+use Rattle.std.proofs.Common.{◌≡◌, length, ◌-◌, bit_and, arith, ap, ◌∙◌}
 use Rattle.std.proofs.lemmas.Nat.{mod_below}
 use Rattle.clock2q_handles.proofs.shifts.Cells.{slot_mask}
 use Rattle.clock2q_handles.proofs.slots.vectors.Slots.home.Goals as goal
