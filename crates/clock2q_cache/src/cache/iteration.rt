@@ -149,7 +149,9 @@ impl<K: Hash + Eq, V, S: BuildHasher, A: Allocator> Cache<K, V, S, A> {
 }
 
 impl<'a, K: Hash + Eq, V, S: BuildHasher, A: Allocator> Iterator for Iter<'a, K, V, S, A> {
-    ghost use Rattle.std.specs.Iterator.{YieldsFirstBy, item_count};
+    ghost use Rattle.std.specs.Prelude.{◌≡◌, length, Some, IfSome};
+    ghost use Rattle.std.specs.Iterator.{YieldsFirstBy, UpTo, at_most, item_count};
+    ghost use Rattle.std.specs.Iterator.SizeHint.{IsWithinCount};
 
     type Item = (&'a K, usize, &'a V);
 
@@ -165,7 +167,11 @@ impl<'a, K: Hash + Eq, V, S: BuildHasher, A: Allocator> Iterator for Iter<'a, K,
         Some((cache.key(slot), slot as usize, cache.value(slot)))
     }
 
-    fn size_hint(&self) -> (usize, Option<usize>) {
+    fn size_hint(&self) -> (usize, Option<usize>)
+        ensures lower { IsWithinCount result.0 (at_most (length self.now)) }
+        ensures upper { IfSome result.1 (UpTo (at_most (length self.now))) }
+        ensures exact { result ≡ (length self.now, Some (length self.now)) }
+    {
         (self.left, Some(self.left))
     }
 }
@@ -179,7 +185,9 @@ impl<'a, K: Hash + Eq, V, S: BuildHasher, A: Allocator> ExactSizeIterator for It
 impl<'a, K: Hash + Eq, V, S: BuildHasher, A: Allocator> FusedIterator for Iter<'a, K, V, S, A> {}
 
 impl<'a, K: Hash + Eq, V, S: BuildHasher, A: Allocator> Iterator for Keys<'a, K, V, S, A> {
-    ghost use Rattle.std.specs.Iterator.{YieldsFirstBy, item_count};
+    ghost use Rattle.std.specs.Prelude.{◌≡◌, length, Some, IfSome};
+    ghost use Rattle.std.specs.Iterator.{YieldsFirstBy, UpTo, at_most, item_count};
+    ghost use Rattle.std.specs.Iterator.SizeHint.{IsWithinCount};
 
     type Item = &'a K;
 
@@ -192,7 +200,11 @@ impl<'a, K: Hash + Eq, V, S: BuildHasher, A: Allocator> Iterator for Keys<'a, K,
         Some(key)
     }
 
-    fn size_hint(&self) -> (usize, Option<usize>) {
+    fn size_hint(&self) -> (usize, Option<usize>)
+        ensures lower { IsWithinCount result.0 (at_most (length self.now)) }
+        ensures upper { IfSome result.1 (UpTo (at_most (length self.now))) }
+        ensures exact { result ≡ (length self.now, Some (length self.now)) }
+    {
         self.entries.size_hint()
     }
 }
@@ -206,7 +218,9 @@ impl<'a, K: Hash + Eq, V, S: BuildHasher, A: Allocator> ExactSizeIterator for Ke
 impl<'a, K: Hash + Eq, V, S: BuildHasher, A: Allocator> FusedIterator for Keys<'a, K, V, S, A> {}
 
 impl<'a, K: Hash + Eq, V, S: BuildHasher, A: Allocator> Iterator for Values<'a, K, V, S, A> {
-    ghost use Rattle.std.specs.Iterator.{YieldsFirstBy, item_count};
+    ghost use Rattle.std.specs.Prelude.{◌≡◌, length, Some, IfSome};
+    ghost use Rattle.std.specs.Iterator.{YieldsFirstBy, UpTo, at_most, item_count};
+    ghost use Rattle.std.specs.Iterator.SizeHint.{IsWithinCount};
 
     type Item = &'a V;
 
@@ -219,7 +233,11 @@ impl<'a, K: Hash + Eq, V, S: BuildHasher, A: Allocator> Iterator for Values<'a, 
         Some(value)
     }
 
-    fn size_hint(&self) -> (usize, Option<usize>) {
+    fn size_hint(&self) -> (usize, Option<usize>)
+        ensures lower { IsWithinCount result.0 (at_most (length self.now)) }
+        ensures upper { IfSome result.1 (UpTo (at_most (length self.now))) }
+        ensures exact { result ≡ (length self.now, Some (length self.now)) }
+    {
         self.entries.size_hint()
     }
 }
