@@ -20,6 +20,7 @@
 #![tactic(auto)]
 
 mod cache;
+mod entered;
 mod error;
 mod filling;
 mod hashes;
@@ -27,4 +28,5 @@ mod shares;
 mod vacancies;
 
 pub use cache::{Cache, DefaultHashBuilder, Iter, Keys, MAX_CAPACITY, Values};
+pub use entered::Entered;
 pub use error::CacheError;

@@ -1,16 +1,18 @@
 //! Calls that look a key up and, if it is not resident, insert it with what a closure returns.
 use crate::cache::Cache;
+use crate::entered::Entered;
 use clock2q_count::GhostValue;
 use clock2q_directory::history::Found;
 use std::alloc::Allocator;
 use std::hash::{BuildHasher, Hash};
 
 impl<K: Hash + Eq + Drop, V: Drop, S: BuildHasher, A: Allocator> Cache<K, V, S, A> {
-    ghost use Rattle.std.specs.Prelude.{◌≡◌, ℕ, ◌+◌, ◌<◌, length, slice_get, None, Ok, Err, IfOk, IfErr, OnOk, OnErr, IsOkAnd, MatchResult, Some};
+    ghost use Rattle.std.specs.Prelude.{◌≡◌, ℕ, ◌+◌, ◌<◌, length, slice_get, None, Ok, Err, IfOk, IfErr, OnOk, OnErr, IsOkAnd, MatchResult, Some, is_some};
     ghost use Rattle.std.specs.Option.{UnwrapsOrElse};
     ghost use Rattle.std.specs.Borrow.{sem};
     ghost use Rattle.clock2q_machine.specs.Bounds.{inspections_for};
     ghost use Rattle.clock2q_machine.specs.Calls.{SlotFor, With};
+    ghost use Rattle.clock2q_machine.specs.Leaving.{leaves_wanted};
     ghost use Rattle.clock2q_cache.specs.Charged.{with_slot};
     ghost use Rattle.clock2q_cache.specs.CacheLends.{LeavesMachine, LeavesTried, LendsPut, LendsTaken};
     ghost use Rattle.clock2q_cache.specs.Hashes.{hash_of};
@@ -127,12 +129,42 @@ impl<K: Hash + Eq + Drop, V: Drop, S: BuildHasher, A: Allocator> Cache<K, V, S, 
             Costs K.Hash S.BuildHasher S.Hasher.Hasher (SlotFor key value) self.old
             (with_slot K.Hash S.BuildHasher S.Hasher.Hasher key value self.old) }
     {
+        let (slot, value, _) = self.enter(key, make);
+        (slot, value)
+    }
+
+    /// Returns the slot of a key and its value, to write to, as
+    /// [`get_or_insert_mut`](Cache::get_or_insert_mut) does, and what that took: whether the key was
+    /// resident, and whether another resident was evicted.
+    ///
+    /// # Cost
+    ///
+    /// That of [`get_or_insert_mut`](Cache::get_or_insert_mut).
+    pub fn enter<F: FnOnce() -> V>(&mut self, key: K, make: F) -> (usize, &mut V, Entered)
+        requires { slice_get self.old.machine.values
+            (slotted_at (slot_of (K.eq key) self.old.machine) (K.eq key) key self.old.machine) ≡
+            None → F.pre make }
+        ensures* writes_back { sem 𝓛
+            (LendsTaken K.row V.row S.row A.row S.Hasher.row K.Hash S.BuildHasher S.Hasher.Hasher A.Allocator self.entry key result.1) }
+        ensures slot { result.0 ≡
+            slotted_at (slot_of (K.eq key) self.old.machine) (K.eq key) key self.old.machine }
+        ensures value { UnwrapsOrElse (slice_get self.old.machine.values result.0)
+            (F.post make) result.1.now }
+        ensures unwritten { put (K.eq key) key result.1.now self.old.machine ≡
+            slotted (K.eq key) key result.1.now self.old.machine }
+        ensures hit { result.2.is_hit ≡ is_some (slot_of (K.eq key) self.old.machine) }
+        ensures evicted { result.2.has_evicted ≡
+            is_some (leaves_wanted (K.eq key) self.old.machine) }
+        ensures costs { (value : V) →
+            Costs K.Hash S.BuildHasher S.Hasher.Hasher (SlotFor key value) self.old
+            (with_slot K.Hash S.BuildHasher S.Hasher.Hasher key value self.old) }
+    {
         let _ = self.len(); // whose contract says that the cache is whole
         let hash = self.hash(&key);
         let most = self.most(&key);
-        let slot = self.find_or_reuse(hash, key, make);
+        let (slot, entered) = self.find_or_reuse(hash, key, make);
         self.charge(&most);
-        (slot as usize, self.value_mut(slot))
+        (slot as usize, self.value_mut(slot), entered)
     }
 
     /// Returns two numbers only for contracts. The proof of the call picks them, and they may
@@ -188,15 +220,18 @@ impl<K: Hash + Eq + Drop, V: Drop, S: BuildHasher, A: Allocator> Cache<K, V, S, 
 
     /// Returns the slot of a key, which is hit or inserted. A slot that was made before keeps its
     /// value; a new one gets what `make` returns.
-    fn find_or_reuse<F: FnOnce() -> V>(&mut self, hash: u64, key: K, make: F) -> u32
+    fn find_or_reuse<F: FnOnce() -> V>(&mut self, hash: u64, key: K, make: F) -> (u32, Entered)
         requires hash { hash ≡
             hash_of S.BuildHasher S.Hasher.Hasher self.old.hasher (K.hash_input key) }
         requires make { slice_get self.old.machine.values
             (slotted_at (slot_of (K.eq key) self.old.machine) (K.eq key) key self.old.machine) ≡
             None → F.pre make }
         ensures taken { Takes (K.eq key) key
-            (F.post make) self.old.machine result self.new.machine }
-        ensures made { result < length self.new.machine.values }
+            (F.post make) self.old.machine result.0 self.new.machine }
+        ensures made { result.0 < length self.new.machine.values }
+        ensures hit { result.1.is_hit ≡ is_some (slot_of (K.eq key) self.old.machine) }
+        ensures evicted { result.1.has_evicted ≡
+            is_some (leaves_wanted (K.eq key) self.old.machine) }
         ensures known { self.new.known ≡
             known_taken K.Hash S.BuildHasher S.Hasher.Hasher key self.old }
         ensures hasher { self.new.hasher ≡ self.old.hasher }
@@ -206,9 +241,18 @@ impl<K: Hash + Eq + Drop, V: Drop, S: BuildHasher, A: Allocator> Cache<K, V, S, 
     {
         if let Some(slot) = self.find(hash, &key) {
             self.record_hit(slot, &key);
-            return slot;
+            let entered = Entered {
+                is_hit: true,
+                has_evicted: false,
+            };
+            return (slot, entered);
         }
-        self.insert_reusing(hash, key, make)
+        let (slot, has_evicted) = self.insert_reusing(hash, key, make);
+        let entered = Entered {
+            is_hit: false,
+            has_evicted,
+        };
+        (slot, entered)
     }
 
     /// Returns the value at the slot that was found, or the error that was returned instead.

@@ -7,7 +7,7 @@ use std::hash::{BuildHasher, Hash};
 
 impl<K: Hash + Eq + Drop, V: Drop, S: BuildHasher, A: Allocator> Cache<K, V, S, A> {
     ghost use Rattle.std.specs.Prelude.{◌≡◌, ◌==◌, ◌+◌, ◌<◌, length, true, false, None, IfSome, IfNone, is_some, slice_get};
-    ghost use Rattle.std.specs.List.{last_or};
+    ghost use Rattle.std.specs.List.{last_or, list_any};
     ghost use Rattle.std.specs.Option.{option_map};
     ghost use Rattle.clock2q_machine.specs.Shares.{main_share};
     ghost use Rattle.clock2q_machine.specs.Ages.{is_promoted};
@@ -21,7 +21,7 @@ impl<K: Hash + Eq + Drop, V: Drop, S: BuildHasher, A: Allocator> Cache<K, V, S, 
     ghost use Rattle.clock2q_cache.specs.Closures.{Reuses};
     ghost use Rattle.clock2q_cache.specs.Places.{known_at, looked_for, out_of_small};
     ghost use Rattle.clock2q_cache.specs.Insertions.{EntersMain, EntersQueue, EntersSmall, IsAbsent, IsUnknown, Notes, placed, makes_slot, next_is_vacant, main_inspections, small_inspections, leaves_placed};
-    ghost use Rattle.clock2q_machine.specs.Leaving.{leaves_for_main};
+    ghost use Rattle.clock2q_machine.specs.Leaving.{leaves_for, leaves_for_main};
     ghost use Rattle.clock2q_machine.specs.Machine.{vacancy, goes_to_main, into_main, into_small, placement, inserted};
 
     /// Inserts a key that is not resident. If the history has it, it is there at `place`.
@@ -42,18 +42,26 @@ impl<K: Hash + Eq + Drop, V: Drop, S: BuildHasher, A: Allocator> Cache<K, V, S, 
     }
 
     /// Inserts a key that is not resident, whether or not the history has it. A slot that was made
-    /// before keeps its value; a new one gets what `make` returns. Out of line, so that a caller
-    /// that finds its key has few registers to save.
+    /// before keeps its value; a new one gets what `make` returns. Also returns whether another
+    /// resident was evicted. Out of line, so that a caller that finds its key has few registers to
+    /// save.
     #[cold]
     #[inline(never)]
-    pub(crate) fn insert_reusing<F: FnOnce() -> V>(&mut self, hash: u64, key: K, make: F) -> u32
+    pub(crate) fn insert_reusing<F: FnOnce() -> V>(
+        &mut self,
+        hash: u64,
+        key: K,
+        make: F,
+    ) -> (u32, bool)
         requires absent { IsAbsent K.Hash S.BuildHasher S.Hasher.Hasher key hash self.old }
         requires make { slice_get self.old.machine.values
             (placement (K.eq key) key self.old.machine).slot ≡ None → F.pre make }
-        ensures slot { result ≡ (placement (K.eq key) key self.old.machine).slot }
+        ensures slot { result.0 ≡ (placement (K.eq key) key self.old.machine).slot }
+        ensures evicted { result.1 ≡
+            is_some (leaves_for (list_any (K.eq key) self.old.machine.history) self.old.machine) }
         ensures machine { Reuses (K.eq key) key (F.post make) self.old.machine self.new.machine }
         ensures known { self.new.known ≡
-            known_at K.Hash S.BuildHasher S.Hasher.Hasher key result
+            known_at K.Hash S.BuildHasher S.Hasher.Hasher key result.0
             (looked_for K.Hash S.BuildHasher S.Hasher.Hasher key self.old) }
         ensures hasher { self.new.hasher ≡ self.old.hasher }
         ensures counts { Spends (inspections_for (K.eq key) self.old.machine)
@@ -65,7 +73,8 @@ impl<K: Hash + Eq + Drop, V: Drop, S: BuildHasher, A: Allocator> Cache<K, V, S, 
         let known = self.forget(hash, &key, place);
         let main = self.admits_to_main(known);
         let value = self.makes_slot(main).then(make);
-        self.insert_unknown(hash, key, value, main, |_| ()).0
+        let (slot, left) = self.insert_unknown(hash, key, value, main, |_| ());
+        (slot, left.is_some())
     }
 
     /// Inserts a key that is not known into Main or into Small. If a resident leaves, `leaves` is

@@ -14,9 +14,9 @@ returns-in-Some-clause-taken g c =
 pub returns-clause-taken : goal.returns-clause-taken
 returns-clause-taken g c =
     let eq = g.K.PartialEq.eq in let m = c.args.self.now.machine in
-    let r = rw c.find.ensures.machine at c.insert_reusing.ensures.machine in
+    let r = rw c.find.ensures.machine at c.insert_reusing-slot.ensures.machine in
     new-takes eq g.met.K.Eq.laws m c.find.ensures.whole c.args.key (goal.F-post g c.args.make) (sym c.in_default.ensures.slot)
-    c.insert_reusing.result c.insert_reusing.new.self.machine (rw c.find.ensures.machine at c.insert_reusing.ensures.slot) r
+    c.insert_reusing-slot.result.0 c.insert_reusing-slot.new.self.machine (rw c.find.ensures.machine at c.insert_reusing-slot.ensures.slot) r
 
 pub returns-clause-made : goal.returns-clause-made
 returns-clause-made g c = let t = returns-clause-taken g c in slice_get_within _ _ t.value t.there
@@ -29,7 +29,7 @@ returns-in-Some-clause-counts g c =
 pub returns-clause-counts : goal.returns-clause-counts
 returns-clause-counts g c =
     insert-spends (g.K.PartialEq.eq c.args.key) c.args.self.now.machine c.find.ensures.counts c.in_default.ensures.slot
-    c.find.ensures.machine c.insert_reusing.ensures.counts (rw (c.find.ensures.kept, c.requires.hash) (omega arith))
+    c.find.ensures.machine c.insert_reusing-slot.ensures.counts (rw (c.find.ensures.kept, c.requires.hash) (omega arith))
 
 pub returns-in-Some-clause-known : goal.returns-in-Some-clause-known
 returns-in-Some-clause-known g c =
@@ -37,4 +37,4 @@ returns-in-Some-clause-known g c =
 
 pub returns-clause-known : goal.returns-clause-known
 returns-clause-known g c =
-    rw (← c.in_default.ensures.slot) (rw (c.insert_reusing.ensures.slot, c.find.ensures.kept) at c.insert_reusing.ensures.known)
+    rw (← c.in_default.ensures.slot) (rw (c.insert_reusing-slot.ensures.slot, c.find.ensures.kept) at c.insert_reusing-slot.ensures.known)

@@ -1,5 +1,5 @@
 use Rattle.clock2q_cache.proofs.Names.{◌-◌, most_links, most_keys}
-use Rattle.clock2q_cache.proofs.cache.Cache.get_or_insert_mut.Given as goal
+use Rattle.clock2q_cache.proofs.cache.Cache.enter.Given as goal
 
 abbrev pub ghost-most : goal.ghost-most
 ghost-most g a = (
