@@ -3,15 +3,15 @@ ghost use Rattle.clock2q_c.specs.Handle.{machine_in};
 ghost use Rattle.clock2q_cache.specs.Costs.{Costs};
 ghost use Rattle.clock2q_machine.specs.Calls.{Clear, Get, GetAt, Put, Remove, SlotFor};
 ghost use Rattle.clock2q_machine.specs.Leaving.{leaver};
-ghost use Rattle.clock2q_machine.specs.Machine.{cleared, hit, removed, resident_count};
+ghost use Rattle.clock2q_machine.specs.Machine.{cleared, hit, removed};
 ghost use Rattle.clock2q_machine.specs.Steps.{hit_at, put};
 ghost use Rattle.clock2q_pages.specs.Pages.{last_in, resident_frame};
 ghost use Rattle.std.specs.Option.{option_map, unwrap_or};
-ghost use Rattle.std.specs.Prelude.{◌≡◌, ◌==◌, ◌<◌, ◌↔◌, ◌&&◌, not, eqb, if◌then◌else◌, None, Some, IsSome, IsTrue, IfSome, is_some};
+ghost use Rattle.std.specs.Prelude.{◌≡◌, ◌<◌, ◌↔◌, eqb, if◌then◌else◌, None, Some, IsSome, IsTrue, IfSome, is_some};
 
 use crate::handle::Handle;
-use clock2q_cache::{Cache, DefaultHashBuilder};
-use clock2q_pages::{find, frame_of, is_in};
+use clock2q_cache::DefaultHashBuilder;
+use clock2q_pages::{enter, find, is_in};
 use std::hash::{BuildHasher, FoldHasher, Hash, Hasher};
 
 /// A key's slot, and the last key that entered the slot before.
@@ -43,7 +43,7 @@ pub struct Found {
 ///
 /// # Cost
 ///
-/// That of `Cache::get_or_insert_mut`.
+/// That of `Cache::enter`.
 #[unsafe(no_mangle)]
 pub extern "C" fn clock2q_enter_key(handle: &mut Handle, key: usize) -> Place
     requires { IsSome handle.old.cache }
@@ -66,39 +66,31 @@ pub extern "C" fn clock2q_enter_key(handle: &mut Handle, key: usize) -> Place
     ensures holds { IsSome handle.new.cache }
 {
     let held = handle.held();
-    let count = held.cache.len();
-    let (slot, last) = frame_of(&mut held.cache, key);
-    place_of(&held.cache, count, slot, last, key)
+    let _ = held.cache.len(); // whose contract says that the cache is whole
+    let (slot, last, evicted) = enter(&mut held.cache, key);
+    place_of(slot, last, evicted)
 }
 
-/// Returns the slot of a key and the last key that entered it before, in C's form. That one was
-/// evicted if it is another key and there are as many keys as before. After a hit it is the
-/// key itself, and no keys are counted.
-fn place_of(
-    cache: &Cache<usize, Option<usize>, DefaultHashBuilder>,
-    before: usize,
-    slot: usize,
-    last: Option<usize>,
-    key: usize,
-) -> Place
+/// Returns the slot of a key, the last key that entered it before, and whether that one was evicted,
+/// in C's form.
+fn place_of(slot: usize, last: Option<usize>, evicted: bool) -> Place
     ensures slot { result.slot ≡ slot }
     ensures last { result.has_last ≡ is_some last }
     ensures which { result.last ≡ unwrap_or last 0 }
-    ensures evicted { result.evicted ≡
-        ((resident_count cache.now.machine == before) && not (eqb (unwrap_or last key) key)) }
+    ensures evicted { result.evicted ≡ evicted }
 {
     match last {
         Some(last) => Place {
             slot,
             last,
             has_last: true,
-            evicted: last != key && cache.len() == before,
+            evicted,
         },
         None => Place {
             slot,
             last: 0,
             has_last: false,
-            evicted: false,
+            evicted,
         },
     }
 }

@@ -4,7 +4,7 @@ use Rattle.std.proofs.Common.{◌≡◌, ℕ, ◌+◌, ◌==◌, Bool, true, fal
 use Rattle.std.specs.Prelude.{if◌then◌else◌, is_some, IsSome, slice_get}
 use Rattle.std.specs.Cmp.{nat_eq_equiv}
 use Rattle.std.specs.List.{list_any, last_or, count_by}
-use Rattle.std.specs.Option.{option_and_then, unwrap_or}
+use Rattle.std.specs.Option.{option_and_then, unwrap_or, UnwrapsOrElse}
 use Rattle.std.proofs.lemmas.Bool.{false≢true}
 use Rattle.std.proofs.lemmas.List.Sums.{sum_by-cons}
 use Rattle.clock2q_machine.specs.Ages.{is_promoted}
@@ -176,3 +176,18 @@ module _ (m : Machine ℕ (Option ℕ)) (h : IsWhole eqb m) (last : AreLast m) (
         ap (λ (o : Option ℕ). if is_some o then None else leaves_for (list_any (eqb page) m.history) m) found
         ∙ stayed (resident_count now == resident_count m) (last_in m frame)
         (ap (last_in m) (slot_stays eqb nat_eq_equiv m h call page at frame found there) ∙ last_at at page found)
+
+  -- so if it is known whether one leaves
+  pub left-if : {leaves : Bool} → resident_frame now page ≡ Some frame → leaves ≡ is_some (leaver eqb call m) → leaver eqb call m ≡ (if leaves then Some (unwrap_or (last_in m frame) 0, frame) else None)
+  left-if there is = rw is (by (resident_count now == resident_count m && not (eqb (unwrap_or (last_in m frame) page) page)) (leaver eqb call m) (left-is there)) where
+    by : (b : Bool) (o : Option (ℕ × ℕ)) → o ≡ (if b then Some (unwrap_or (last_in m frame) 0, frame) else None) → o ≡ (if is_some o then Some (unwrap_or (last_in m frame) 0, frame) else None)
+    by true o e = rw e refl
+    by false o e = rw e refl
+
+  -- the value in the frame of a page in memory is the page
+  pub hit-last : (made : Option ℕ → Type 0) {held : Option ℕ} → frame ≡ slotted_at (slot_of (eqb page) m) (eqb page) page m → true ≡ is_some (slot_of (eqb page) m)
+      → UnwrapsOrElse (slice_get m.values frame) made held → held ≡ Some page
+  hit-last made {held} there some had = subst (λ o. UnwrapsOrElse o made held) (by (slot_of (eqb page) m) refl there some) had where
+    by : (o : Option ℕ) → slot_of (eqb page) m ≡ o → frame ≡ slotted_at o (eqb page) page m → true ≡ is_some o → slice_get m.values frame ≡ Some (Some page)
+    by None absent there some = absurd (false≢true (sym some))
+    by (Some at) found there some = ap (slice_get m.values) there ∙ (sym (ap (option_and_then (slice_get m.values)) found) ∙ last page (ap is_some found))

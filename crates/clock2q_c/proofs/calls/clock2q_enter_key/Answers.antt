@@ -4,26 +4,13 @@ use Rattle.std.specs.Prelude.{IfSome}
 use Rattle.clock2q_c.specs.Handle.{machine_in}
 use Rattle.clock2q_machine.specs.Calls.{Put}
 use Rattle.clock2q_machine.specs.Leaving.{leaver}
-use Rattle.clock2q_pages.specs.Pages.{AreLast}
-use Rattle.clock2q_pages.proofs.Last.{last-put, left-is}
 use Rattle.clock2q_c.proofs.calls.clock2q_enter_key.Goals as goal
 
 pub invariant_of-held : goal.invariant_of-held
-invariant_of-held c =
-    let held = c.held-held.result.now in
-    record { last = subst AreLast (sym c.frame_of-slot.ensures.machine) (last-put held.cache.machine c.len-count.ensures.whole held.last c.args.key) }
+invariant_of-held c = record { last = c.enter-slot.ensures.lasting }
 
 pub returns-clause-evicted : goal.returns-clause-evicted
 returns-clause-evicted c =
-    let held = c.held-held.result.now in
-    let there = rw c.frame_of-slot.ensures.machine at c.frame_of-slot.ensures.resident in
     subst (λ o. IfSome (machine_in o) (λ m. leaver eqb (Put c.args.key (Some c.args.key)) m ≡ (if c.place_of.result.evicted then Some (c.place_of.result.last, c.place_of.result.slot) else None)))
     c.held-held.ensures.value
-    (rw (
-      c.place_of.ensures.evicted,
-      c.place_of.ensures.which,
-      c.place_of.ensures.slot,
-      c.frame_of-slot.ensures.last,
-      c.len-count.ensures.count,
-      c.frame_of-slot.ensures.machine,
-    ) (left-is held.cache.machine c.len-count.ensures.whole held.last c.args.key c.frame_of-slot.result.0 there))
+    (rw (c.place_of.ensures.evicted, c.place_of.ensures.which, c.place_of.ensures.slot) c.enter-slot.ensures.left)
