@@ -65,12 +65,12 @@ pub fn enter<S: BuildHasher>(
         (SlotFor page (Some page)) pages.old pages.new }
 {
     let _ = pages.len(); // whose contract says that the cache is whole
-    let (frame, held, entered) = pages.enter(page, || None);
+    let (frame, value, entered) = pages.enter(page, || None);
     if entered.is_hit {
         return (frame, Some(page), false);
     }
-    let last = *held;
-    *held = Some(page);
+    let last = *value;
+    *value = Some(page);
     (frame, last, entered.has_evicted)
 }
 

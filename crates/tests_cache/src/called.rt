@@ -28,6 +28,7 @@ impl<S: BuildHasher> Called<S> {
             Call::Try(key, offered) => Answer::Tried(self.try_fetch(key, offered)),
             Call::Write(key, offered, value) => Answer::Tried(self.write(key, offered, value)),
             Call::Slot(key, value) => self.take_slot(key, value),
+            Call::Enter(key, value) => self.enter(key, value),
             Call::Remove(key) => Answer::Flag(self.remove(key)),
             Call::Retain(bits, count) => self.retain(bits, count),
             Call::Clear => self.clear(),
@@ -92,6 +93,11 @@ impl<S: BuildHasher> Called<S> {
     fn take_slot(&mut self, key: u64, value: u64) -> Answer {
         let (slot, held) = self.cache.get_or_insert_mut(key, || value);
         Answer::Slot(slot, *held)
+    }
+
+    fn enter(&mut self, key: u64, value: u64) -> Answer {
+        let (slot, held, entered) = self.cache.enter(key, || value);
+        Answer::Entered(slot, *held, entered.is_hit, entered.has_evicted)
     }
 
     fn remove(&mut self, key: u64) -> bool {

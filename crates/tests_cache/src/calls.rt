@@ -21,6 +21,8 @@ pub(crate) enum Call {
     Write(u64, Option<u64>, u64),
     /// Offers a value to a slot that has none yet.
     Slot(u64, u64),
+    /// The same, and asks what became of the key.
+    Enter(u64, u64),
     Remove(u64),
     /// The answers are this many bits of a number, lowest first, and then true.
     Retain(u64, u32),
@@ -46,6 +48,8 @@ pub(crate) enum Answer {
     Left(Option<(u64, usize)>),
     /// A key's slot and the value there.
     Slot(usize, u64),
+    /// The same, whether the key was resident, and whether another resident was evicted.
+    Entered(usize, u64, bool, bool),
     Flag(bool),
     Number(usize),
     Done,
@@ -68,7 +72,8 @@ impl Call {
         match draws.below(400) {
             0..=59 => Call::Put(key, number),
             60..=79 => Call::Evict(key, number),
-            80..=99 => Call::Slot(key, number),
+            80..=89 => Call::Slot(key, number),
+            90..=99 => Call::Enter(key, number),
             100..=199 => Call::Get(key),
             200..=229 => Call::With(key, number),
             230..=239 => Call::Write(key, Some(number), number.wrapping_add(1)),

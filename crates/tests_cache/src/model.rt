@@ -120,7 +120,15 @@ impl Model {
             Call::With(key, value) => Answer::Stored(self.fetch(key, value)?),
             Call::Try(key, offered) => Answer::Tried(self.try_fetch(key, offered)?),
             Call::Write(key, offered, value) => Answer::Tried(self.write(key, offered, value)?),
-            Call::Slot(key, value) => self.take_slot(key, value)?,
+            Call::Slot(key, value) => {
+                let (slot, held) = self.take_slot(key, value)?;
+                Answer::Slot(slot, held)
+            }
+            Call::Enter(key, value) => {
+                let is_hit = self.find(key).is_some();
+                let (slot, held) = self.take_slot(key, value)?;
+                Answer::Entered(slot, held, is_hit, !is_hit && self.evicted.is_some())
+            }
             Call::Remove(key) => Answer::Flag(self.remove(key)?),
             Call::Retain(bits, count) => {
                 self.retain(bits, count)?;
@@ -284,17 +292,17 @@ impl Model {
     }
 
     /// A slot that was made before keeps its value.
-    fn take_slot(&mut self, key: u64, value: u64) -> Result<Answer, AllocError> {
+    fn take_slot(&mut self, key: u64, value: u64) -> Result<(usize, u64), AllocError> {
         if let Some(entry) = self.find(key) {
             self.hit(key);
-            return Ok(Answer::Slot(entry.slot, self.value(entry.slot)));
+            return Ok((entry.slot, self.value(entry.slot)));
         }
         let made = self.made();
         let slot = self.enter(key)?;
         if slot >= made {
             self.store(slot, value);
         }
-        Ok(Answer::Slot(slot, self.value(slot)))
+        Ok((slot, self.value(slot)))
     }
 
     fn remove(&mut self, key: u64) -> Result<bool, AllocError> {

@@ -94,6 +94,21 @@ const RUNS: &[Run] = &[
             (Call::GetAt(1, 1), Answer::Value(Some(11))),
         ],
     },
+    // What becomes of each key that enters: a slot that was never used, the slot of Small's tail, a
+    // hit, and a free slot.
+    Run {
+        capacity: 2,
+        puts: (0, 0),
+        hits: (0, 0),
+        calls: &[
+            (Call::Enter(1, 10), Answer::Entered(0, 10, false, false)),
+            (Call::Enter(2, 20), Answer::Entered(1, 20, false, false)),
+            (Call::Enter(3, 30), Answer::Entered(0, 10, false, true)),
+            (Call::Enter(3, 31), Answer::Entered(0, 10, true, false)),
+            (Call::Remove(3), Answer::Flag(true)),
+            (Call::Enter(4, 40), Answer::Entered(0, 10, false, false)),
+        ],
+    },
     // A key that is forgotten.
     Run {
         capacity: 2,
@@ -171,6 +186,7 @@ const RUNS: &[Run] = &[
         calls: &[
             (Call::Slot(1, 0), Answer::Slot(2, 2)),
             (Call::Slot(0, 0), Answer::Slot(1, 29)),
+            (Call::Enter(0, 7), Answer::Entered(1, 29, true, false)),
         ],
     },
     // An admission whose key was removed counts for the ages.
