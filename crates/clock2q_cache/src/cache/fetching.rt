@@ -134,8 +134,8 @@ impl<K: Hash + Eq + Drop, V: Drop, S: BuildHasher, A: Allocator> Cache<K, V, S, 
     }
 
     /// Returns the slot of a key and its value, to write to, as
-    /// [`get_or_insert_mut`](Cache::get_or_insert_mut) does, and what that took: whether the key was
-    /// resident, and whether another resident was evicted.
+    /// [`get_or_insert_mut`](Cache::get_or_insert_mut) does, and what became of the key: whether it
+    /// was resident, and whether another resident was evicted. The value is then that one's.
     ///
     /// # Cost
     ///
