@@ -74,13 +74,17 @@ static inline found_pair look_at_pairs(Cache *cache, PyObject *key, uint64_t has
 /* Does so after a comparison has changed the cache, until none does. */
 found_pair look_again(Cache *cache, PyObject *key, uint64_t hash);
 
-/* Finds the slot of a key, and records a hit in the library if it has one. If PRESENT, the slot's pair
- * stays until other code runs. */
-static inline found_pair find_pair(Cache *cache, PyObject *key, uint64_t hash) {
-    found_pair found = look_at_pairs(cache, key, hash);
+/* Ends a look-up that found this: looks again if the cache has changed, and records a hit in the library if the key has
+ * a slot. If PRESENT, the slot's pair stays until other code runs. */
+static inline found_pair hit_if_present(Cache *cache, PyObject *key, uint64_t hash, found_pair found) {
     if (found.is == CHANGED) found = look_again(cache, key, hash);
     if (found.is == PRESENT) clock2q_tokens_hit(&cache->slots, found.slot);
     return found;
+}
+
+/* Finds the slot of a key, and records a hit. */
+static inline found_pair find_pair(Cache *cache, PyObject *key, uint64_t hash) {
+    return hit_if_present(cache, key, hash, look_at_pairs(cache, key, hash));
 }
 
 /* Stores a value for a key. Returns -1 with an exception, and the cache as it was, if that fails; only if there
