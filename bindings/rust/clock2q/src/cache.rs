@@ -279,6 +279,7 @@ impl<K: Hash + Eq, V, S: BuildHasher> Cache<K, V, S> {
 
     /// Stores a value for a key, and returns the one before, if the key was here. As in a `HashMap`, the
     /// key that was here stays. A pair that has to leave for a new key is dropped.
+    #[inline(never)]
     pub fn insert(&mut self, key: K, value: V) -> Option<V> {
         self.store_pair(key, value).replaced()
     }
@@ -289,6 +290,7 @@ impl<K: Hash + Eq, V, S: BuildHasher> Cache<K, V, S> {
         self.store_pair(key, value).pair()
     }
 
+    #[inline(always)]
     fn store_pair(&mut self, key: K, value: V) -> Before<K, V> {
         let hash = hash_of(&self.hasher, &key);
         self.store.push(hash, key, value)

@@ -56,18 +56,31 @@ impl<K, V> Entries<K, V> {
         Q: Eq + ?Sized,
     {
         let mark = Mark::of(hash);
-        let mut link = self.chains.first(mark);
-        while let Some(slot) = link.slot() {
-            if link.may_have(mark) {
-                // SAFETY: the slot is in a chain, so it has a pair.
-                let pair = unsafe { self.pairs.get_unchecked(slot).assume_init_ref() };
-                if pair.0.borrow() == key {
-                    return Some((slot, pair));
-                }
+        if let Some(slot) = self.chains.likely(mark) {
+            // SAFETY: the slot is in a chain, so it has a pair.
+            let pair = unsafe { self.pairs.get_unchecked(slot).assume_init_ref() };
+            if pair.0.borrow() == key {
+                return Some((slot, pair));
             }
-            link = self.chains.after(slot);
+        } else if !self.chains.has_more(mark) {
+            return None;
         }
-        None
+        self.find_among_all(mark, key)
+    }
+
+    /// Does so among all keys that may have the mark.
+    #[inline(never)]
+    fn find_among_all<Q>(&self, mark: Mark, key: &Q) -> Option<(usize, &(K, V))>
+    where
+        K: Borrow<Q>,
+        Q: Eq + ?Sized,
+    {
+        // SAFETY: the slots of which this is asked are in a chain.
+        let pair = |slot: usize| unsafe { self.pairs.get_unchecked(slot).assume_init_ref() };
+        let slot = self
+            .chains
+            .find(mark, |slot| pair(slot).0.borrow() == key)?;
+        Some((slot, pair(slot)))
     }
 
     /// Returns the slot of a key and its pair, to write to.
@@ -83,6 +96,53 @@ impl<K, V> Entries<K, V> {
         Some((slot, pair))
     }
 
+    /// Returns the slot of a key and its pair, to write to, after `hit` was called with the slot.
+    #[inline(always)]
+    pub(crate) fn find_and_hit<Q>(
+        &mut self,
+        hash: u64,
+        key: &Q,
+        hit: impl FnOnce(usize),
+    ) -> Option<(usize, &mut (K, V))>
+    where
+        K: Borrow<Q>,
+        Q: Eq + ?Sized,
+    {
+        let mark = Mark::of(hash);
+        if let Some(slot) = self.chains.likely(mark) {
+            // SAFETY: the slot is in a chain, so it has a pair.
+            let pair = unsafe { self.pairs.get_unchecked_mut(slot).assume_init_mut() };
+            if pair.0.borrow() == key {
+                hit(slot);
+                // SAFETY: as above.
+                let pair = unsafe { self.pairs.get_unchecked_mut(slot).assume_init_mut() };
+                return Some((slot, pair));
+            }
+        } else if !self.chains.has_more(mark) {
+            return None;
+        }
+        self.find_and_hit_among_all(mark, key, hit)
+    }
+
+    /// Does so among all keys that may have the mark.
+    #[inline(never)]
+    fn find_and_hit_among_all<Q>(
+        &mut self,
+        mark: Mark,
+        key: &Q,
+        hit: impl FnOnce(usize),
+    ) -> Option<(usize, &mut (K, V))>
+    where
+        K: Borrow<Q>,
+        Q: Eq + ?Sized,
+    {
+        let (slot, _) = self.find_among_all(mark, key)?;
+        hit(slot);
+        // SAFETY: the slot has a pair.
+        let pair = unsafe { self.pairs.get_unchecked_mut(slot).assume_init_mut() };
+        Some((slot, pair))
+    }
+
     /// Returns the slot of a key.
     #[inline]
     pub(crate) fn slot<Q>(&self, hash: u64, key: &Q) -> Option<usize>
@@ -93,20 +153,16 @@ impl<K, V> Entries<K, V> {
         self.find(hash, key).map(|(slot, _)| slot)
     }
 
-    /// Returns the last slot of a hash's chain whose key may have the hash, if there are so many.
+    /// Returns the first slot of a hash's chain whose key may have the hash, if there are so many: that of the oldest.
     #[cold]
-    pub(crate) fn last_of_many(&self, hash: u64, many: usize) -> Option<usize> {
-        let mark = Mark::of(hash);
-        let mut link = self.chains.first(mark);
-        let (mut count, mut last) = (0, None);
-        while let Some(slot) = link.slot() {
-            if link.may_have(mark) {
-                count += 1;
-                last = Some(slot);
-            }
-            link = self.chains.after(slot);
-        }
-        last.filter(|_| count >= many)
+    pub(crate) fn first_of_many(&self, hash: u64, many: usize) -> Option<usize> {
+        let (mut count, mut first) = (0, None);
+        self.chains.find(Mark::of(hash), |slot| {
+            count += 1;
+            first = first.or(Some(slot));
+            false
+        });
+        first.filter(|_| count >= many)
     }
 
     /// Returns the pair at a slot.
@@ -134,22 +190,24 @@ impl<K, V> Entries<K, V> {
     /// Stores a pair at a slot, and returns the one that was there.
     #[inline(always)]
     pub(crate) fn put(&mut self, slot: usize, hash: u64, key: K, value: V) -> Option<(K, V)> {
-        let left = match slot < self.bound() {
-            true => self.take(slot),
-            false => self.reach(slot),
-        };
-        self.pairs[slot].write((key, value));
-        self.chains.insert(slot, Mark::of(hash));
+        if slot >= self.bound() {
+            self.reach(slot);
+        }
+        let left = mem::replace(&mut self.pairs[slot], MaybeUninit::new((key, value)));
+        if self.chains.insert(slot, Mark::of(hash)) {
+            // SAFETY: the slot was in a chain, so it had this pair, which nobody else reads any more.
+            return Some(unsafe { left.assume_init() });
+        }
         self.len += 1;
-        left
+        None
     }
 
-    /// Lets this slot, and all below, have pairs. This one has none yet.
+    /// Lets this slot, and all below, have pairs.
     #[cold]
-    fn reach(&mut self, slot: usize) -> Option<(K, V)> {
+    #[inline(never)]
+    fn reach(&mut self, slot: usize) {
         self.chains.reach(slot);
         self.pairs.resize_with(slot + 1, MaybeUninit::uninit);
-        None
     }
 
     /// Removes the pair at a slot, and returns it.

@@ -145,7 +145,7 @@ impl<K, V> Store<K, V> {
 
     /// Does so beside keys of the same hash, of which one gives way if there are [`MOST_ALIKE`].
     fn admit_beside(&mut self, hash: u64, key: K, value: V) -> (usize, Option<(K, V)>) {
-        let crowded = self.entries.last_of_many(hash, MOST_ALIKE);
+        let crowded = self.entries.first_of_many(hash, MOST_ALIKE);
         let gave_way = crowded.and_then(|slot| self.remove_at(slot));
         let slot = self.slots.enter_beside(hash);
         let left = self.entries.put(slot, hash, key, value);
@@ -155,7 +155,7 @@ impl<K, V> Store<K, V> {
     /// Does so in place of another pair though there are slots, since there may not be more pairs. If two
     /// leave, one of them is dropped.
     fn admit_to_fewer(&mut self, hash: u64, key: K, value: V) -> (usize, Option<(K, V)>) {
-        let gone = match self.entries.last_of_many(hash, MOST_ALIKE) {
+        let gone = match self.entries.first_of_many(hash, MOST_ALIKE) {
             Some(slot) => self.remove_at(slot),
             None => self.evict().map(|(_, pair)| pair),
         };
@@ -209,19 +209,19 @@ impl<K: Eq, V> Store<K, V> {
         K: Borrow<Q>,
         Q: Eq + ?Sized,
     {
-        // The pair is read before the library is called, since it is known then that there is one.
-        let found = self.entries.find_mut(hash, key);
-        match found {
-            Some((slot, _)) => {
-                self.hits += 1;
-                self.slots.hit(slot);
-            }
-            None => self.misses += 1,
+        let (slots, hits) = (&mut self.slots, &mut self.hits);
+        let found = self.entries.find_and_hit(hash, key, |slot| {
+            *hits += 1;
+            slots.hit(slot);
+        });
+        if found.is_none() {
+            self.misses += 1;
         }
         found
     }
 
     /// Stores a pair, after a hit if its key is here, and returns what was replaced or left.
+    #[inline(always)]
     pub(crate) fn push(&mut self, hash: u64, key: K, value: V) -> Before<K, V> {
         if let Some((slot, (_, before))) = self.entries.find_mut(hash, &key) {
             self.slots.hit(slot);
