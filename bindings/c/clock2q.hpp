@@ -158,8 +158,8 @@ namespace detail {
 template <class Node> class nodes {
   public:
     explicit nodes(std::size_t capacity) : capacity_(capacity), by_slot_(new Node *[capacity]()) {
-        // Five chains for four nodes at least, so that few are longer than one.
-        while (capacity + capacity / 4 > std::size_t{1} << bits_) bits_++;
+        // Five chains for two nodes at least, so that few are longer than one.
+        while (2 * capacity + capacity / 2 > std::size_t{1} << bits_) bits_++;
         chains_.reset(new Node *[std::size_t{1} << bits_]());
     }
     Node *const *begin() const noexcept { return by_slot_.get(); }
