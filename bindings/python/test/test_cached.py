@@ -100,6 +100,33 @@ class BesideFunctoolsTest(unittest.TestCase):
 
 
 class CachedTest(unittest.TestCase):
+    def test_arguments_that_are_held_or_equal(self):
+        """A call finds its result by the same objects and by equal ones, also among those of one hash."""
+        function = cached(100)(lambda *args: object())
+        nan, pair = float("nan"), (1, 2)
+        self.assertIs(function(nan), function(nan))
+        self.assertIs(function(pair, nan), function(pair, nan))
+        self.assertIs(function(pair, 10**20), function((1, 2), 10**10 * 10**10))
+        self.assertIs(function(), function())
+        results = {function(*args) for args in ((pair,), pair, (pair, pair), (pair, 1), (1, pair), ((pair,),), (1.5,), (None,))}
+        self.assertEqual(len(results), 8)
+        alike = [function(SameHash(number), pair) for number in range(10)]
+        self.assertEqual(len(set(alike)), 10)
+        self.assertEqual([function(SameHash(number), pair) for number in range(10)], alike)
+
+    def test_a_hash_that_clears(self):
+        class Clearing(Key):
+            def __hash__(self):
+                function.cache_clear()
+                return super().__hash__()
+
+            __eq__ = Key.__eq__
+
+        function = cached(100)(lambda *args: object())
+        key = Clearing(1)
+        self.assertIsNot(function(key, 1), function(key, 1))
+        self.assertEqual(function.cache_info(), (0, 1, 100, 1))
+
     def test_recursion(self):
         @cached(maxsize=50)
         def fibonacci(number):

@@ -86,20 +86,21 @@ impl Link {
     }
 }
 
-/// The bits of a hash that are used: the low ones choose a chain, the highest six are in the link to its key.
+/// The bits of a hash that are used: the low ones choose a chain, and six of the others are in the link to its key.
 #[derive(Clone, Copy)]
 pub(crate) struct Mark(u32);
 
 impl Mark {
-    /// Spreads a hash over 32 bits. A shard is chosen by the high ones of the same product.
+    /// Spreads a hash over 32 bits. The high ones of the same product choose a shard.
     #[inline]
     pub(crate) fn of(hash: u64) -> Mark {
         Mark((hash.wrapping_mul(SPREAD) >> 32) as u32)
     }
 
+    /// Returns six bits, which aren't those that sixteen shards are chosen by.
     #[inline]
     fn tag(self) -> u32 {
-        self.0 >> (SLOT_BITS + 2)
+        self.0 >> (SLOT_BITS - 2) & 63
     }
 }
 

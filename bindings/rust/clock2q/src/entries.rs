@@ -90,10 +90,7 @@ impl<K, V> Entries<K, V> {
         K: Borrow<Q>,
         Q: Eq + ?Sized,
     {
-        let (slot, _) = self.find(hash, key)?;
-        // SAFETY: the slot has a pair.
-        let pair = unsafe { self.pairs.get_unchecked_mut(slot).assume_init_mut() };
-        Some((slot, pair))
+        self.find_and_hit(hash, key, |_| {})
     }
 
     /// Returns the slot of a key and its pair, to write to, after `hit` was called with the slot.
