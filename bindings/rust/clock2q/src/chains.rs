@@ -230,12 +230,11 @@ impl Chains {
     #[inline(never)]
     fn unlink_of_many(&mut self, chain: usize, slot: usize, next: Link) {
         let [first, second] = self.pairs[chain];
-        let stays = match (first.slot(), second.slot()) {
+        let (link, at, rest) = match (first.slot(), second.slot()) {
             (Some(one), Some(other)) if one == slot => (second.last(), other, self.links[other]),
             (Some(one), Some(other)) if other == slot => (first, one, next),
             (_, other) => return self.unlink_after(chain, other, slot, next),
         };
-        let (link, at, rest) = stays;
         self.links[at] = rest;
         let oldest = self.take_last(at);
         let rest = mem::replace(&mut self.links[at], Link::end(chain));
@@ -361,7 +360,7 @@ mod tests {
         for _ in 0..20_000 {
             state = state.wrapping_mul(1_664_525).wrapping_add(1_013_904_223);
             let (slot, drawn) = ((state >> 8) as usize % 30, state >> 20);
-            let mark = drawn % 5 | (drawn >> 4) % 2 << (SLOT_BITS + 2);
+            let mark = (drawn % 5) | (((drawn >> 4) % 2) << (SLOT_BITS + 2));
             let was_in = match drawn % 3 {
                 0 => beside.chains.remove(slot),
                 _ => beside.chains.insert(slot, Mark(mark)),
