@@ -7,11 +7,11 @@ mod lirs;
 mod lists;
 mod lru_2;
 mod queue;
-mod remembered;
 mod replayed;
 mod s3_fifo;
 mod sieve;
 mod sketch;
+mod states;
 mod two_q;
 mod w_tiny_lfu;
 

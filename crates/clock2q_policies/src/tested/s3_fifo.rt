@@ -1,8 +1,8 @@
 //! S3-FIFO.
 
 use crate::tested::queue::Queue;
-use crate::tested::remembered::Remembered;
 use crate::tested::replayed::Replayed;
+use crate::tested::states::{State, States};
 use std::alloc::{AllocError, Allocator};
 
 /// The most hits counted for a key.
@@ -20,12 +20,11 @@ pub(crate) struct S3Fifo<A: Allocator> {
     small_room: usize,
     /// The number of keys that the main queue has room for.
     main_room: usize,
-    /// The number of hits of each resident key.
-    hits: Vec<Option<u8>, A>,
     small: Queue<A>,
     main: Queue<A>,
-    /// Keys evicted from the small queue, at most as many as the main queue has room for.
-    ghosts: Remembered<A>,
+    /// Of the keys evicted from the small queue at most as many are remembered as the main queue has
+    /// room for.
+    states: States<A>,
 }
 
 impl<A: Allocator + Copy> S3Fifo<A> {
@@ -37,10 +36,9 @@ impl<A: Allocator + Copy> S3Fifo<A> {
             capacity,
             small_room,
             main_room,
-            hits: vec![in alloc; None; keys as usize]?,
             small: Queue::new(alloc, most)?,
             main: Queue::new(alloc, most)?,
-            ghosts: Remembered::new(alloc, main_room, keys)?,
+            states: States::new(alloc, main_room, keys)?,
         })
     }
 }
@@ -63,15 +61,14 @@ impl<A: Allocator> S3Fifo<A> {
             let Some(key) = self.small.pop() else {
                 return;
             };
-            if self.hits_of(key) <= 1 {
-                self.set_hits(key, None);
-                self.ghosts.add(key);
+            if self.states.hits_of(key) <= 1 {
+                self.states.remember(key);
                 return;
             }
             if self.main.len() >= self.main_room {
                 self.evict_main();
             }
-            self.set_hits(key, Some(0));
+            self.states.replace(key, State::Resident(0));
             self.main.push(key);
         }
     }
@@ -82,34 +79,21 @@ impl<A: Allocator> S3Fifo<A> {
             let Some(key) = self.main.pop() else {
                 return;
             };
-            let hits = self.hits_of(key);
+            let hits = self.states.hits_of(key);
             if hits == 0 {
-                self.set_hits(key, None);
+                self.states.replace(key, State::Unknown);
                 return;
             }
-            self.set_hits(key, Some(hits.saturating_sub(1)));
+            self.states
+                .replace(key, State::Resident(hits.saturating_sub(1)));
             self.main.push(key);
-        }
-    }
-
-    fn hits_of(&self, key: u32) -> u8 {
-        match self.hits.get(key as usize) {
-            Some(Some(hits)) => *hits,
-            _ => 0,
-        }
-    }
-
-    fn set_hits(&mut self, key: u32, hits: Option<u8>) {
-        if let Some(place) = self.hits.get_mut(key as usize) {
-            *place = hits;
         }
     }
 }
 
 impl<A: Allocator> Replayed for S3Fifo<A> {
     fn access(&mut self, key: u32) -> bool {
-        if let Some(Some(hits)) = self.hits.get_mut(key as usize) {
-            *hits = hits.saturating_add(1).min(MOST);
+        if self.states.hit(key, MOST) {
             return true;
         }
         // if all keys of the small queue move on, none may have been evicted
@@ -118,8 +102,7 @@ impl<A: Allocator> Replayed for S3Fifo<A> {
                 self.evict();
             }
         }
-        self.set_hits(key, Some(0));
-        if self.ghosts.remove(key) {
+        if self.states.admit(key) {
             self.main.push(key);
         } else {
             self.small.push(key);
