@@ -7,6 +7,7 @@ pub mod ChosenShares
 pub mod Fields
 pub mod Formats
 pub mod Help
+pub mod KeyedHasher
 pub mod KnownKeys
 pub mod LruCurve
 pub mod MachineHits

@@ -28,6 +28,7 @@ use std::alloc::Allocator;
 use std::hash::BuildHasher;
 use std::io::Write;
 use std::num::NonZeroUsize;
+use std::time::Clock;
 
 /// The figures of one trace, and its hits at each capacity.
 ///
@@ -82,13 +83,13 @@ impl<A: Allocator> Outcome<'_, A> {
 ///
 /// That of [`read_sample`], [`rows_of`], [`all_windows_of`] and [`all_best_shares_of`]. The trace
 /// stays in memory until the call returns.
-pub fn replay_source<'a, R: Source, P: Write, S: BuildHasher + Drop, A: Allocator + Copy>(
+pub fn replay_source<'a, R: Source, P: Write, C: Clock, S: BuildHasher + Drop, A: Allocator + Copy>(
     alloc: A,
     options: &Options<A>,
     name: &'a str,
     hasher: S,
     reader: &mut R,
-    progress: &mut Progress<P>,
+    progress: &mut Progress<P, C>,
 ) -> Result<Outcome<'a, A>, SimulationError>
     ensures ok { IfOk result (λ outcome. IsReplayed (R.given reader.old) (R.given reader.new) (R.remaining reader.old) (R.remaining reader.new) options.now.trace_format
         options.now.sample options.now.policies.items options.now.shares options.now.skipped
@@ -110,7 +111,7 @@ pub fn replay_source<'a, R: Source, P: Write, S: BuildHasher + Drop, A: Allocato
         progress,
     )?;
     let summary = summary_of(alloc, &trace)?;
-    progress.warn_of(name, &summary);
+    progress.warn_of(name, &summary, options.skipped);
     let rows = asked_rows(alloc, options, &trace, progress)?;
     let byte_rows = asked_byte_rows(alloc, options, &trace)?;
     let windows = asked_windows(alloc, options, &rows, &trace)?;
@@ -128,11 +129,11 @@ pub fn replay_source<'a, R: Source, P: Write, S: BuildHasher + Drop, A: Allocato
 }
 
 /// Returns a row for each capacity, as much smaller as the sample is.
-fn asked_rows<P: Write, A: Allocator + Copy>(
+fn asked_rows<P: Write, C: Clock, A: Allocator + Copy>(
     alloc: A,
     options: &Options<A>,
     trace: &Trace<A>,
-    progress: &mut Progress<P>,
+    progress: &mut Progress<P, C>,
 ) -> Result<Vec<Row<A>, A>, SimulationError>
     ensures rows { IfOk result (λ rows. AreRows options.now.policies.items options.now.shares options.now.skipped trace.now
         (map (scaled options.now.sample) options.now.capacities.items) rows.items) }

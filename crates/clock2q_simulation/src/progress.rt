@@ -1,7 +1,9 @@
 //! The progress of a long simulation, shown to a person.
 
 use crate::summary::Summary;
+use std::io;
 use std::io::Write;
+use std::time::{Clock, Duration, Instant};
 
 /// The number of keys read between two reports if the length of a trace isn't known, and the
 /// smallest number of keys of a long trace.
@@ -13,21 +15,39 @@ const LONG: u64 = 1_000_000;
 /// What goes back to the beginning of a terminal's line and erases it.
 const ERASED: &str = "\r\x1b[K";
 
+/// A clock that can't be read: no time left is shown.
+#[derive(Clone, Copy, Debug)]
+pub struct NoClock;
+
+impl Clock for NoClock {
+    fn monotonic(&self) -> io::Result<Duration> {
+        Err(io::Error::from(io::ErrorKind::Unsupported))
+    }
+
+    fn since_1970(&self) -> io::Result<Duration> {
+        Err(io::Error::from(io::ErrorKind::Unsupported))
+    }
+}
+
 /// The progress of a long simulation, in one line of a terminal that is written over: how much of a
 /// trace was read, in percent if its length is known and else in millions of keys; then the
-/// capacity at which it is replayed. A failed write is ignored, and the simulation goes on.
+/// capacity at which it is replayed. With a clock the line also has the seconds that are left, of
+/// the reading or of the replays, if they go on as so far. A failed write is ignored, and the
+/// simulation goes on.
 ///
 /// # Example
 ///
 /// ```
-/// let mut progress = Progress::new(rt.stderr(), rt.stderr().is_terminal());
+/// let is_shown = rt.stderr().is_terminal();
+/// let mut progress = Progress::with_clock(rt.stderr(), is_shown, &rt);
 /// progress.begin(Some(9_000_000)); // bytes
 /// let trace = read_trace(alloc, hasher, "-", TraceFormat::Lines, reader, &mut progress)?;
 /// progress.end();
 /// ```
 #[derive(Drop)]
-pub struct Progress<W> {
+pub struct Progress<W, C = NoClock> {
     writer: W,
+    clock: C,
     is_shown: bool,
     // The number of bytes of the trace, if it is known.
     length: Option<u64>,
@@ -37,18 +57,29 @@ pub struct Progress<W> {
     reported: u64,
     // Whether something is in the line.
     is_begun: bool,
+    // When the trace or its replays began, if there is a clock.
+    start: Option<Instant>,
 }
 
-impl<W: Write> Progress<W> {
+impl<W: Write> Progress<W, NoClock> {
     /// Returns progress that goes to `writer`, or is left out if `is_shown` is false.
-    pub fn new(writer: W, is_shown: bool) -> Progress<W> {
+    pub fn new(writer: W, is_shown: bool) -> Progress<W, NoClock> {
+        Progress::with_clock(writer, is_shown, NoClock)
+    }
+}
+
+impl<W: Write, C: Clock> Progress<W, C> {
+    /// Does what [`Progress::new`] does, and shows the time that is left by a clock.
+    pub fn with_clock(writer: W, is_shown: bool, clock: C) -> Progress<W, C> {
         Progress {
             writer,
+            clock,
             is_shown,
             length: None,
             read: 0,
             reported: 0,
             is_begun: false,
+            start: None,
         }
     }
 
@@ -57,6 +88,7 @@ impl<W: Write> Progress<W> {
         self.length = length;
         self.read = 0;
         self.reported = 0;
+        self.start();
     }
 
     /// Erases the line, before anything else is written to the terminal.
@@ -80,7 +112,7 @@ impl<W: Write> Progress<W> {
             self.reported = figure;
             self.is_begun = true;
             let _ = write!(self.writer, "{ERASED}clock2q-simulate: {figure}{unit} read");
-            let _ = self.writer.flush();
+            self.end_line(self.read, self.length);
         }
     }
 
@@ -93,8 +125,34 @@ impl<W: Write> Progress<W> {
                 self.writer,
                 "{ERASED}clock2q-simulate: capacity {capacity}, {number} of {of}"
             );
-            let _ = self.writer.flush();
+            if index == 0 {
+                self.start();
+            }
+            self.end_line(index as u64, Some(of as u64));
         }
+    }
+
+    /// Notes the time at which something begins.
+    fn start(&mut self) {
+        self.start = if self.is_shown {
+            Instant::now(&self.clock).ok()
+        } else {
+            None
+        };
+    }
+
+    /// Adds the time that is left after a part of a whole to the line, if there is a clock and they
+    /// are known.
+    fn end_line(&mut self, part: u64, whole: Option<u64>) {
+        if let (Some(start), Some(whole)) = (self.start, whole) {
+            if let Ok(elapsed) = start.elapsed(&self.clock) {
+                if part > 0 {
+                    let seconds = seconds_left(elapsed, part, whole);
+                    let _ = write!(self.writer, ", {seconds} s left");
+                }
+            }
+        }
+        let _ = self.writer.flush();
     }
 
     /// Writes a warning if the first bytes of a trace are those of a compressed file, whether
@@ -112,8 +170,9 @@ impl<W: Write> Progress<W> {
         );
     }
 
-    /// Writes a warning if a trace is suspicious, whether progress is shown or not.
-    pub(crate) fn warn_of(&mut self, name: &str, summary: &Summary) {
+    /// Writes a warning if a trace is suspicious, or if all its accesses are skipped, whether progress
+    /// is shown or not.
+    pub(crate) fn warn_of(&mut self, name: &str, summary: &Summary, skipped: usize) {
         if summary.is_nearly_all_once() {
             self.end();
             let _ = writeln!(
@@ -121,7 +180,21 @@ impl<W: Write> Progress<W> {
                 "clock2q-simulate: {name}: warning: more than 99 of 100 keys are asked for once: is each line a key?"
             );
         }
+        if summary.is_all_skipped(skipped) {
+            let accesses = summary.accesses;
+            self.end();
+            let _ = writeln!(
+                self.writer,
+                "clock2q-simulate: {name}: warning: --skip={skipped} leaves none of {accesses} accesses to count"
+            );
+        }
     }
+}
+
+/// Returns how many seconds the rest of a whole takes, if its part took some time.
+fn seconds_left(elapsed: Duration, part: u64, whole: u64) -> u128 {
+    let rest = whole.saturating_sub(part) as u128;
+    elapsed.as_millis().saturating_mul(rest) / (part.max(1) as u128) / 1000
 }
 
 /// Returns the percentage that a number is of another.

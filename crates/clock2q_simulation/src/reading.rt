@@ -13,6 +13,7 @@ use clock2q_ports::Source;
 use std::alloc::Allocator;
 use std::hash::BuildHasher;
 use std::io::Write;
+use std::time::Clock;
 
 /// The number of bytes requested at a time.
 const BLOCK: usize = 65536;
@@ -31,13 +32,13 @@ const BLOCK: usize = 65536;
 /// That of [`GrowingTrace::push`](crate::GrowingTrace::push) for each record. Memory in proportion
 /// to the number of records and to the bytes of the different keys; 8 bytes more a record if the
 /// format has sizes.
-pub fn read_trace<R: Source, W: Write, S: BuildHasher + Drop, A: Allocator + Copy>(
+pub fn read_trace<R: Source, W: Write, C: Clock, S: BuildHasher + Drop, A: Allocator + Copy>(
     alloc: A,
     hasher: S,
     name: &str,
     format: TraceFormat,
     reader: &mut R,
-    progress: &mut Progress<W>,
+    progress: &mut Progress<W, C>,
 ) -> Result<Trace<A>, SimulationError>
     ensures read { ReadsTrace (R.given reader.old) (R.given reader.new) (R.remaining reader.old) (R.remaining reader.new) format (λ trace. trace.accesses) result }
     ensures whole { IfOk result (λ trace. trace.sample ≡ None) }
@@ -56,14 +57,14 @@ pub fn read_trace<R: Source, W: Write, S: BuildHasher + Drop, A: Allocator + Cop
 /// # Cost
 ///
 /// That of [`read_trace`] for the keys in the sample, and a pass over the bytes of the others.
-pub fn read_sample<R: Source, W: Write, S: BuildHasher + Drop, A: Allocator + Copy>(
+pub fn read_sample<R: Source, W: Write, C: Clock, S: BuildHasher + Drop, A: Allocator + Copy>(
     alloc: A,
     hasher: S,
     sample: Option<Sample>,
     name: &str,
     format: TraceFormat,
     reader: &mut R,
-    progress: &mut Progress<W>,
+    progress: &mut Progress<W, C>,
 ) -> Result<Trace<A>, SimulationError>
     ensures read { ReadsTrace (R.given reader.old) (R.given reader.new) (R.remaining reader.old) (R.remaining reader.new) format (λ trace. trace.accesses) result }
     ensures sample { IfOk result (λ trace. trace.sample ≡ sample) }

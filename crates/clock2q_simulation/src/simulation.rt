@@ -28,6 +28,7 @@ use std::alloc::Allocator;
 use std::hash::BuildHasher;
 use std::io::Write;
 use std::num::NonZeroUsize;
+use std::time::Clock;
 
 /// Reads one trace, replays it in caches of each capacity, and writes the result: [`replay_source`]
 /// for standard input and [`write_outcomes`].
@@ -36,13 +37,13 @@ use std::num::NonZeroUsize;
 ///
 /// Those of [`replay_source`], then those of [`write_outcomes`]; `Memory` also between them.
 /// Nothing is written before any error other than `Write`.
-pub fn simulate<R: Source, W: Sink, P: Write, S: BuildHasher + Drop, A: Allocator + Copy>(
+pub fn simulate<R: Source, W: Sink, P: Write, C: Clock, S: BuildHasher + Drop, A: Allocator + Copy>(
     alloc: A,
     options: &Options<A>,
     hasher: S,
     reader: &mut R,
     writer: &mut W,
-    progress: &mut Progress<P>,
+    progress: &mut Progress<P, C>,
 ) -> Result<(), SimulationError>
     ensures ok { OnOk result (IsSimulated (R.given reader.old) (R.given reader.new) (R.remaining reader.old) (R.remaining reader.new) options.now.trace_format
         (W.taken writer.old) (W.taken writer.new) (W.contents writer.old) (W.contents writer.new)) }
@@ -101,14 +102,14 @@ pub fn write_outcomes<W: Sink, A: Allocator + Copy>(
 ///
 /// That of [`replay`](crate::replay) for each capacity; but LRU takes one pass for all capacities, by
 /// [`lru_hits_at`](clock2q_policies::lru_hits_at), if there are at least ten.
-pub fn rows_of<P: Write, A: Allocator + Copy>(
+pub fn rows_of<P: Write, C: Clock, A: Allocator + Copy>(
     alloc: A,
     trace: &Trace<A>,
     capacities: &[Amount],
     policies: &[Policy],
     shares: Option<ChosenShares>,
     skipped: usize,
-    progress: &mut Progress<P>,
+    progress: &mut Progress<P, C>,
 ) -> Result<Vec<Row<A>, A>, SimulationError>
     ensures rows { IfOk result (λ rows. AreRows policies.now shares skipped trace.now capacities.now rows.items) }
     ensures bytes { IfOk result (λ rows. HaveBytes shares trace.now.numbers (sizes_of trace.now) skipped rows.items) }

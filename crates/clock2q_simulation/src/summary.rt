@@ -36,6 +36,13 @@ impl Summary {
         let (keys, once) = (self.keys as u128, self.keys_once as u128);
         keys >= 100 && 99 * keys < 100 * once
     }
+
+    /// Returns true if accesses are skipped, and none is left.
+    pub fn is_all_skipped(&self, skipped: usize) -> bool
+        ensures skipped { result ≡ (ltb 0 skipped && leb self.now.accesses skipped) }
+    {
+        skipped > 0 && self.accesses <= skipped
+    }
 }
 
 /// Returns the figures of a trace. Uses a byte for each key while it runs.

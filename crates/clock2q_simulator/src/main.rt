@@ -3,8 +3,8 @@
 
 use clock2q_ports::{Device, Source, send};
 use clock2q_simulation::{
-    ErrorReport, Options, Outcome, Progress, STANDARD_INPUT, SimulationError, help_for,
-    parse_options, replay_source, write_outcomes,
+    ErrorReport, KeyedHashBuilder, Options, Outcome, Progress, STANDARD_INPUT, SimulationError,
+    help_for, parse_options, replay_source, write_outcomes,
 };
 use std::alloc::Global;
 use std::env;
@@ -65,7 +65,7 @@ fn run(rt: &HostRuntime, arguments: &[String]) -> Result<(), Ended> {
         ));
     }
     let options = parse_options(rt.alloc(), arguments).map_err(Ended::at_none)?;
-    let mut progress = Progress::new(rt.stderr(), rt.stderr().is_terminal());
+    let mut progress = Progress::with_clock(rt.stderr(), rt.stderr().is_terminal(), rt);
     let replayed = replay_all(rt, &options, arguments, &mut progress);
     progress.end();
     let outcomes = replayed?;
@@ -77,7 +77,7 @@ fn replay_all<'a>(
     rt: &HostRuntime,
     options: &Options<Global>,
     arguments: &'a [String],
-    progress: &mut Progress<Stderr>,
+    progress: &mut Progress<Stderr, &HostRuntime>,
 ) -> Result<Vec<Outcome<'a, Global>>, Ended> {
     let mut outcomes = Vec::new(rt.alloc());
     if options.traces.is_empty() {
@@ -122,7 +122,7 @@ fn replay_named<'a>(
     rt: &HostRuntime,
     options: &Options<Global>,
     name: &'a str,
-    progress: &mut Progress<Stderr>,
+    progress: &mut Progress<Stderr, &HostRuntime>,
 ) -> Result<Outcome<'a, Global>, SimulationError> {
     if name == STANDARD_INPUT {
         progress.begin(None);
@@ -151,10 +151,13 @@ fn replay<'a, R: Source>(
     options: &Options<Global>,
     name: &'a str,
     reader: &mut R,
-    progress: &mut Progress<Stderr>,
+    progress: &mut Progress<Stderr, &HostRuntime>,
 ) -> Result<Outcome<'a, Global>, SimulationError> {
     match RandomState::new(rt) {
-        Ok(hasher) => replay_source(rt.alloc(), options, name, hasher, reader, progress),
+        Ok(random) => {
+            let hasher = KeyedHashBuilder::new(&random);
+            replay_source(rt.alloc(), options, name, hasher, reader, progress)
+        }
         Err(_) => {
             let hasher = BuildHasherDefault::<FoldHasher>::new();
             replay_source(rt.alloc(), options, name, hasher, reader, progress)
