@@ -6,8 +6,8 @@ ghost use Rattle.clock2q_simulation.specs.KeyedHasher as keyed;
 use std::hash::{BuildHasher, Hasher, RandomState};
 
 /// Makes hashers for keys that strangers choose: each multiplies by a number that they can't know.
-/// For short keys it takes a tenth of the instructions of a `RandomState`, which is made to keep
-/// such a number secret even from those who see many hashes. The program shows none.
+/// It takes fewer instructions than a `RandomState`, which is made to keep such numbers secret even
+/// from those who see many hashes: use it only where no hash is shown.
 ///
 /// # Example
 ///

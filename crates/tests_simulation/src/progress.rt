@@ -65,6 +65,7 @@ fn progress_in_percent(rt: HostRuntime) -> Result<(), Fail> {
 }
 
 /// A clock on which ten seconds pass before each reading.
+#[derive(Drop)]
 struct Ticking {
     tens: Cell<u64>,
 }
