@@ -315,6 +315,15 @@ static inline bool clock2q_find(clock2q *cache, uint64_t key, size_t *slot) {
     return found.is_found;
 }
 
+/* clock2q_enter for a key that has no slot. Returns false, with `place` as it was, and changes nothing if the
+ * key has one: no call gives a key two slots, whatever its caller believes. Needs a cache. Costs two hashes. */
+static inline bool clock2q_add(clock2q *cache, uint64_t key, clock2q_place *place) {
+    assert(place != NULL);
+    if (clock2q_contains(cache, key)) return false;
+    *place = clock2q_enter_key(cache, key);
+    return true;
+}
+
 /* clock2q_evict_key, which writes to `place` and returns true. Returns false, with `place` as it was, if
  * no key has a slot. */
 static inline bool clock2q_evict(clock2q *cache, clock2q_place *place) {

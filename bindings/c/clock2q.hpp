@@ -19,6 +19,7 @@
 #include <iterator>
 #include <memory>
 #include <new>
+#include <optional>
 #include <stdexcept>
 #include <tuple>
 #include <type_traits>
@@ -68,6 +69,12 @@ class page_cache {
 
     // Finds the slot of a key and records a hit, or gives the key a slot, which another key may lose.
     clock2q_place enter(std::uint64_t key) noexcept { return clock2q_enter_key(&handle_, key); }
+    // Gives a key that has no slot one, and returns its place. Returns nothing, and changes nothing, if it has one.
+    std::optional<clock2q_place> add(std::uint64_t key) noexcept {
+        clock2q_place place;
+        if (!clock2q_add(&handle_, key, &place)) return std::nullopt;
+        return place;
+    }
     // Finds the slot of a key and records a hit, if the key has one.
     clock2q_found find(std::uint64_t key) noexcept { return clock2q_find_key(&handle_, key); }
     // Returns true, after a hit, if the key is at this slot.

@@ -22,19 +22,31 @@ static uint64_t draw(void) {
     return drawn >> 8;
 }
 
-static bool enters(struct run *run, uint64_t key) {
+static bool enter(clock2q *cache, uint64_t key, clock2q_place *place) {
+    clock2q_enter(cache, key, place);
+    return true;
+}
+
+/* Enters a key by clock2q_enter or clock2q_add. */
+static bool enters_by(struct run *run, uint64_t key, bool (*call)(clock2q *, uint64_t, clock2q_place *)) {
     clock2q_place place;
     memset(&place, 0xa5, sizeof place); /* no place, as memory that was never written may be none */
     bool is_new = model_slot(&run->model, key) == NOWHERE;
     size_t count = run->model.small.count + run->model.main.count;
-    clock2q_enter(&run->cache, key, &place);
+    bool enters = call(&run->cache, key, &place);
     long slot = model_enter(&run->model, key);
     bool evicted = is_new && run->model.small.count + run->model.main.count == count;
-    bool agrees = (long)place.slot == slot && place.has_last == run->has_last[slot] && place.last == run->last[slot]
+    bool agrees = enters && (long)place.slot == slot && place.has_last == run->has_last[slot] && place.last == run->last[slot]
         && place.evicted == evicted;
     run->has_last[slot] = true;
     run->last[slot] = key;
     return agrees;
+}
+
+static bool adds(struct run *run, uint64_t key) {
+    clock2q_place place = {77, 77, false, false};
+    if (model_slot(&run->model, key) == NOWHERE) return enters_by(run, key, clock2q_add);
+    return !clock2q_add(&run->cache, key, &place) && place.slot == 77 && place.last == 77;
 }
 
 static bool finds(struct run *run, uint64_t key) {
@@ -86,7 +98,8 @@ static bool counts(struct run *run) {
 static bool call_agrees(struct run *run) {
     uint64_t key = draw() % (3 * run->model.capacity);
     unsigned kind = (unsigned)(draw() % 32);
-    if (kind < 16) return enters(run, key);
+    if (kind < 14) return enters_by(run, key, enter);
+    if (kind < 16) return adds(run, key);
     if (kind < 24) return finds(run, key);
     if (kind < 27) return is_at(run, key);
     if (kind < 28) return peeks(run, key);

@@ -556,7 +556,7 @@ static void pages() {
     must(one.next_victim().last == 8 && one.next_victim().slot == slot && !one.next_victim().evicted, "it is next");
     place = one.evict();
     must(place.evicted && place.last == 8 && place.slot == slot && !one.evict().evicted, "it is evicted");
-    one.enter(8);
+    must(one.add(8).has_value() && one.contains(8) && !one.add(8) && one.size() == 1, "it is added once");
     one.clear();
     must(!one.contains(8), "all are");
 }

@@ -17,6 +17,8 @@ static size_t slot;
 static void make(void) { clock2q_new(&made, 2); }
 static void make_with_policy(void) { clock2q_with_policy(&made, 2, 1, 1); }
 static void enter(void) { clock2q_enter(&none, 7, &place); }
+static void add(void) { clock2q_add(&none, 7, &place); }
+static void add_nowhere(void) { clock2q_add(&made, 7, NULL); }
 static void find(void) { clock2q_find(&none, 7, &slot); }
 static void at(void) { clock2q_at(&none, 0, 7); }
 static void contains(void) { clock2q_contains(&none, 7); }
@@ -49,7 +51,7 @@ static bool is_stopped(void (*call)(void)) {
 }
 
 int main(void) {
-    static void (*const calls[])(void) = {make, make_with_policy, enter, find, at, contains, peek, peek_nowhere, take_away, evict, evict_nowhere, clear, len, capacity, release, enter_nowhere, enter_key, find_key, find_nowhere, find_bytes, release_bytes};
+    static void (*const calls[])(void) = {make, make_with_policy, enter, add, add_nowhere, find, at, contains, peek, peek_nowhere, take_away, evict, evict_nowhere, clear, len, capacity, release, enter_nowhere, enter_key, find_key, find_nowhere, find_bytes, release_bytes};
     if (clock2q_new(&made, 2) != CLOCK2Q_DONE) return 1;
     int failed = 0;
     for (size_t i = 0; i < sizeof calls / sizeof *calls; i++) {
