@@ -1,6 +1,8 @@
 //! How many keys each call compares, and how often it hashes a key.
 
-use crate::calls::{ALIKE, APART, CHANGES, Call, Counting, LOOKUPS, make, remove, two_of_three};
+use crate::calls::{
+    ALIKE, APART, CHANGES, Call, Counting, ENTRIES, LOOKUPS, make, remove, two_of_three,
+};
 use crate::counted::Counts;
 use clock2q_cache::Cache;
 use std::alloc::Global;
@@ -95,26 +97,16 @@ fn each_asks(
 fn keys_apart_are_not_asked(rt: HostRuntime) -> Result<(), Fail> {
     each_asks(rt.alloc(), APART, &LOOKUPS, [(3, 1), (1, 0), (4, 0)])?;
     each_asks(rt.alloc(), APART, &CHANGES, [(3, 1), (1, 1), (4, 0)])?;
-    each_asks(
-        rt.alloc(),
-        APART,
-        &[Call::SlotFor],
-        [(3, 1), (1, 1), (4, 0)],
-    )
+    each_asks(rt.alloc(), APART, &ENTRIES, [(3, 1), (1, 1), (4, 0)])
 }
 
 /// All residents before a key are asked, and the remembered keys before it if the call looks into
-/// the history too. `get_or_insert_mut` looks into the history after all residents were asked.
+/// the history too, which `get_or_insert_mut` and `enter` do after all residents were asked.
 #[test]
 fn keys_alike_are_asked_once(rt: HostRuntime) -> Result<(), Fail> {
     each_asks(rt.alloc(), ALIKE, &LOOKUPS, [(3, 2), (1, 2), (4, 2)])?;
     each_asks(rt.alloc(), ALIKE, &CHANGES, [(3, 3), (1, 1), (4, 3)])?;
-    each_asks(
-        rt.alloc(),
-        ALIKE,
-        &[Call::SlotFor],
-        [(3, 2), (1, 3), (4, 3)],
-    )
+    each_asks(rt.alloc(), ALIKE, &ENTRIES, [(3, 2), (1, 3), (4, 3)])
 }
 
 /// Returns true if a key is found at the slot.

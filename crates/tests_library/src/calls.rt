@@ -49,6 +49,7 @@ pub(crate) enum Call {
     Try,
     TryMut,
     SlotFor,
+    Enter,
     Remove,
 }
 
@@ -73,6 +74,9 @@ pub(crate) const CHANGES: [Call; 7] = [
     Call::Remove,
 ];
 
+/// The calls that look into the history only after all residents were asked.
+pub(crate) const ENTRIES: [Call; 2] = [Call::SlotFor, Call::Enter];
+
 /// Makes a call with a key.
 pub(crate) fn make<'a>(cache: &mut Counting<'a>, call: Call, key: Counted<'a>) {
     match call {
@@ -88,6 +92,7 @@ pub(crate) fn make<'a>(cache: &mut Counting<'a>, call: Call, key: Counted<'a>) {
         Call::Try => drop(cache.try_get_or_insert_with(key, || Ok::<u64, ()>(0))),
         Call::TryMut => drop(cache.try_get_or_insert_with_mut(key, || Ok::<u64, ()>(0))),
         Call::SlotFor => drop(cache.get_or_insert_mut(key, || 0)),
+        Call::Enter => drop(cache.enter(key, || 0)),
         Call::Remove => drop(cache.remove(&key)),
     }
 }

@@ -1,6 +1,6 @@
 //! When keys are dropped: each once.
 
-use crate::calls::{APART, CHANGES, Call, Counting, LOOKUPS, make, remove, two_of_three};
+use crate::calls::{APART, CHANGES, Call, Counting, ENTRIES, LOOKUPS, make, remove, two_of_three};
 use crate::counted::Counts;
 use std::test::Fail;
 use testing::same;
@@ -60,12 +60,14 @@ fn call_all<'a>(cache: &mut Counting<'a>, counts: &'a Counts) {
             make(cache, call, counts.key(id));
             make(cache, Call::Put, counts.key(7));
         }
-        make(cache, Call::SlotFor, counts.key(id));
-        make(cache, Call::Put, counts.key(7));
+        for call in ENTRIES {
+            make(cache, call, counts.key(id));
+            make(cache, Call::Put, counts.key(7));
+        }
     }
 }
 
-/// Three keys are made for the cache, and twenty-one for the calls with each id.
+/// Three keys are made for the cache, and twenty-three for the calls with each id.
 #[test]
 fn no_key_outlives_its_cache(rt: HostRuntime) -> Result<(), Fail> {
     let counts = Counts::new();
@@ -73,5 +75,5 @@ fn no_key_outlives_its_cache(rt: HostRuntime) -> Result<(), Fail> {
     call_all(&mut cache, &counts);
     cache.retain(|_, value| *value > 0);
     drop(cache);
-    dropped(&counts, (108, 0))
+    dropped(&counts, (118, 0))
 }
