@@ -14,7 +14,7 @@ use crate::tokens::token::Token;
 use std::hash::{BuildHasher, BuildHasherDefault, Hash, Hasher};
 
 /// Returns the slot that comes after `nth` others among those of the tokens that have this hash, if
-/// there are so many. It records no hit.
+/// there is one. It records no hit.
 ///
 /// # Cost
 ///
