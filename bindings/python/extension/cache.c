@@ -31,8 +31,9 @@ static int cache_init(Cache *self, PyObject *args, PyObject *keywords) {
     PyObject *weigher = Py_None, *max_weight = Py_None;
     if (!PyArg_ParseTupleAndKeywords(args, keywords, "n|OO:Cache", names, &maxsize, &weigher, &max_weight)) return -1;
     if (read_weights(weigher, max_weight, &most) < 0) return -1;
-    if (may_make_slots(self->slots.at != NULL, maxsize, "maxsize") < 0) return -1;
-    if (made_slots(clock2q_tokens_new(&self->slots, (size_t)maxsize)) < 0) return -1;
+    if (may_make_slots(self->is_made, maxsize, 0, "maxsize") < 0) return -1;
+    if (maxsize > 0 && made_slots(clock2q_tokens_new(&self->slots, (size_t)maxsize)) < 0) return -1;
+    self->is_made = 1;
     self->capacity = self->maxsize = (size_t)maxsize;
     self->weigher = weigher == Py_None ? NULL : Py_NewRef(weigher);
     self->max_weight = (uint64_t)most;

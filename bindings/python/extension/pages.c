@@ -19,7 +19,7 @@ static int pages_init(Pages *self, PyObject *args, PyObject *keywords) {
     static char *names[] = {"capacity", NULL};
     Py_ssize_t capacity;
     if (!PyArg_ParseTupleAndKeywords(args, keywords, "n:PageCache", names, &capacity)) return -1;
-    if (may_make_slots(self->slots.at != NULL, capacity, "capacity") < 0) return -1;
+    if (may_make_slots(self->slots.at != NULL, capacity, 1, "capacity") < 0) return -1;
     return made_slots(clock2q_new(&self->slots, (size_t)capacity));
 }
 

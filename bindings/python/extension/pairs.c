@@ -35,13 +35,13 @@ found_pair look_again(Cache *cache, PyObject *key, uint64_t hash) {
     return (found_pair){too_many_tries(), 0};
 }
 
-int may_make_slots(int has_slots, Py_ssize_t capacity, const char *name) {
-    if (has_slots) {
+int may_make_slots(int is_made, Py_ssize_t capacity, Py_ssize_t least, const char *name) {
+    if (is_made) {
         PyErr_SetString(PyExc_RuntimeError, "__init__ is called once");
         return -1;
     }
-    if (capacity >= 1 && capacity <= CLOCK2Q_MAX_CAPACITY) return 0;
-    PyErr_Format(PyExc_ValueError, "%s is from 1 to %d", name, CLOCK2Q_MAX_CAPACITY);
+    if (capacity >= least && capacity <= CLOCK2Q_MAX_CAPACITY) return 0;
+    PyErr_Format(PyExc_ValueError, "%s is from %zd to %d", name, least, CLOCK2Q_MAX_CAPACITY);
     return -1;
 }
 
@@ -52,8 +52,12 @@ int made_slots(uint32_t status) {
 }
 
 int make_pairs(Cache *cache) {
-    if (cache->slots.at == NULL) {
+    if (!cache->is_made) {
         PyErr_SetString(PyExc_RuntimeError, "Cache.__init__ wasn't called");
+        return -1;
+    }
+    if (cache->capacity == 0) {
+        PyErr_SetString(PyExc_ValueError, "value too large: maxsize is 0");
         return -1;
     }
     pair *pairs = PyMem_Calloc(cache->capacity, sizeof *pairs);

@@ -20,10 +20,10 @@ typedef struct {
 
 typedef struct {
     PyObject_HEAD
-    clock2q_tokens slots; /* none before __init__ */
+    clock2q_tokens slots; /* none before __init__, or if there is room for no pair */
     uint64_t number;  /* the last of a token, of those that aren't 0 */
     pair *pairs;      /* `capacity` of them, each at the slot of its key; NULL until one is stored */
-    size_t capacity;  /* how many slots there are; 0 before __init__ */
+    size_t capacity;  /* how many slots there are; 0 if there are none */
     size_t maxsize;   /* how many pairs there are at most */
     size_t reached;   /* above the highest slot that has had a pair */
     uint64_t version; /* how often a pair was stored, replaced or removed */
@@ -33,6 +33,7 @@ typedef struct {
     uint64_t weight;     /* their sum */
     uint64_t max_weight; /* the most that it may be */
     PyObject *weak_references;
+    char is_made;     /* whether __init__ was called */
     char has_missing; /* whether the type had __missing__ when the cache was made */
 } Cache;
 
@@ -95,7 +96,7 @@ int store_pair(Cache *cache, PyObject *key, uint64_t hash, PyObject *value);
  * one, all at once. They are dropped last. */
 int store_within(Cache *cache, PyObject *key, uint64_t hash, PyObject *value);
 
-/* Makes room for pairs. Returns -1 with an exception if that fails. */
+/* Makes room for pairs. Returns -1 with an exception if that fails, or if there may be none. */
 int make_pairs(Cache *cache);
 
 /* Replaces the value at the slot of a key. */
@@ -124,9 +125,9 @@ pair take_pair(Cache *cache, size_t slot);
 /* Removes all pairs, and has the library forget their hashes. */
 void clear_pairs(Cache *cache);
 
-/* Returns 0 if the library's cache can be made: there is none, and the capacity isn't refused. Returns -1
- * with an exception otherwise. */
-int may_make_slots(int has_slots, Py_ssize_t capacity, const char *name);
+/* Returns 0 if a cache can be made: it isn't made yet, and the capacity isn't refused. Returns -1 with an
+ * exception otherwise. */
+int may_make_slots(int is_made, Py_ssize_t capacity, Py_ssize_t least, const char *name);
 
 /* Returns 0 if the library made a cache, or -1 with an exception. */
 int made_slots(uint32_t status);

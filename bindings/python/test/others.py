@@ -14,7 +14,7 @@ import clock2q
 
 ORDER = "it counts the misses of LRU"
 PICKLED = "a cache isn't pickled"
-EMPTY = "a cache has room for one key at least"
+OWN = "cachetools asks its own caches alone for their maxsize"
 TYPES = "1 and 1.0 alone are two keys, as functools has it"
 
 LEFT_OUT = {
@@ -24,9 +24,7 @@ LEFT_OUT = {
     "CachetoolsFunctions.test_decorator": TYPES,
     "CachetoolsFunctions.test_decorator_unbound": TYPES,
     "CachetoolsFunctions.test_decorator_user_function": TYPES,
-    "CachetoolsMethods.test_nospace": EMPTY,
-    "CachetoolsMethods.test_locked_nospace": EMPTY,
-    "CachetoolsMethods.test_unhashable": EMPTY,
+    "CachetoolsWrapper.test_zero_size_cache_decorator_info": OWN,
 }
 
 
@@ -87,8 +85,8 @@ def cachetools_tests(folder):
     class CachetoolsFunctions(test_func.DecoratorTestMixin, unittest.TestCase):
         DECORATOR = staticmethod(clock2q.cached)
 
-    # Those over a mapping that isn't of cachetools' classes.
-    class CachetoolsWrapper(test_cached.DictWrapperTest):
+    # Those over a mapping that isn't of cachetools' classes, and those of a cache without room.
+    class CachetoolsWrapper(test_cached.DictWrapperTest, test_cached.CacheWrapperTest):
         def cache(self, minsize):
             return clock2q.Cache(minsize)
 

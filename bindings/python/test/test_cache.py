@@ -122,7 +122,7 @@ class MappingTest(unittest.TestCase):
         self.assertGreater(cache.hits, 19_000)
 
     def test_refusals(self):
-        for maxsize in (0, -1, MAX_CAPACITY + 1, 2**62):
+        for maxsize in (-1, MAX_CAPACITY + 1, 2**62):
             with self.assertRaises(ValueError):
                 Cache(maxsize)
         for arguments in ((), ("10",), (1.5,), (None,), (1, 2)):
@@ -144,6 +144,22 @@ class MappingTest(unittest.TestCase):
         with self.assertRaises(RuntimeError):
             cache.__init__(2)
         self.assertEqual((len(cache), cache.maxsize), (0, 1))
+
+    def test_without_room(self):
+        for cache in (Cache(0), Cache(0, lambda key, value: 0, 5)):
+            for store in (cache.__setitem__, cache.setdefault):
+                with self.assertRaisesRegex(ValueError, "value too large: maxsize is 0"):
+                    store("a", 1)
+            self.assertEqual((len(cache), list(cache), cache.maxsize, cache.get("a"), cache.pop("a", 1)), (0, [], 0, None, 1))
+            self.assertEqual((cache.misses, cache.next_victim(), repr(cache)), (2, None, "Cache({}, maxsize=0, currsize=0)"))
+            cache.clear()
+            for call in (cache.popitem, lambda: cache["a"]):
+                with self.assertRaises(KeyError):
+                    call()
+            with self.assertRaises(ValueError):
+                cache.resize(1)
+            with self.assertRaises(RuntimeError):
+                cache.__init__(1)
 
     def test_neither_pickled_nor_copied(self):
         for copied in (copy.copy, copy.deepcopy, pickle.dumps):

@@ -58,10 +58,11 @@ class ValuesView(abc.ValuesView):
 
 
 class Cache(_extension.Cache, abc.MutableMapping):
-    """Cache(maxsize, weigher=None, max_weight=None): a mapping of at most maxsize keys, from 1 to MAX_CAPACITY.
+    """Cache(maxsize, weigher=None, max_weight=None): a mapping of at most maxsize keys, from 0 to MAX_CAPACITY.
 
     When a new key comes to a full cache, the replacement chooses one that leaves. All memory but that of
-    keys and values is taken when the cache is made and when the first pair is stored.
+    keys and values is taken when the cache is made and when the first pair is stored. If maxsize is 0, to
+    store a pair raises ValueError.
 
     weigher(key, value) returns what a pair weighs, an int from 0, and is called once before it is stored. Pairs
     leave until all weigh at most max_weight together. ValueError is raised for a pair that alone is heavier,
