@@ -237,6 +237,10 @@ class ModelTest(unittest.TestCase):
             for maxsize in (1, 2, 10):
                 self.check(maxsize, [kind(number) for number in range(30)], 10_000, random.Random(maxsize))
 
+    def test_a_million_calls(self):
+        for kind, count, calls in ((int, 300, 600_000), (Key, 300, 200_000), (TwoBits, 30, 100_000), (SameHash, 30, 100_000)):
+            self.check(count // 3, [kind(number) for number in range(count)], calls, random.Random(3))
+
     def test_keys_of_one_hash_have_slots_of_their_own(self):
         cache = Cache(10)
         for number in range(10):
