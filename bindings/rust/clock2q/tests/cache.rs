@@ -3,7 +3,7 @@
 mod common;
 
 use clock2q::{Cache, PageCache, Refused, MAX_CAPACITY};
-use common::{Constant, Draws, Good, Itself, TwoBits, CALLS};
+use common::{calls, Constant, Draws, Good, Itself, TwoBits};
 use std::collections::HashMap;
 use std::hash::BuildHasher;
 
@@ -175,7 +175,7 @@ fn agrees<S: BuildHasher + Default>(most: usize) {
     for capacity in CAPACITIES {
         let mut beside = Beside::<S>::new(capacity);
         let mut draws = Draws(88_172_645_463_325_252);
-        for number in 0..CALLS / CAPACITIES.len() {
+        for number in 0..calls() / CAPACITIES.len() {
             beside.call(&mut draws, number as u64);
             assert!(beside.cache.len() <= most.min(capacity));
         }
@@ -225,7 +225,7 @@ fn keys_leave_as_their_hashes_do() {
             Cache::with_hasher(capacity, Itself::default()).expect("a cache");
         let mut pages = PageCache::new(capacity).expect("a cache");
         let mut draws = Draws(1);
-        for number in 0..CALLS / CAPACITIES.len() {
+        for number in 0..calls() / CAPACITIES.len() {
             let key = draws.below(3 * capacity as u64);
             match draws.below(100) {
                 0..=9 => assert_eq!(cache.remove(&key).is_some(), pages.remove(key)),

@@ -3,7 +3,7 @@
 mod common;
 
 use clock2q::{Cache, PageCache, Refused, WeightedCache};
-use common::{Constant, Draws, Good, Itself, TwoBits, CALLS};
+use common::{calls, Constant, Draws, Good, Itself, TwoBits};
 use std::collections::HashMap;
 use std::hash::BuildHasher;
 use std::panic::{catch_unwind, AssertUnwindSafe};
@@ -34,7 +34,7 @@ fn what_leaves_is_what_would_leave_for_a_new_key() {
         let mut evicting = PageCache::new(capacity).expect("a cache");
         let mut entering = PageCache::new(capacity).expect("a cache");
         let mut draws = Draws(1);
-        for number in 0..CALLS / 10 / CAPACITIES.len() {
+        for number in 0..calls() / 10 / CAPACITIES.len() {
             let key = draws.below(3 * capacity as u64);
             assert_eq!(evicting.enter(key).slot, entering.enter(key).slot);
             if evicting.len() == capacity && draws.below(20) == 0 {
@@ -56,7 +56,7 @@ fn resizes<S: BuildHasher + Default>() {
             Cache::with_hasher(capacity, S::default()).expect("a cache");
         let mut stored = HashMap::new();
         let mut draws = Draws(1);
-        for number in 0..(CALLS / 4 / CAPACITIES.len()) as u64 {
+        for number in 0..(calls() / 4 / CAPACITIES.len()) as u64 {
             if draws.below(50) == 0 {
                 let limit = 1 + draws.below(capacity as u64) as usize;
                 assert_eq!(cache.resize(limit), Ok(()));
@@ -160,7 +160,7 @@ fn weighs<S: BuildHasher + Default>() {
                     .expect("a cache");
             let mut stored = HashMap::new();
             let mut draws = Draws(1);
-            for number in 0..(CALLS / 40 / CAPACITIES.len()) as u64 {
+            for number in 0..(calls() / 40 / CAPACITIES.len()) as u64 {
                 let key = draws.below(3 * capacity as u64);
                 match draws.below(40) {
                     0..=23 => store(&mut cache, &mut stored, key, number * 8 + draws.below(9)),

@@ -3,7 +3,7 @@
 mod common;
 
 use clock2q::{Cache, Entry};
-use common::{Draws, TwoBits, CALLS};
+use common::{calls, Draws, TwoBits};
 use std::cell::{Cell, RefCell};
 use std::collections::HashMap;
 use std::hash::{Hash, Hasher};
@@ -156,8 +156,8 @@ fn survives<S: std::hash::BuildHasher + Default>(drops_panic: bool) {
         });
         let mut cache = Pairs::with_hasher(capacity, S::default()).expect("a cache");
         let mut draws = Draws(7);
-        let mut panics = 0;
-        for _ in 0..CALLS / 40 {
+        let (rounds, mut panics) = (calls() / 40, 0);
+        for _ in 0..rounds {
             let kind = draws.below(200).saturating_sub(184).max(draws.below(12));
             let number = draws.below(1000);
             if draws.below(3) == 0 {
@@ -165,10 +165,10 @@ fn survives<S: std::hash::BuildHasher + Default>(drops_panic: bool) {
             }
             let called = catch_unwind(AssertUnwindSafe(|| call(&mut cache, &watch, kind, number)));
             watch.left.set(None);
-            panics += u64::from(called.is_err());
+            panics += usize::from(called.is_err());
             is_whole(&cache, &watch);
         }
-        assert!(panics > 100);
+        assert!(panics > rounds / 25);
         drop(cache);
         assert!(drops_panic || watch.alive() == 0);
     }

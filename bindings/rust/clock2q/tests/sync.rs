@@ -4,7 +4,7 @@ mod common;
 
 use clock2q::sync::Cache;
 use clock2q::Refused;
-use common::{Constant, Draws, Good, Itself, TwoBits, CALLS};
+use common::{calls, Constant, Draws, Good, Itself, TwoBits};
 use std::collections::HashMap;
 use std::hash::{BuildHasher, Hash, Hasher};
 use std::panic::{catch_unwind, AssertUnwindSafe};
@@ -73,7 +73,7 @@ fn agrees<S: BuildHasher + Default + Sync>() {
     let made: [(usize, usize); 5] = [(1, 1), (3, 2), (10, 16), (100, 7), (1000, 16)];
     for (capacity, shards) in made {
         let cache = Cache::with_shards_and_hasher(capacity, shards, S::default()).expect("a cache");
-        let calls = CALLS / (made.len() * THREADS as usize);
+        let calls = calls() / (made.len() * THREADS as usize);
         in_threads(THREADS, |thread| calls_of_a_thread(&cache, thread, calls));
         assert!(cache.len() <= capacity);
     }

@@ -4,7 +4,7 @@ mod common;
 
 use clock2q::sync::{Cache, WeightedCache};
 use clock2q::Refused;
-use common::{Constant, Draws, Good, Itself, TwoBits, CALLS};
+use common::{calls, Constant, Draws, Good, Itself, TwoBits};
 use std::collections::HashMap;
 use std::hash::BuildHasher;
 use std::panic::{catch_unwind, AssertUnwindSafe};
@@ -31,7 +31,7 @@ fn resizes<S: BuildHasher + Default>() {
         let cache = Cache::with_shards_and_hasher(capacity, shards, S::default()).expect("a cache");
         let mut stored = HashMap::new();
         let mut draws = Draws(1);
-        for number in 0..(CALLS / 8 / MADE.len()) as u64 {
+        for number in 0..(calls() / 8 / MADE.len()) as u64 {
             if draws.below(50) == 0 {
                 let limit = shards + draws.below((capacity - shards) as u64 + 1) as usize;
                 assert_eq!(cache.resize(limit), Ok(()));
@@ -87,7 +87,7 @@ fn threads_go_on_while_it_is_resized() {
     let cache: Cache<u64, u64> = Cache::new(1000).expect("a cache");
     in_threads(THREADS, |thread| {
         let mut draws = Draws(thread + 1);
-        for _ in 0..CALLS / 10 / THREADS as usize {
+        for _ in 0..calls() / 10 / THREADS as usize {
             if thread == 0 && draws.below(20) == 0 {
                 let limit = 16 + draws.below(985) as usize;
                 assert_eq!(cache.resize(limit), Ok(()));
@@ -141,7 +141,7 @@ fn weighs<S: BuildHasher + Default>() {
             let cache: Weights<S> = weights(capacity, max_weight, shards);
             let mut stored = HashMap::new();
             let mut draws = Draws(1);
-            for number in 0..(CALLS / 60 / MADE.len()) as u64 {
+            for number in 0..(calls() / 60 / MADE.len()) as u64 {
                 let key = draws.below(3 * capacity as u64);
                 match draws.below(40) {
                     0..=23 => store(&cache, &mut stored, key, number * 8 + draws.below(9)),
@@ -181,7 +181,7 @@ fn threads_share_weights() {
     let cache: Weights<Good> = weights(1000, 3000, 16);
     in_threads(THREADS, |thread| {
         let mut draws = Draws(thread + 1);
-        for _ in 0..CALLS / 10 / THREADS as usize {
+        for _ in 0..calls() / 10 / THREADS as usize {
             let key = draws.below(3000);
             match draws.below(10) {
                 0..=3 => drop(cache.push(key, draws.below(1000))),

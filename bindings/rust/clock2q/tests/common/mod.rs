@@ -3,12 +3,14 @@
 
 use std::hash::{BuildHasherDefault, Hasher};
 
-/// How many calls each test makes at random, in all its caches.
-pub const CALLS: usize = if cfg!(debug_assertions) {
-    100_000
-} else {
-    1_000_000
-};
+/// Returns how many calls each test makes at random, in all its caches: as many as `CLOCK2Q_CALLS` says, if it's set.
+pub fn calls() -> usize {
+    match std::env::var("CLOCK2Q_CALLS") {
+        Ok(number) => number.parse().expect("CLOCK2Q_CALLS is a number"),
+        Err(_) if cfg!(debug_assertions) => 100_000,
+        Err(_) => 1_000_000,
+    }
+}
 
 /// Draws numbers, by xorshift.
 pub struct Draws(pub u64);
