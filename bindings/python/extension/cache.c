@@ -316,6 +316,7 @@ static PyGetSetDef cache_properties[] = {
     {NULL, NULL, NULL, NULL, NULL}};
 
 static PyType_Slot cache_type_slots[] = {{Py_tp_init, cache_init},
+                                         {Py_tp_doc, "Cache(maxsize, weigher=None, max_weight=None)\n--\n\nWhat clock2q.Cache adds to."},
                                          {Py_tp_dealloc, cache_dealloc},
                                          {Py_tp_traverse, cache_traverse},
                                          {Py_tp_clear, cache_tp_clear},

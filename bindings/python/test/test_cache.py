@@ -1,6 +1,7 @@
 """Tests of clock2q.Cache: python3 -m unittest in this folder, with the built package on PYTHONPATH."""
 
 import copy
+import inspect
 import pickle
 import random
 import unittest
@@ -104,6 +105,9 @@ class MappingTest(unittest.TestCase):
         self.assertEqual(repr(cache), "Cache({'a': 1}, maxsize=3, currsize=1)")
         cache["a"] = cache
         self.assertEqual(repr(cache), "Cache({'a': ...}, maxsize=3, currsize=1)")
+
+    def test_signature(self):
+        self.assertEqual(str(inspect.signature(Cache)), "(maxsize, weigher=None, max_weight=None)")
 
     def test_abstract_types(self):
         cache = Cache(3)
