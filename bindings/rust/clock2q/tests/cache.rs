@@ -326,6 +326,6 @@ fn refusals() {
         Some(Refused::Policy)
     );
     assert_eq!(refused(Cache::with_policy(10, 0, 0)), None);
-    let huge = Cache::<[u8; 1 << 46], ()>::new(MAX_CAPACITY);
+    let huge = Cache::<[u8; 1 << 25], ()>::new(MAX_CAPACITY);
     assert_eq!(huge.err(), Some(Refused::Memory));
 }
