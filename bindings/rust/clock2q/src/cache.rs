@@ -42,6 +42,11 @@ use std::hash::{BuildHasher, Hash};
 /// send(clock2q::Cache::<std::rc::Rc<u8>, String>::new(2));
 /// ```
 ///
+/// ```compile_fail,E0277
+/// fn send<T: Send>(_: T) {}
+/// send(clock2q::Cache::<u8, u8, _>::with_hasher(2, std::rc::Rc::new("a hasher")));
+/// ```
+///
 /// # Example
 ///
 /// ```

@@ -4,7 +4,6 @@ use crate::sys;
 use crate::Refused;
 use std::cell::UnsafeCell;
 use std::fmt;
-use std::marker::PhantomData;
 use std::ptr;
 
 /// The slot of a key, and the key that entered it last before.
@@ -28,13 +27,16 @@ impl Place {
 
 /// Gives keys slots, numbers below its capacity, and chooses which key loses its slot to a new one.
 ///
-/// It is neither `Send` nor `Sync`: no two threads may use it at once, not even to ask. Handing it
-/// over is allowed, since nothing in a cache is bound to a thread, but the compiler can't see that
-/// through calls of C: who does so wraps it in a type that says `Send`.
+/// It may be sent to another thread, but no two threads may use it at once, not even to ask.
 ///
-/// ```compile_fail
+/// ```
 /// fn send<T: Send>(_: T) {}
 /// send(clock2q::PageCache::new(2));
+/// ```
+///
+/// ```compile_fail,E0277
+/// fn share<T: Sync>(_: T) {}
+/// share(clock2q::PageCache::new(2));
 /// ```
 ///
 /// # Example
@@ -54,9 +56,13 @@ impl Place {
 /// # Ok::<(), clock2q::Refused>(())
 /// ```
 pub struct PageCache {
+    /// Not `Sync`.
     handle: UnsafeCell<sys::clock2q>,
-    stays: PhantomData<*mut ()>,
 }
+
+// SAFETY: "What you owe" in bindings/c/clock2q.h allows to hand a cache to another thread by a lock, a start or a
+// join, as for `slots::Slots`.
+unsafe impl Send for PageCache {}
 
 impl PageCache {
     /// Makes a cache for `capacity` keys, which takes all the memory that it will ever use.
@@ -87,10 +93,7 @@ impl PageCache {
             at: ptr::null_mut(),
         });
         Refused::check(make(handle.get()))?;
-        Ok(PageCache {
-            handle,
-            stays: PhantomData,
-        })
+        Ok(PageCache { handle })
     }
 
     /// Returns the handle, in which there is a cache. No two calls use it at once: it is not `Sync`,

@@ -4,6 +4,7 @@ mod common;
 
 use clock2q::{sys, PageCache, Place, Refused, MAX_CAPACITY};
 use common::Draws;
+use std::thread;
 
 #[test]
 fn the_library_has_the_version_of_the_crate() {
@@ -42,6 +43,24 @@ fn slots_are_shared_out() {
             assert!(pages.len() <= capacity);
         }
     }
+}
+
+/// A cache and its memory are used by several threads in turn.
+#[test]
+fn a_cache_goes_from_thread_to_thread() {
+    let mut pages = PageCache::new(100).expect("a cache");
+    for round in 0..4 {
+        let work = move || {
+            for key in 50 * round..50 * round + 80 {
+                pages.enter(key);
+                assert!(pages.contains(key));
+            }
+            pages
+        };
+        pages = thread::spawn(work).join().expect("no panic");
+    }
+    assert_eq!(pages.len(), 100);
+    thread::spawn(move || drop(pages)).join().expect("no panic");
 }
 
 #[test]
