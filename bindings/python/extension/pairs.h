@@ -13,6 +13,10 @@
 #include <clock2q.h>
 #include <structmember.h>
 
+#ifndef Py_NO_INLINE /* before Python 3.11 */
+#define Py_NO_INLINE __attribute__((noinline))
+#endif
+
 /* A key and its value, or neither. */
 typedef struct {
     PyObject *key, *value;

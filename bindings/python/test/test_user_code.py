@@ -263,6 +263,7 @@ class EachByteCodeTest(unittest.TestCase):
             return trace
 
         self.addCleanup(sys.settrace, sys.gettrace())
+        sys._getframe().f_trace_opcodes = True  # Python 3.12 asks for this before it traces
         sys.settrace(trace)
         try:
             call()
