@@ -115,7 +115,7 @@ bool clock2q_at(clock2q *cache, size_t slot, uint64_t key);
 bool clock2q_contains(clock2q *cache, uint64_t key);
 
 /* Finds the slot of a key, if it has one, and records nothing; clock2q_peek below writes the slot instead.
- * So the key that you keep for a slot has it still if its slot is this one. Needs a cache. Costs one hash. */
+ * clock2q_holds below goes through all of them. Needs a cache. Costs one hash. */
 clock2q_found clock2q_peek_key(clock2q *cache, uint64_t key);
 
 /* Takes the slot of a key away and returns true. A key that has none is forgotten, if it was
@@ -339,6 +339,18 @@ static inline bool clock2q_peek(clock2q *cache, uint64_t key, size_t *slot) {
     clock2q_found found = clock2q_peek_key(cache, key);
     if (found.is_found) *slot = found.slot;
     return found.is_found;
+}
+
+/* Returns true if the key has this slot, and records nothing; any number will do for the slot. So this goes through
+ * the keys of a cache, of which you keep the last that entered each slot:
+ *
+ *     for (size_t slot = 0; slot < clock2q_capacity(&cache); slot++)
+ *         if (is_kept[slot] && clock2q_holds(&cache, slot, keys[slot])) use(keys[slot], frames[slot]);
+ *
+ * Needs a cache. Costs one hash. */
+static inline bool clock2q_holds(clock2q *cache, size_t slot, uint64_t key) {
+    clock2q_found found = clock2q_peek_key(cache, key);
+    return found.is_found && found.slot == slot;
 }
 
 /* Frees the cache, if there is one, and leaves none. */

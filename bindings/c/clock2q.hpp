@@ -83,6 +83,8 @@ class page_cache {
     bool contains(std::uint64_t key) noexcept { return clock2q_contains(&handle_, key); }
     // Finds the slot of a key, if the key has one, and records nothing.
     clock2q_found peek(std::uint64_t key) noexcept { return clock2q_peek_key(&handle_, key); }
+    // Returns true if the key has this slot, and records nothing.
+    bool holds(std::size_t slot, std::uint64_t key) noexcept { return clock2q_holds(&handle_, slot, key); }
     // Takes the slot of a key away, or forgets the key, and returns true if it had one.
     bool erase(std::uint64_t key) noexcept { return clock2q_remove(&handle_, key); }
     // Takes the slot away from the key that is to leave next, and returns where it was, as clock2q_evict_key does.

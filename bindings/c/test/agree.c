@@ -71,6 +71,17 @@ static bool is_at(struct run *run, uint64_t key) {
     return clock2q_at(&run->cache, slot, key) == expected;
 }
 
+/* The keys that have slots are found by those that entered the slots last. */
+static bool goes_through(struct run *run) {
+    size_t count = 0;
+    for (size_t slot = 0; slot < run->model.capacity; slot++) {
+        bool holds = run->has_last[slot] && clock2q_holds(&run->cache, slot, run->last[slot]);
+        if (holds != (run->has_last[slot] && model_slot(&run->model, run->last[slot]) == (long)slot)) return false;
+        count += holds;
+    }
+    return count == run->model.small.count + run->model.main.count;
+}
+
 static bool evicts(struct run *run) {
     clock2q_place place = {77, 77, false, false};
     uint64_t key = 77;
@@ -87,6 +98,7 @@ static bool counts(struct run *run) {
     size_t count = run->model.small.count + run->model.main.count;
     bool agrees = clock2q_len(&run->cache) == count && clock2q_capacity(&run->cache) == run->model.capacity;
     if (draw() % 256 == 0) {
+        agrees = goes_through(run) && agrees;
         clock2q_clear(&run->cache);
         model_clear(&run->model);
         memset(run->has_last, 0, run->model.capacity);

@@ -550,7 +550,7 @@ static void pages() {
     page_cache two = std::move(one);
     one = page_cache(3);
     swap(one, two);
-    must(one.contains(7) && one.peek(7).slot == place.slot && !one.peek(8).is_found && one.size() == 1 && one.capacity() == 2 && two.capacity() == 3, "it goes along");
+    must(one.contains(7) && one.holds(place.slot, 7) && !one.holds(place.slot, 8) && one.peek(7).slot == place.slot && !one.peek(8).is_found && one.size() == 1 && one.capacity() == 2 && two.capacity() == 3, "it goes along");
     must(one.erase(7) && !one.erase(7) && one.size() == 0, "it is erased");
     std::size_t slot = one.enter(8).slot;
     must(one.next_victim().last == 8 && one.next_victim().slot == slot && !one.next_victim().evicted, "it is next");

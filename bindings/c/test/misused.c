@@ -23,6 +23,7 @@ static void find(void) { clock2q_find(&none, 7, &slot); }
 static void at(void) { clock2q_at(&none, 0, 7); }
 static void contains(void) { clock2q_contains(&none, 7); }
 static void peek(void) { clock2q_peek(&none, 7, &slot); }
+static void holds(void) { clock2q_holds(&none, 0, 7); }
 static void peek_nowhere(void) { clock2q_peek(&made, 7, NULL); }
 static void take_away(void) { clock2q_remove(&none, 7); }
 static void evict(void) { clock2q_evict(&none, &place); }
@@ -51,7 +52,7 @@ static bool is_stopped(void (*call)(void)) {
 }
 
 int main(void) {
-    static void (*const calls[])(void) = {make, make_with_policy, enter, add, add_nowhere, find, at, contains, peek, peek_nowhere, take_away, evict, evict_nowhere, clear, len, capacity, release, enter_nowhere, enter_key, find_key, find_nowhere, find_bytes, release_bytes};
+    static void (*const calls[])(void) = {make, make_with_policy, enter, add, add_nowhere, find, at, contains, peek, holds, peek_nowhere, take_away, evict, evict_nowhere, clear, len, capacity, release, enter_nowhere, enter_key, find_key, find_nowhere, find_bytes, release_bytes};
     if (clock2q_new(&made, 2) != CLOCK2Q_DONE) return 1;
     int failed = 0;
     for (size_t i = 0; i < sizeof calls / sizeof *calls; i++) {
