@@ -1,53 +1,49 @@
--- Keys whose bytes are stored one after another.
-use Rattle.std.proofs.Common.{◌≡◌, ℕ, zero, suc, ◌+◌, ◌-◌, ◌<◌, ◌≤◌, List, [], ◌∷◌, ◌++◌, length, get_or, take, drop, refl, ap, ◌∙◌, arith, length-append, length-drop}
-use Rattle.std.proofs.lemmas.List.{take-append-le, drop-append-le, take_all, drop_all}
-use Rattle.clock2q_simulation.specs.KnownKeys.{keys_in, AreStarts}
+-- Keys in records, and long ones among other bytes.
+use Rattle.std.proofs.Common.{◌≡◌, ℕ, ◌+◌, ◌<◌, ◌≤◌, inl, inr, List, [], ◌∷◌, ◌++◌, length, get_or, take, drop, refl, ap, ◌∙◌, sym, arith, length-drop, le-leb}
+use Rattle.std.proofs.lemmas.Bool.{cases_lt, lt-leb}
+use Rattle.std.proofs.lemmas.List.{length-map, map-append, take-append-le, drop-append-le, take_all, drop_all}
+use Rattle.std.proofs.lemmas.List.Elements.{All-head, All-tail}
+use Rattle.clock2q_simulation.specs.declared.key_record.KeyRecord.{KeyRecord}
+use Rattle.clock2q_simulation.specs.KnownKeys.{AreKept, IsKept, key_in, keys_in, size_of, start_of}
 
--- there are as many keys as starts
-pub keys-length : (bytes starts : List ℕ) → length (keys_in bytes starts) ≡ length starts
-keys-length bytes [] = refl
-keys-length bytes (s ∷ starts) = ap suc (keys-length bytes starts)
+-- there are as many keys as records
+pub keys-length : (others : List ℕ) (records : List KeyRecord) → length (keys_in others records) ≡ length records
+keys-length others records = length-map records (key_in others)
 
--- the bytes of a key
-pub key-bytes : (bytes starts : List ℕ) (i : ℕ) → i < length starts
-    → get_or (keys_in bytes starts) i [] ≡ take (get_or starts (suc i) (length bytes) - get_or starts i 0) (drop (get_or starts i 0) bytes)
-key-bytes bytes [] i l = absurd (omega (arith, l))
-key-bytes bytes (s ∷ starts) zero l = refl
-key-bytes bytes (s ∷ starts) (suc i) l = key-bytes bytes starts i (omega (arith, l))
+-- the key of a short record, and of a long one
+pub short-key : (others : List ℕ) (kept : KeyRecord) → get_or kept.bytes 15 0 < 128 → key_in others kept ≡ take (get_or kept.bytes 15 0) kept.bytes
+short-key others kept l = rw (lt-leb 128 (get_or kept.bytes 15 0) l) refl
 
--- where a key starts and ends
-pub starts-at : (starts : List ℕ) (end i : ℕ) → AreStarts starts end → i < length starts → (get_or starts i 0 ≤ get_or starts (suc i) end) × (get_or starts (suc i) end ≤ end)
-starts-at [] end i are l = absurd (omega (arith, l))
-starts-at (s ∷ starts) end zero are l = (are.0, are.1)
-starts-at (s ∷ starts) end (suc i) are l = starts-at starts end i are.2 (omega (arith, l))
+pub long-key : (others : List ℕ) (kept : KeyRecord) → 128 ≤ get_or kept.bytes 15 0 → key_in others kept ≡ take (size_of kept.bytes) (drop (start_of kept.bytes) others)
+long-key others kept l = rw (le-leb 128 (get_or kept.bytes 15 0) l) refl
 
--- where the first key starts, after one more is appended
-first-same : (starts : List ℕ) (end other : ℕ) → get_or (starts ++ end ∷ []) 0 other ≡ get_or starts 0 end
-first-same [] end other = refl
-first-same (s ∷ starts) end other = refl
-
-module _ (bytes key : List ℕ) where
-  same-part : (start size : ℕ) → start + size ≤ length bytes → take size (drop start (bytes ++ key)) ≡ take size (drop start bytes)
+module _ (others key : List ℕ) where
+  same-part : (start size : ℕ) → start + size ≤ length others → take size (drop start (others ++ key)) ≡ take size (drop start others)
   same-part start size fits =
-      ap (take size) (drop-append-le start bytes key (omega arith)) ∙ take-append-le size (drop start bytes) key (omega (arith, length-drop start bytes))
+      ap (take size) (drop-append-le start others key (omega arith)) ∙ take-append-le size (drop start others) key (omega (arith, length-drop start others))
 
-  last-part : take (length (bytes ++ key) - length bytes) (drop (length bytes) (bytes ++ key)) ≡ key
+  same-key : (kept : KeyRecord) → IsKept (length others) kept.bytes → key_in (others ++ key) kept ≡ key_in others kept
+  same-key kept is = elim (cases_lt (get_or kept.bytes 15 0) 128) [
+    | inl l ↦ short-key (others ++ key) kept l ∙ sym (short-key others kept l)
+    | inr l ↦ long-key (others ++ key) kept l ∙ same-part (start_of kept.bytes) (size_of kept.bytes) (is.long l) ∙ sym (long-key others kept l)
+  ]
+
+  same-keys : (records : List KeyRecord) → AreKept (length others) records → keys_in (others ++ key) records ≡ keys_in others records
+  same-keys [] are = refl
+  same-keys (kept ∷ records) are =
+      ap (λ k. k ∷ keys_in (others ++ key) records) (same-key kept (All-head (λ (k : KeyRecord). IsKept (length others) k.bytes) kept records are))
+      ∙ ap (λ ks. key_in others kept ∷ ks) (same-keys records (All-tail (λ (k : KeyRecord). IsKept (length others) k.bytes) kept records are))
+
+  last-part : take (length key) (drop (length others) (others ++ key)) ≡ key
   last-part =
-      let past : drop (length bytes) (bytes ++ key) ≡ key = drop-append-le (length bytes) bytes key (omega arith) ∙ ap (λ l. l ++ key) (drop_all (length bytes) bytes (omega arith)) in
-      ap (take (length (bytes ++ key) - length bytes)) past ∙ take_all (length (bytes ++ key) - length bytes) key (omega (arith, length-append bytes key))
+      let past : drop (length others) (others ++ key) ≡ key = drop-append-le (length others) others key (omega arith) ∙ ap (λ l. l ++ key) (drop_all (length others) others (omega arith)) in
+      ap (take (length key)) past ∙ take_all (length key) key (omega arith)
 
-  -- one more key
-  pub keys-more : (starts : List ℕ) → AreStarts starts (length bytes) → keys_in (bytes ++ key) (starts ++ length bytes ∷ []) ≡ keys_in bytes starts ++ key ∷ []
-  keys-more [] are = ap (λ k. k ∷ []) last-part
-  keys-more (s ∷ starts) are =
-      let first = get_or starts 0 (length bytes) in
-      let end = first-same starts (length bytes) (length (bytes ++ key)) in
-      ap (λ e. take (e - s) (drop s (bytes ++ key)) ∷ keys_in (bytes ++ key) (starts ++ length bytes ∷ [])) end
-      ∙ ap (λ k. k ∷ keys_in (bytes ++ key) (starts ++ length bytes ∷ [])) (same-part s (first - s) (omega (arith, are.0, are.1)))
-      ∙ ap (λ ks. take (first - s) (drop s bytes) ∷ ks) (keys-more starts are.2)
-
-  pub starts-more : (starts : List ℕ) → AreStarts starts (length bytes) → AreStarts (starts ++ length bytes ∷ []) (length (bytes ++ key))
-  starts-more [] are = (omega (arith, length-append bytes key), omega arith, tt)
-  starts-more (s ∷ starts) are =
-      let end = first-same starts (length bytes) (length (bytes ++ key)) in
-      (omega (arith, end, are.0), omega (arith, end, are.1, length-append bytes key), starts-more starts are.2)
+  -- one more long key
+  module _ (records : List KeyRecord) (are : AreKept (length others) records) (kept : KeyRecord) (long : 128 ≤ get_or kept.bytes 15 0) (start : start_of kept.bytes ≡ length others) (size : size_of kept.bytes ≡ length key) where
+    pub long-more : keys_in (others ++ key) (records ++ kept ∷ []) ≡ keys_in others records ++ key ∷ []
+    long-more =
+        map-append (key_in (others ++ key)) records (kept ∷ [])
+        ∙ ap (λ ks. ks ++ key_in (others ++ key) kept ∷ []) (same-keys records are)
+        ∙ ap (λ k. keys_in others records ++ k ∷ []) (long-key (others ++ key) kept long ∙ ap (λ n. take n (drop (start_of kept.bytes) (others ++ key))) size
+        ∙ ap (λ n. take (length key) (drop n (others ++ key))) start ∙ last-part)

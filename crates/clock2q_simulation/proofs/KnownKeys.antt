@@ -1,5 +1,5 @@
 -- Different keys, and a table of their numbers that one more is added to.
-use Rattle.std.proofs.Common.{◌≡◌, ◌≢◌, ◌⊎◌, ℕ, zero, suc, ◌<◌, ◌^◌, inl, inr, refl, ap, sym, ◌∙◌, subst, arith, Bool, true, false, nat_eq, List, [], ◌∷◌, ◌++◌, length, length-append}
+use Rattle.std.proofs.Common.{◌≡◌, ◌≢◌, ◌⊎◌, ℕ, zero, suc, ◌<◌, ◌^◌, inl, inr, refl, ap, sym, ◌∙◌, subst, arith, Bool, false, nat_eq, List, [], ◌∷◌, ◌++◌, length, length-append}
 use Rattle.std.proofs.Common.{get_or, Option, Some, None, Result, Ok, Err, slice_get}
 use Rattle.std.specs.Cmp.Lexicographic.{pointwise}
 use Rattle.std.specs.Prelude.{IfOk, OnErr}
@@ -18,8 +18,7 @@ use Rattle.clock2q_handles.proofs.Hashes.{hashes-put_last}
 use Rattle.clock2q_handles.proofs.HashOfHandle.{keyed_grown}
 use Rattle.clock2q_handles.proofs.Held.{entry_held, held_entry, entry_kept, entry_new, entry_from, grown_kept, grown_from, candidate_held, held_candidate}
 use Rattle.clock2q_handles.proofs.Offering.{IsFound}
-use Rattle.clock2q_simulation.specs.KnownKeys.{keys_in, AreStarts, AreApart, IsIndexed, IsNumbered}
-use Rattle.clock2q_simulation.proofs.KeyBytes.{keys-more, starts-more}
+use Rattle.clock2q_simulation.specs.KnownKeys.{AreApart, IsIndexed, IsNumbered}
 
 -- the key of a number
 abbrev pub key_of : List (List ℕ) → ℕ → List ℕ
@@ -168,36 +167,3 @@ module _ (hash : List ℕ → ℕ) (known : List (List ℕ)) (homes : List (List
   settled (Err Memory) new known_as memory = (tt, subst (IsIndexed hash known) (sym (memory refl)) is)
   settled (Err Size) new known_as memory = (tt, known_as (λ e. absurd (cc)))
   settled (Err RunTooLong) new known_as memory = (tt, known_as (λ e. absurd (cc)))
-
--- the vectors of the keys' bytes and starts, when a new key is added whose number is already in the table
-module _ (hash : List ℕ → ℕ) (bytes starts b s b' s' x y key : List ℕ) (end number : ℕ) (is_new : Bool) (homes : List (List (ℕ × ℕ))) where
-  -- what was done to them, and by which name they were read
-  pub record IsAdding : Type 0 where
-    pub bytes_are : b ≡ bytes
-    pub starts_are : s ≡ starts
-    pub read_bytes : x ≡ b
-    pub read_starts : y ≡ s
-    pub more_bytes : b' ≡ b ++ key
-    pub more_starts : s' ≡ s ++ end ∷ []
-    pub at_end : end ≡ length b
-
-  pub record IsAdded : Type 0 where
-    pub ordered : AreStarts s' (length b')
-    pub index : IsIndexed hash (keys_in b' s') homes
-    pub keys : keys_in b' s' ≡ keys_in bytes starts ++ key ∷ []
-    pub next : number ≡ length (keys_in bytes starts)
-
-  pub added : IsAdding → AreStarts starts (length bytes) → IsNumbered hash (keys_in x y) key number is_new homes → is_new ≡ true → IsAdded
-  added a are numbered new =
-      let last : end ≡ length bytes = a.at_end ∙ ap length a.bytes_are in
-      let all : b' ≡ bytes ++ key = a.more_bytes ∙ ap (λ l. l ++ key) a.bytes_are in
-      let begin : s' ≡ starts ++ length bytes ∷ [] = a.more_starts ∙ ap (λ l. l ++ end ∷ []) a.starts_are ∙ ap (λ n. starts ++ n ∷ []) last in
-      let keys : keys_in b' s' ≡ keys_in bytes starts ++ key ∷ [] = ap (λ l. keys_in l s') all ∙ ap (keys_in (bytes ++ key)) begin ∙ keys-more bytes key starts are in
-      let read : keys_in x y ≡ keys_in bytes starts = ap (λ l. keys_in l y) (a.read_bytes ∙ a.bytes_are) ∙ ap (keys_in bytes) (a.read_starts ∙ a.starts_are) in
-      let done = subst (λ is. IsNumbered hash (keys_in x y) key number is homes) new numbered in
-      record {
-        ordered = rw (all, begin) (starts-more bytes key starts are);
-        index = subst (λ ks. IsIndexed hash ks homes) (ap (λ ks. ks ++ key ∷ []) read ∙ sym keys) done.1;
-        keys = keys;
-        next = done.0 ∙ ap length read;
-      }

@@ -1,8 +1,10 @@
-//! Keys of any bytes, one after another in one vector.
+//! Keys of any bytes, each in a record or among other bytes.
 ghost use Rattle.std.specs.Cmp.Lexicographic.{pointwise};
-ghost use Rattle.std.specs.Prelude.{◌≡◌, ◌<◌, ◌+◌, [], get_or, length, nat_eq};
-ghost use Rattle.clock2q_simulation.specs.KnownKeys.{AreStarts, hash_of, keys_in};
+ghost use Rattle.std.specs.Prelude.{◌≡◌, ◌<◌, ◌≤◌, ◌+◌, [], ◌∷◌, ◌++◌, get_or, length, nat_eq, vec_capacity, vec_len};
+ghost use Rattle.clock2q_simulation.specs.KnownKeys.{AreKept, hash_of, keys_in};
 
+use crate::key_record::KeyRecord;
+use std::alloc::Allocator;
 use std::hash::{BuildHasher, Hasher};
 
 /// Returns the hash of a key, whose bytes are written at once. [`BuildHasher::hash_one`] writes a
@@ -15,44 +17,56 @@ pub(crate) fn hash_of<S: BuildHasher>(key: &[u8], hasher: &S) -> u64
     state.finish()
 }
 
-/// Returns where the key with a number ends: where the next one starts, or at the end of all bytes.
-fn end_of(starts: &[usize], number: usize, end: usize) -> usize
-    requires within { number < length starts.now }
-    ensures end { result ≡ get_or starts.now (number + 1) end }
-{
-    starts.get(number + 1).copied().unwrap_or(end)
-}
-
 /// Returns the key with a number.
-fn key_at<'a>(bytes: &'a [u8], starts: &[usize], number: usize) -> &'a [u8]
-    requires within { number < length starts.now }
-    requires starts { AreStarts starts.now (length bytes.now) }
-    ensures key { result.now ≡ get_or (keys_in bytes.now starts.now) number [] }
+fn key_at<'a>(others: &'a [u8], records: &'a [KeyRecord], number: usize) -> &'a [u8]
+    requires within { number < length records.now }
+    requires kept { AreKept (length others.now) records.now }
+    ensures key { result.now ≡ get_or (keys_in others.now records.now) number [] }
 {
-    let start = starts[number];
-    let end = end_of(starts, number, bytes.len());
-    &bytes[start..end]
+    records[number].key(others)
 }
 
 /// Returns the hash of the key with a number.
 pub(crate) fn hash_at<S: BuildHasher>(
-    bytes: &[u8],
-    starts: &[usize],
+    others: &[u8],
+    records: &[KeyRecord],
     number: usize,
     hasher: &S,
 ) -> u64
-    requires within { number < length starts.now }
-    requires starts { AreStarts starts.now (length bytes.now) }
-    ensures hash { result ≡ hash_of S.BuildHasher S.Hasher.Hasher hasher.now (get_or (keys_in bytes.now starts.now) number []) }
+    requires within { number < length records.now }
+    requires kept { AreKept (length others.now) records.now }
+    ensures hash { result ≡ hash_of S.BuildHasher S.Hasher.Hasher hasher.now (get_or (keys_in others.now records.now) number []) }
 {
-    hash_of(key_at(bytes, starts, number), hasher)
+    hash_of(key_at(others, records, number), hasher)
 }
 
 /// Returns true if a number is that of a key.
-pub(crate) fn is_key_at(bytes: &[u8], starts: &[usize], number: usize, key: &[u8]) -> bool
-    requires within { number < length starts.now }
-    requires starts { AreStarts starts.now (length bytes.now) }
-    ensures same { result ≡ pointwise nat_eq (get_or (keys_in bytes.now starts.now) number []) key.now }
+pub(crate) fn is_key_at(others: &[u8], records: &[KeyRecord], number: usize, key: &[u8]) -> bool
+    requires within { number < length records.now }
+    requires kept { AreKept (length others.now) records.now }
+    ensures same { result ≡ pointwise nat_eq (get_or (keys_in others.now records.now) number []) key.now }
 {
-    key_at(bytes, starts, number) == key
+    key_at(others, records, number) == key
+}
+
+/// Adds a key in reserved memory: its record, and its bytes to the others if it is long.
+pub(crate) fn add_key<A: Allocator>(
+    others: &mut Vec<u8, A>,
+    records: &mut Vec<KeyRecord, A>,
+    key: &[u8],
+)
+    requires kept { AreKept (length others.old.items) records.old.items }
+    requires room { vec_len records.old < vec_capacity records.old }
+    requires bytes { vec_len others.old + length key.now ≤ vec_capacity others.old }
+    ensures kept { AreKept (length others.new.items) records.new.items }
+    ensures added { keys_in others.new.items records.new.items ≡ keys_in others.old.items records.old.items ++ key.now ∷ [] }
+{
+    if key.len() < 16 {
+        records.push_reserved(KeyRecord::short(key));
+        return;
+    }
+    records.push_reserved(KeyRecord::long(others.len(), key.len()));
+    match others.extend_from_slice(key) {
+        Ok(()) | Err(_) => {}
+    }
 }

@@ -1,8 +1,9 @@
 //! Different keys, each with a number.
 ghost use Rattle.std.specs.Prelude.{◌≡◌, ◌<◌, ◌≤◌, ◌^◌, ℕ, List, [], Some, IfOk, OnErr, length, slice_get};
-ghost use Rattle.clock2q_simulation.specs.KnownKeys.{AreApart, AreStarts, IsIndexed, IsNumbered, hash_of, keys_in};
+ghost use Rattle.clock2q_simulation.specs.KnownKeys.{AreApart, AreKept, IsIndexed, IsNumbered, hash_of, keys_in};
 
-use crate::key_bytes::{hash_at, hash_of, is_key_at};
+use crate::key_bytes::{add_key, hash_at, hash_of, is_key_at};
+use crate::key_record::KeyRecord;
 use clock2q_handles::{Table, TableError};
 use std::alloc::{AllocError, Allocator};
 use std::hash::BuildHasher;
@@ -10,14 +11,14 @@ use std::marker::Model;
 
 /// Different keys of any bytes. The number of a key is the number of keys before it.
 ///
-/// A key takes its bytes, 8 more for its start, and between 10 and 22 in the table of numbers,
-/// which holds no keys.
+/// A key takes 16 bytes and between 10 and 22 in the table of numbers, which holds no keys. One
+/// longer than 15 bytes takes its length more.
 #[derive(Drop)]
 pub(crate) struct KnownKeys<S: BuildHasher, A: Allocator> {
-    /// The keys' bytes, one key after another.
-    bytes: Vec<u8, A>,
-    /// Where each key starts; it ends where the next one starts.
-    starts: Vec<usize, A>,
+    /// The bytes of the long keys, one key after another.
+    others: Vec<u8, A>,
+    /// Each key, or the place of a long one.
+    records: Vec<KeyRecord, A>,
     /// The numbers, each under its key's hash.
     numbers: Table<u32, A>,
     /// Hashes the keys.
@@ -26,13 +27,13 @@ pub(crate) struct KnownKeys<S: BuildHasher, A: Allocator> {
 
 impl<S: BuildHasher, A: Allocator> Model for KnownKeys<S, A> {
     ghost use Rattle.std.specs.Prelude.{ℕ, List, length};
-    ghost use Rattle.clock2q_simulation.specs.KnownKeys.{AreStarts, IsIndexed, hash_of, keys_in};
+    ghost use Rattle.clock2q_simulation.specs.KnownKeys.{AreKept, IsIndexed, hash_of, keys_in};
 
     ghost Value = { List (List ℕ) };
 
-    ghost view = { λ k. keys_in k.bytes.items k.starts.items };
+    ghost view = { λ k. keys_in k.others.items k.records.items };
 
-    ghost invariant = { λ k. AreStarts k.starts.items (length k.bytes.items) × IsIndexed (hash_of S.BuildHasher S.Hasher.Hasher k.hasher) (keys_in k.bytes.items k.starts.items) k.numbers.homes };
+    ghost invariant = { λ k. AreKept (length k.others.items) k.records.items × IsIndexed (hash_of S.BuildHasher S.Hasher.Hasher k.hasher) (keys_in k.others.items k.records.items) k.numbers.homes };
 }
 
 impl<S: BuildHasher, A: Allocator + Copy> KnownKeys<S, A> {
@@ -42,8 +43,8 @@ impl<S: BuildHasher, A: Allocator + Copy> KnownKeys<S, A> {
         ensures apart { AreApart result }
     {
         KnownKeys {
-            bytes: Vec::new(alloc),
-            starts: Vec::new(alloc),
+            others: Vec::new(alloc),
+            records: Vec::new(alloc),
             numbers: Table::new(alloc),
             hasher,
         }
@@ -57,22 +58,19 @@ impl<S: BuildHasher, A: Allocator + Copy> KnownKeys<S, A> {
         ensures apart { AreApart self.new }
         ensures refused { OnErr result (self.new ≡ self.old) }
     {
-        let Ok(next) = u32::try_from(self.starts.len()) else {
+        let Ok(next) = u32::try_from(self.records.len()) else {
             return Err(AllocError);
         };
-        self.starts.reserve(1)?;
-        self.bytes.reserve(key.len())?;
-        let (bytes, starts) = (self.bytes.as_slice(), self.starts.as_slice());
+        self.records.reserve(1)?;
+        self.others.reserve(key.len())?;
+        let (others, records) = (self.others.as_slice(), self.records.as_slice());
         let (numbers, hasher) = (&mut self.numbers, &self.hasher);
-        let Ok((number, is_new)) = find_or_number(numbers, bytes, starts, key, next, hasher) else {
+        let Ok((number, is_new)) = find_or_number(numbers, others, records, key, next, hasher)
+        else {
             return Err(AllocError);
         };
         if is_new {
-            self.starts.push_reserved(self.bytes.len());
-            match self.bytes.extend_from_slice(key) {
-                Ok(()) => {}
-                Err(_) => return Err(AllocError),
-            }
+            add_key(&mut self.others, &mut self.records, key);
         }
         Ok(number)
     }
@@ -83,7 +81,7 @@ impl<S: BuildHasher, A: Allocator> KnownKeys<S, A> {
     pub(crate) fn len(&self) -> usize
         ensures len { result ≡ length self.now }
     {
-        self.starts.len()
+        self.records.len()
     }
 }
 
@@ -91,22 +89,22 @@ impl<S: BuildHasher, A: Allocator> KnownKeys<S, A> {
 /// returned; its bytes are still to be added.
 fn find_or_number<S: BuildHasher, A: Allocator + Copy>(
     numbers: &mut Table<u32, A>,
-    bytes: &[u8],
-    starts: &[usize],
+    others: &[u8],
+    records: &[KeyRecord],
     key: &[u8],
     next: u32,
     hasher: &S,
 ) -> Result<(u32, bool), TableError>
-    requires starts { AreStarts starts.now (length bytes.now) }
-    requires indexed { IsIndexed (hash_of S.BuildHasher S.Hasher.Hasher hasher.now) (keys_in bytes.now starts.now) numbers.old.homes }
-    requires next { next ≡ length starts.now }
-    ensures numbered { IfOk result (λ found. IsNumbered (hash_of S.BuildHasher S.Hasher.Hasher hasher.now) (keys_in bytes.now starts.now) key.now found.0 found.1 numbers.new.homes) }
-    ensures refused { OnErr result (IsIndexed (hash_of S.BuildHasher S.Hasher.Hasher hasher.now) (keys_in bytes.now starts.now) numbers.new.homes) }
+    requires kept { AreKept (length others.now) records.now }
+    requires indexed { IsIndexed (hash_of S.BuildHasher S.Hasher.Hasher hasher.now) (keys_in others.now records.now) numbers.old.homes }
+    requires next { next ≡ length records.now }
+    ensures numbered { IfOk result (λ found. IsNumbered (hash_of S.BuildHasher S.Hasher.Hasher hasher.now) (keys_in others.now records.now) key.now found.0 found.1 numbers.new.homes) }
+    ensures refused { OnErr result (IsIndexed (hash_of S.BuildHasher S.Hasher.Hasher hasher.now) (keys_in others.now records.now) numbers.new.homes) }
 {
     numbers.find_or_insert(
         hash_of(key, hasher),
-        move |number| is_key_at(bytes, starts, number as usize, key),
+        move |number| is_key_at(others, records, number as usize, key),
         next,
-        move |number| hash_at(bytes, starts, number as usize, hasher),
+        move |number| hash_at(others, records, number as usize, hasher),
     )
 }

@@ -18,6 +18,7 @@ mod format;
 mod help;
 mod json_text;
 mod key_bytes;
+mod key_record;
 mod keyed_hasher;
 mod known_keys;
 mod lru_curve;

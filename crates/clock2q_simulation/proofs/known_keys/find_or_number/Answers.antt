@@ -6,24 +6,24 @@ use Rattle.clock2q_handles.specs.Offers.{Settles}
 use Rattle.clock2q_handles.specs.TableStep.{grown}
 use Rattle.clock2q_handles.proofs.HashOfHandle.{keyed_given_by}
 use Rattle.clock2q_handles.proofs.Offering.{IsFound, offered_held_by, offers_find}
-use Rattle.clock2q_simulation.specs.KnownKeys.{keys_in, AreStarts, hash_of}
+use Rattle.clock2q_simulation.specs.KnownKeys.{AreKept, hash_of, keys_in}
 use Rattle.clock2q_simulation.proofs.KeyBytes.{keys-length}
 use Rattle.clock2q_simulation.proofs.KnownKeys.{hash_at, is_key, numbered, offered_within, settled}
 use Rattle.clock2q_simulation.proofs.known_keys.find_or_number.Goals as goal
 
 pub find_or_insert-requires-clause-rehash : goal.find_or_insert-requires-clause-rehash
 find_or_insert-requires-clause-rehash g c =
-    let bytes = c.args.bytes.now in
-    let starts = c.args.starts.now in
-    let known = keys_in bytes starts in
+    let others = c.args.others.now in
+    let records = c.args.records.now in
+    let known = keys_in others records in
     let hasher = c.args.hasher.now in
     let hash = hash_of g.S.BuildHasher g.S.Hasher.Hasher hasher in
     λ _. (
       hash_at hash known,
-      keyed_given_by (hash_at hash known) _ c.args.numbers.now.homes (λ f. (f.0.now ≡ bytes) × (f.1.now ≡ starts) × (f.2.now ≡ hasher))
+      keyed_given_by (hash_at hash known) _ c.args.numbers.now.homes (λ f. (f.0.now ≡ others) × (f.1.now ≡ records) × (f.2.now ≡ hasher))
           (λ f h same held.
-          let within : h < length f.1.now = omega (arith, (c.requires.indexed.held h).0 held, keys-length bytes starts, ap length same.1) in
-          let ordered : AreStarts f.1.now (length f.0.now) = rw (same.0, same.1) c.requires.starts in
+          let within : h < length f.1.now = omega (arith, (c.requires.indexed.held h).0 held, keys-length others records, ap length same.1) in
+          let ordered : AreKept (length f.0.now) f.1.now = rw (same.0, same.1) c.requires.kept in
           search rules)
           (λ f h r next same held called.
           let shown : r ≡ hash_of g.S.BuildHasher g.S.Hasher.Hasher f.2.now (get_or (keys_in f.0.now f.1.now) h []) = search rules in
@@ -36,13 +36,13 @@ find_or_insert-requires-clause-rehash g c =
 
 pub find_or_insert-requires-clause-callable : goal.find_or_insert-requires-clause-callable
 find_or_insert-requires-clause-callable g c =
-    let bytes = c.args.bytes.now in
-    let starts = c.args.starts.now in
-    let known = keys_in bytes starts in
-    λ key gives. offered_held_by _ _ _ c.args.numbers.now.homes c.hash_of.result (λ f. (f.0.now ≡ bytes) × (f.1.now ≡ starts))
+    let others = c.args.others.now in
+    let records = c.args.records.now in
+    let known = keys_in others records in
+    λ key gives. offered_held_by _ _ _ c.args.numbers.now.homes c.hash_of.result (λ f. (f.0.now ≡ others) × (f.1.now ≡ records))
     (λ f h same held.
-    let within : h < length f.1.now = omega (arith, (c.requires.indexed.held h).0 held, keys-length bytes starts, ap length same.1) in
-    let ordered : AreStarts f.1.now (length f.0.now) = rw (same.0, same.1) c.requires.starts in
+    let within : h < length f.1.now = omega (arith, (c.requires.indexed.held h).0 held, keys-length others records, ap length same.1) in
+    let ordered : AreKept (length f.0.now) f.1.now = rw (same.0, same.1) c.requires.kept in
     search rules)
     (λ f h next same held called.
     let first : next.0.now ≡ f.0.now = search rules in
@@ -52,19 +52,19 @@ find_or_insert-requires-clause-callable g c =
 
 pub returns : goal.returns
 returns g c =
-    let bytes = c.args.bytes.now in
-    let starts = c.args.starts.now in
+    let others = c.args.others.now in
+    let records = c.args.records.now in
     let key = c.args.key.now in
-    let known = keys_in bytes starts in
+    let known = keys_in others records in
     let hasher = c.args.hasher.now in
     let hash = hash_of g.S.BuildHasher g.S.Hasher.Hasher hasher in
     let homes = c.args.numbers.now.homes in
-    let long = keys-length bytes starts in
+    let long = keys-length others records in
     let few : length known < 2 ^ 32 = omega (arith, long, c.requires.next, c.ranges.next) in
-    let gives = keyed_given_by (hash_at hash known) _ homes (λ f. (f.0.now ≡ bytes) × (f.1.now ≡ starts) × (f.2.now ≡ hasher))
+    let gives = keyed_given_by (hash_at hash known) _ homes (λ f. (f.0.now ≡ others) × (f.1.now ≡ records) × (f.2.now ≡ hasher))
     (λ f h same held.
-    let within : h < length f.1.now = omega (arith, (c.requires.indexed.held h).0 held, keys-length bytes starts, ap length same.1) in
-    let ordered : AreStarts f.1.now (length f.0.now) = rw (same.0, same.1) c.requires.starts in
+    let within : h < length f.1.now = omega (arith, (c.requires.indexed.held h).0 held, keys-length others records, ap length same.1) in
+    let ordered : AreKept (length f.0.now) f.1.now = rw (same.0, same.1) c.requires.kept in
     search rules)
     (λ f h r next same held called.
     let shown : r ≡ hash_of g.S.BuildHasher g.S.Hasher.Hasher f.2.now (get_or (keys_in f.0.now f.1.now) h []) = search rules in
@@ -76,7 +76,7 @@ returns g c =
     let ran = λ (other : c.find_or_insert.result ≢ Err Memory).
     let settles = c.find_or_insert.ensures.settles other in
     let done = settles.1 (hash_at hash known) (λ _. gives) in
-    let offers = offers_find _ (λ f. (f.0.now ≡ bytes) × (f.1.now ≡ starts) × (f.2.now ≡ key)) (λ at. at < length known) (is_key known key)
+    let offers = offers_find _ (λ f. (f.0.now ≡ others) × (f.1.now ≡ records) × (f.2.now ≡ key)) (λ at. at < length known) (is_key known key)
     (λ f h b next same within called.
     let shown : b ≡ pointwise nat_eq (get_or (keys_in f.0.now f.1.now) h []) f.2.now = search rules in
     let first : next.0.now ≡ f.0.now = search rules in

@@ -3,4 +3,4 @@ use Rattle.clock2q_simulation.proofs.KeyBytes.{keys-length}
 use Rattle.clock2q_simulation.proofs.known_keys.KnownKeys.len.Goals as goal
 
 pub returns : goal.returns
-returns g c = record { len = omega (arith, c.len.ensures, keys-length c.self.inside.bytes.items c.self.inside.starts.items, ap length c.self.view_is) }
+returns g c = record { len = omega (arith, c.len.ensures, keys-length c.self.inside.others.items c.self.inside.records.items, ap length c.self.view_is) }
