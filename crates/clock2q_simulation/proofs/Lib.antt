@@ -4,6 +4,7 @@ mod Bytes
 mod FieldByField
 mod KeyBytes
 mod KnownKeys
+mod LineByLine
 mod LruCurve
 mod Numbering
 mod RecordByRecord

@@ -339,15 +339,6 @@ given-up old new left remain format (Shares _) m f b = b
 rest-at : (bytes : List ℕ) (i : ℕ) (next : List ℕ) → i < length bytes → drop i bytes ++ next ≡ get_or bytes i 0 ∷ (drop (i + 1) bytes ++ next)
 rest-at bytes i next h = ap (λ xs. xs ++ next) (drop_more bytes i 0 h)
 
--- a byte that ends a line
-pub byte-ends : (format : TraceFormat) (keys more : List Access) (count counted : ℕ) (part rest bytes : List ℕ) (i : ℕ) → i < length bytes → IsOfLines format → get_or bytes i 0 ≡ 10 → rest ≡ []
-    → Ends keys more count counted part format
-    → (next : List ℕ) → joined keys (accesses_after format count (part ++ (drop i bytes ++ next))) ≡ joined more (accesses_after format counted (rest ++ (drop (i + 1) bytes ++ next)))
-byte-ends format keys more count counted part rest bytes i h lined e none ends next =
-    let after = drop (i + 1) bytes ++ next in
-    let here : drop i bytes ++ next ≡ between format ++ after = rest-at bytes i next h ∙ ap (λ b. b ∷ after) e ∙ ap (λ xs. xs ++ after) (sym (after-line format lined)) in
-    ap (λ xs. joined keys (accesses_after format count (part ++ xs))) here ∙ ends after ∙ ap (λ xs. joined more (accesses_after format counted (xs ++ after))) (sym none)
-
 -- a byte of a record
 pub byte-more : (format : TraceFormat) (keys : List Access) (count : ℕ) (part longer bytes : List ℕ) (i : ℕ) → i < length bytes → longer ≡ part ++ get_or bytes i 0 ∷ []
     → (next : List ℕ) → joined keys (accesses_after format count (part ++ (drop i bytes ++ next))) ≡ joined keys (accesses_after format count (longer ++ (drop (i + 1) bytes ++ next)))
@@ -361,18 +352,6 @@ byte-more format keys count part longer bytes i h e next =
 pub bytes-done : (format : TraceFormat) (keys : List Access) (count : ℕ) (part bytes : List ℕ) (i : ℕ) → length bytes ≤ i
     → (next : List ℕ) → joined keys (accesses_after format count (part ++ (drop i bytes ++ next))) ≡ joined keys (accesses_after format count (part ++ next))
 bytes-done format keys count part bytes i h next = ap (λ xs. joined keys (accesses_after format count (part ++ (xs ++ next)))) (drop_all i bytes h)
-
--- a line end after a line that is bad
-pub byte-bad : (format now : TraceFormat) (first keys : List Access) (start count : ℕ) (begun part bytes : List ℕ) (i : ℕ) → i < length bytes → now ≡ format → IsOfLines format → get_or bytes i 0 ≡ 10
-    → ((next : List ℕ) → joined first (accesses_after format start (begun ++ (bytes ++ next))) ≡ joined keys (accesses_after format count (part ++ (drop i bytes ++ next))))
-    → ((next : List ℕ) → accesses_after now count (part ++ (between now ++ next)) ≡ None)
-    → (next : List ℕ) → accesses_after format start (begun ++ (bytes ++ next)) ≡ None
-byte-bad format now first keys start count begun part bytes i h e lined ten same none next =
-    let after = drop (i + 1) bytes ++ next in
-    let here : drop i bytes ++ next ≡ between format ++ after = rest-at bytes i next h ∙ ap (λ b. b ∷ after) ten ∙ ap (λ xs. xs ++ after) (sym (after-line format lined)) in
-    let bad : accesses_after format count (part ++ (between format ++ after)) ≡ None = ap (λ f. accesses_after f count (part ++ (between f ++ after))) (sym e) ∙ none after in
-    joined-none first (accesses_after format start (begun ++ (bytes ++ next)))
-    (same next ∙ ap (λ xs. joined keys (accesses_after format count (part ++ xs))) here ∙ ap (joined keys) bad)
 
 after-piece : (format : TraceFormat) → format ≡ OracleGeneral → between format ≡ []
 after-piece Lines e = absurd (cc)

@@ -3,7 +3,7 @@ ghost use Rattle.std.specs.NonZero.{non_zero_usize_get};
 ghost use Rattle.std.specs.Option.{option_map};
 ghost use Rattle.std.specs.Prelude.{◌≡◌, ◌<◌, ◌∷◌, ◌++◌, ℕ, List, [], IfErr, IfOk, OnOk, None, Some, length};
 ghost use Rattle.clock2q_simulation.specs.Formats.{Access, access_in, accesses_after, has_sizes, record_of};
-ghost use Rattle.clock2q_simulation.specs.Reading.{IsBad, IsBegun, IsOfLines, IsWhole, Takes, between, joined};
+ghost use Rattle.clock2q_simulation.specs.Reading.{HasNoEnd, IsBad, IsBegun, IsOfLines, IsWhole, Takes, between, joined};
 
 use crate::csv::ColumnReader;
 use crate::error::SimulationError;
@@ -83,14 +83,42 @@ impl<S: BuildHasher + Drop, A: Allocator + Copy> Records<S, A> {
         ensures taken { OnOk result (Takes self.old.format self.old.trace.accesses self.old.count self.old.begun.items bytes.now self.new.trace.accesses self.new.count self.new.begun.items) }
         ensures bad { IfErr result (λ refusal. IsBad refusal ((next : List ℕ) → accesses_after self.old.format self.old.count (self.old.begun.items ++ (bytes.now ++ next)) ≡ None)) }
     {
-        for byte in bytes {
-            if *byte == b'\n' {
-                self.end_record()?;
-            } else {
-                self.push(*byte)?;
+        let mut start = 0;
+        for index in 0..bytes.len() {
+            if bytes[index] == b'\n' {
+                self.end_line(&bytes[start..index])?;
+                start = index + 1;
             }
         }
-        Ok(())
+        self.extend(&bytes[start..])
+    }
+
+    /// Ends a line with its last bytes. A line that lies in one block is read there, not copied.
+    fn end_line(&mut self, last: &[u8]) -> Result<(), SimulationError>
+        requires lines { IsOfLines self.old.format }
+        requires line { HasNoEnd (self.old.begun.items ++ last.now) }
+        ensures format { self.new.format ≡ self.old.format }
+        ensures sample { self.new.trace.sample ≡ self.old.trace.sample }
+        ensures sized { self.new.trace.is_sized ≡ self.old.trace.is_sized }
+        ensures begun { OnOk result (self.new.begun.items ≡ []) }
+        ensures ended { OnOk result ((next : List ℕ)
+            → joined self.old.trace.accesses
+            (accesses_after self.old.format self.old.count
+            ((self.old.begun.items ++ last.now) ++ (between self.old.format ++ next)))
+            ≡ joined self.new.trace.accesses (accesses_after self.old.format self.new.count next)) }
+        ensures bad { IfErr result (λ refusal. IsBad refusal ((next : List ℕ) → accesses_after self.old.format self.old.count ((self.old.begun.items ++ last.now) ++ (between self.old.format ++ next)) ≡ None)) }
+    {
+        match self.format {
+            TraceFormat::Lines if self.begun.is_empty() => {
+                self.trace.push(last)?;
+                self.count = self.count.saturating_add(1);
+                Ok(())
+            }
+            _ => {
+                self.extend(last)?;
+                self.end_record()
+            }
+        }
     }
 
     /// Takes the next bytes of records of one length.
@@ -121,6 +149,20 @@ impl<S: BuildHasher + Drop, A: Allocator + Copy> Records<S, A> {
         ensures memory { IfErr result (λ refusal. refusal ≡ SimulationError.Memory) }
     {
         match self.begun.push(byte) {
+            Ok(()) => Ok(()),
+            Err(_) => Err(SimulationError::Memory),
+        }
+    }
+
+    /// Adds bytes to the record.
+    fn extend(&mut self, bytes: &[u8]) -> Result<(), SimulationError>
+        ensures begun { OnOk result (self.new.begun.items ≡ self.old.begun.items ++ bytes.now) }
+        ensures trace { self.new.trace ≡ self.old.trace }
+        ensures count { self.new.count ≡ self.old.count }
+        ensures format { self.new.format ≡ self.old.format }
+        ensures memory { IfErr result (λ refusal. refusal ≡ SimulationError.Memory) }
+    {
+        match self.begun.extend_from_slice(bytes) {
             Ok(()) => Ok(()),
             Err(_) => Err(SimulationError::Memory),
         }

@@ -1,66 +1,87 @@
-use Rattle.std.proofs.Common.{◌≡◌, ◌∙◌, ◌+◌, ◌∷◌, ◌++◌, ℕ, List, [], None, drop, get_or, ap, sym, subst}
+use Rattle.std.proofs.Common.{◌≡◌, ◌∙◌, ◌+◌, ◌++◌, ℕ, List, [], None, arith, append_assoc, drop, get_or, ap, sym, subst}
 use Rattle.std.proofs.lemmas.Bool.{ne_eqb}
+use Rattle.std.proofs.lemmas.List.{take_rest}
+use Rattle.std.proofs.lemmas.List.Edits.{between_none}
 use Rattle.std.proofs.lemmas.Result.{err_from_is_err_and}
+use Rattle.std.specs.List.{between as part_of}
 use Rattle.clock2q_simulation.specs.Formats.{accesses_after}
 use Rattle.clock2q_simulation.specs.Reading.{HasNoEnd, between, joined}
-use Rattle.clock2q_simulation.proofs.RecordByRecord.{Ends, bad-by, begun-line, byte-bad, byte-ends, byte-more, line-begun, longer-line, no-line}
-use Rattle.clock2q_simulation.proofs.records.Records.take_lines.Goals.{then-byte-eq10+in_ok-end_record, else-byte-eq10+in_ok-push}
+use Rattle.clock2q_simulation.proofs.LineByLine.{line-bad, line-ended, line-left, line-more}
+use Rattle.clock2q_simulation.proofs.RecordByRecord.{Ends, bad-by, begun-line, no-line, ok-result}
+use Rattle.clock2q_simulation.proofs.records.Records.take_lines.Goals.{then-bytes-index-eq10+in_ok-end_line, else-bytes-index-eq10}
 use Rattle.clock2q_simulation.proofs.records.Records.take_lines.Goals as goal
 
-pub returns-in_err-end_record-clause-bad : goal.returns-in_err-end_record-clause-bad
-returns-in_err-end_record-clause-bad g c =
+pub returns-in_err-end_line-clause-bad : goal.returns-in_err-end_line-clause-bad
+returns-in_err-end_line-clause-bad g c =
     let self = c.args.self.now in
-    let was = c.loop-byte.self in
+    let was = c.loop-index.self in
+    let line = was.begun.items ++ part_of c.loop-index.start c.loop-index.index c.args.bytes.now in
     let p = err_from_is_err_and c.from_residual.result c.from_residual.ensures.1 in
     rw (p.1, p.2)
-    (bad-by c.in_err-end_record.field-0.0
-    (λ (none : (next : List ℕ) → accesses_after was.format was.count (was.begun.items ++ (between was.format ++ next)) ≡ None).
-    byte-bad self.format was.format self.trace.accesses was.trace.accesses self.count was.count self.begun.items was.begun.items c.args.bytes.now c.loop-byte.byte-index
-    c.loop-byte-test.true c.loop-byte.invariant.format c.requires.lines c.if-byte-eq10.true c.loop-byte.invariant.same none)
-    c.in_err-end_record.ensures.bad)
+    (bad-by c.in_err-end_line.field-0.0
+    (λ (none : (next : List ℕ) → accesses_after was.format was.count (line ++ (between was.format ++ next)) ≡ None).
+    line-bad was.begun.items c.args.bytes.now c.loop-index.start c.loop-index.index c.loop-index.invariant.from
+    self.format c.requires.lines c.loop-index-test.true c.if-bytes-index-eq10.true was.trace.accesses was.count
+    was.format self.trace.accesses self.count self.begun.items c.loop-index.invariant.format c.loop-index.invariant.same none)
+    c.in_err-end_line.ensures.bad)
 
-pub returns-in_err-push-clause-sample : goal.returns-in_err-push-clause-sample
-returns-in_err-push-clause-sample g c = ap (λ t. t.sample) c.in_err-push.ensures.trace ∙ c.loop-byte.invariant.sample
-
-pub returns-in_err-push-clause-sized : goal.returns-in_err-push-clause-sized
-returns-in_err-push-clause-sized g c = ap (λ t. t.is_sized) c.in_err-push.ensures.trace ∙ c.loop-byte.invariant.sized
-
-pub loop-byte-preserved : goal.loop-byte-preserved
-loop-byte-preserved g c =
-    let format = c.args.self.now.format in
-    let was = c.loop-byte.self in
-    let i = c.loop-byte.byte-index in
+pub returns-clause-taken : goal.returns-clause-taken
+returns-clause-taken g c =
+    let self = c.args.self.now in
+    let was = c.loop-index.self in
     let bytes = c.args.bytes.now in
-    elim c.if-byte-eq10.branch [
-      | then-byte-eq10+in_ok-end_record w ↦
-          let new = w.end_record.new.self in
-          let ends : Ends was.trace.accesses new.trace.accesses was.count new.count was.begun.items format =
-          subst (Ends was.trace.accesses new.trace.accesses was.count new.count was.begun.items) c.loop-byte.invariant.format w.in_ok-end_record.ensures.ended in
+    let start = c.loop-index.start in
+    let new = c.extend.new.self in
+    let line : HasNoEnd (was.begun.items ++ drop start bytes) = line-left was.begun.items bytes start c.loop-index.index c.loop-index-test.false c.loop-index.invariant.line in
+    ok-result c.extend.result
+    (λ (longer : new.begun.items ≡ was.begun.items ++ drop start bytes). record {
+      begun = begun-line self.format new.begun.items c.requires.lines (subst HasNoEnd (sym longer) line);
+      same = λ next. c.loop-index.invariant.same next
+          ∙ ap (λ xs. joined was.trace.accesses (accesses_after self.format was.count xs)) (sym (append_assoc was.begun.items (drop start bytes) next))
+          ∙ ap (λ xs. joined was.trace.accesses (accesses_after self.format was.count (xs ++ next))) (sym longer)
+          ∙ ap (λ t. joined t.accesses (accesses_after self.format was.count (new.begun.items ++ next))) (sym c.extend.ensures.trace)
+          ∙ ap (λ n. joined new.trace.accesses (accesses_after self.format n (new.begun.items ++ next))) (sym c.extend.ensures.count);
+    })
+    (rw (take_rest bytes start) at c.extend.ensures.begun)
+
+pub loop-index-preserved : goal.loop-index-preserved
+loop-index-preserved g c =
+    let format = c.args.self.now.format in
+    let was = c.loop-index.self in
+    let i = c.loop-index.index in
+    let start = c.loop-index.start in
+    let bytes = c.args.bytes.now in
+    let line = was.begun.items ++ part_of start i bytes in
+    elim c.if-bytes-index-eq10.branch [
+      | then-bytes-index-eq10+in_ok-end_line w ↦
+          let new = w.end_line.new.self in
+          let ends : Ends was.trace.accesses new.trace.accesses was.count new.count line format =
+          subst (Ends was.trace.accesses new.trace.accesses was.count new.count line) c.loop-index.invariant.format w.in_ok-end_line.ensures.ended in
+          let none : c.if-bytes-index-eq10.self.begun.items ++ part_of c.if-bytes-index-eq10.start (i + 1) bytes ≡ [] =
+          ap (λ s. s.begun.items ++ part_of c.if-bytes-index-eq10.start (i + 1) bytes) w.self-is
+          ∙ ap (λ b. b ++ part_of c.if-bytes-index-eq10.start (i + 1) bytes) w.in_ok-end_line.ensures.begun
+          ∙ ap (λ n. part_of n (i + 1) bytes) w.start-is ∙ between_none bytes (i + 1) in
           record {
-            format = ap (λ s. s.format) w.self-is ∙ w.in_ok-end_record.ensures.format ∙ c.loop-byte.invariant.format;
-            sample = ap (λ s. s.trace.sample) w.self-is ∙ w.in_ok-end_record.ensures.sample ∙ c.loop-byte.invariant.sample;
-            sized = ap (λ s. s.trace.is_sized) w.self-is ∙ w.in_ok-end_record.ensures.sized ∙ c.loop-byte.invariant.sized;
-            begun = begun-line format c.if-byte-eq10.self.begun.items c.requires.lines (subst HasNoEnd (sym (ap (λ s. s.begun.items) w.self-is ∙ w.in_ok-end_record.ensures.begun)) no-line);
-            same = λ next. c.loop-byte.invariant.same next
-                ∙ byte-ends format was.trace.accesses new.trace.accesses was.count new.count
-                was.begun.items new.begun.items bytes i c.loop-byte-test.true c.requires.lines
-                w.if-byte-eq10.true w.in_ok-end_record.ensures.begun ends next
-                ∙ ap (λ s. joined s.trace.accesses (accesses_after format s.count (s.begun.items ++ (drop (i + 1) bytes ++ next)))) (sym w.self-is);
+            from = omega (arith, w.start-is);
+            format = ap (λ s. s.format) w.self-is ∙ w.in_ok-end_line.ensures.format ∙ c.loop-index.invariant.format;
+            sample = ap (λ s. s.trace.sample) w.self-is ∙ w.in_ok-end_line.ensures.sample ∙ c.loop-index.invariant.sample;
+            sized = ap (λ s. s.trace.is_sized) w.self-is ∙ w.in_ok-end_line.ensures.sized ∙ c.loop-index.invariant.sized;
+            line = subst HasNoEnd (sym none) no-line;
+            same = λ next. c.loop-index.invariant.same next
+                ∙ line-ended was.begun.items bytes start i c.loop-index.invariant.from format c.requires.lines c.loop-index-test.true
+                w.if-bytes-index-eq10.true was.trace.accesses was.count new.trace.accesses new.count new.begun.items w.in_ok-end_line.ensures.begun ends next
+                ∙ ap (λ s. joined s.trace.accesses (accesses_after format s.count (s.begun.items ++ (drop (i + 1) bytes ++ next)))) (sym w.self-is)
+                ∙ ap (λ n. joined c.if-bytes-index-eq10.self.trace.accesses (accesses_after format c.if-bytes-index-eq10.self.count (c.if-bytes-index-eq10.self.begun.items ++ (drop n bytes ++ next)))) (sym w.start-is);
           }
-      | else-byte-eq10+in_ok-push w ↦
-          let new = w.push.new.self in
-          let longer : new.begun.items ≡ was.begun.items ++ get_or bytes i 0 ∷ [] = w.in_ok-push.ensures.begun in
-          let line : HasNoEnd (was.begun.items ++ get_or bytes i 0 ∷ []) =
-          longer-line was.begun.items (get_or bytes i 0) (line-begun format was.begun.items c.requires.lines c.loop-byte.invariant.begun) (ne_eqb (get_or bytes i 0) 10 w.if-byte-eq10.false) in
+      | else-bytes-index-eq10 w ↦
+          let longer : HasNoEnd (was.begun.items ++ part_of start (i + 1) bytes) =
+          line-more was.begun.items bytes start i c.loop-index.invariant.from c.loop-index-test.true c.loop-index.invariant.line (ne_eqb (get_or bytes i 0) 10 w.if-bytes-index-eq10.false) in
           record {
-            format = ap (λ s. s.format) w.self-is ∙ w.in_ok-push.ensures.format ∙ c.loop-byte.invariant.format;
-            sample = ap (λ s. s.trace.sample) w.self-is ∙ ap (λ t. t.sample) w.in_ok-push.ensures.trace ∙ c.loop-byte.invariant.sample;
-            sized = ap (λ s. s.trace.is_sized) w.self-is ∙ ap (λ t. t.is_sized) w.in_ok-push.ensures.trace ∙ c.loop-byte.invariant.sized;
-            begun = begun-line format c.if-byte-eq10.self.begun.items c.requires.lines (subst HasNoEnd (sym (ap (λ s. s.begun.items) w.self-is ∙ longer)) line);
-            same = λ next. c.loop-byte.invariant.same next
-                ∙ byte-more format was.trace.accesses was.count was.begun.items new.begun.items bytes i c.loop-byte-test.true longer next
-                ∙ ap (λ t. joined t.accesses (accesses_after format was.count (new.begun.items ++ (drop (i + 1) bytes ++ next)))) (sym w.in_ok-push.ensures.trace)
-                ∙ ap (λ n. joined new.trace.accesses (accesses_after format n (new.begun.items ++ (drop (i + 1) bytes ++ next)))) (sym w.in_ok-push.ensures.count)
-                ∙ ap (λ s. joined s.trace.accesses (accesses_after format s.count (s.begun.items ++ (drop (i + 1) bytes ++ next)))) (sym w.self-is);
+            from = omega (arith, w.start-is, c.loop-index.invariant.from);
+            format = ap (λ s. s.format) w.self-is ∙ c.loop-index.invariant.format;
+            sample = ap (λ s. s.trace.sample) w.self-is ∙ c.loop-index.invariant.sample;
+            sized = ap (λ s. s.trace.is_sized) w.self-is ∙ c.loop-index.invariant.sized;
+            line = rw (w.self-is, w.start-is) longer;
+            same = λ next. rw (w.self-is, w.start-is) (c.loop-index.invariant.same next);
           }
     ]
