@@ -8,6 +8,8 @@ pub(crate) struct Queue<A: Allocator> {
     keys: Vec<u32, A>,
     /// The index of the oldest key.
     first: usize,
+    /// The index after that of the newest key.
+    end: usize,
     len: usize,
 }
 
@@ -17,6 +19,7 @@ impl<A: Allocator> Queue<A> {
         Ok(Queue {
             keys: vec![in alloc; 0; room]?,
             first: 0,
+            end: 0,
             len: 0,
         })
     }
@@ -28,28 +31,24 @@ impl<A: Allocator> Queue<A> {
 
     /// Adds a key as the newest. The queue must have room for it.
     pub(crate) fn push(&mut self, key: u32) {
-        let room = self.keys.len();
-        let end = self.first.saturating_add(self.len);
-        let index = if end < room {
-            end
-        } else {
-            end.saturating_sub(room)
-        };
-        if let Some(place) = self.keys.get_mut(index) {
+        if let Some(place) = self.keys.get_mut(self.end) {
             *place = key;
         }
-        self.len = self.len.saturating_add(1);
+        self.end = self.after(self.end);
+        self.len = self.len.wrapping_add(1);
     }
 
     /// Removes the oldest key, and returns it.
     pub(crate) fn pop(&mut self) -> Option<u32> {
-        if self.len == 0 {
-            return None;
-        }
+        self.len = self.len.checked_sub(1)?;
         let key = self.keys.get(self.first).copied();
-        let next = self.first.saturating_add(1);
-        self.first = if next < self.keys.len() { next } else { 0 };
-        self.len = self.len.saturating_sub(1);
+        self.first = self.after(self.first);
         key
+    }
+
+    /// Returns the index after another one.
+    fn after(&self, index: usize) -> usize {
+        let next = index.wrapping_add(1);
+        if next < self.keys.len() { next } else { 0 }
     }
 }

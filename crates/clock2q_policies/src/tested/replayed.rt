@@ -65,7 +65,7 @@ pub fn sieve_outcomes<A: Allocator + Copy>(
 ///
 /// # Cost
 ///
-/// Time in proportion to the trace and to `keys`, whatever the capacity; a byte an access, 8 bytes a
+/// Time in proportion to the trace and to `keys`, whatever the capacity; a byte an access, 4 bytes a
 /// key, and at most 16 bytes for each key that the cache has room for, but for no more than `keys`.
 pub fn s3_fifo_outcomes<A: Allocator + Copy>(
     alloc: A,

@@ -2,11 +2,8 @@
 
 use crate::tested::queue::Queue;
 use crate::tested::replayed::Replayed;
-use crate::tested::states::{State, States};
+use crate::tested::states::{MOST_HITS, States};
 use std::alloc::{AllocError, Allocator};
-
-/// The most hits counted for a key.
-const MOST: u8 = 3;
 
 /// S3-FIFO, of 'FIFO Queues are All You Need for Cache Eviction' (2023): a tenth of the room is a
 /// queue for new keys. A key that was hit more than once there moves on to the main queue; any
@@ -15,7 +12,8 @@ const MOST: u8 = 3;
 /// can differ by some points.
 #[derive(Drop)]
 pub(crate) struct S3Fifo<A: Allocator> {
-    capacity: usize,
+    /// The number of keys that there is still room for.
+    free: usize,
     /// The number of keys that the small queue has room for.
     small_room: usize,
     /// The number of keys that the main queue has room for.
@@ -33,7 +31,7 @@ impl<A: Allocator + Copy> S3Fifo<A> {
         let main_room = capacity.saturating_sub(small_room);
         let most = capacity.min(keys as usize);
         Ok(S3Fifo {
-            capacity,
+            free: capacity,
             small_room,
             main_room,
             small: Queue::new(alloc, most)?,
@@ -44,10 +42,6 @@ impl<A: Allocator + Copy> S3Fifo<A> {
 }
 
 impl<A: Allocator> S3Fifo<A> {
-    fn len(&self) -> usize {
-        self.small.len().saturating_add(self.main.len())
-    }
-
     fn evict(&mut self) {
         if self.small.len() >= self.small_room {
             self.evict_small();
@@ -63,29 +57,29 @@ impl<A: Allocator> S3Fifo<A> {
             };
             if self.states.hits_of(key) <= 1 {
                 self.states.remember(key);
+                self.free = self.free.wrapping_add(1);
                 return;
             }
             if self.main.len() >= self.main_room {
                 self.evict_main();
             }
-            self.states.replace(key, State::Resident(0));
+            self.states.set_hits(key, 0);
             self.main.push(key);
         }
     }
 
     fn evict_main(&mut self) {
-        let rounds = usize::from(MOST) + 1;
+        let rounds = MOST_HITS as usize + 1;
         for _ in 0..self.main.len().saturating_mul(rounds) {
             let Some(key) = self.main.pop() else {
                 return;
             };
-            let hits = self.states.hits_of(key);
-            if hits == 0 {
-                self.states.replace(key, State::Unknown);
+            let Some(hits) = self.states.hits_of(key).checked_sub(1) else {
+                self.states.forget(key);
+                self.free = self.free.wrapping_add(1);
                 return;
-            }
-            self.states
-                .replace(key, State::Resident(hits.saturating_sub(1)));
+            };
+            self.states.set_hits(key, hits);
             self.main.push(key);
         }
     }
@@ -93,15 +87,17 @@ impl<A: Allocator> S3Fifo<A> {
 
 impl<A: Allocator> Replayed for S3Fifo<A> {
     fn access(&mut self, key: u32) -> bool {
-        if self.states.hit(key, MOST) {
+        if self.states.hit(key) {
             return true;
         }
-        // if all keys of the small queue move on, none may have been evicted
-        for _ in 0..2 {
-            if self.len() >= self.capacity {
-                self.evict();
-            }
+        if self.free == 0 {
+            self.evict();
         }
+        // if all keys of the small queue moved on, none may have been evicted
+        if self.free == 0 {
+            self.evict();
+        }
+        self.free = self.free.saturating_sub(1);
         if self.states.admit(key) {
             self.main.push(key);
         } else {

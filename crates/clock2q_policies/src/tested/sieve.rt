@@ -1,9 +1,7 @@
 //! SIEVE.
 
-use crate::tested::queue::Queue;
 use crate::tested::replayed::Replayed;
 use std::alloc::{AllocError, Allocator};
-use std::mem::swap;
 
 /// Whether a key is resident, and whether it was hit since the hand passed it or it was admitted.
 #[derive(Clone, Copy, PartialEq, Eq)]
@@ -18,46 +16,111 @@ enum State {
 /// hit, and evicts the first one without a mark. No key is moved.
 #[derive(Drop)]
 pub(crate) struct Sieve<A: Allocator> {
-    capacity: usize,
+    /// The number of keys that there is still room for.
+    free: usize,
     states: Vec<State, A>,
-    /// The keys that the hand has passed since it began at the oldest one.
-    passed: Queue<A>,
-    /// The keys from the hand on, all newer than those that it has passed.
-    ahead: Queue<A>,
+    /// The resident keys in a ring with room for twice as many: those that the hand has passed since it
+    /// began at the oldest one, a gap, and those from the hand on, which are newer.
+    ring: Vec<u32, A>,
+    /// The index of the first key that the hand has passed, and the index after the last one.
+    oldest: usize,
+    passed: usize,
+    /// The index of the hand, and the index after the newest key.
+    hand: usize,
+    end: usize,
 }
 
 impl<A: Allocator + Copy> Sieve<A> {
     pub(crate) fn new(alloc: A, capacity: usize, keys: u32) -> Result<Sieve<A>, AllocError> {
         let most = capacity.min(keys as usize);
         Ok(Sieve {
-            capacity,
+            free: capacity,
             states: vec![in alloc; State::Absent; keys as usize]?,
-            passed: Queue::new(alloc, most)?,
-            ahead: Queue::new(alloc, most)?,
+            ring: vec![in alloc; 0; most.saturating_mul(2).saturating_add(1)]?,
+            oldest: 0,
+            passed: 0,
+            hand: 0,
+            end: 0,
         })
     }
 }
 
 impl<A: Allocator> Sieve<A> {
-    fn len(&self) -> usize {
-        self.passed.len().saturating_add(self.ahead.len())
-    }
-
     fn evict(&mut self) {
-        for _ in 0..=self.len() {
-            let Some(key) = self.ahead.pop() else {
+        for _ in 0..=self.states.len() {
+            let Some(key) = self.ring.get(self.hand).copied() else {
                 return;
             };
             let was = self.leave(key);
             if was == State::Marked {
-                self.passed.push(key);
+                self.pass(key);
             }
-            if self.ahead.len() == 0 {
-                swap(&mut self.passed, &mut self.ahead);
-            }
+            self.advance();
             if was != State::Marked {
+                self.free = self.free.wrapping_add(1);
                 return;
             }
+        }
+    }
+
+    /// Puts a key behind those that the hand has passed.
+    fn pass(&mut self, key: u32) {
+        if let Some(place) = self.ring.get_mut(self.passed) {
+            *place = key;
+        }
+        self.passed = self.after(self.passed);
+    }
+
+    /// Moves the hand to the next key, from the newest to the oldest.
+    fn advance(&mut self) {
+        self.hand = self.after(self.hand);
+        if self.hand == self.end {
+            self.hand = self.oldest;
+            self.end = self.passed;
+            self.passed = self.oldest;
+        }
+    }
+
+    /// Puts a key behind the newest one.
+    fn push(&mut self, key: u32) {
+        if let Some(place) = self.ring.get_mut(self.end) {
+            *place = key;
+        }
+        self.end = self.after(self.end);
+        if self.end == self.oldest {
+            self.close_up();
+        }
+    }
+
+    /// Moves the keys that the hand has passed to those from the hand on: the gap between them has
+    /// taken all the room.
+    fn close_up(&mut self) {
+        let (mut from, mut to) = (self.passed, self.hand);
+        for _ in 0..self.ring.len() {
+            if from == self.oldest {
+                break;
+            }
+            (from, to) = (self.before(from), self.before(to));
+            let key = self.ring.get(from).copied();
+            if let (Some(key), Some(place)) = (key, self.ring.get_mut(to)) {
+                *place = key;
+            }
+        }
+        self.oldest = to;
+        self.passed = self.hand;
+    }
+
+    /// Returns the index after another one.
+    fn after(&self, index: usize) -> usize {
+        let next = index.wrapping_add(1);
+        if next < self.ring.len() { next } else { 0 }
+    }
+
+    /// Returns the index before another one.
+    fn before(&self, index: usize) -> usize {
+        match index.checked_sub(1) {
+            Some(before) => before,
+            None => self.ring.len().saturating_sub(1),
         }
     }
 
@@ -85,10 +148,11 @@ impl<A: Allocator> Replayed for Sieve<A> {
             return true;
         }
         *state = State::Unmarked;
-        if self.len() >= self.capacity {
+        if self.free == 0 {
             self.evict();
         }
-        self.ahead.push(key);
+        self.free = self.free.saturating_sub(1);
+        self.push(key);
         false
     }
 }

@@ -2,38 +2,40 @@
 
 use std::alloc::{AllocError, Allocator};
 
-/// What is known of a key.
-#[derive(Clone, Copy)]
-pub(crate) enum State {
-    Unknown,
-    /// It is resident, and was hit so often.
-    Resident(u8),
-    /// It is remembered, at an index of the list.
-    Remembered(u32),
-}
+/// The most hits counted for a key.
+pub(crate) const MOST_HITS: u32 = 3;
 
-/// The state of each key, and the remembered keys in the order in which they were added. A key that
-/// is no longer remembered stays in the list, but counts no more.
+/// The state of a key that is neither resident nor remembered.
+const UNKNOWN: u32 = 0;
+
+/// The state of a resident key without hits. A hit adds one.
+const RESIDENT: u32 = 1;
+
+/// The state of a key that is remembered at the first place of the ring. The next place adds one.
+const REMEMBERED: u32 = RESIDENT + MOST_HITS + 1;
+
+/// The state of each key, in one word, and the remembered keys in the order in which they were added. A
+/// key that is no longer remembered keeps its place in the ring for a while, but counts no more.
 #[derive(Drop)]
 pub(crate) struct States<A: Allocator> {
-    states: Vec<State, A>,
-    /// The list, oldest first, with room for twice as many keys as are remembered at most.
-    list: Vec<u32, A>,
-    /// Where the list begins and ends.
+    states: Vec<u32, A>,
+    /// The remembered keys, with room for twice as many as there are at most.
+    ring: Vec<u32, A>,
+    /// The place of the oldest, and the place after the newest: the same only if there is none.
     first: u32,
     end: u32,
-    most: usize,
-    len: usize,
+    most: u32,
+    len: u32,
 }
 
 impl<A: Allocator + Copy> States<A> {
     /// Returns the states of keys below `keys`, of which at most `most` are remembered.
     pub(crate) fn new(alloc: A, most: usize, keys: u32) -> Result<States<A>, AllocError> {
-        let most = most.min(keys as usize);
+        let most = most.min(keys as usize) as u32;
         let room = most.saturating_add(1).saturating_mul(2);
         Ok(States {
-            states: vec![in alloc; State::Unknown; keys as usize]?,
-            list: vec![in alloc; 0; room.min(u32::MAX as usize)]?,
+            states: vec![in alloc; UNKNOWN; keys as usize]?,
+            ring: vec![in alloc; 0; room.min(u32::MAX - REMEMBERED) as usize]?,
             first: 0,
             end: 0,
             most,
@@ -43,95 +45,115 @@ impl<A: Allocator + Copy> States<A> {
 }
 
 impl<A: Allocator> States<A> {
-    /// Counts a hit of a key, up to `most` of them, and returns true if it is resident.
-    pub(crate) fn hit(&mut self, key: u32, most: u8) -> bool {
-        match self.states.get_mut(key as usize) {
-            Some(State::Resident(hits)) => {
-                *hits = hits.saturating_add(1).min(most);
-                true
-            }
-            _ => false,
+    /// Counts a hit of a key, up to the most, and returns true if it is resident.
+    pub(crate) fn hit(&mut self, key: u32) -> bool {
+        let Some(state) = self.states.get_mut(key as usize) else {
+            return false;
+        };
+        let hits = state.wrapping_sub(RESIDENT);
+        if hits < MOST_HITS {
+            *state = state.wrapping_add(1);
         }
+        hits <= MOST_HITS
     }
 
-    /// Returns the number of hits of a key that is resident.
-    pub(crate) fn hits_of(&self, key: u32) -> u8 {
-        match self.states.get(key as usize) {
-            Some(State::Resident(hits)) => *hits,
-            _ => 0,
-        }
+    /// Returns the number of hits of a resident key.
+    pub(crate) fn hits_of(&self, key: u32) -> u32 {
+        self.state_of(key).saturating_sub(RESIDENT)
     }
 
     /// Makes a key resident, without hits, and returns true if it was remembered.
     pub(crate) fn admit(&mut self, key: u32) -> bool {
-        let was = self.replace(key, State::Resident(0));
-        let is_remembered = matches!(&was, State::Remembered(..));
+        let is_remembered = self.state_of(key) >= REMEMBERED;
         if is_remembered {
-            self.len = self.len.saturating_sub(1);
+            self.len = self.len.wrapping_sub(1);
         }
+        self.set(key, RESIDENT);
         is_remembered
     }
 
-    /// Replaces the state of a key, which isn't remembered, and returns the old one.
-    pub(crate) fn replace(&mut self, key: u32, state: State) -> State {
-        let Some(place) = self.states.get_mut(key as usize) else {
-            return State::Unknown;
-        };
-        let was = *place;
-        *place = state;
-        was
+    /// Replaces the number of hits of a resident key.
+    pub(crate) fn set_hits(&mut self, key: u32, hits: u32) {
+        self.set(key, RESIDENT.wrapping_add(hits));
+    }
+
+    /// Forgets a resident key.
+    pub(crate) fn forget(&mut self, key: u32) {
+        self.set(key, UNKNOWN);
     }
 
     /// Remembers a key, which was resident, as the newest. If there are too many, forgets the oldest.
     pub(crate) fn remember(&mut self, key: u32) {
-        if self.end as usize >= self.list.len() {
+        self.append(key);
+        if self.end == self.first {
             self.close_up();
         }
-        self.append(key);
-        self.len = self.len.saturating_add(1);
-        if self.len > self.most {
+        if self.len < self.most {
+            self.len = self.len.wrapping_add(1);
+        } else {
             self.forget_oldest();
         }
     }
 
     fn forget_oldest(&mut self) {
-        for index in self.first..self.end {
-            if let Some(key) = self.key_at(index) {
-                self.first = index.saturating_add(1);
-                self.replace(key, State::Unknown);
-                self.len = self.len.saturating_sub(1);
+        for _ in 0..self.ring.len() {
+            let place = self.first;
+            self.first = self.after(place);
+            if let Some(key) = self.key_at(place) {
+                self.set(key, UNKNOWN);
                 return;
             }
         }
     }
 
-    /// Returns the key at an index of the list, if it is still remembered there.
-    fn key_at(&self, index: u32) -> Option<u32> {
-        let key = self.list.get(index as usize).copied()?;
-        match self.states.get(key as usize) {
-            Some(State::Remembered(place)) if *place == index => Some(key),
-            _ => None,
-        }
+    /// Returns the key at a place of the ring, if it is still remembered there.
+    fn key_at(&self, place: u32) -> Option<u32> {
+        let key = self.ring.get(place as usize).copied()?;
+        let is_there = self.state_of(key) == REMEMBERED.wrapping_add(place);
+        is_there.then_some(key)
     }
 
-    /// Puts a key behind the others in the list.
+    /// Puts a key behind the others in the ring.
     fn append(&mut self, key: u32) {
-        if let Some(last) = self.list.get_mut(self.end as usize) {
+        let place = self.end;
+        if let Some(last) = self.ring.get_mut(place as usize) {
             *last = key;
         }
-        self.replace(key, State::Remembered(self.end));
-        self.end = self.end.saturating_add(1);
+        self.set(key, REMEMBERED.wrapping_add(place));
+        self.end = self.after(place);
     }
 
-    /// Moves the remembered keys to the beginning of the list.
+    /// Moves the remembered keys of a full ring together, over the places of those that no longer are.
     fn close_up(&mut self) {
-        let (first, end) = (self.first, self.end);
-        self.first = 0;
-        self.end = 0;
-        for index in first..end {
-            if let Some(key) = self.key_at(index) {
+        let mut place = self.first;
+        for _ in 0..self.ring.len() {
+            if let Some(key) = self.key_at(place) {
                 self.append(key);
             }
+            place = self.after(place);
+        }
+    }
+
+    /// Returns the place after another one.
+    fn after(&self, place: u32) -> u32 {
+        let next = place.wrapping_add(1);
+        if (next as usize) < self.ring.len() {
+            next
+        } else {
+            0
+        }
+    }
+
+    fn state_of(&self, key: u32) -> u32 {
+        match self.states.get(key as usize) {
+            Some(state) => *state,
+            None => UNKNOWN,
+        }
+    }
+
+    fn set(&mut self, key: u32, state: u32) {
+        if let Some(place) = self.states.get_mut(key as usize) {
+            *place = state;
         }
     }
 }
