@@ -41,5 +41,4 @@ module _ (trace : List ℕ) (at : ℕ) (held : List ℕ) where
 pub record IsAwaiting {A : Type 0} (trace : List ℕ) (at : ℕ) (held : List ℕ) (awaited : Awaited A) : Type 0 where
   pub set : AreLevels awaited.waiting
   pub wide : length trace ≤ bound_of awaited.waiting
-  pub next : AreNextUses trace awaited.next.items
   pub waiting : IsWaiting trace at held (contains awaited.waiting) awaited.count

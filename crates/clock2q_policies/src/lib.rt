@@ -17,5 +17,5 @@ pub mod tested;
 
 pub use byte_caches::byte_outcomes;
 pub use lru_curve::lru_hits_at;
-pub use optimal::{optimal_hits, optimal_outcomes};
+pub use optimal::{optimal_hits, optimal_hits_at, optimal_outcomes};
 pub use plain::{PlainPolicy, plain_hits, plain_outcomes};

@@ -1,5 +1,5 @@
 //! Belady's optimum.
-ghost use Rattle.std.specs.Prelude.{◌≡◌, ℕ, ◌+◌, ◌<◌, ◌≤◌, ◌^◌, IfOk, false, length, slice_index};
+ghost use Rattle.std.specs.Prelude.{◌≡◌, ℕ, ◌+◌, ◌<◌, ◌≤◌, ◌^◌, IfOk, false, length, map, slice_index};
 ghost use Rattle.std.specs.NonZero.{non_zero_usize_get};
 ghost use Rattle.clock2q_policies.specs.Policies.{is_in, without, AreBelow};
 ghost use Rattle.clock2q_policies.specs.Optimum.{optimal_hits, optimal_outcomes};
@@ -18,8 +18,6 @@ type Levels<A> = Indices<Indices<Indices<IndexTree<A>, A>, A>, A>;
 /// The next accesses of the keys that the optimum holds.
 #[derive(Drop)]
 struct Awaited<A: Allocator> {
-    /// For each access of the trace the index of its key's next one, or the number of accesses.
-    next: Vec<usize, A>,
     /// The indices of the next accesses of the held keys.
     waiting: Levels<A>,
     /// The number of held keys that are accessed again.
@@ -27,9 +25,12 @@ struct Awaited<A: Allocator> {
 }
 
 impl<A: Allocator> Awaited<A> {
-    /// Accesses the key at an index of the trace, and returns true if it was held.
-    fn access(&mut self, capacity: NonZeroUsize, trace: &[u32], at: usize) -> bool
+    /// Accesses the key at an index of the trace, and returns true if it was held. The next uses are
+    /// those that [`next_uses`] returns.
+    #[inline(always)]
+    fn access(&mut self, capacity: NonZeroUsize, trace: &[u32], next: &[usize], at: usize) -> bool
         requires at { at < length trace.now }
+        requires next { AreNextUses trace.now next.now }
         requires awaiting { IsAwaiting trace.now at
             (optimal_at (non_zero_usize_get capacity) trace.now at) self.old }
         ensures hit { result ≡
@@ -39,9 +40,9 @@ impl<A: Allocator> Awaited<A> {
             (optimal_at (non_zero_usize_get capacity) trace.now (at + 1)) self.new }
     {
         let is_hit = self.leave(capacity, trace, at);
-        let next = self.next[at];
-        if next < trace.len() {
-            self.waiting.insert(next);
+        let next_use = next[at];
+        if next_use < trace.len() {
+            self.waiting.insert(next_use);
             self.count += 1;
         }
         is_hit
@@ -50,6 +51,7 @@ impl<A: Allocator> Awaited<A> {
     /// Stops to wait for the access at an index, if its key is held. If it isn't, and all keys that
     /// are held are accessed again, evicts the one whose next access is last. Returns true if the
     /// key was held.
+    #[inline(always)]
     fn leave(&mut self, capacity: NonZeroUsize, trace: &[u32], at: usize) -> bool
         requires at { at < length trace.now }
         requires awaiting { IsAwaiting trace.now at
@@ -144,14 +146,65 @@ pub fn optimal_hits<A: Allocator + Copy>(
     ensures hits { IfOk result
         (λ hits. hits ≡ optimal_hits (non_zero_usize_get capacity) trace.now) }
 {
+    let next = next_uses(alloc, trace, keys)?;
+    hits_by(alloc, capacity, trace, &next)
+}
+
+/// Returns the number of accesses of a trace that hit in a new cache of each capacity, in the order of
+/// the capacities: what [`optimal_hits`] returns for each. The keys are numbers below `keys`.
+///
+/// # Errors
+///
+/// `AllocError` if a request for memory is refused.
+///
+/// # Cost
+///
+/// That of [`optimal_hits`] for each capacity, but it looks only once for the next accesses, which
+/// is about a fifth of it.
+///
+/// # Example
+///
+/// ```
+/// let trace = [0, 1, 2, 0, 1]; // three different keys
+/// let hits = optimal_hits_at(rt.alloc(), &[one, two], &trace, 3)?;
+/// assert_eq!(rt; hits.as_slice(), [0, 1].as_slice());
+/// ```
+pub fn optimal_hits_at<A: Allocator + Copy>(
+    alloc: A,
+    capacities: &[NonZeroUsize],
+    trace: &[u32],
+    keys: u32,
+) -> Result<Vec<usize, A>, AllocError>
+    requires below { AreBelow keys trace.now }
+    ensures hits { IfOk result (λ hits. hits.items
+        ≡ map (λ capacity. optimal_hits (non_zero_usize_get capacity) trace.now) capacities.now) }
+{
+    let next = next_uses(alloc, trace, keys)?;
+    let mut hits = Vec::new(alloc);
+    for capacity in capacities {
+        hits.push(hits_by(alloc, *capacity, trace, &next)?)?;
+    }
+    Ok(hits)
+}
+
+/// Does what [`optimal_hits`] does, given the next uses.
+fn hits_by<A: Allocator + Copy>(
+    alloc: A,
+    capacity: NonZeroUsize,
+    trace: &[u32],
+    next: &[usize],
+) -> Result<usize, AllocError>
+    requires next { AreNextUses trace.now next.now }
+    ensures hits { IfOk result
+        (λ hits. hits ≡ optimal_hits (non_zero_usize_get capacity) trace.now) }
+{
     let mut awaited = Awaited {
-        next: next_uses(alloc, trace, keys)?,
         waiting: no_indices(alloc, trace.len())?,
         count: 0,
     };
     let mut hits = 0;
     for at in 0..trace.len() {
-        if awaited.access(capacity, trace, at) {
+        if awaited.access(capacity, trace, next, at) {
             hits += 1;
         }
     }
@@ -187,14 +240,14 @@ pub fn optimal_outcomes<A: Allocator + Copy>(
     ensures outcomes { IfOk result
         (λ outcomes. outcomes.items ≡ optimal_outcomes (non_zero_usize_get capacity) trace.now) }
 {
+    let next = next_uses(alloc, trace, keys)?;
     let mut awaited = Awaited {
-        next: next_uses(alloc, trace, keys)?,
         waiting: no_indices(alloc, trace.len())?,
         count: 0,
     };
     let mut outcomes = Vec::with_capacity(alloc, trace.len())?;
     for at in 0..trace.len() {
-        outcomes.push_reserved(awaited.access(capacity, trace, at));
+        outcomes.push_reserved(awaited.access(capacity, trace, &next, at));
     }
     Ok(outcomes)
 }

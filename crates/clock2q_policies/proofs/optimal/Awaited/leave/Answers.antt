@@ -29,7 +29,6 @@ returns-then-contains-clause-awaiting g c =
     rw add-one (record {
       set = c.remove.ensures.set;
       wide = omega (arith, a.wide, c.remove.ensures.bound);
-      next = a.next;
       waiting = rest_hit (non_zero_usize_get c.args.capacity) some c.args.trace.now c.args.at c.requires.at (contains c.args.self.now.waiting) c.args.self.now.count a.waiting waited
           (contains c.remove.new.self) (c.args.self.now.count - 1) c.remove.ensures.removed c.remove.ensures.others fewer;
     })
@@ -43,7 +42,6 @@ returns-then-self-get-clause-awaiting g c =
     rw add-one (record {
       set = a.set;
       wide = a.wide;
-      next = a.next;
       waiting = rest_room (non_zero_usize_get c.args.capacity) some c.args.trace.now c.args.at c.requires.at (contains c.args.self.now.waiting) c.args.self.now.count a.waiting unwaited below;
     })
 
@@ -75,7 +73,6 @@ returns-clause-awaiting g c =
     rw add-one (record {
       set = c.remove-2.ensures.set;
       wide = omega (arith, a.wide, c.remove-2.ensures.bound);
-      next = a.next;
       waiting = rest_full (non_zero_usize_get c.args.capacity) some c.args.trace.now c.args.at c.requires.at (contains c.args.self.now.waiting) c.args.self.now.count a.waiting unwaited all
           (contains c.remove-2.new.self) (c.args.self.now.count - 1) c.in-Some.last c.in-Some.ensures.last.inside c.in-Some.ensures.last.latest c.remove-2.ensures.removed c.remove-2.ensures.others fewer;
     })

@@ -3,7 +3,7 @@ use Rattle.std.proofs.Common.{◌≡◌, ◌+◌, ◌≤◌, drop}
 use Rattle.std.specs.NonZero.{non_zero_usize_get}
 use Rattle.clock2q_policies.specs.Optimum.{optimal_hits_from, optimal_hits}
 use Rattle.clock2q_policies.specs.Awaited.{optimal_at, IsAwaiting}
-use Rattle.clock2q_policies.proofs.optimal.optimal_hits.Given as goal
+use Rattle.clock2q_policies.proofs.optimal.hits_by.Given as goal
 
 abbrev pub invariant-loop-at : goal.invariant-loop-at
 invariant-loop-at g l = record {

@@ -4,8 +4,8 @@ use Rattle.clock2q_policies.specs.Policies.{is_in}
 use Rattle.clock2q_policies.specs.Optimum.{optimal_hits}
 use Rattle.clock2q_policies.specs.Awaited.{optimal_at}
 use Rattle.clock2q_policies.proofs.AwaitedSteps.{hits_on}
-use Rattle.clock2q_policies.proofs.optimal.optimal_hits.Goals.{then-access, else-access}
-use Rattle.clock2q_policies.proofs.optimal.optimal_hits.Goals as goal
+use Rattle.clock2q_policies.proofs.optimal.hits_by.Goals.{then-access, else-access}
+use Rattle.clock2q_policies.proofs.optimal.hits_by.Goals as goal
 
 pub loop-at-preserved : goal.loop-at-preserved
 loop-at-preserved g c =
