@@ -1,5 +1,5 @@
 //! The result at one capacity.
-ghost use Rattle.std.specs.Prelude.{◌≡◌, ◌-◌, ◌≤◌, IfErr, IfOk, IfSome, length, take};
+ghost use Rattle.std.specs.Prelude.{◌≡◌, ◌+◌, ◌-◌, ◌≤◌, IfErr, IfOk, IfSome, length, take};
 ghost use Rattle.std.specs.NonZero.{non_zero_usize_get};
 ghost use Rattle.clock2q_policies.specs.Policies.{hit_count};
 ghost use Rattle.clock2q_simulation.specs.Bytes.{AreBytes, HasBytes};
@@ -209,6 +209,28 @@ pub(crate) fn hits_between(outcomes: &[bool], first: usize, last: usize) -> usiz
     requires order { first ≤ last }
     requires within { last ≤ length outcomes.now }
     ensures hits { result ≡ hit_count (take last outcomes.now) - hit_count (take first outcomes.now) }
+{
+    let mut hits = 0;
+    let mut index = first;
+    while index < last {
+        let end = index + (last - index).min(BLOCK);
+        hits += hits_in_block(outcomes, index, end) as usize;
+        index = end;
+    }
+    hits
+}
+
+/// The number of accesses whose hits are counted in one byte.
+const BLOCK: usize = 128;
+
+/// Counts the hits among a few accesses, from one up to another. The count is a byte, so that one
+/// instruction adds many outcomes.
+fn hits_in_block(outcomes: &[bool], first: usize, last: usize) -> u8
+    requires order { first ≤ last }
+    requires few { last ≤ first + 128 }
+    requires within { last ≤ length outcomes.now }
+    ensures hits { result + hit_count (take first outcomes.now) ≡ hit_count (take last outcomes.now) }
+    ensures few { result ≤ last - first }
 {
     let mut hits = 0;
     for index in first..last {

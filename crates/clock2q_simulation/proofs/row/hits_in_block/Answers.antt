@@ -1,7 +1,7 @@
 use Rattle.std.proofs.Common.{◌≡◌, ◌+◌, false, cond, arith, get_or}
 use Rattle.clock2q_policies.proofs.Outcomes.{one_counted}
-use Rattle.clock2q_simulation.proofs.row.hits_between.Goals.{then-outcomes-index, else-outcomes-index}
-use Rattle.clock2q_simulation.proofs.row.hits_between.Goals as goal
+use Rattle.clock2q_simulation.proofs.row.hits_in_block.Goals.{then-outcomes-index, else-outcomes-index}
+use Rattle.clock2q_simulation.proofs.row.hits_in_block.Goals as goal
 
 pub loop-index-preserved : goal.loop-index-preserved
 loop-index-preserved c =
