@@ -3,14 +3,10 @@ use Rattle.std.proofs.Common.{◌≡◌, ℕ, ◌+◌, ◌-◌, ◌<◌, ◌≤�
 use Rattle.std.specs.List.{sum}
 use Rattle.std.proofs.lemmas.List.{drop_all, drop_more, get_or-take, length-drop, length-take, take_all}
 use Rattle.std.proofs.lemmas.List.Sums.{sum_by-drop_more}
-use Rattle.clock2q_policies.specs.declared.plain.PlainPolicy.TheVariants as plain
-use Rattle.clock2q_policies.specs.Policies.{plain_outcomes}
 use Rattle.clock2q_simulation.specs.declared.policy.Policy.{Policy}
-use Rattle.clock2q_simulation.specs.declared.policy.Policy.TheVariants.{LeastRecentlyUsed}
 use Rattle.clock2q_simulation.specs.declared.shares.ChosenShares.{ChosenShares}
 use Rattle.clock2q_simulation.specs.Bytes.{AreBytes, between, capped, hit_between, hit_bytes}
 use Rattle.clock2q_simulation.specs.Rows.{IsReplay}
-use Rattle.clock2q_simulation.proofs.Replaying.{least_recent_is}
 
 -- nothing has a size
 pub unsized_hits : (outcomes : List Bool) → hit_bytes outcomes [] ≡ 0
@@ -53,16 +49,14 @@ no-bytes first last outcomes =
     let nothing : between first last [] ≡ [] = ap (drop first) (take_all last [] (omega arith)) ∙ drop_all first [] (omega arith) in
     ap (λ sizes. capped (hit_bytes (between first last outcomes) sizes)) nothing ∙ ap capped (unsized_hits (between first last outcomes))
 
-pub known-bytes : (shares : Option ChosenShares) (numbers sizes : List ℕ) (room first last : ℕ)
-    (policy : Policy) → policy ≡ LeastRecentlyUsed → sizes ≡ []
+pub known-bytes : (shares : Option ChosenShares) (numbers sizes : List ℕ) (room first last : ℕ) (policy : Policy) (outcomes : List Bool)
+    → IsReplay shares numbers room policy outcomes → sizes ≡ []
     → AreBytes shares numbers sizes room first last policy 0
-known-bytes shares numbers sizes room first last policy is none =
-    let outcomes = plain_outcomes plain.LeastRecentlyUsed room numbers in
-    record {
-      outcomes = outcomes;
-      replay = least_recent_is shares numbers room policy outcomes is refl;
-      are = sym (ap (hit_between first last outcomes) none ∙ no-bytes first last outcomes);
-    }
+known-bytes shares numbers sizes room first last policy outcomes replay none = record {
+  outcomes = outcomes;
+  replay = replay;
+  are = sym (ap (hit_between first last outcomes) none ∙ no-bytes first last outcomes);
+}
 
 -- the bytes of a replay
 pub replay-bytes : (shares : Option ChosenShares) (numbers sizes : List ℕ) (room skipped : ℕ) (policy : Policy) (outcomes : List Bool) → IsReplay shares numbers room policy outcomes

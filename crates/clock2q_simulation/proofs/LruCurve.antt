@@ -1,14 +1,15 @@
--- LRU's hits at many capacities: one list of them, and the hits of one capacity.
+-- The hits at many capacities: one list of them, and the hits of one capacity.
 use Rattle.std.proofs.Common.{◌≡◌, ℕ, zero, suc, ◌-◌, ◌<◌, List, [], ◌∷◌, length, get_or, take, map, refl, ap, ◌∙◌, arith}
 use Rattle.std.specs.NonZero.{non_zero_usize_get}
 use Rattle.std.specs.declared.num.NonZeroUsize.{NonZeroUsize}
 use Rattle.std.proofs.lemmas.List.{length-map}
 use Rattle.clock2q_policies.specs.declared.plain.PlainPolicy.TheVariants as plain
 use Rattle.clock2q_policies.specs.Policies.{plain_hits}
-use Rattle.clock2q_simulation.specs.declared.policy.Policy.TheVariants.{LeastRecentlyUsed}
+use Rattle.clock2q_policies.specs.Optimum.{optimal_hits}
+use Rattle.clock2q_simulation.specs.declared.policy.Policy.TheVariants.{LeastRecentlyUsed, Optimal}
 use Rattle.clock2q_simulation.specs.declared.shares.ChosenShares.{ChosenShares}
 use Rattle.std.specs.Prelude.{Option}
-use Rattle.clock2q_simulation.specs.LruCurve.{AreLruHits, lru_hits_after}
+use Rattle.clock2q_simulation.specs.LruCurve.{AreHitsAt, lru_hits_after, optimal_hits_after}
 use Rattle.clock2q_simulation.specs.Rows.{AreHitsAfter}
 
 -- a function of the numbers of some capacities, at one of them
@@ -30,18 +31,26 @@ lru_are skipped shares numbers room hits is = record {
   rest = is;
 }
 
+-- the optimum's, too
+pub optimal_are : (skipped : ℕ) (shares : Option ChosenShares) (numbers : List ℕ) (room hits : ℕ)
+    → hits ≡ optimal_hits_after skipped numbers room
+    → AreHitsAfter skipped shares numbers room Optimal hits
+optimal_are skipped shares numbers room hits is = record {
+  all = optimal_hits room numbers;
+  before = optimal_hits room (take skipped numbers);
+  all_are = refl;
+  before_are = refl;
+  rest = is;
+}
+
 -- the hits of one pass minus those of a pass over the skipped accesses are the hits after them
-pub hits_after_are : (skipped : ℕ) (numbers : List ℕ) (capacities : List NonZeroUsize)
-    (all before rest : List ℕ) → all
-    ≡ map (λ capacity. plain_hits plain.LeastRecentlyUsed (non_zero_usize_get capacity) numbers)
-    capacities
-    → before ≡ map (λ capacity. plain_hits plain.LeastRecentlyUsed (non_zero_usize_get capacity) (take skipped numbers)) capacities → length rest ≡ length all
-    → ((place : ℕ) → place < length all → get_or rest place 0 ≡ get_or all place 0 - get_or before place 0) → AreLruHits skipped numbers capacities rest
-hits_after_are skipped numbers capacities all before rest all_are before_are long each = λ place within.
-    let hits : ℕ → ℕ = λ room. plain_hits plain.LeastRecentlyUsed room numbers in
-    let few : ℕ → ℕ = λ room. plain_hits plain.LeastRecentlyUsed room (take skipped numbers) in
-    let many : length all ≡ length capacities = ap length all_are ∙ length-map capacities (λ capacity. hits (non_zero_usize_get capacity)) in
+pub hits_after_are : (hits : ℕ → List ℕ → ℕ) (skipped : ℕ) (numbers : List ℕ) (capacities : List NonZeroUsize)
+    (all before rest : List ℕ) → all ≡ map (λ capacity. hits (non_zero_usize_get capacity) numbers) capacities
+    → before ≡ map (λ capacity. hits (non_zero_usize_get capacity) (take skipped numbers)) capacities → length rest ≡ length all
+    → ((place : ℕ) → place < length all → get_or rest place 0 ≡ get_or all place 0 - get_or before place 0) → AreHitsAt hits skipped numbers capacities rest
+hits_after_are hits skipped numbers capacities all before rest all_are before_are long each = λ place within.
+    let many : length all ≡ length capacities = ap length all_are ∙ length-map capacities (λ capacity. hits (non_zero_usize_get capacity) numbers) in
     let here : place < length capacities = omega (arith, within, long, many) in
     each place (omega (arith, within, long))
-    ∙ ap (λ n. n - get_or before place 0) (ap (λ xs. get_or xs place 0) all_are ∙ mapped-at hits capacities place here)
-    ∙ ap (λ n. hits (get_or (map non_zero_usize_get capacities) place 0) - n) (ap (λ xs. get_or xs place 0) before_are ∙ mapped-at few capacities place here)
+    ∙ ap (λ n. n - get_or before place 0) (ap (λ xs. get_or xs place 0) all_are ∙ mapped-at (λ room. hits room numbers) capacities place here)
+    ∙ ap (λ n. hits (get_or (map non_zero_usize_get capacities) place 0) numbers - n) (ap (λ xs. get_or xs place 0) before_are ∙ mapped-at (λ room. hits room (take skipped numbers)) capacities place here)

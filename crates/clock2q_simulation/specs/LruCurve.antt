@@ -1,14 +1,28 @@
--- The hits of LRU at many capacities, counted in one pass.
+-- The hits of LRU, and those of Belady's optimum, at many capacities.
 use Rattle.std.specs.Prelude.{◌≡◌, ℕ, ◌-◌, ◌<◌, List, get_or, length, map, take}
 use Rattle.std.specs.NonZero.{non_zero_usize_get}
 use Rattle.std.specs.declared.num.NonZeroUsize.{NonZeroUsize}
 use Rattle.clock2q_policies.specs.declared.plain.PlainPolicy.TheVariants.{LeastRecentlyUsed}
 use Rattle.clock2q_policies.specs.Policies.{plain_hits}
+use Rattle.clock2q_policies.specs.Optimum.{optimal_hits}
 
--- the hits after the first accesses: all hits minus those of a cache that sees only the first accesses
+module _ (hits : ℕ → List ℕ → ℕ) (skipped : ℕ) (numbers : List ℕ) where
+  -- the hits after the first accesses: all hits minus those of a cache that sees only the first accesses
+  abbrev pub hits_after : ℕ → ℕ
+  hits_after room = hits room numbers - hits room (take skipped numbers)
+
+  -- the hits are those at the first capacities, in order
+  abbrev pub AreHitsAt : List NonZeroUsize → List ℕ → Type 0
+  AreHitsAt capacities counted = (place : ℕ) → place < length counted → get_or counted place 0 ≡ hits_after (get_or (map non_zero_usize_get capacities) place 0)
+
 abbrev pub lru_hits_after : ℕ → List ℕ → ℕ → ℕ
-lru_hits_after skipped numbers room = plain_hits LeastRecentlyUsed room numbers - plain_hits LeastRecentlyUsed room (take skipped numbers)
+lru_hits_after = hits_after (plain_hits LeastRecentlyUsed)
 
--- the hits are those at the first capacities, in order
 abbrev pub AreLruHits : ℕ → List ℕ → List NonZeroUsize → List ℕ → Type 0
-AreLruHits skipped numbers capacities hits = (place : ℕ) → place < length hits → get_or hits place 0 ≡ lru_hits_after skipped numbers (get_or (map non_zero_usize_get capacities) place 0)
+AreLruHits = AreHitsAt (plain_hits LeastRecentlyUsed)
+
+abbrev pub optimal_hits_after : ℕ → List ℕ → ℕ → ℕ
+optimal_hits_after = hits_after optimal_hits
+
+abbrev pub AreOptimalHits : ℕ → List ℕ → List NonZeroUsize → List ℕ → Type 0
+AreOptimalHits = AreHitsAt optimal_hits

@@ -262,6 +262,7 @@ fn clock2q_hits<A: Allocator + Copy>(
         skipped,
         trace,
         None,
+        None,
     )?;
     Ok(counted.hits)
 }

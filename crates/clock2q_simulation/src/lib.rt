@@ -22,6 +22,7 @@ mod key_record;
 mod keyed_hasher;
 mod known_keys;
 mod lru_curve;
+mod optimal_curve;
 mod options;
 mod outcome;
 mod pen;

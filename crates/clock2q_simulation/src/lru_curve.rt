@@ -49,7 +49,7 @@ pub(crate) fn lru_curve<A: Allocator + Copy>(
 }
 
 /// Returns each number minus the one at its index in another list, or 0 if that is larger.
-fn minus_each<A: Allocator>(
+pub(crate) fn minus_each<A: Allocator>(
     alloc: A,
     all: &[usize],
     before: &[usize],

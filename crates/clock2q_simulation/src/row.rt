@@ -3,7 +3,7 @@ ghost use Rattle.std.specs.Prelude.{◌≡◌, ◌+◌, ◌-◌, ◌≤◌, IfEr
 ghost use Rattle.std.specs.NonZero.{non_zero_usize_get};
 ghost use Rattle.clock2q_policies.specs.Policies.{hit_count};
 ghost use Rattle.clock2q_simulation.specs.Bytes.{AreBytes, HasBytes};
-ghost use Rattle.clock2q_simulation.specs.LruCurve.{lru_hits_after};
+ghost use Rattle.clock2q_simulation.specs.LruCurve.{lru_hits_after, optimal_hits_after};
 ghost use Rattle.clock2q_simulation.specs.Ratios.{ratio_of};
 ghost use Rattle.clock2q_simulation.specs.Rows.{AreHitsAfter, IsReplay, IsRow};
 ghost use Rattle.clock2q_simulation.specs.SimulationError.{IsOfNoDevice};
@@ -104,12 +104,14 @@ pub fn replay<A: Allocator + Copy>(
     ensures bytes { IfOk result (HasBytes shares trace.now.numbers (sizes_of trace.now) (non_zero_usize_get capacity) skipped (length trace.now.numbers)) }
     ensures devices { IfErr result IsOfNoDevice }
 {
-    replay_with_lru(alloc, capacity, policies, shares, skipped, trace, None)
+    replay_with_known(
+        alloc, capacity, policies, shares, skipped, trace, None, None,
+    )
 }
 
-/// Does what [`replay`] does, without a replay in LRU if its hits after the skipped accesses are
-/// given.
-pub(crate) fn replay_with_lru<A: Allocator + Copy>(
+/// Does what [`replay`] does, without a replay in LRU or of the optimum if their hits after the skipped
+/// accesses are given.
+pub(crate) fn replay_with_known<A: Allocator + Copy>(
     alloc: A,
     capacity: NonZeroUsize,
     policies: &[Policy],
@@ -117,15 +119,19 @@ pub(crate) fn replay_with_lru<A: Allocator + Copy>(
     skipped: usize,
     trace: &Trace<A>,
     lru: Option<usize>,
+    optimal: Option<usize>,
 ) -> Result<Row<A>, SimulationError>
     requires lru { IfSome lru (λ hits. hits ≡ lru_hits_after skipped trace.now.numbers (non_zero_usize_get capacity)) }
+    requires optimal { IfSome optimal (λ hits. hits ≡ optimal_hits_after skipped trace.now.numbers (non_zero_usize_get capacity)) }
     ensures row { IfOk result (IsRow policies.now shares skipped trace.now.numbers (non_zero_usize_get capacity)) }
     ensures bytes { IfOk result (HasBytes shares trace.now.numbers (sizes_of trace.now) (non_zero_usize_get capacity) skipped (length trace.now.numbers)) }
     ensures devices { IfErr result IsOfNoDevice }
 {
     let mut hits = Vec::new(alloc);
     for policy in policies {
-        let counted = hits_with(alloc, *policy, capacity, shares, skipped, trace, lru)?;
+        let counted = hits_with(
+            alloc, *policy, capacity, shares, skipped, trace, lru, optimal,
+        )?;
         match hits.push(counted) {
             Ok(()) => {}
             Err(_) => return Err(SimulationError::Memory),
@@ -140,8 +146,8 @@ pub(crate) fn replay_with_lru<A: Allocator + Copy>(
     })
 }
 
-/// Counts the hits with one policy after the skipped accesses, unless it is LRU, they are given, and
-/// there are no sizes.
+/// Counts the hits with one policy after the skipped accesses, unless it is LRU or the optimum, they
+/// are given, and there are no sizes.
 pub(crate) fn hits_with<A: Allocator + Copy>(
     alloc: A,
     policy: Policy,
@@ -150,14 +156,26 @@ pub(crate) fn hits_with<A: Allocator + Copy>(
     skipped: usize,
     trace: &Trace<A>,
     lru: Option<usize>,
+    optimal: Option<usize>,
 ) -> Result<Hits, SimulationError>
     requires lru { IfSome lru (λ hits. hits ≡ lru_hits_after skipped trace.now.numbers (non_zero_usize_get capacity)) }
+    requires optimal { IfSome optimal (λ hits. hits ≡ optimal_hits_after skipped trace.now.numbers (non_zero_usize_get capacity)) }
     ensures policy { IfOk result (λ h. h.policy ≡ policy) }
     ensures hits { IfOk result (λ h. AreHitsAfter skipped shares trace.now.numbers (non_zero_usize_get capacity) h.policy h.hits) }
     ensures bytes { IfOk result (λ h. AreBytes shares trace.now.numbers (sizes_of trace.now) (non_zero_usize_get capacity) skipped (length trace.now.numbers) h.policy h.bytes) }
     ensures devices { IfErr result IsOfNoDevice }
 {
     if let (Policy::LeastRecentlyUsed, Some(hits)) = (policy, lru) {
+        if !trace.has_sizes() {
+            let bytes = 0;
+            return Ok(Hits {
+                policy,
+                hits,
+                bytes,
+            });
+        }
+    }
+    if let (Policy::Optimal, Some(hits)) = (policy, optimal) {
         if !trace.has_sizes() {
             let bytes = 0;
             return Ok(Hits {

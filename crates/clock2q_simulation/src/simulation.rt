@@ -13,12 +13,13 @@ use crate::csv_text::csv_text;
 use crate::error::SimulationError;
 use crate::json_text::json_text;
 use crate::lru_curve::lru_curve;
+use crate::optimal_curve::optimal_curve;
 use crate::options::{Format, Options};
 use crate::outcome::{Outcome, replay_source};
 use crate::picture::picture;
 use crate::policy::Policy;
 use crate::progress::Progress;
-use crate::row::{Row, replay_with_lru};
+use crate::row::{Row, replay_with_known};
 use crate::shares::ChosenShares;
 use crate::table_text::table_text;
 use crate::trace::Trace;
@@ -101,7 +102,8 @@ pub fn write_outcomes<W: Sink, A: Allocator + Copy>(
 /// # Cost
 ///
 /// That of [`replay`](crate::replay) for each capacity; but LRU takes one pass for all capacities, by
-/// [`lru_hits_at`](clock2q_policies::lru_hits_at), if there are at least ten.
+/// [`lru_hits_at`](clock2q_policies::lru_hits_at), if there are at least ten, and the optimum takes a
+/// third less by [`optimal_hits_at`](clock2q_policies::optimal_hits_at), if there are two or more.
 pub fn rows_of<P: Write, C: Clock, A: Allocator + Copy>(
     alloc: A,
     trace: &Trace<A>,
@@ -117,12 +119,16 @@ pub fn rows_of<P: Write, C: Clock, A: Allocator + Copy>(
 {
     let rooms = rooms_of(alloc, trace, capacities)?;
     let curve = lru_curve(alloc, policies, &rooms, skipped, trace)?;
+    let best = optimal_curve(alloc, policies, &rooms, skipped, trace)?;
     let mut rows = Vec::new(alloc);
     for index in 0..rooms.len() {
         let capacity = rooms[index];
         progress.replay(trace.numbers().len(), capacity.get(), index, rooms.len());
         let lru = curve.get(index).copied();
-        let row = replay_with_lru(alloc, capacity, policies, shares, skipped, trace, lru)?;
+        let optimal = best.get(index).copied();
+        let row = replay_with_known(
+            alloc, capacity, policies, shares, skipped, trace, lru, optimal,
+        )?;
         match rows.push(row) {
             Ok(()) => {}
             Err(_) => return Err(SimulationError::Memory),

@@ -1,4 +1,5 @@
-//! LRU's hits at many capacities, which one pass counts, against a replay at each.
+//! The hits of LRU and of Belady's optimum at many capacities, which are counted together, against a
+//! replay at each.
 
 use crate::queues::trace_of;
 use clock2q_simulation::{Amount, GrowingTrace, Policy, Progress, Trace, Unit, replay, rows_of};
@@ -21,7 +22,11 @@ pub(crate) fn trace_with(alloc: Global, numbers: &[u32]) -> Result<Trace<Global>
 
 /// Checks the hits after skipped accesses at all capacities up to more than there are keys.
 fn rows_are_same(alloc: Global, trace: &Trace<Global>, skipped: usize) -> Result<(), Fail> {
-    let policies = [Policy::FirstInFirstOut, Policy::LeastRecentlyUsed];
+    let policies = [
+        Policy::FirstInFirstOut,
+        Policy::LeastRecentlyUsed,
+        Policy::Optimal,
+    ];
     let mut capacities = Vec::new(alloc);
     for number in 1..45 {
         let unit = Unit::Keys;
@@ -46,7 +51,7 @@ fn rows_are_same(alloc: Global, trace: &Trace<Global>, skipped: usize) -> Result
 }
 
 #[test]
-fn lru_at_many_capacities(rt: HostRuntime) -> Result<(), Fail> {
+fn hits_at_many_capacities(rt: HostRuntime) -> Result<(), Fail> {
     let numbers = trace_of(rt.alloc(), 6, ACCESSES, KEYS)?;
     let trace = trace_with(rt.alloc(), &numbers)?;
     for skipped in [0, 1, 300, 899, 900, 1_000] {

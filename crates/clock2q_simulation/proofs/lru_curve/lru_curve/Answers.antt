@@ -13,7 +13,7 @@ returns-clause-hits g c =
     let skipped = c.args.skipped in
     let same : seen ≡ numbers = c.numbers-numbers.ensures.numbers in
     let first : take c.min.result seen ≡ take skipped numbers = ap (λ n. take n seen) c.min.ensures ∙ take_min skipped seen ∙ ap (take skipped) same in
-    hits_after_are skipped numbers c.args.capacities.now c.deref.result.now c.deref-2.result.now c.in_ok-minus_each.field-0.items
+    hits_after_are (plain_hits LeastRecentlyUsed) skipped numbers c.args.capacities.now c.deref.result.now c.deref-2.result.now c.in_ok-minus_each.field-0.items
     (c.deref.ensures.value ∙ c.in_ok-all.ensures.hits ∙ ap (λ ns. map (λ capacity. plain_hits LeastRecentlyUsed (non_zero_usize_get capacity) ns) c.args.capacities.now) same)
     (c.deref-2.ensures.value ∙ c.in_ok-before.ensures.hits ∙ ap (λ ns. map (λ capacity. plain_hits LeastRecentlyUsed (non_zero_usize_get capacity) ns) c.args.capacities.now) first)
     c.in_ok-minus_each.ensures.long c.in_ok-minus_each.ensures.each

@@ -5,7 +5,7 @@ use Rattle.std.specs.NonZero.{non_zero_usize_get}
 use Rattle.clock2q_simulation.specs.Bytes.{AreBytes}
 use Rattle.clock2q_simulation.specs.Rows.{AreHitsAfter}
 use Rattle.clock2q_simulation.specs.Trace.{sizes_of}
-use Rattle.clock2q_simulation.proofs.row.replay_with_lru.Given as goal
+use Rattle.clock2q_simulation.proofs.row.replay_with_known.Given as goal
 
 abbrev pub invariant-loop-policy : goal.invariant-loop-policy
 invariant-loop-policy g l = record {

@@ -5,7 +5,7 @@ use Rattle.clock2q_simulation.specs.Rows.{AreHitsAfter}
 use Rattle.clock2q_simulation.specs.Trace.{sizes_of}
 use Rattle.clock2q_simulation.proofs.Replaying.{kept-more}
 use Rattle.clock2q_simulation.proofs.Zipped.{All-more}
-use Rattle.clock2q_simulation.proofs.row.replay_with_lru.Goals as goal
+use Rattle.clock2q_simulation.proofs.row.replay_with_known.Goals as goal
 
 pub loop-policy-preserved : goal.loop-policy-preserved
 loop-policy-preserved g c =
