@@ -359,6 +359,17 @@ impl<K: Hash + Eq, V, S: BuildHasher, A: Allocator> Cache<K, V, S, A> {
         self.queues.hit(slot);
     }
 
+    /// Does what [`record_hit`](Cache::record_hit) does, out of line, for a call that mostly inserts:
+    /// it has fewer registers to save then.
+    #[inline(never)]
+    fn record_rare_hit(&mut self, resident: u32, key: &K)
+        requires { slot_of (K.eq key.now) self.old.machine ≡ Some resident }
+        ensures machine { self.new.machine ≡ hit (K.eq key.now) self.old.machine }
+        ensures kept { self.new ≡ record self.old { machine = self.new.machine } }
+    {
+        self.record_hit(resident, key);
+    }
+
     /// Removes the key, which is at `place`, from the history, and returns true if it was there.
     pub(crate) fn forget(&mut self, hash: u64, key: &K, place: Option<Place>) -> bool
         requires place { place ≡
@@ -421,7 +432,7 @@ impl<K: Hash + Eq + Drop, V: Drop, S: BuildHasher, A: Allocator> Cache<K, V, S, 
             self.insert(hash, key, value, found.place());
             return None;
         };
-        self.record_hit(slot, &key);
+        self.record_rare_hit(slot, &key);
         Some(self.replace(slot, value))
     }
 

@@ -15,7 +15,7 @@ returns-in_default-clause-resident g c =
 
 pub returns-clause-resident : goal.returns-clause-resident
 returns-clause-resident g c =
-    rw (c.replace.ensures.machine, c.record_hit.ensures.machine, c.lookup-found.ensures.machine)
+    rw (c.replace.ensures.machine, c.record_rare_hit.ensures.machine, c.lookup-found.ensures.machine)
     (replaced_there g.K.PartialEq.eq g.met.K.Eq.laws c.args.self.now.machine c.lookup-found.ensures.whole c.args.key c.args.value
     c.in-Resident.slot (sym c.in-Resident.ensures.slot))
 
@@ -26,7 +26,7 @@ returns-in_default-clause-known g c =
 
 pub returns-clause-known : goal.returns-clause-known
 returns-clause-known g c =
-    rw (← c.in-Resident.ensures.slot) (ap (λ (z : CacheState _ _ _). z.known) c.replace.ensures.kept ∙ ap (λ (z : CacheState _ _ _). z.known) c.record_hit.ensures.kept
+    rw (← c.in-Resident.ensures.slot) (ap (λ (z : CacheState _ _ _). z.known) c.replace.ensures.kept ∙ ap (λ (z : CacheState _ _ _). z.known) c.record_rare_hit.ensures.kept
     ∙ ap (λ (z : CacheState _ _ _). z.known) c.lookup-found.ensures.kept)
 
 pub returns-in_default-clause-costs : goal.returns-in_default-clause-costs
@@ -43,8 +43,8 @@ returns-in_default-clause-costs g c =
 pub returns-clause-costs : goal.returns-clause-costs
 returns-clause-costs g c =
     let is = g.K.PartialEq.eq c.args.key in
-    let counts = ap (λ (z : CacheState _ _ _). z.counts) c.replace.ensures.kept ∙ ap (λ (z : CacheState _ _ _). z.counts) c.record_hit.ensures.kept in
-    costs-of (c.replace.ensures.machine ∙ ap (stored c.in-Resident.slot c.args.value) (c.record_hit.ensures.machine ∙ ap (hit is) c.lookup-found.ensures.machine)
+    let counts = ap (λ (z : CacheState _ _ _). z.counts) c.replace.ensures.kept ∙ ap (λ (z : CacheState _ _ _). z.counts) c.record_rare_hit.ensures.kept in
+    costs-of (c.replace.ensures.machine ∙ ap (stored c.in-Resident.slot c.args.value) (c.record_rare_hit.ensures.machine ∙ ap (hit is) c.lookup-found.ensures.machine)
     ∙ ap (λ o. if is_some o then replaced_at is c.args.value o c.args.self.now.machine else inserted is c.args.key c.args.value c.args.self.now.machine) c.in-Resident.ensures.slot)
     (reaches-with (record { eq = g.K.PartialEq.eq; hash_input = g.K.Hash.hash_input }) g.S.BuildHasher g.S.Hasher.Hasher
     c.args.key g.met.K.Eq.laws g.met.K.Hash.respects_eq c.lookup-found.ensures.whole c.lookup-found.ensures.as_many
