@@ -11,9 +11,7 @@ use clock2q_policies::tested::{
     arc_outcomes, lirs_outcomes, lru_2_outcomes, s3_fifo_outcomes, sieve_outcomes, two_q_outcomes,
     w_tiny_lfu_outcomes,
 };
-use clock2q_policies::{
-    PlainPolicy, optimal_hits, optimal_hits_at, optimal_outcomes, plain_hits, plain_outcomes,
-};
+use clock2q_policies::{PlainPolicy, optimal_hits, optimal_outcomes, plain_hits, plain_outcomes};
 use clock2q_simulation::{GrowingTrace, Policy, Trace, clock_outcomes, replay};
 use std::alloc::{AllocError, Global};
 use std::collections::VecDeque;
@@ -191,18 +189,13 @@ fn hits_are_those_of_lists(rt: HostRuntime) -> Result<(), Fail> {
     Ok(())
 }
 
-/// Checks the most hits in caches of several capacities, of each and of all at once.
+/// Checks the most hits in caches of several capacities.
 fn all_optimal_hits_are_same(alloc: Global, trace: &[u32]) -> Result<(), Fail> {
-    let mut capacities = Vec::new(alloc);
-    let mut hits = Vec::new(alloc);
     for room in [1usize, 2, 5, 20] {
         let capacity = NonZeroUsize::new(room).ok_or("not zero")?;
         optimal_is_same(alloc, capacity, trace)?;
-        capacities.push(capacity)?;
-        hits.push(optimal_hits(alloc, capacity, trace, KEYS)?)?;
     }
-    let all = optimal_hits_at(alloc, &capacities, trace, KEYS)?;
-    same(all.as_slice(), hits.as_slice())
+    Ok(())
 }
 
 #[test]
