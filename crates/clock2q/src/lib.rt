@@ -32,7 +32,7 @@
 #![tactic(auto)]
 
 pub use clock2q_cache as cache;
-pub use clock2q_cache::{Cache, CacheError, DefaultHashBuilder, Entered, MAX_CAPACITY};
+pub use clock2q_cache::{Cache, CacheError, DefaultHashBuilder, Entered, MAX_CAPACITY, Occupant};
 pub use clock2q_command as command;
 pub use clock2q_handles as handles;
 pub use clock2q_memo as memo;

@@ -1,8 +1,9 @@
 -- What the parts of a call cost.
 use Rattle.std.proofs.Common.{◌≡◌, ℕ, ◌+◌, ◌*◌, ◌≤◌, Bool, true, false, List, length, Some, None, refl, ap, sym, ◌∙◌, subst, arith}
-use Rattle.clock2q_cache.proofs.Names.{HashMembers, candidates, KeyPlaces, comparisons_of, Remembered, QueueState, comparisons-most, set_bits, inspections_of, Call, Get, GetAt, Set, Remove, Retain, Prefill, counts_of, Places, CacheState, Counts, residents_in, Spends, Reaches, Costs, Becomes, most_accesses, most_comparisons, most_slots, walked, hash_of, looked_for, slot_of, hit, stored, prefilled, vacated, removed_at, then_some, is_at, after, hit_at, retained, replaced, replaced_at, hit-absent}
+use Rattle.clock2q_cache.proofs.Names.{HashMembers, candidates, KeyPlaces, comparisons_of, Remembered, QueueState, comparisons-most, set_bits, inspections_for, inspections_of, accesses_for, alike, Call, Put, Get, GetAt, Set, Remove, Retain, Prefill, counts_of, Places, CacheState, Counts, residents_in, Spends, Reaches, Costs, Becomes, most_accesses, most_comparisons, most_slots, walked, hash_of, looked_for, slot_of, hit, put, stored, prefilled, vacated, removed_at, then_some, is_at, after, hit_at, retained, replaced, replaced_at, hit-absent}
 use Rattle.std.specs.declared.hash.Hasher as hasher
 use Rattle.std.specs.declared.hash.BuildHasher as builder
+use Rattle.clock2q_machine.specs.Calls.{SlotFor}
 use Rattle.clock2q_machine.proofs.Clock.{clock_bounded}
 
 -- two parts of a call, each with its cost
@@ -66,6 +67,14 @@ module _ {K V S H : Type 0} {key : HashMembers K} {build : builder.Ghosts S H} {
       → Spends (inspections_of key.eq call old.machine) (most_accesses key.eq call old.machine) (most_comparisons key build hash call old) old.counts new.counts
       → Costs key build hash call old new
   costs-of {call} {old} {new} is reached spent = record { counts = spent; index = reached; clock = omega (arith, spent.inspections, clock_bounded key.eq call old.machine, ap set_bits is) }
+
+  -- so has a put that looked the key up twice
+  pub put-costs : {k : K} {v : V} {old new : CacheState K V S} → new.machine ≡ put (key.eq k) k v old.machine
+      → Reaches (most_slots key build hash (SlotFor k v) old) old new
+      → Spends (inspections_for (key.eq k) old.machine) (accesses_for (key.eq k) old.machine) (alike key build hash k old) old.counts new.counts
+      → Costs key build hash (SlotFor k v) old new
+  put-costs {k} {v} {old} is reached spent =
+      record { counts = spent; index = reached; clock = omega (arith, spent.inspections, clock_bounded key.eq (Put k v) old.machine, ap set_bits is) }
 
   -- a call in which the hand inspects nothing, and no bit is set
   pub prefill-costs : {values : List V} (made : List V) {old new : CacheState K V S} → new.machine ≡ prefilled made old.machine

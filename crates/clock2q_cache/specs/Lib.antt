@@ -13,4 +13,5 @@ pub mod Insertions
 pub mod MakingRoom
 pub mod Makers
 pub mod Iteration
+pub mod Occupants
 pub mod SlotsByHash

@@ -24,9 +24,11 @@ mod entered;
 mod error;
 mod filling;
 mod hashes;
+mod occupant;
 mod shares;
 mod vacancies;
 
 pub use cache::{Cache, DefaultHashBuilder, Iter, Keys, MAX_CAPACITY, Values};
 pub use entered::Entered;
 pub use error::CacheError;
+pub use occupant::Occupant;

@@ -21,6 +21,7 @@ impl<S: BuildHasher> Called<S> {
         match call {
             Call::Put(key, value) => Answer::Value(self.put(key, value)),
             Call::Evict(key, value) => Answer::Handed(self.put_evicting(key, value)),
+            Call::PutSlot(key, value) => self.put_slot(key, value),
             Call::Get(key) => Answer::Value(self.get(key)),
             Call::GetAt(slot, key) => Answer::Value(self.get_at(slot, key)),
             Call::Set(key, value) => Answer::Value(self.set(key, value)),
@@ -48,6 +49,11 @@ impl<S: BuildHasher> Called<S> {
 
     fn put_evicting(&mut self, key: u64, value: u64) -> Option<(u64, u64)> {
         self.cache.put_evicting(key, value)
+    }
+
+    fn put_slot(&mut self, key: u64, value: u64) -> Answer {
+        let (slot, occupant) = self.cache.put_slot(key, value);
+        Answer::Placed(slot, occupant)
     }
 
     fn get(&mut self, key: u64) -> Option<u64> {

@@ -1,6 +1,7 @@
 //! Calls of a cache as small values, and their answers.
 
 use crate::model::Model;
+use clock2q_cache::Occupant;
 use testing::Draws;
 
 /// A call of a cache whose keys and values are numbers.
@@ -9,6 +10,8 @@ pub(crate) enum Call {
     Put(u64, u64),
     /// Puts a value, and asks what was replaced or evicted.
     Evict(u64, u64),
+    /// Puts a value, and asks for the slot and who had it.
+    PutSlot(u64, u64),
     Get(u64),
     Peek(u64),
     Contains(u64),
@@ -48,7 +51,9 @@ pub(crate) enum Answer {
     Left(Option<(u64, usize)>),
     /// A key's slot and the value there.
     Slot(usize, u64),
-    /// The same, whether the key was resident, and whether another resident was evicted.
+    /// A key's slot and who had it.
+    Placed(usize, Occupant<u64>),
+    /// A key's slot and the value there, whether the key was resident, and whether another resident was evicted.
     Entered(usize, u64, bool, bool),
     Flag(bool),
     Number(usize),
@@ -71,7 +76,8 @@ impl Call {
         let key = draws.below(model.keys());
         match draws.below(400) {
             0..=59 => Call::Put(key, number),
-            60..=79 => Call::Evict(key, number),
+            60..=69 => Call::Evict(key, number),
+            70..=79 => Call::PutSlot(key, number),
             80..=89 => Call::Slot(key, number),
             90..=99 => Call::Enter(key, number),
             100..=199 => Call::Get(key),

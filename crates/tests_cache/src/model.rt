@@ -2,6 +2,7 @@
 //! and the value of each slot. Every lookup reads the lists from their first entry on.
 
 use crate::calls::{Answer, Call, is_kept, made_value};
+use clock2q_cache::Occupant;
 use std::alloc::{AllocError, Global};
 
 /// How a capacity is divided.
@@ -112,6 +113,10 @@ impl Model {
         Ok(match call {
             Call::Put(key, value) => Answer::Value(self.put(key, value)?),
             Call::Evict(key, value) => Answer::Handed(self.put_evicting(key, value)?),
+            Call::PutSlot(key, value) => {
+                let (slot, occupant) = self.put_slot(key, value)?;
+                Answer::Placed(slot, occupant)
+            }
             Call::Get(key) => Answer::Value(self.get(key)),
             Call::Peek(key) => Answer::Value(self.peek(key)),
             Call::Contains(key) => Answer::Flag(self.find(key).is_some()),
@@ -255,6 +260,20 @@ impl Model {
         let before = self.value(slot);
         self.store(slot, value);
         Ok(self.evicted.map(|evicted| (evicted, before)))
+    }
+
+    /// Returns the slot of the key, and who had it.
+    fn put_slot(&mut self, key: u64, value: u64) -> Result<(usize, Occupant<u64>), AllocError> {
+        if let Some(entry) = self.find(key) {
+            self.replace(key, value);
+            return Ok((entry.slot, Occupant::Itself));
+        }
+        let slot = self.enter(key)?;
+        self.store(slot, value);
+        match self.evicted {
+            Some(evicted) => Ok((slot, Occupant::Other(evicted))),
+            None => Ok((slot, Occupant::Nobody)),
+        }
     }
 
     fn fetch(&mut self, key: u64, value: u64) -> Result<u64, AllocError> {

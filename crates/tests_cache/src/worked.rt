@@ -2,7 +2,7 @@
 
 use crate::calls::{Answer, Call};
 use crate::tested::{Position, Tested};
-use clock2q_cache::DefaultHashBuilder;
+use clock2q_cache::{DefaultHashBuilder, Occupant};
 use std::alloc::Global;
 use std::hash::BuildHasher;
 use std::process::Abort;
@@ -107,6 +107,22 @@ const RUNS: &[Run] = &[
             (Call::Enter(3, 31), Answer::Entered(0, 10, true, false)),
             (Call::Remove(3), Answer::Flag(true)),
             (Call::Enter(4, 40), Answer::Entered(0, 10, false, false)),
+        ],
+    },
+    // Who had the slot of each key that enters: nobody, Small's tail, the key itself, and nobody once
+    // it was removed.
+    Run {
+        capacity: 2,
+        puts: (0, 0),
+        hits: (0, 0),
+        calls: &[
+            (Call::PutSlot(1, 10), Answer::Placed(0, Occupant::Nobody)),
+            (Call::PutSlot(2, 20), Answer::Placed(1, Occupant::Nobody)),
+            (Call::PutSlot(3, 30), Answer::Placed(0, Occupant::Other(1))),
+            (Call::PutSlot(3, 31), Answer::Placed(0, Occupant::Itself)),
+            (Call::Peek(3), Answer::Value(Some(31))),
+            (Call::Remove(3), Answer::Flag(true)),
+            (Call::PutSlot(3, 32), Answer::Placed(0, Occupant::Nobody)),
         ],
     },
     // A key that is forgotten.
