@@ -1,11 +1,12 @@
 mod Amounts
 mod ByteRows
 mod Bytes
+mod Curves
 mod FieldByField
 mod KeyBytes
+mod KnownHits
 mod KnownKeys
 mod LineByLine
-mod LruCurve
 mod Numbering
 mod RecordByRecord
 mod Replaying

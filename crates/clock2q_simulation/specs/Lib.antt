@@ -4,12 +4,13 @@ pub mod ByteAmounts
 pub mod ByteRows
 pub mod Bytes
 pub mod ChosenShares
+pub mod Curves
 pub mod Fields
 pub mod Formats
 pub mod Help
 pub mod KeyedHasher
+pub mod KnownHits
 pub mod KnownKeys
-pub mod LruCurve
 pub mod MachineHits
 pub mod Ratios
 pub mod Reading

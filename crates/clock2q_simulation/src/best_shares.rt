@@ -6,6 +6,7 @@ ghost use Rattle.clock2q_simulation.specs.SimulationError.{IsOfNoDevice};
 
 use crate::amount::{Amount, Unit};
 use crate::error::SimulationError;
+use crate::known_hits::KnownHits;
 use crate::policy::Policy;
 use crate::row::{Row, hits_with};
 use crate::shares::ChosenShares;
@@ -254,16 +255,8 @@ fn clock2q_hits<A: Allocator + Copy>(
     ensures hits { IfOk result (λ hits. hits ≡ clock2q_hits_after skipped trace.now.numbers (non_zero_usize_get capacity) shares) }
     ensures devices { IfErr result IsOfNoDevice }
 {
-    let counted = hits_with(
-        alloc,
-        Policy::Clock2Q,
-        capacity,
-        shares,
-        skipped,
-        trace,
-        None,
-        None,
-    )?;
+    let (policy, known) = (Policy::Clock2Q, KnownHits::NONE);
+    let counted = hits_with(alloc, policy, capacity, shares, skipped, trace, known)?;
     Ok(counted.hits)
 }
 

@@ -1,15 +1,16 @@
 //! The result at one capacity.
-ghost use Rattle.std.specs.Prelude.{◌≡◌, ◌+◌, ◌-◌, ◌≤◌, IfErr, IfOk, IfSome, length, take};
+ghost use Rattle.std.specs.Prelude.{◌≡◌, ◌+◌, ◌-◌, ◌≤◌, IfErr, IfOk, length, take};
 ghost use Rattle.std.specs.NonZero.{non_zero_usize_get};
 ghost use Rattle.clock2q_policies.specs.Policies.{hit_count};
 ghost use Rattle.clock2q_simulation.specs.Bytes.{AreBytes, HasBytes};
-ghost use Rattle.clock2q_simulation.specs.LruCurve.{lru_hits_after, optimal_hits_after};
+ghost use Rattle.clock2q_simulation.specs.KnownHits.{AreKnown};
 ghost use Rattle.clock2q_simulation.specs.Ratios.{ratio_of};
 ghost use Rattle.clock2q_simulation.specs.Rows.{AreHitsAfter, IsReplay, IsRow};
 ghost use Rattle.clock2q_simulation.specs.SimulationError.{IsOfNoDevice};
 ghost use Rattle.clock2q_simulation.specs.Trace.{sizes_of};
 
 use crate::error::SimulationError;
+use crate::known_hits::KnownHits;
 use crate::policy::{Policy, policy_outcomes};
 use crate::shares::ChosenShares;
 use crate::sums::{asked_bytes, hit_bytes};
@@ -104,13 +105,11 @@ pub fn replay<A: Allocator + Copy>(
     ensures bytes { IfOk result (HasBytes shares trace.now.numbers (sizes_of trace.now) (non_zero_usize_get capacity) skipped (length trace.now.numbers)) }
     ensures devices { IfErr result IsOfNoDevice }
 {
-    replay_with_known(
-        alloc, capacity, policies, shares, skipped, trace, None, None,
-    )
+    let known = KnownHits::NONE;
+    replay_with_known(alloc, capacity, policies, shares, skipped, trace, known)
 }
 
-/// Does what [`replay`] does, without a replay in LRU or of the optimum if their hits after the skipped
-/// accesses are given.
+/// Does what [`replay`] does, without a replay for hits that are known.
 pub(crate) fn replay_with_known<A: Allocator + Copy>(
     alloc: A,
     capacity: NonZeroUsize,
@@ -118,20 +117,16 @@ pub(crate) fn replay_with_known<A: Allocator + Copy>(
     shares: Option<ChosenShares>,
     skipped: usize,
     trace: &Trace<A>,
-    lru: Option<usize>,
-    optimal: Option<usize>,
+    known: KnownHits,
 ) -> Result<Row<A>, SimulationError>
-    requires lru { IfSome lru (λ hits. hits ≡ lru_hits_after skipped trace.now.numbers (non_zero_usize_get capacity)) }
-    requires optimal { IfSome optimal (λ hits. hits ≡ optimal_hits_after skipped trace.now.numbers (non_zero_usize_get capacity)) }
+    requires known { AreKnown skipped trace.now.numbers (non_zero_usize_get capacity) known }
     ensures row { IfOk result (IsRow policies.now shares skipped trace.now.numbers (non_zero_usize_get capacity)) }
     ensures bytes { IfOk result (HasBytes shares trace.now.numbers (sizes_of trace.now) (non_zero_usize_get capacity) skipped (length trace.now.numbers)) }
     ensures devices { IfErr result IsOfNoDevice }
 {
     let mut hits = Vec::new(alloc);
     for policy in policies {
-        let counted = hits_with(
-            alloc, *policy, capacity, shares, skipped, trace, lru, optimal,
-        )?;
+        let counted = hits_with(alloc, *policy, capacity, shares, skipped, trace, known)?;
         match hits.push(counted) {
             Ok(()) => {}
             Err(_) => return Err(SimulationError::Memory),
@@ -146,8 +141,8 @@ pub(crate) fn replay_with_known<A: Allocator + Copy>(
     })
 }
 
-/// Counts the hits with one policy after the skipped accesses, unless it is LRU or the optimum, they
-/// are given, and there are no sizes.
+/// Counts the hits with one policy after the skipped accesses, unless they are known and there are no
+/// sizes.
 pub(crate) fn hits_with<A: Allocator + Copy>(
     alloc: A,
     policy: Policy,
@@ -155,27 +150,15 @@ pub(crate) fn hits_with<A: Allocator + Copy>(
     shares: Option<ChosenShares>,
     skipped: usize,
     trace: &Trace<A>,
-    lru: Option<usize>,
-    optimal: Option<usize>,
+    known: KnownHits,
 ) -> Result<Hits, SimulationError>
-    requires lru { IfSome lru (λ hits. hits ≡ lru_hits_after skipped trace.now.numbers (non_zero_usize_get capacity)) }
-    requires optimal { IfSome optimal (λ hits. hits ≡ optimal_hits_after skipped trace.now.numbers (non_zero_usize_get capacity)) }
+    requires known { AreKnown skipped trace.now.numbers (non_zero_usize_get capacity) known }
     ensures policy { IfOk result (λ h. h.policy ≡ policy) }
     ensures hits { IfOk result (λ h. AreHitsAfter skipped shares trace.now.numbers (non_zero_usize_get capacity) h.policy h.hits) }
     ensures bytes { IfOk result (λ h. AreBytes shares trace.now.numbers (sizes_of trace.now) (non_zero_usize_get capacity) skipped (length trace.now.numbers) h.policy h.bytes) }
     ensures devices { IfErr result IsOfNoDevice }
 {
-    if let (Policy::LeastRecentlyUsed, Some(hits)) = (policy, lru) {
-        if !trace.has_sizes() {
-            let bytes = 0;
-            return Ok(Hits {
-                policy,
-                hits,
-                bytes,
-            });
-        }
-    }
-    if let (Policy::Optimal, Some(hits)) = (policy, optimal) {
+    if let Some(hits) = known.of(policy) {
         if !trace.has_sizes() {
             let bytes = 0;
             return Ok(Hits {

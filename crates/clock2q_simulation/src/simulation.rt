@@ -10,10 +10,10 @@ ghost use Rattle.clock2q_simulation.specs.Trace.{sizes_of};
 
 use crate::amount::Amount;
 use crate::csv_text::csv_text;
+use crate::curve::Curve;
 use crate::error::SimulationError;
 use crate::json_text::json_text;
-use crate::lru_curve::lru_curve;
-use crate::optimal_curve::optimal_curve;
+use crate::known_hits::KnownHits;
 use crate::options::{Format, Options};
 use crate::outcome::{Outcome, replay_source};
 use crate::picture::picture;
@@ -118,17 +118,17 @@ pub fn rows_of<P: Write, C: Clock, A: Allocator + Copy>(
     ensures devices { IfErr result IsOfNoDevice }
 {
     let rooms = rooms_of(alloc, trace, capacities)?;
-    let curve = lru_curve(alloc, policies, &rooms, skipped, trace)?;
-    let best = optimal_curve(alloc, policies, &rooms, skipped, trace)?;
+    let lru = Curve::LeastRecentlyUsed.hits_after(alloc, policies, &rooms, skipped, trace)?;
+    let optimal = Curve::Optimal.hits_after(alloc, policies, &rooms, skipped, trace)?;
     let mut rows = Vec::new(alloc);
     for index in 0..rooms.len() {
         let capacity = rooms[index];
         progress.replay(trace.numbers().len(), capacity.get(), index, rooms.len());
-        let lru = curve.get(index).copied();
-        let optimal = best.get(index).copied();
-        let row = replay_with_known(
-            alloc, capacity, policies, shares, skipped, trace, lru, optimal,
-        )?;
+        let known = KnownHits {
+            lru: lru.get(index).copied(),
+            optimal: optimal.get(index).copied(),
+        };
+        let row = replay_with_known(alloc, capacity, policies, shares, skipped, trace, known)?;
         match rows.push(row) {
             Ok(()) => {}
             Err(_) => return Err(SimulationError::Memory),

@@ -1,6 +1,6 @@
 -- The numbers so far are the differences so far.
 use Rattle.std.proofs.Common.{◌≡◌, ℕ, ◌-◌, ◌<◌, length, get_or}
-use Rattle.clock2q_simulation.proofs.lru_curve.minus_each.Given as goal
+use Rattle.clock2q_simulation.proofs.curve.minus_each.Given as goal
 
 abbrev pub invariant-loop-index : goal.invariant-loop-index
 invariant-loop-index g l = record {

@@ -3,14 +3,7 @@ use Rattle.std.proofs.Common.{◌≡◌, ℕ, zero, suc, ◌-◌, ◌<◌, List,
 use Rattle.std.specs.NonZero.{non_zero_usize_get}
 use Rattle.std.specs.declared.num.NonZeroUsize.{NonZeroUsize}
 use Rattle.std.proofs.lemmas.List.{length-map}
-use Rattle.clock2q_policies.specs.declared.plain.PlainPolicy.TheVariants as plain
-use Rattle.clock2q_policies.specs.Policies.{plain_hits}
-use Rattle.clock2q_policies.specs.Optimum.{optimal_hits}
-use Rattle.clock2q_simulation.specs.declared.policy.Policy.TheVariants.{LeastRecentlyUsed, Optimal}
-use Rattle.clock2q_simulation.specs.declared.shares.ChosenShares.{ChosenShares}
-use Rattle.std.specs.Prelude.{Option}
-use Rattle.clock2q_simulation.specs.LruCurve.{AreHitsAt, lru_hits_after, optimal_hits_after}
-use Rattle.clock2q_simulation.specs.Rows.{AreHitsAfter}
+use Rattle.clock2q_simulation.specs.Curves.{AreHitsAt}
 
 -- a function of the numbers of some capacities, at one of them
 pub mapped-at : (f : ℕ → ℕ) (capacities : List NonZeroUsize) (place : ℕ) → place < length capacities
@@ -18,30 +11,6 @@ pub mapped-at : (f : ℕ → ℕ) (capacities : List NonZeroUsize) (place : ℕ)
 mapped-at f [] place within = absurd (omega (arith, within))
 mapped-at f (capacity ∷ capacities) zero within = refl
 mapped-at f (capacity ∷ capacities) (suc place) within = mapped-at f capacities place (omega (arith, within))
-
--- LRU's hits after the first accesses are hits of a row
-pub lru_are : (skipped : ℕ) (shares : Option ChosenShares) (numbers : List ℕ) (room hits : ℕ)
-    → hits ≡ lru_hits_after skipped numbers room
-    → AreHitsAfter skipped shares numbers room LeastRecentlyUsed hits
-lru_are skipped shares numbers room hits is = record {
-  all = plain_hits plain.LeastRecentlyUsed room numbers;
-  before = plain_hits plain.LeastRecentlyUsed room (take skipped numbers);
-  all_are = refl;
-  before_are = refl;
-  rest = is;
-}
-
--- the optimum's, too
-pub optimal_are : (skipped : ℕ) (shares : Option ChosenShares) (numbers : List ℕ) (room hits : ℕ)
-    → hits ≡ optimal_hits_after skipped numbers room
-    → AreHitsAfter skipped shares numbers room Optimal hits
-optimal_are skipped shares numbers room hits is = record {
-  all = optimal_hits room numbers;
-  before = optimal_hits room (take skipped numbers);
-  all_are = refl;
-  before_are = refl;
-  rest = is;
-}
 
 -- the hits of one pass minus those of a pass over the skipped accesses are the hits after them
 pub hits_after_are : (hits : ℕ → List ℕ → ℕ) (skipped : ℕ) (numbers : List ℕ) (capacities : List NonZeroUsize)
