@@ -80,7 +80,7 @@ template <class Cache, class K> static void measure(std::size_t capacity, const 
 
 template <class K> static void run(const char *form, std::size_t capacity, const std::vector<K> &keys) {
     if (std::strcmp(form, "list") == 0) measure<by_hand<K, std::uint64_t>>(capacity, keys);
-    else measure<clock2q_cpp::cache<K, std::uint64_t>>(capacity, keys);
+    else measure<clock2q::cache<K, std::uint64_t>>(capacity, keys);
 }
 
 int main(int count, char **arguments) {

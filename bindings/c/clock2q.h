@@ -4,7 +4,7 @@
  * to leave when a new one comes. What a key means is yours: keep it in arrays of `capacity`
  * elements, at the key's slot.
  *
- *     clock2q cache = CLOCK2Q_NONE;
+ *     clock2q_cache cache = CLOCK2Q_NONE;
  *     if (clock2q_new(&cache, 1000) != CLOCK2Q_DONE) return 1;
  *     clock2q_place place;
  *     clock2q_enter(&cache, page, &place);
@@ -18,7 +18,7 @@
  * makes calls slow. If strangers do, scramble the keys with a secret.
  *
  * What you owe, since no proof reaches across this border:
- * - A `clock2q` begins as CLOCK2Q_NONE. While there is a cache in it, it isn't copied, read or
+ * - A `clock2q_cache` begins as CLOCK2Q_NONE. While there is a cache in it, it isn't copied, read or
  *   written, but by the calls below; it may be moved, if CLOCK2Q_NONE is left in its place.
  * - A call that says "needs a cache" is made only if there is one. Without NDEBUG that is asserted
  *   here.
@@ -48,7 +48,7 @@ extern "C" {
 /* A cache, or none. */
 typedef struct {
     void *at;
-} clock2q;
+} clock2q_cache;
 
 #define CLOCK2Q_NONE {0}
 
@@ -60,12 +60,12 @@ enum {
     CLOCK2Q_BAD_POLICY = 3    /* the shares don't fit together; no memory was asked for */
 };
 
-/* Where a key is, and which key entered that slot last before. */
+/* Where a key is, and which key had that slot until this call: the same one after a hit. */
 typedef struct {
     size_t slot;   /* below the capacity */
-    uint64_t last; /* 0 if no key did */
+    uint64_t last; /* 0 if no key had the slot */
     bool has_last;
-    bool evicted; /* whether `last` had the slot until this call, and lost it */
+    bool evicted; /* whether `last` is another key, which lost the slot */
 } clock2q_place;
 
 /* The slot of a key, if it has one. */
@@ -90,62 +90,62 @@ clock2q_memory clock2q_use_memory(const clock2q_memory *memory);
 uint32_t clock2q_version(void);
 
 /* Makes a cache for `capacity` keys. Needs none there. Takes time and memory in proportion to the
- * capacity, 81 to 166 bytes a key from 100 keys on, in at most twelve requests. */
-uint32_t clock2q_new(clock2q *cache, size_t capacity);
+ * capacity, 65 to 148 bytes a key from 100 keys on, in at most twelve requests. */
+uint32_t clock2q_new(clock2q_cache *cache, size_t capacity);
 
 /* Makes a cache of which `small` slots are for new keys, each young until `window` more were
  * admitted. Needs none there. CLOCK2Q_BAD_POLICY unless small < capacity, window <= small, and both
  * or neither of them are 0. Costs what clock2q_new does. */
-uint32_t clock2q_with_policy(clock2q *cache, size_t capacity, size_t small, size_t window);
+uint32_t clock2q_with_policy(clock2q_cache *cache, size_t capacity, size_t small, size_t window);
 
 /* Finds the slot of a key and records a hit, or gives the key a slot, which another key may lose.
  * Returns where it is; clock2q_enter below writes that instead. Needs a cache. Costs one hash;
  * without a hit at most 36 accesses to the queues, and one for each key that the hand passes over. */
-clock2q_place clock2q_enter_key(clock2q *cache, uint64_t key);
+clock2q_place clock2q_enter_key(clock2q_cache *cache, uint64_t key);
 
 /* Finds the slot of a key and records a hit, if the key has one; clock2q_find below writes the slot
  * instead. Needs a cache. Costs one hash. */
-clock2q_found clock2q_find_key(clock2q *cache, uint64_t key);
+clock2q_found clock2q_find_key(clock2q_cache *cache, uint64_t key);
 
 /* Returns true, after a hit, if the key is at this slot; any number will do. Needs a cache. Costs
  * no hash. */
-bool clock2q_at(clock2q *cache, size_t slot, uint64_t key);
+bool clock2q_at(clock2q_cache *cache, size_t slot, uint64_t key);
 
 /* Returns true if the key has a slot, and records nothing. Needs a cache. Costs one hash. */
-bool clock2q_contains(clock2q *cache, uint64_t key);
+bool clock2q_contains(clock2q_cache *cache, uint64_t key);
 
 /* Finds the slot of a key, if it has one, and records nothing; clock2q_peek below writes the slot instead.
  * clock2q_holds below goes through all of them. Needs a cache. Costs one hash. */
-clock2q_found clock2q_peek_key(clock2q *cache, uint64_t key);
+clock2q_found clock2q_peek_key(clock2q_cache *cache, uint64_t key);
 
 /* Takes the slot of a key away and returns true. A key that has none is forgotten, if it was
  * remembered. Needs a cache. Costs one hash and at most 8 accesses to the queues. */
-bool clock2q_remove(clock2q *cache, uint64_t key);
+bool clock2q_remove(clock2q_cache *cache, uint64_t key);
 
 /* Takes the slot away from the key that leaves next, and returns its place: `slot` was its slot, `last`
  * is the key, `has_last` and `evicted` are true. If no key has a slot, all of them are 0 or false.
  * clock2q_evict below writes that instead. In a full cache it is the key that a new one would make leave;
  * the next key that enters takes its slot. Needs a cache. Costs no hash, at most 21 accesses to the
  * queues, and one for each key that the hand passes over. */
-clock2q_place clock2q_evict_key(clock2q *cache);
+clock2q_place clock2q_evict_key(clock2q_cache *cache);
 
 /* Returns the place that clock2q_evict_key would return, but for `evicted`, which is false, and changes
  * nothing. If no key has a slot, all of it is 0 or false. Needs a cache. Costs no hash, and a step for each
  * key that the hand would pass over, at each call. */
-clock2q_place clock2q_next_victim(clock2q *cache);
+clock2q_place clock2q_next_victim(clock2q_cache *cache);
 
 /* Takes all slots away, and forgets all keys. Needs a cache. Takes time in proportion to the
  * capacity. */
-void clock2q_clear(clock2q *cache);
+void clock2q_clear(clock2q_cache *cache);
 
 /* Returns how many keys have a slot. Needs a cache. */
-size_t clock2q_len(clock2q *cache);
+size_t clock2q_len(clock2q_cache *cache);
 
 /* Returns how many keys can have a slot. Needs a cache. */
-size_t clock2q_capacity(clock2q *cache);
+size_t clock2q_capacity(clock2q_cache *cache);
 
 /* Frees a cache that nobody uses from then on. Needs a cache. clock2q_free is easier to call. */
-void clock2q_release(clock2q cache);
+void clock2q_release(clock2q_cache cache);
 
 /* Tokens: a cache of keys of your own type. It is given a key's hash in place of the key, and you
  * compare your keys, at the slots of that hash:
@@ -238,7 +238,7 @@ void clock2q_tokens_release(clock2q_tokens cache);
 #endif
 
 #if !defined NDEBUG || defined CLOCK2Q_THREADS_ARE_SEEN
-static inline clock2q *clock2q_checked(clock2q *cache, bool needs_one) {
+static inline clock2q_cache *clock2q_checked(clock2q_cache *cache, bool needs_one) {
     assert(cache != NULL && (cache->at != NULL) == needs_one);
     (void)needs_one;
 #ifdef CLOCK2Q_THREADS_ARE_SEEN
@@ -247,7 +247,7 @@ static inline clock2q *clock2q_checked(clock2q *cache, bool needs_one) {
     return cache;
 }
 
-static inline clock2q clock2q_checked_value(clock2q cache) {
+static inline clock2q_cache clock2q_checked_value(clock2q_cache cache) {
     assert(cache.at != NULL);
     return cache;
 }
@@ -301,14 +301,14 @@ static inline clock2q_tokens clock2q_tokens_checked_value(clock2q_tokens cache) 
 #endif
 
 /* clock2q_enter_key, which writes to `place`. */
-static inline void clock2q_enter(clock2q *cache, uint64_t key, clock2q_place *place) {
+static inline void clock2q_enter(clock2q_cache *cache, uint64_t key, clock2q_place *place) {
     assert(place != NULL);
     *place = clock2q_enter_key(cache, key);
 }
 
 /* clock2q_find_key, which writes to `slot` and returns true. Returns false, with `slot` as it was, if
  * the key has no slot. */
-static inline bool clock2q_find(clock2q *cache, uint64_t key, size_t *slot) {
+static inline bool clock2q_find(clock2q_cache *cache, uint64_t key, size_t *slot) {
     assert(slot != NULL);
     clock2q_found found = clock2q_find_key(cache, key);
     if (found.is_found) *slot = found.slot;
@@ -317,7 +317,7 @@ static inline bool clock2q_find(clock2q *cache, uint64_t key, size_t *slot) {
 
 /* clock2q_enter for a key that has no slot. Returns false, with `place` as it was, and changes nothing if the
  * key has one: no call gives a key two slots, whatever its caller believes. Needs a cache. Costs two hashes. */
-static inline bool clock2q_add(clock2q *cache, uint64_t key, clock2q_place *place) {
+static inline bool clock2q_add(clock2q_cache *cache, uint64_t key, clock2q_place *place) {
     assert(place != NULL);
     if (clock2q_contains(cache, key)) return false;
     *place = clock2q_enter_key(cache, key);
@@ -326,7 +326,7 @@ static inline bool clock2q_add(clock2q *cache, uint64_t key, clock2q_place *plac
 
 /* clock2q_evict_key, which writes to `place` and returns true. Returns false, with `place` as it was, if
  * no key has a slot. */
-static inline bool clock2q_evict(clock2q *cache, clock2q_place *place) {
+static inline bool clock2q_evict(clock2q_cache *cache, clock2q_place *place) {
     assert(place != NULL);
     clock2q_place left = clock2q_evict_key(cache);
     if (left.evicted) *place = left;
@@ -334,7 +334,7 @@ static inline bool clock2q_evict(clock2q *cache, clock2q_place *place) {
 }
 
 /* clock2q_peek_key, as clock2q_find is clock2q_find_key. */
-static inline bool clock2q_peek(clock2q *cache, uint64_t key, size_t *slot) {
+static inline bool clock2q_peek(clock2q_cache *cache, uint64_t key, size_t *slot) {
     assert(slot != NULL);
     clock2q_found found = clock2q_peek_key(cache, key);
     if (found.is_found) *slot = found.slot;
@@ -348,13 +348,13 @@ static inline bool clock2q_peek(clock2q *cache, uint64_t key, size_t *slot) {
  *         if (is_kept[slot] && clock2q_holds(&cache, slot, keys[slot])) use(keys[slot], frames[slot]);
  *
  * Needs a cache. Costs one hash. */
-static inline bool clock2q_holds(clock2q *cache, size_t slot, uint64_t key) {
+static inline bool clock2q_holds(clock2q_cache *cache, size_t slot, uint64_t key) {
     clock2q_found found = clock2q_peek_key(cache, key);
     return found.is_found && found.slot == slot;
 }
 
 /* Frees the cache, if there is one, and leaves none. */
-static inline void clock2q_free(clock2q *cache) {
+static inline void clock2q_free(clock2q_cache *cache) {
     if (cache->at != NULL) {
         clock2q_release(*cache);
         cache->at = NULL;
@@ -375,8 +375,7 @@ static inline uint64_t clock2q_spread(uint64_t hash) {
     return product ^ product >> 32;
 }
 
-/* Returns true if no other key entered the slot since this one did, so that what you keep for the
- * slot is this key's. */
+/* Returns true if the key had the slot before, so that what you keep for the slot is this key's. */
 static inline bool clock2q_has(const clock2q_place *place, uint64_t key) {
     return place->has_last && place->last == key;
 }

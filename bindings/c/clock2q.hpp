@@ -1,7 +1,7 @@
 // clock2q: a proved cache of fixed capacity with Clock2Q+ replacement, for C++17. Header only, over the
-// calls of clock2q.h. The namespace is clock2q_cpp, since clock2q is the handle of C.
+// calls of clock2q.h.
 //
-//     clock2q_cpp::cache<std::string, page> pages(1000);
+//     clock2q::cache<std::string, page> pages(1000);
 //     page *found = pages.get(name);
 //     if (found == nullptr) found = pages.try_emplace(name, read_page(name)).first;
 //
@@ -25,7 +25,7 @@
 #include <type_traits>
 #include <utility>
 
-namespace clock2q_cpp {
+namespace clock2q {
 
 // How many slots are for new keys, each of which is young until `window` more were admitted.
 struct policy {
@@ -49,7 +49,7 @@ constexpr std::size_t most_alike = 16;
 
 } // namespace detail
 
-// A clock2q that is freed with its owner. Its calls are those of clock2q.h, which says what they cost; none
+// A clock2q_cache that is freed with its owner. Its calls are those of clock2q.h, which says what they cost; none
 // throws but the constructors: std::bad_alloc if there is no memory, std::invalid_argument if the capacity
 // or the policy is refused. One that was moved from may only be destroyed, assigned to and asked for its
 // capacity, which is 0. No call is const that asks the library, since no two calls may overlap.
@@ -104,7 +104,7 @@ class page_cache {
     friend void swap(page_cache &one, page_cache &other) noexcept { one.swap(other); }
 
   private:
-    clock2q handle_ = CLOCK2Q_NONE;
+    clock2q_cache handle_ = CLOCK2Q_NONE;
     std::size_t capacity_ = 0;
 };
 
@@ -986,6 +986,6 @@ class weighted_cache {
     std::unique_ptr<limit> limit_;
 };
 
-} // namespace clock2q_cpp
+} // namespace clock2q
 
 #endif

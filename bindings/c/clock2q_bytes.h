@@ -18,7 +18,7 @@
  * Keys are hashed with SipHash-1-3 and a random secret of each cache, so strangers may choose them. There
  * are at most sixteen keys of one hash of 64 bits: the next takes the slot of one of them.
  *
- * You owe what clock2q.h says of a `clock2q` and its calls. A key of length 0 may be null, and a key may
+ * You owe what clock2q.h says of a `clock2q_cache` and its calls. A key of length 0 may be null, and a key may
  * be one that the cache returned. */
 #ifndef CLOCK2Q_BYTES_H
 #define CLOCK2Q_BYTES_H

@@ -36,7 +36,7 @@ static void found(uint64_t value) {
     sum += value;
 }
 
-__attribute__((noinline)) static void run_find(clock2q *cache, uint64_t *values) {
+__attribute__((noinline)) static void run_find(clock2q_cache *cache, uint64_t *values) {
     for (size_t i = 0; i < ACCESSES; i++) {
         size_t slot;
         clock2q_place place;
@@ -49,7 +49,7 @@ __attribute__((noinline)) static void run_find(clock2q *cache, uint64_t *values)
     }
 }
 
-__attribute__((noinline)) static void run_enter(clock2q *cache, uint64_t *values) {
+__attribute__((noinline)) static void run_enter(clock2q_cache *cache, uint64_t *values) {
     for (size_t i = 0; i < ACCESSES; i++) {
         clock2q_place place;
         clock2q_enter(cache, keys[i], &place);
@@ -127,7 +127,7 @@ __attribute__((noinline)) static void run_glib(size_t capacity) {
 }
 
 static int run_clock2q(const char *form, size_t capacity) {
-    clock2q cache = CLOCK2Q_NONE;
+    clock2q_cache cache = CLOCK2Q_NONE;
     uint64_t *values = calloc(capacity, sizeof *values);
     if (values == NULL || clock2q_new(&cache, capacity) != CLOCK2Q_DONE) return 1;
     if (strcmp(form, "find") == 0) {

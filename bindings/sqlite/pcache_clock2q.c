@@ -57,7 +57,7 @@ struct cache {
     struct page **buckets;
     size_t bucket_mask;  /* one less than there are buckets, which is a power of two */
     struct page idle;    /* between the longest idle page, `newer`, and the shortest, `older` */
-    clock2q index;
+    clock2q_cache index;
     struct page **at; /* the page of each slot, or null */
     size_t capacity;  /* of the index, or 0 if there is none */
     uint64_t entries; /* of keys into an index */
@@ -140,7 +140,7 @@ static void *taken_as_benign(size_t size) {
 
 /* Makes an index in SQLite's memory, and has the thread's other caches take theirs where they did.
  * Returns false without memory. */
-static bool is_index_made(clock2q *index, size_t capacity) {
+static bool is_index_made(clock2q_cache *index, size_t capacity) {
     const clock2q_memory memory = {taken, given_back};
     begin_benign();
     const clock2q_memory before = clock2q_use_memory(&memory);
@@ -274,7 +274,7 @@ static void enter_pages(struct cache *cache, struct page **pages, size_t count) 
 
 /* Makes the index anew with this capacity. Without memory it stays as it is. */
 static void make_index(struct cache *cache, size_t capacity) {
-    clock2q index = CLOCK2Q_NONE;
+    clock2q_cache index = CLOCK2Q_NONE;
     struct page **at = taken_as_benign(capacity * sizeof *at);
     if (at == NULL) return;
     if (!is_index_made(&index, capacity)) {
@@ -282,7 +282,7 @@ static void make_index(struct cache *cache, size_t capacity) {
         return;
     }
     memset(at, 0, capacity * sizeof *at);
-    clock2q old_index = cache->index;
+    clock2q_cache old_index = cache->index;
     struct page **old_at = cache->at;
     size_t old_capacity = cache->capacity;
     cache->index = index;

@@ -13,7 +13,7 @@
 enum { KEYS = 700, STEPS = 200000, FIRST_CAPACITY = 64 };
 
 struct model {
-    clock2q index;
+    clock2q_cache index;
     size_t capacity, size, pages;
     unsigned at[KEYS]; /* the key of each slot, or 0 */
     bool was_hit[KEYS + 1];

@@ -7,7 +7,7 @@
 #include <stdio.h>
 
 struct run {
-    clock2q cache;
+    clock2q_cache cache;
     struct model model;
     uint64_t *last; /* the key that entered each slot last */
     bool *has_last;
@@ -22,13 +22,13 @@ static uint64_t draw(void) {
     return drawn >> 8;
 }
 
-static bool enter(clock2q *cache, uint64_t key, clock2q_place *place) {
+static bool enter(clock2q_cache *cache, uint64_t key, clock2q_place *place) {
     clock2q_enter(cache, key, place);
     return true;
 }
 
 /* Enters a key by clock2q_enter or clock2q_add. */
-static bool enters_by(struct run *run, uint64_t key, bool (*call)(clock2q *, uint64_t, clock2q_place *)) {
+static bool enters_by(struct run *run, uint64_t key, bool (*call)(clock2q_cache *, uint64_t, clock2q_place *)) {
     clock2q_place place;
     memset(&place, 0xa5, sizeof place); /* no place, as memory that was never written may be none */
     bool is_new = model_slot(&run->model, key) == NOWHERE;
@@ -36,7 +36,8 @@ static bool enters_by(struct run *run, uint64_t key, bool (*call)(clock2q *, uin
     bool enters = call(&run->cache, key, &place);
     long slot = model_enter(&run->model, key);
     bool evicted = is_new && run->model.small.count + run->model.main.count == count;
-    bool agrees = enters && (long)place.slot == slot && place.has_last == run->has_last[slot] && place.last == run->last[slot]
+    uint64_t last = evicted ? run->last[slot] : is_new ? 0 : key;
+    bool agrees = enters && (long)place.slot == slot && place.has_last == (evicted || !is_new) && place.last == last
         && place.evicted == evicted;
     run->has_last[slot] = true;
     run->last[slot] = key;

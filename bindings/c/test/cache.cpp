@@ -13,9 +13,9 @@
 #include <unordered_map>
 #include <vector>
 
-using clock2q_cpp::cache;
-using clock2q_cpp::page_cache;
-using clock2q_cpp::token_cache;
+using clock2q::cache;
+using clock2q::page_cache;
+using clock2q::token_cache;
 
 static int failed = 0;
 

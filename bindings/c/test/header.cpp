@@ -12,7 +12,7 @@ static bool has_bytes() {
 }
 
 int main() {
-    clock2q cache = CLOCK2Q_NONE;
+    clock2q_cache cache = CLOCK2Q_NONE;
     if (clock2q_new(&cache, 2) != CLOCK2Q_DONE) return 1;
     clock2q_place place;
     clock2q_enter(&cache, 7, &place);

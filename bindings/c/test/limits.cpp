@@ -9,8 +9,8 @@
 #include <unordered_map>
 #include <vector>
 
-using clock2q_cpp::cache;
-using clock2q_cpp::weighted_cache;
+using clock2q::cache;
+using clock2q::weighted_cache;
 
 static int failed = 0;
 

@@ -9,7 +9,7 @@
 #include <sys/wait.h>
 #include <unistd.h>
 
-static clock2q none, made;
+static clock2q_cache none, made;
 static clock2q_bytes no_bytes;
 static clock2q_place place;
 static size_t slot;

@@ -36,7 +36,7 @@ static void must(bool holds, const char *what) {
 }
 
 static void bad_numbers(void) {
-    clock2q cache = CLOCK2Q_NONE;
+    clock2q_cache cache = CLOCK2Q_NONE;
     left = -1;
     requests = 0;
     must(clock2q_new(&cache, 0) == CLOCK2Q_BAD_CAPACITY, "capacity 0");
@@ -50,7 +50,7 @@ static void bad_numbers(void) {
 }
 
 static void no_memory(void) {
-    clock2q cache = CLOCK2Q_NONE;
+    clock2q_cache cache = CLOCK2Q_NONE;
     long granted = 0;
     for (;; granted++) {
         left = granted;
@@ -90,7 +90,7 @@ static void own_give_back(void *block) {
 
 static void own_memory(void) {
     const clock2q_memory memory = {own_take, own_give_back};
-    clock2q cache = CLOCK2Q_NONE;
+    clock2q_cache cache = CLOCK2Q_NONE;
     left = 0;
     clock2q_use_memory(&memory);
     must(clock2q_new(&cache, 100) == CLOCK2Q_DONE, "no memory of malloc is asked for");

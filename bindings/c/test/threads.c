@@ -7,7 +7,7 @@
 #include <stdio.h>
 #include <string.h>
 
-static clock2q cache = CLOCK2Q_NONE;
+static clock2q_cache cache = CLOCK2Q_NONE;
 static pthread_mutex_t lock = PTHREAD_MUTEX_INITIALIZER;
 static bool in_turn;
 

@@ -3,17 +3,17 @@
 
 typedef struct {
     PyObject_HEAD
-    clock2q slots;
+    clock2q_cache slots;
     PyObject *weak_references;
 } Pages;
 
 static PyStructSequence_Field place_fields[] = {
     {"slot", "the key's slot, below the capacity"},
-    {"last", "the key that entered the slot last before, or None"},
+    {"last", "the key that had the slot until now, or None"},
     {NULL, NULL}};
 
 PyStructSequence_Desc place_description = {
-    "clock2q.Place", "The slot of a key, and the key that entered it last before, if any did.", place_fields, 2};
+    "clock2q.Place", "The slot of a key, and the key that had it until now, if one had.", place_fields, 2};
 
 static int pages_init(Pages *self, PyObject *args, PyObject *keywords) {
     static char *names[] = {"capacity", NULL};

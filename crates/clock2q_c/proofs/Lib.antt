@@ -1,3 +1,3 @@
 pub mod Words
 pub mod TokenHash
-pub mod Entered
+pub mod Holders

@@ -28,5 +28,5 @@ handle_owns alloc p None = ftrue
 handle_owns alloc p (Some held) = box_owns (heap.ghosts.dealloc_token alloc) held_row p held
 
 -- the machine of the cache, if there is one
-abbrev pub machine_in : Option HeldInC → Option (Machine ℕ (Option ℕ))
+abbrev pub machine_in : Option HeldInC → Option (Machine ℕ (Unit {0}))
 machine_in held = option_map (λ h. h.cache.machine) held

@@ -51,7 +51,7 @@ pub extern "C" fn clock2q_peek_key(handle: &mut Handle, key: usize) -> Found
     }
 }
 
-/// Returns the place of the key that leaves next: its slot, and itself as the last key there. If no key
+/// Returns the place of the key that leaves next: its slot, and itself as the key that has it. If no key
 /// has a slot, returns a place whose parts are all 0 and false.
 ///
 /// # Cost

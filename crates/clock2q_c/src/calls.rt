@@ -1,30 +1,32 @@
 //! The calls that find, give and free a key's slot.
 ghost use Rattle.clock2q_c.specs.Handle.{machine_in};
+ghost use Rattle.clock2q_c.specs.Holders.{holder, occupied_by};
 ghost use Rattle.clock2q_cache.specs.Costs.{Costs};
+ghost use Rattle.clock2q_cache.specs.Occupants.{evicted_from};
 ghost use Rattle.clock2q_machine.specs.Calls.{Clear, Get, GetAt, Put, Remove, SlotFor};
 ghost use Rattle.clock2q_machine.specs.Leaving.{leaver};
 ghost use Rattle.clock2q_machine.specs.Machine.{cleared, hit, removed};
 ghost use Rattle.clock2q_machine.specs.Steps.{hit_at, put};
-ghost use Rattle.clock2q_pages.specs.Pages.{last_in, resident_frame};
+ghost use Rattle.clock2q_pages.specs.Pages.{resident_frame};
 ghost use Rattle.std.specs.Option.{option_map, unwrap_or};
 ghost use Rattle.std.specs.Prelude.{◌≡◌, ◌<◌, ◌↔◌, eqb, if◌then◌else◌, None, Some, IsSome, IsTrue, IfSome, is_some};
 
 use crate::handle::Handle;
-use clock2q_cache::DefaultHashBuilder;
-use clock2q_pages::{enter, find, is_in};
+use clock2q_cache::{DefaultHashBuilder, Occupant};
+use clock2q_pages::{find, is_in};
 use std::hash::{BuildHasher, FoldHasher, Hash, Hasher};
 
-/// A key's slot, and the last key that entered the slot before.
+/// A key's slot, and which key had that slot until now.
 #[repr(C)]
 #[derive(Drop)]
 pub struct Place {
     /// Below the capacity.
     pub slot: usize,
-    /// The last key that entered the slot before, or 0.
+    /// The key that had the slot until now, which may be the same one, or 0.
     pub last: usize,
     /// Whether there was one.
     pub has_last: bool,
-    /// Whether it had the slot until now, and lost it.
+    /// Whether it lost the slot.
     pub evicted: bool,
 }
 
@@ -43,55 +45,50 @@ pub struct Found {
 ///
 /// # Cost
 ///
-/// That of `Cache::enter`.
+/// That of `Cache::put_slot`.
 #[unsafe(no_mangle)]
 pub extern "C" fn clock2q_enter_key(handle: &mut Handle, key: usize) -> Place
     requires { IsSome handle.old.cache }
     ensures resident { IfSome (machine_in handle.new.cache)
         (λ m. resident_frame m key ≡ Some result.slot) }
     ensures last { IfSome (machine_in handle.old.cache)
-        (λ m. result.has_last ≡ is_some (last_in m result.slot)) }
+        (λ m. result.has_last ≡ is_some (holder key m)) }
     ensures which { IfSome (machine_in handle.old.cache)
-        (λ m. result.last ≡ unwrap_or (last_in m result.slot) 0) }
+        (λ m. result.last ≡ unwrap_or (holder key m) 0) }
     ensures evicted { IfSome (machine_in handle.old.cache)
-        (λ m. leaver eqb (Put key (Some key)) m ≡
+        (λ m. leaver eqb (Put key tt) m ≡
         (if result.evicted then Some (result.last, result.slot) else None)) }
-    ensures within { IfSome (machine_in handle.old.cache) (λ m. result.slot < m.shares.capacity) }
+    ensures within { IfSome (machine_in handle.new.cache) (λ m. result.slot < m.shares.capacity) }
     ensures machine { machine_in handle.new.cache ≡
-        option_map (put (eqb key) key (Some key)) (machine_in handle.old.cache) }
+        option_map (put (eqb key) key tt) (machine_in handle.old.cache) }
     ensures costs { IfSome handle.old.cache
         (λ o. IfSome handle.new.cache
         (λ n. Costs ⟦<usize as Hash>⟧ ⟦<DefaultHashBuilder as BuildHasher>⟧ ⟦<FoldHasher as Hasher>⟧
-        (SlotFor key (Some key)) o.cache n.cache)) }
+        (SlotFor key tt) o.cache n.cache)) }
     ensures holds { IsSome handle.new.cache }
 {
-    let held = handle.held();
-    let _ = held.cache.len(); // whose contract says that the cache is whole
-    let (slot, last, evicted) = enter(&mut held.cache, key);
-    place_of(slot, last, evicted)
+    let (slot, occupant) = handle.held().cache.put_slot(key, ());
+    place_of(key, slot, occupant)
 }
 
-/// Returns the slot of a key, the last key that entered it before, and whether that one was evicted,
-/// in C's form.
-fn place_of(slot: usize, last: Option<usize>, evicted: bool) -> Place
+/// Returns the slot of a key and who had it, in C's form.
+fn place_of(key: usize, slot: usize, occupant: Occupant<usize>) -> Place
     ensures slot { result.slot ≡ slot }
-    ensures last { result.has_last ≡ is_some last }
-    ensures which { result.last ≡ unwrap_or last 0 }
-    ensures evicted { result.evicted ≡ evicted }
+    ensures last { result.has_last ≡ is_some (occupied_by key occupant) }
+    ensures which { result.last ≡ unwrap_or (occupied_by key occupant) 0 }
+    ensures evicted { evicted_from slot occupant ≡
+        (if result.evicted then Some (result.last, slot) else None) }
 {
-    match last {
-        Some(last) => Place {
-            slot,
-            last,
-            has_last: true,
-            evicted,
-        },
-        None => Place {
-            slot,
-            last: 0,
-            has_last: false,
-            evicted,
-        },
+    let (last, has_last, evicted) = match occupant {
+        Occupant::Itself => (key, true, false),
+        Occupant::Nobody => (0, false, false),
+        Occupant::Other(other) => (other, true, true),
+    };
+    Place {
+        slot,
+        last,
+        has_last,
+        evicted,
     }
 }
 
@@ -167,9 +164,7 @@ pub extern "C" fn clock2q_remove(handle: &mut Handle, key: usize) -> bool
         (Remove key) o.cache n.cache)) }
     ensures holds { IsSome handle.new.cache }
 {
-    let held = handle.held();
-    let _ = held.cache.len(); // whose contract says that the cache is whole
-    held.cache.remove(&key)
+    handle.held().cache.remove(&key)
 }
 
 /// Frees all slots, and forgets all keys.

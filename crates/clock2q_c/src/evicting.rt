@@ -13,7 +13,7 @@ use clock2q_cache::DefaultHashBuilder;
 use std::hash::{BuildHasher, FoldHasher, Hash, Hasher};
 
 /// Takes the slot away from the key that leaves next, and returns its place: the slot that it had,
-/// and itself as the last key there. If no key has a slot, returns a place whose parts are all 0 and
+/// and itself as the key that had it. If no key has a slot, returns a place whose parts are all 0 and
 /// false, and changes nothing.
 ///
 /// # Cost
@@ -35,9 +35,7 @@ pub extern "C" fn clock2q_evict_key(handle: &mut Handle) -> Place
         (λ n. Costs ⟦<usize as Hash>⟧ ⟦<DefaultHashBuilder as BuildHasher>⟧ ⟦<FoldHasher as Hasher>⟧ Evict o.cache n.cache)) }
     ensures holds { IsSome handle.new.cache }
 {
-    let held = handle.held();
-    let _ = held.cache.len(); // whose contract says that the cache is whole
-    match held.cache.evict() {
+    match handle.held().cache.evict() {
         Some((key, slot)) => Place {
             slot,
             last: key,

@@ -3,7 +3,6 @@ ghost use Rattle.clock2q_c.specs.Handle.{machine_in};
 ghost use Rattle.clock2q_machine.specs.Machine.{empty};
 ghost use Rattle.clock2q_machine.specs.Policies.{IsPolicy, shares_of};
 ghost use Rattle.clock2q_machine.specs.Shares.{usual_shares};
-ghost use Rattle.clock2q_pages.specs.Pages.{AreLast};
 ghost use Rattle.std.specs.Prelude.{◌≡◌, ◌≢◌, ◌<◌, ◌≤◌, ◌↔◌, ◌⊎◌, Some, None, IsSome, IfOk, IsErrOf, IsOkUnless, Err};
 
 use crate::handle::{Handle, opened, put};
@@ -142,9 +141,8 @@ pub(crate) fn boxed_with<A: Allocator + Copy>(
 /// Puts a cache on the heap. If there is no memory for that, it frees the cache.
 fn in_box<A: Allocator>(
     alloc: A,
-    cache: Cache<usize, Option<usize>, DefaultHashBuilder, A>,
+    cache: Cache<usize, (), DefaultHashBuilder, A>,
 ) -> Result<Box<Held<A>, A>, CacheError>
-    requires last { AreLast cache.machine }
     ensures made { IfOk result (λ made. made.value.cache ≡ cache) }
     ensures memory { IsOkUnless result CacheError.Memory }
 {

@@ -51,7 +51,11 @@ fn keys_in_two_slots(rt: HostRuntime) -> Result<(), Fail> {
     assert_eq!(rt; clock2q_len(&mut handle), 1);
     assert_eq!(rt;
         parts(clock2q_enter_key(&mut handle, 60)),
-        (0, 90, true, false)
+        (0, 0, false, false)
+    );
+    assert_eq!(rt;
+        parts(clock2q_enter_key(&mut handle, 60)),
+        (0, 60, true, false)
     );
     clock2q_clear(&mut handle);
     assert_eq!(rt; clock2q_len(&mut handle), 0);

@@ -3,7 +3,6 @@
 
 mod asking;
 mod calls;
-mod entering;
 mod evicting;
 mod given;
 mod handle;

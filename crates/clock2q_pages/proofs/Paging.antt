@@ -98,7 +98,7 @@ last_is_loaded m page frame = by_value (slice_get m.values frame) where
   by_value (Some (Some last)) = ((λ e. ap Some e), λ e. cc)
 
 -- asking whether a page is in a frame moves no page
-module _ (m : Machine ℕ (Option ℕ)) (h : IsWhole eqb m) (at page : ℕ) where
+module _ {V : Type 0} (m : Machine ℕ V) (h : IsWhole eqb m) (at page : ℕ) where
   pub asked_frames : (other : ℕ) → resident_frame (hit_at at (eqb page) m) other ≡ resident_frame m other
   asked_frames other = elim (is_at at (slot_of (eqb page) m)) as (λ b. resident_frame (if b then hit (eqb page) m else m) other ≡ resident_frame m other) [
     | true ↦ same_slots eqb (hit (eqb page) m) m h (λ w. weight-hit w (eqb page) m) other
@@ -111,10 +111,10 @@ module _ (m : Machine ℕ (Option ℕ)) (h : IsWhole eqb m) (at page : ℕ) wher
   pub asked_shares : (hit_at at (eqb page) m).shares ≡ m.shares
   asked_shares = elim (is_at at (slot_of (eqb page) m)) as (λ b. (if b then hit (eqb page) m else m).shares ≡ m.shares) [ true ↦ refl | false ↦ refl ]
 
-  pub asked_there : (found : Option (Bor (Option ℕ))) (is : Bool) → option_copied found ≡ value_at at (eqb page) m → is ≡ is_some found → IsTrue is ↔ (resident_frame m page ≡ Some at)
+  pub asked_there : (found : Option (Bor V)) (is : Bool) → option_copied found ≡ value_at at (eqb page) m → is ≡ is_some found → IsTrue is ↔ (resident_frame m page ≡ Some at)
   asked_there found is value some =
       let same : is ≡ is_some (value_at at (eqb page) m) = some ∙ copied found ∙ ap is_some value in
       rw same (get_at_hits eqb nat_eq_equiv m h at page) where
-        copied : (o : Option (Bor (Option ℕ))) → is_some o ≡ is_some (option_copied o)
+        copied : (o : Option (Bor V)) → is_some o ≡ is_some (option_copied o)
         copied None = refl
         copied (Some value) = refl

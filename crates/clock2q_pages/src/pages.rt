@@ -1,12 +1,10 @@
 //! The frames of a page cache.
 ghost use Rattle.clock2q_cache.specs.Costs.{Costs};
-ghost use Rattle.clock2q_machine.specs.Calls.{Get, GetAt, Put, SlotFor};
-ghost use Rattle.clock2q_machine.specs.Leaving.{leaver};
+ghost use Rattle.clock2q_machine.specs.Calls.{Get, GetAt, SlotFor};
 ghost use Rattle.clock2q_machine.specs.Machine.{hit};
 ghost use Rattle.clock2q_machine.specs.Steps.{hit_at, put};
-ghost use Rattle.clock2q_pages.specs.Pages.{AreLast, IsLoaded, last_in, resident_frame};
-ghost use Rattle.std.specs.Option.{unwrap_or};
-ghost use Rattle.std.specs.Prelude.{eqb, ◌≡◌, ◌≢◌, ◌<◌, ◌↔◌, if◌then◌else◌, ℕ, None, Some, IsTrue};
+ghost use Rattle.clock2q_pages.specs.Pages.{IsLoaded, last_in, resident_frame};
+ghost use Rattle.std.specs.Prelude.{eqb, ◌≡◌, ◌≢◌, ◌<◌, ◌↔◌, ℕ, None, Some, IsTrue};
 
 use clock2q_cache::Cache;
 use std::hash::{BuildHasher, Hash};
@@ -46,41 +44,9 @@ pub fn frame_of<S: BuildHasher>(
     (frame, last)
 }
 
-/// Returns what [`frame_of`] does, and whether another page lost the frame to this one. The pages in
-/// memory have to be the last that got their frames, so nothing is read or written of the frame of
-/// a page that has one.
-pub fn enter<S: BuildHasher>(
-    pages: &mut Cache<usize, Option<usize>, S>,
-    page: usize,
-) -> (usize, Option<usize>, bool)
-    requires last { AreLast pages.old.machine }
-    ensures resident { resident_frame pages.new.machine page ≡ Some result.0 }
-    ensures within { result.0 < pages.old.machine.shares.capacity }
-    ensures last { result.1 ≡ last_in pages.old.machine result.0 }
-    ensures left { leaver eqb (Put page (Some page)) pages.old.machine ≡
-        (if result.2 then Some (unwrap_or result.1 0, result.0) else None) }
-    ensures lasting { AreLast pages.new.machine }
-    ensures machine { pages.new.machine ≡ put (eqb page) page (Some page) pages.old.machine }
-    ensures costs { Costs ⟦<usize as Hash>⟧ S.BuildHasher S.Hasher.Hasher
-        (SlotFor page (Some page)) pages.old pages.new }
-{
-    let _ = pages.len(); // whose contract says that the cache is whole
-    let (frame, value, entered) = pages.enter(page, || None);
-    if entered.is_hit {
-        return (frame, Some(page), false);
-    }
-    let last = *value;
-    *value = Some(page);
-    (frame, last, entered.has_evicted)
-}
-
 /// If the page is in this frame, records a hit and returns true. The frame may be any number.
 /// Hashes nothing, so a caller that has kept the frame should ask here first.
-pub fn is_in<S: BuildHasher>(
-    pages: &mut Cache<usize, Option<usize>, S>,
-    frame: usize,
-    page: usize,
-) -> bool
+pub fn is_in<V, S: BuildHasher>(pages: &mut Cache<usize, V, S>, frame: usize, page: usize) -> bool
     ensures resident { IsTrue result ↔ (resident_frame pages.old.machine page ≡ Some frame) }
     ensures machine { pages.new.machine ≡ hit_at frame (eqb page) pages.old.machine }
     ensures stay { (other : ℕ) →
@@ -96,10 +62,7 @@ pub fn is_in<S: BuildHasher>(
 
 /// Returns the frame of a page that is in memory, and records a hit. Returns `None` and changes
 /// nothing if it isn't.
-pub fn find<S: BuildHasher>(
-    pages: &mut Cache<usize, Option<usize>, S>,
-    page: usize,
-) -> Option<usize>
+pub fn find<V, S: BuildHasher>(pages: &mut Cache<usize, V, S>, page: usize) -> Option<usize>
     ensures frame { result ≡ resident_frame pages.old.machine page }
     ensures machine { pages.new.machine ≡ hit (eqb page) pages.old.machine }
     ensures stay { (other : ℕ) →

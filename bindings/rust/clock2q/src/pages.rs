@@ -6,20 +6,20 @@ use std::cell::UnsafeCell;
 use std::fmt;
 use std::ptr;
 
-/// The slot of a key, and the key that entered it last before.
+/// The slot of a key, and the key that had it until now.
 #[derive(Clone, Copy, Debug, PartialEq, Eq)]
 pub struct Place {
     /// Below the capacity.
     pub slot: usize,
-    /// The key that entered the slot last before, if any did.
+    /// The key that had the slot until now, if one had: the same key after a hit.
     pub last: Option<u64>,
-    /// The key that had the slot until now, and lost it.
+    /// Another key that had the slot until now, and lost it.
     pub evicted: Option<u64>,
 }
 
 impl Place {
-    /// Returns true if no other key entered the slot since this one did, so that what is kept for
-    /// the slot is this key's.
+    /// Returns true if the key had the slot already, so that what is kept for the slot is this
+    /// key's.
     pub fn has(&self, key: u64) -> bool {
         self.last == Some(key)
     }
@@ -57,7 +57,7 @@ impl Place {
 /// ```
 pub struct PageCache {
     /// Not `Sync`.
-    handle: UnsafeCell<sys::clock2q>,
+    handle: UnsafeCell<sys::clock2q_cache>,
 }
 
 // SAFETY: "What you owe" in bindings/c/clock2q.h allows to hand a cache to another thread by a lock, a start or a
@@ -88,8 +88,8 @@ impl PageCache {
         })
     }
 
-    fn made(make: impl FnOnce(*mut sys::clock2q) -> u32) -> Result<PageCache, Refused> {
-        let handle = UnsafeCell::new(sys::clock2q {
+    fn made(make: impl FnOnce(*mut sys::clock2q_cache) -> u32) -> Result<PageCache, Refused> {
+        let handle = UnsafeCell::new(sys::clock2q_cache {
             at: ptr::null_mut(),
         });
         Refused::check(make(handle.get()))?;
@@ -98,7 +98,7 @@ impl PageCache {
 
     /// Returns the handle, in which there is a cache. No two calls use it at once: it is not `Sync`,
     /// and no call of the library calls back.
-    fn handle(&self) -> *mut sys::clock2q {
+    fn handle(&self) -> *mut sys::clock2q_cache {
         // SAFETY: nothing else has a reference to the handle.
         debug_assert!(!unsafe { (*self.handle.get()).at }.is_null());
         self.handle.get()
@@ -190,7 +190,7 @@ impl Drop for PageCache {
     fn drop(&mut self) {
         let at = self.handle.get_mut().at;
         // SAFETY: there is a cache, and nobody uses it after this.
-        unsafe { sys::clock2q_release(sys::clock2q { at }) }
+        unsafe { sys::clock2q_release(sys::clock2q_cache { at }) }
     }
 }
 

@@ -19,7 +19,7 @@ pub const CLOCK2Q_MAX_CAPACITY: usize = 16_777_215;
 
 /// A cache, or none if the pointer is null.
 #[repr(C)]
-pub struct clock2q {
+pub struct clock2q_cache {
     pub at: *mut c_void,
 }
 
@@ -37,14 +37,14 @@ pub struct clock2q_admitted {
     pub has_entered: bool,
 }
 
-/// Where a key is, and which key entered that slot last before.
+/// Where a key is, and which key had that slot until the call.
 #[repr(C)]
 #[derive(Clone, Copy, Debug, Default, PartialEq, Eq)]
 pub struct clock2q_place {
     pub slot: usize,
     pub last: u64,
     pub has_last: bool,
-    /// Whether `last` had the slot until this call, and lost it.
+    /// Whether `last` is another key, which lost the slot.
     pub evicted: bool,
 }
 
@@ -67,25 +67,25 @@ pub struct clock2q_memory {
 extern "C" {
     pub fn clock2q_version() -> u32;
     pub fn clock2q_use_memory(memory: *const clock2q_memory) -> clock2q_memory;
-    pub fn clock2q_new(cache: *mut clock2q, capacity: usize) -> u32;
+    pub fn clock2q_new(cache: *mut clock2q_cache, capacity: usize) -> u32;
     pub fn clock2q_with_policy(
-        cache: *mut clock2q,
+        cache: *mut clock2q_cache,
         capacity: usize,
         small: usize,
         window: usize,
     ) -> u32;
-    pub fn clock2q_enter_key(cache: *mut clock2q, key: u64) -> clock2q_place;
-    pub fn clock2q_find_key(cache: *mut clock2q, key: u64) -> clock2q_found;
-    pub fn clock2q_at(cache: *mut clock2q, slot: usize, key: u64) -> bool;
-    pub fn clock2q_contains(cache: *mut clock2q, key: u64) -> bool;
-    pub fn clock2q_peek_key(cache: *mut clock2q, key: u64) -> clock2q_found;
-    pub fn clock2q_remove(cache: *mut clock2q, key: u64) -> bool;
-    pub fn clock2q_evict_key(cache: *mut clock2q) -> clock2q_place;
-    pub fn clock2q_next_victim(cache: *mut clock2q) -> clock2q_place;
-    pub fn clock2q_clear(cache: *mut clock2q);
-    pub fn clock2q_len(cache: *mut clock2q) -> usize;
-    pub fn clock2q_capacity(cache: *mut clock2q) -> usize;
-    pub fn clock2q_release(cache: clock2q);
+    pub fn clock2q_enter_key(cache: *mut clock2q_cache, key: u64) -> clock2q_place;
+    pub fn clock2q_find_key(cache: *mut clock2q_cache, key: u64) -> clock2q_found;
+    pub fn clock2q_at(cache: *mut clock2q_cache, slot: usize, key: u64) -> bool;
+    pub fn clock2q_contains(cache: *mut clock2q_cache, key: u64) -> bool;
+    pub fn clock2q_peek_key(cache: *mut clock2q_cache, key: u64) -> clock2q_found;
+    pub fn clock2q_remove(cache: *mut clock2q_cache, key: u64) -> bool;
+    pub fn clock2q_evict_key(cache: *mut clock2q_cache) -> clock2q_place;
+    pub fn clock2q_next_victim(cache: *mut clock2q_cache) -> clock2q_place;
+    pub fn clock2q_clear(cache: *mut clock2q_cache);
+    pub fn clock2q_len(cache: *mut clock2q_cache) -> usize;
+    pub fn clock2q_capacity(cache: *mut clock2q_cache) -> usize;
+    pub fn clock2q_release(cache: clock2q_cache);
     pub fn clock2q_tokens_new(cache: *mut clock2q_tokens, capacity: usize) -> u32;
     pub fn clock2q_tokens_with_policy(
         cache: *mut clock2q_tokens,

@@ -11,12 +11,12 @@ fn the_library_has_the_version_of_the_crate() {
     assert_eq!(unsafe { sys::clock2q_version() }, sys::CLOCK2Q_VERSION);
 }
 
-/// Each key at its slot, and the key that entered each slot last.
+/// Each key at its slot, and the key that has each slot.
 #[test]
 fn slots_are_shared_out() {
     for capacity in [1, 2, 3, 10, 100, 1000] {
         let mut pages = PageCache::new(capacity).expect("a cache");
-        let mut entered = vec![None; capacity];
+        let mut held = vec![None; capacity];
         let mut draws = Draws(88_172_645_463_325_252);
         for _ in 0..100_000 {
             let key = draws.below(3 * capacity as u64);
@@ -25,6 +25,9 @@ fn slots_are_shared_out() {
             assert_eq!(pages.peek(key), found);
             if draws.below(20) == 0 {
                 assert_eq!(pages.remove(key), found.is_some());
+                if let Some(slot) = found {
+                    held[slot] = None;
+                }
                 continue;
             }
             let count = pages.len();
@@ -34,11 +37,11 @@ fn slots_are_shared_out() {
                 evicted,
             } = pages.enter(key);
             assert!(found.is_none() || found == Some(slot));
-            assert_eq!(last, entered[slot]);
+            assert_eq!(last, held[slot]);
             let is_full = found.is_none() && pages.len() == count;
             assert_eq!(evicted, last.filter(|_| is_full));
             assert!(evicted.map_or(true, |key| !pages.contains(key)));
-            entered[slot] = Some(key);
+            held[slot] = Some(key);
             assert!(pages.is_at(slot, key));
             assert!(pages.len() <= capacity);
         }

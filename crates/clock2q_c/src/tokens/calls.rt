@@ -2,13 +2,12 @@
 ghost use Rattle.clock2q_c.specs.Tokens.{token, tokens_in};
 ghost use Rattle.clock2q_cache.specs.Costs.{Costs};
 ghost use Rattle.clock2q_cache.specs.SlotsByHash.{hash_in, slots_with_hash};
-ghost use Rattle.clock2q_machine.specs.Calls.{Clear, Get, Put, Remove};
+ghost use Rattle.clock2q_machine.specs.Calls.{Clear, Get, Put, Remove, SlotFor};
 ghost use Rattle.clock2q_machine.specs.Machine.{cleared, hit, removed, resident_at, slot_of};
 ghost use Rattle.clock2q_machine.specs.Steps.{put};
 ghost use Rattle.std.specs.Option.{option_map};
 ghost use Rattle.std.specs.Prelude.{◌≡◌, ◌<◌, ◌↔◌, true, false, Some, None, [], IsSome, IsTrue, IfSome, IfNone, slice_get};
 
-use crate::tokens::entering::enter;
 use crate::tokens::given::GivenHash;
 use crate::tokens::handle::TokensHandle;
 use crate::tokens::held::HeldTokens;
@@ -102,7 +101,7 @@ fn admit(held: &mut HeldTokens<Global>, hash: u64) -> (usize, bool)
 ///
 /// # Cost
 ///
-/// That of `Cache::put`.
+/// That of `Cache::put_slot`.
 #[unsafe(no_mangle)]
 pub extern "C" fn clock2q_tokens_enter(handle: &mut TokensHandle, hash: u64, number: u64) -> usize
     requires { IsSome handle.old.cache }
@@ -115,10 +114,11 @@ pub extern "C" fn clock2q_tokens_enter(handle: &mut TokensHandle, hash: u64, num
     ensures costs { IfSome handle.old.cache
         (λ o. IfSome handle.new.cache
         (λ n. Costs ⟦<Token as Hash>⟧ ⟦<BuildHasherDefault<GivenHash> as BuildHasher>⟧ ⟦<GivenHash as Hasher>⟧
-        (Put (token hash number) tt) o.cache n.cache)) }
+        (SlotFor (token hash number) tt) o.cache n.cache)) }
     ensures holds { IsSome handle.new.cache }
 {
-    enter(&mut handle.held().cache, Token { hash, number })
+    let token = Token { hash, number };
+    handle.held().cache.put_slot(token, ()).0
 }
 
 /// Records a hit on the token at this slot and returns true, if there is one. The slot may be any

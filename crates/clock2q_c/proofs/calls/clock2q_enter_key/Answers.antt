@@ -1,16 +1,28 @@
--- The key that is evicted had its slot until now, and each key is still the last that entered its slot.
-use Rattle.std.proofs.Common.{◌≡◌, eqb, if◌then◌else◌, None, Some, sym, subst}
-use Rattle.std.specs.Prelude.{IfSome}
-use Rattle.clock2q_c.specs.Handle.{machine_in}
+-- Who had the slot until now.
+use Rattle.std.proofs.Common.{◌≡◌, eqb, if◌then◌else◌, None, Some, sym, ap, ◌∙◌, subst}
+use Rattle.std.specs.Prelude.{IfSome, is_some}
+use Rattle.std.specs.Option.{unwrap_or}
 use Rattle.clock2q_machine.specs.Calls.{Put}
 use Rattle.clock2q_machine.specs.Leaving.{leaver}
+use Rattle.clock2q_c.specs.Handle.{machine_in}
+use Rattle.clock2q_c.specs.Holders.{holder}
+use Rattle.clock2q_c.proofs.Holders.{holder-is}
 use Rattle.clock2q_c.proofs.calls.clock2q_enter_key.Goals as goal
 
-pub invariant_of-held : goal.invariant_of-held
-invariant_of-held c = record { last = c.enter-slot.ensures.lasting }
+pub returns-clause-last : goal.returns-clause-last
+returns-clause-last c =
+    let p = c.put_slot-slot in
+    subst (λ o. IfSome (machine_in o) (λ m. c.place_of.result.has_last ≡ is_some (holder c.args.key m))) c.held.ensures.value
+    (c.place_of.ensures.last ∙ ap is_some (holder-is c.args.key c.held.result.now.cache.machine p.result.0 p.result.1 p.ensures.hit p.ensures.evicted))
+
+pub returns-clause-which : goal.returns-clause-which
+returns-clause-which c =
+    let p = c.put_slot-slot in
+    subst (λ o. IfSome (machine_in o) (λ m. c.place_of.result.last ≡ unwrap_or (holder c.args.key m) 0)) c.held.ensures.value
+    (c.place_of.ensures.which ∙ ap (λ o. unwrap_or o 0) (holder-is c.args.key c.held.result.now.cache.machine p.result.0 p.result.1 p.ensures.hit p.ensures.evicted))
 
 pub returns-clause-evicted : goal.returns-clause-evicted
 returns-clause-evicted c =
-    subst (λ o. IfSome (machine_in o) (λ m. leaver eqb (Put c.args.key (Some c.args.key)) m ≡ (if c.place_of.result.evicted then Some (c.place_of.result.last, c.place_of.result.slot) else None)))
-    c.held-held.ensures.value
-    (rw (c.place_of.ensures.evicted, c.place_of.ensures.which, c.place_of.ensures.slot) c.enter-slot.ensures.left)
+    let p = c.put_slot-slot in
+    subst (λ o. IfSome (machine_in o) (λ m. leaver eqb (Put c.args.key tt) m ≡ (if c.place_of.result.evicted then Some (c.place_of.result.last, c.place_of.result.slot) else None))) c.held.ensures.value
+    (rw c.place_of.ensures.slot (sym p.ensures.evicted ∙ c.place_of.ensures.evicted))
