@@ -1,10 +1,14 @@
--- An occupant says who had the slot of a key that entered.
-use Rattle.std.proofs.Common.{◌≡◌, ℕ, eqb, if◌then◌else◌, Bool, true, false, Some, refl, sym, ap, ◌∙◌}
+-- An occupant says who had the slot of a key that entered, and the shares stay as they are.
+use Rattle.std.proofs.Common.{◌≡◌, ℕ, eqb, if◌then◌else◌, Bool, true, false, None, Some, refl, sym, ap, ◌∙◌}
 use Rattle.std.specs.Prelude.{◌↔◌, IsSome, Option, is_some}
+use Rattle.std.specs.Cmp.{nat_eq_equiv}
 use Rattle.std.specs.Option.{option_map}
 use Rattle.clock2q_machine.specs.Calls.{Put}
 use Rattle.clock2q_machine.specs.Leaving.{leaver}
-use Rattle.clock2q_machine.specs.Machine.{Machine, slot_of}
+use Rattle.clock2q_machine.specs.Machine.{Machine, inserted, slot_of}
+use Rattle.clock2q_machine.specs.Steps.{put, replaced_at}
+use Rattle.clock2q_machine.specs.Whole.{IsWhole}
+use Rattle.clock2q_machine.proofs.MachineInvariant.{placed-key}
 use Rattle.clock2q_cache.specs.declared.occupant.Occupant.{Occupant}
 use Rattle.clock2q_cache.specs.declared.occupant.Occupant.TheVariants.{Itself, Nobody, Other}
 use Rattle.clock2q_cache.specs.Occupants.{evicted_from}
@@ -25,3 +29,10 @@ module _ (key : ℕ) (m : Machine ℕ (Unit {0})) (slot : ℕ) where
   holder-is Itself hit evicted = sym (ap holder_if (hit.0 refl))
   holder-is Nobody hit evicted = ap (option_map (λ (r : ℕ × ℕ). r.0)) evicted ∙ sym (ap holder_if (stranger Nobody (λ e. cc) hit))
   holder-is (Other evictee) hit evicted = ap (option_map (λ (r : ℕ × ℕ). r.0)) evicted ∙ sym (ap holder_if (stranger (Other evictee) (λ e. cc) hit))
+
+-- a key that enters leaves the shares as they are
+pub same-shares : (key : ℕ) (m : Machine ℕ (Unit {0})) → IsWhole eqb m → (put (eqb key) key tt m).shares ≡ m.shares
+same-shares key m h = by (slot_of (eqb key) m) refl where
+  by : (o : Option ℕ) → slot_of (eqb key) m ≡ o → (if is_some o then replaced_at (eqb key) tt o m else inserted (eqb key) key tt m).shares ≡ m.shares
+  by None absent = (placed-key eqb nat_eq_equiv key m h absent).shares
+  by (Some slot) found = refl

@@ -58,7 +58,7 @@ pub extern "C" fn clock2q_enter_key(handle: &mut Handle, key: usize) -> Place
     ensures evicted { IfSome (machine_in handle.old.cache)
         (λ m. leaver eqb (Put key tt) m ≡
         (if result.evicted then Some (result.last, result.slot) else None)) }
-    ensures within { IfSome (machine_in handle.new.cache) (λ m. result.slot < m.shares.capacity) }
+    ensures within { IfSome (machine_in handle.old.cache) (λ m. result.slot < m.shares.capacity) }
     ensures machine { machine_in handle.new.cache ≡
         option_map (put (eqb key) key tt) (machine_in handle.old.cache) }
     ensures costs { IfSome handle.old.cache
@@ -67,7 +67,9 @@ pub extern "C" fn clock2q_enter_key(handle: &mut Handle, key: usize) -> Place
         (SlotFor key tt) o.cache n.cache)) }
     ensures holds { IsSome handle.new.cache }
 {
-    let (slot, occupant) = handle.held().cache.put_slot(key, ());
+    let held = handle.held();
+    let _ = held.cache.len(); // whose contract says that the cache is whole
+    let (slot, occupant) = held.cache.put_slot(key, ());
     place_of(key, slot, occupant)
 }
 
