@@ -18,7 +18,7 @@ use crate::options::Options;
 use crate::progress::Progress;
 use crate::reading::read_sample;
 use crate::row::Row;
-use crate::sample::{Sample, all_scaled};
+use crate::sample::{Sample, all_scaled, unscaled};
 use crate::simulation::rows_of;
 use crate::summary::{Summary, summary_of};
 use crate::trace::Trace;
@@ -64,10 +64,7 @@ impl<A: Allocator> Outcome<'_, A> {
     pub fn capacity_of(&self, replayed: NonZeroUsize) -> usize
         ensures capacity { result ≡ unscaled self.now.sample (non_zero_usize_get replayed) }
     {
-        match self.sample {
-            Some(sample) => sample.unscaled(replayed.get()),
-            None => replayed.get(),
-        }
+        unscaled(self.sample, replayed.get())
     }
 }
 
@@ -112,6 +109,7 @@ pub fn replay_source<'a, R: Source, P: Write, C: Clock, S: BuildHasher + Drop, A
     )?;
     let summary = summary_of(alloc, &trace)?;
     progress.warn_of(name, &summary, options.skipped);
+    show_name(options, name, summary.accesses, progress);
     let rows = asked_rows(alloc, options, &trace, progress)?;
     let byte_rows = asked_byte_rows(alloc, options, &trace)?;
     let windows = asked_windows(alloc, options, &rows, &trace)?;
@@ -126,6 +124,18 @@ pub fn replay_source<'a, R: Source, P: Write, C: Clock, S: BuildHasher + Drop, A
         windows,
         best_shares,
     })
+}
+
+/// Shows the name of a long trace above its rows, if there are several traces.
+fn show_name<P: Write, C: Clock, A: Allocator>(
+    options: &Options<A>,
+    name: &str,
+    accesses: usize,
+    progress: &mut Progress<P, C>,
+) {
+    if options.traces.len() > 1 && progress.shows(accesses) {
+        progress.add_line(name);
+    }
 }
 
 /// Returns a row for each capacity, as much smaller as the sample is.

@@ -6,7 +6,7 @@ use std::io::Write;
 use std::time::{Clock, Duration, Instant};
 
 /// The number of keys read between two reports if the length of a trace isn't known, and the
-/// smallest number of keys of a long trace.
+/// smallest number of accesses of a long trace.
 const MILLION: usize = 1_000_000;
 
 /// The number of bytes of a trace that are read before a percentage is reported.
@@ -14,6 +14,11 @@ const LONG: u64 = 1_000_000;
 
 /// What goes back to the beginning of a terminal's line and erases it.
 const ERASED: &str = "\r\x1b[K";
+
+/// What makes a terminal leave out what is too long for a line, and what makes it wrap lines again.
+const CUT: &str = "\x1b[?7l";
+
+const WRAPPED: &str = "\x1b[?7h";
 
 /// A clock that can't be read: no time left is shown.
 #[derive(Clone, Copy, Debug)]
@@ -32,8 +37,8 @@ impl Clock for NoClock {
 /// The progress of a long simulation, in one line of a terminal that is written over: how much of a
 /// trace was read, in percent if its length is known and else in millions of keys; then the
 /// capacity at which it is replayed. With a clock the line also has the seconds that are left, of
-/// the reading or of the replays, if they go on as so far. A failed write is ignored, and the
-/// simulation goes on.
+/// the reading or of the replays, if they go on as so far. Above it each row of a long trace is
+/// shown as it comes, until the end. A failed write is ignored, and the simulation goes on.
 ///
 /// # Example
 ///
@@ -55,8 +60,10 @@ pub struct Progress<W, C = NoClock> {
     read: u64,
     // The percentage or the millions of keys that were reported last.
     reported: u64,
-    // Whether something is in the line.
+    // Whether something is in the line or above it.
     is_begun: bool,
+    // The number of lines above it.
+    lines: usize,
     // When the trace or its replays began, if there is a clock.
     start: Option<Instant>,
 }
@@ -79,6 +86,7 @@ impl<W: Write, C: Clock> Progress<W, C> {
             read: 0,
             reported: 0,
             is_begun: false,
+            lines: 0,
             start: None,
         }
     }
@@ -91,12 +99,16 @@ impl<W: Write, C: Clock> Progress<W, C> {
         self.start();
     }
 
-    /// Erases the line, before anything else is written to the terminal.
+    /// Erases the line and those above it, before anything else is written to the terminal.
     pub fn end(&mut self) {
         if self.is_begun {
             let _ = self.writer.write_all(ERASED.as_bytes());
+            if self.lines > 0 {
+                let _ = write!(self.writer, "\x1b[{}A\x1b[J", self.lines);
+            }
             let _ = self.writer.flush();
             self.is_begun = false;
+            self.lines = 0;
         }
     }
 
@@ -116,9 +128,22 @@ impl<W: Write, C: Clock> Progress<W, C> {
         }
     }
 
+    /// Returns true if the replays of a trace with this many accesses are shown.
+    pub(crate) fn shows(&self, accesses: usize) -> bool {
+        self.is_shown && accesses >= MILLION
+    }
+
+    /// Writes a line above the one of progress, where it is until the end.
+    pub(crate) fn add_line(&mut self, line: &str) {
+        let _ = writeln!(self.writer, "{ERASED}{CUT}{line}{WRAPPED}");
+        let _ = self.writer.flush();
+        self.is_begun = true;
+        self.lines = self.lines.saturating_add(1);
+    }
+
     /// Reports the capacity at which a long trace is replayed next, and which one of all it is.
-    pub(crate) fn replay(&mut self, keys: usize, capacity: usize, index: usize, of: usize) {
-        if self.is_shown && keys >= MILLION {
+    pub(crate) fn replay(&mut self, accesses: usize, capacity: usize, index: usize, of: usize) {
+        if self.shows(accesses) {
             self.is_begun = true;
             let number = index.saturating_add(1);
             let _ = write!(

@@ -63,7 +63,7 @@ impl Sample {
     }
 
     /// Returns the capacity for all keys that becomes a capacity for the sample's keys.
-    pub(crate) fn unscaled(self, capacity: usize) -> usize
+    fn unscaled(self, capacity: usize) -> usize
         ensures unscaled { result ≡ unscaled (Some self) capacity }
     {
         capacity.saturating_mul(1_000_000) / self.millionths.max(1)
@@ -103,6 +103,16 @@ pub(crate) fn all_scaled<A: Allocator>(
         all.push(scaled(sample, *capacity))?;
     }
     Ok(all)
+}
+
+/// Returns the capacity for all keys that becomes a capacity for a sample's keys, or for all.
+pub(crate) fn unscaled(sample: Option<Sample>, capacity: usize) -> usize
+    ensures unscaled { result ≡ unscaled sample capacity }
+{
+    match sample {
+        Some(sample) => sample.unscaled(capacity),
+        None => capacity,
+    }
 }
 
 /// Returns the capacity that a capacity for all keys becomes.

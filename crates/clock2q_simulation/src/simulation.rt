@@ -21,7 +21,7 @@ use crate::policy::Policy;
 use crate::progress::Progress;
 use crate::row::{Row, replay_with_known};
 use crate::shares::ChosenShares;
-use crate::table_text::table_text;
+use crate::table_text::{headings_text, row_text, table_text};
 use crate::trace::Trace;
 use clock2q_cache::MAX_CAPACITY;
 use clock2q_ports::{Sink, Source, send};
@@ -123,18 +123,43 @@ pub fn rows_of<P: Write, C: Clock, A: Allocator + Copy>(
     let mut rows = Vec::new(alloc);
     for index in 0..rooms.len() {
         let capacity = rooms[index];
-        progress.replay(trace.numbers().len(), capacity.get(), index, rooms.len());
+        let accesses = trace.numbers().len();
+        progress.replay(accesses, trace.capacity_of(capacity), index, rooms.len());
         let known = KnownHits {
             lru: lru.get(index).copied(),
             optimal: optimal.get(index).copied(),
         };
         let row = replay_with_known(alloc, capacity, policies, shares, skipped, trace, known)?;
+        show_row(alloc, trace, &row, index, progress);
         match rows.push(row) {
             Ok(()) => {}
             Err(_) => return Err(SimulationError::Memory),
         }
     }
     Ok(rows)
+}
+
+/// Shows a row of a long trace as it comes, the first below the headings. Without memory for its text
+/// it isn't shown.
+fn show_row<P: Write, C: Clock, A: Allocator + Copy>(
+    alloc: A,
+    trace: &Trace<A>,
+    row: &Row<A>,
+    index: usize,
+    progress: &mut Progress<P, C>,
+) {
+    if !progress.shows(trace.numbers().len()) {
+        return;
+    }
+    if index == 0 {
+        if let Ok(headings) = headings_text(alloc, row, trace.has_sizes()) {
+            progress.add_line(&headings);
+        }
+    }
+    let capacity = trace.capacity_of(row.capacity);
+    if let Ok(text) = row_text(alloc, capacity, row, trace.has_sizes()) {
+        progress.add_line(text.trim_end());
+    }
 }
 
 /// Returns the number of keys that each capacity is for a trace.

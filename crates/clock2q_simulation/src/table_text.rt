@@ -48,6 +48,32 @@ pub(crate) fn table_text<A: Allocator + Copy>(
     Ok(text)
 }
 
+/// Returns the headings of a row.
+pub(crate) fn headings_text<A: Allocator + Copy>(
+    alloc: A,
+    row: &Row<A>,
+    is_sized: bool,
+) -> Result<String<A>, AllocError> {
+    let mut text = String::new(alloc);
+    write!(text, "capacity")?;
+    for hits in row.hits.iter() {
+        write_heading(&mut text, hits.policy, is_sized)?;
+    }
+    Ok(text)
+}
+
+/// Returns a row as it is in the table.
+pub(crate) fn row_text<A: Allocator + Copy>(
+    alloc: A,
+    capacity: usize,
+    row: &Row<A>,
+    is_sized: bool,
+) -> Result<String<A>, AllocError> {
+    let mut text = String::new(alloc);
+    write_row(&mut text, capacity, row, is_sized, None, None, None)?;
+    Ok(text)
+}
+
 /// Writes what a dash is, if there is one.
 fn write_undefined<A: Allocator>(
     text: &mut String<A>,
@@ -109,10 +135,7 @@ fn write_headings<A: Allocator>(
         write!(text, "{:>11}", "first")?;
     }
     for policy in options.policies.iter() {
-        write!(text, "{:>9}", policy.heading())?;
-        if options.trace_format.has_sizes() {
-            write!(text, "{:>9}", "bytes")?;
-        }
+        write_heading(text, *policy, options.trace_format.has_sizes())?;
     }
     if options.best_shares {
         write!(text, "{:>9}{:>9}  shares", "best", "gain")?;
@@ -124,6 +147,19 @@ fn write_headings<A: Allocator>(
         text.push_str("  trace")?;
     }
     text.push('\n')
+}
+
+/// Writes the heading of a policy, and that of its bytes if there are sizes.
+fn write_heading<A: Allocator>(
+    text: &mut String<A>,
+    policy: Policy,
+    is_sized: bool,
+) -> Result<(), AllocError> {
+    write!(text, "{:>9}", policy.heading())?;
+    if is_sized {
+        write!(text, "{:>9}", "bytes")?;
+    }
+    Ok(())
 }
 
 /// Writes the rows of a trace, or its windows, with or without its name at the end of each.

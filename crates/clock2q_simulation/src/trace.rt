@@ -1,16 +1,19 @@
 //! A trace: keys of any bytes, identified by numbers.
 ghost use Rattle.std.specs.Prelude.{◌≡◌, ◌≤◌, ◌^◌, [], ◌∷◌, ◌++◌, ◌<◌, false, true, if◌then◌else◌, IsTrue, None, OnOk, OnErr, length, vec_len, vec_capacity};
+ghost use Rattle.std.specs.NonZero.{non_zero_usize_get};
 ghost use Rattle.clock2q_policies.specs.Policies.{AreBelow};
 ghost use Rattle.clock2q_simulation.specs.Formats.{access, unsized};
+ghost use Rattle.clock2q_simulation.specs.Sample.{unscaled};
 ghost use Rattle.clock2q_simulation.specs.Trace.{AreNumbers, AreUsed, sampled_keys, sizes_of};
 
 use crate::known_keys::KnownKeys;
-use crate::sample::{Sample, is_sampled};
+use crate::sample::{Sample, is_sampled, unscaled};
 use clock2q_cache::DefaultHashBuilder;
 use clock2q_count::GhostValue;
 use std::alloc::{AllocError, Allocator, Global};
 use std::hash::BuildHasher;
 use std::marker::Model;
+use std::num::NonZeroUsize;
 
 /// The accesses of a trace, as a type for contracts alone: no value of it is ever made.
 #[derive(Drop)]
@@ -84,6 +87,13 @@ impl<A: Allocator> Trace<A> {
         ensures sized { result ≡ self.now.is_sized }
     {
         self.is_sized
+    }
+
+    /// Returns the capacity for all keys of a cache in which the trace is replayed.
+    pub(crate) fn capacity_of(&self, replayed: NonZeroUsize) -> usize
+        ensures capacity { result ≡ unscaled self.now.sample (non_zero_usize_get replayed) }
+    {
+        unscaled(self.sample, replayed.get())
     }
 
     /// Returns the number of different keys.

@@ -1,4 +1,4 @@
-//! The progress of a simulation, in one line that is written over.
+//! The progress of a simulation, in one line that is written over, and rows above it.
 
 use crate::arguments::options_of;
 use clock2q_cache::DefaultHashBuilder;
@@ -79,6 +79,26 @@ impl Clock for Ticking {
     fn since_1970(&self) -> io::Result<Duration> {
         self.monotonic()
     }
+}
+
+/// A million accesses to one key. A line is erased before another is written there, and a row isn't
+/// wrapped.
+#[test]
+fn rows_as_they_come(rt: HostRuntime) -> Result<(), Fail> {
+    let trace = vec![in rt.alloc(); b'\n'; 1_000_000]?;
+    let length = Some(1_000_000_000);
+    let options = options_of(rt.alloc(), "5 7 --policies=lru")?;
+    let lines = "\r\x1b[Kclock2q-simulate: capacity 5, 1 of 2\
+        \r\x1b[K\x1b[?7lcapacity      LRU\x1b[?7h\n\
+        \r\x1b[K\x1b[?7l       5   100.00\x1b[?7h\n\
+        \r\x1b[Kclock2q-simulate: capacity 7, 2 of 2\
+        \r\x1b[K\x1b[?7l       7   100.00\x1b[?7h\n\
+        \r\x1b[K\x1b[3A\x1b[J";
+    let seen = shown_with(rt.alloc(), &options, &trace, length, true)?;
+    same(seen.as_slice(), lines.as_bytes())?;
+    let hidden = shown_with(rt.alloc(), &options, &trace, length, false)?;
+    same(hidden.len(), 0)?;
+    Ok(())
 }
 
 /// Of 2,228,224 bytes 1,048,576 are read after 10 seconds, and half after 20.
