@@ -17,7 +17,7 @@ use Rattle.clock2q_cache.proofs.Names.{HashMembers, Put, Get, GetAt, Try, Remove
 links_of_a_whole_round : let m = state 20 (puts 1 20 ++ gets 3 18 ++ Get 1 ∷ []) in
     (most_accesses eqb (Put 21 21) m ≡ 55) × (most_accesses eqb (Put 20 20) m ≡ 0) × (most_accesses eqb (Try 21 None) m ≡ 0)
     × (most_accesses eqb (Get 1) m ≡ 0) × (most_accesses eqb (GetAt 0 1) m ≡ 0) ×
-    (most_accesses eqb (Retain (false ∷ [])) m ≡ 160) × (most_accesses eqb Clear m ≡ 21) × (most_accesses eqb Evict m ≡ 40)
+    (most_accesses eqb (Retain (false ∷ [])) m ≡ 160) × (most_accesses eqb Clear m ≡ 1) × (most_accesses eqb Evict m ≡ 40)
 links_of_a_whole_round = (refl, refl, refl, refl, refl, refl, refl, refl)
 
 -- a list of three calls, of which the second hits: what its calls may access, the bits before it and after it

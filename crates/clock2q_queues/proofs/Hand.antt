@@ -7,9 +7,10 @@ use Rattle.clock2q_queues.specs.declared.links.Record.{Record}
 use Rattle.clock2q_queues.specs.declared.main_ring.MainRing.{MainRing}
 use Rattle.clock2q_queues.specs.Rings.{has, IsRing}
 use Rattle.clock2q_queues.specs.Cells.{accessed}
-use Rattle.clock2q_queues.specs.Links.{LinkState, IsLinked, IsSameBut, slot_at, record_at, next_at, previous_at, bit_at}
+use Rattle.clock2q_queues.specs.Flags.{is_linked}
+use Rattle.clock2q_queues.specs.Links.{LinkState, IsLinked, IsSameBut, slot_at, record_at, location_at, next_at, previous_at, bit_at}
 use Rattle.clock2q_queues.specs.MainRing.{IsMain, IsMainRing, main_slots, main_entries, set_front, inspections, from_victim}
-use Rattle.clock2q_queues.proofs.Rings.{eqb_self, has-append, has_later, differs}
+use Rattle.clock2q_queues.proofs.Rings.{eqb_self, has-append, has_first, has_later, differs}
 use Rattle.clock2q_queues.proofs.Joining.{map-agree, IsLinked-turned}
 use Rattle.clock2q_queues.proofs.Booleans.{or_left, or_parts, or_neither}
 use Rattle.clock2q_queues.proofs.Main.{main_slots-is, IsMainRing-from}
@@ -128,8 +129,8 @@ module _ (now l : LinkState) (main : MainRing) (slot : ℕ) (m : IsMainRing now 
       subst (λ z. IsMain now z (slot ∷ behind)) (ap (λ h. record { hand = h; len = main.len }) (m.queue.starts ∙ ap (λ z. slice_get z 0) at_front.1.0))
       (subst (λ z. IsMain now main z) at_front.1.0 m)
 
-  pub front_in : slot < length now.records.items
-  front_in = front.queue.linked.below.0
+  pub front_linked : is_linked (location_at now.records.items slot) ≡ true
+  front_linked = ap is_linked (front.location slot (has_first slot behind))
 
   passed : IsMain l (with_hand (next_at now.records.items slot) main) (behind ++ slot ∷ [])
   passed = turned now l main slot behind (ap (λ (z : LinkState). z.records.items) read) front
@@ -250,8 +251,10 @@ module _ (old : LinkState) (main : MainRing) (now : LinkState) (hand : ℕ) (s :
 -- the same from the states in between: after the inspection, and after the read of the record
 module _ (old : LinkState) (main : MainRing) (now : LinkState) (hand : ℕ) (s : Swept old main now hand) (mid : LinkState)
     (bits : (t : ℕ) → bit_at mid t ≡ cond (eqb t hand) false (bit_at now t)) (looked : mid ≡ record now { bits = mid.bits }) (counted : mid.bits.inspections ≡ now.bits.inspections + 1) where
-  pub hand_in_still : hand < length mid.records.items
-  hand_in_still = subst (λ (z : LinkState). hand < length z.records.items) (sym looked) (hand_in old main now hand s)
+  pub hand_linked_still : is_linked (location_at mid.records.items hand) ≡ true
+  hand_linked_still =
+      subst (λ (z : LinkState). is_linked (location_at z.records.items hand) ≡ true) (sym looked)
+      (ap is_linked ((at_hand old main now hand s).location hand (has_first hand (rest old main now hand s))))
 
   Looks-only : Looks hand now mid
   Looks-only = record { bits = bits; items = ap (λ (z : LinkState). z.records.items) looked; window = ap (λ (z : LinkState). z.window) looked; inspections = counted }

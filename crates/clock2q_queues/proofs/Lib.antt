@@ -1,7 +1,9 @@
+pub mod AllRecords
 pub mod Booleans
 pub mod Flagged
 pub mod Hand
 pub mod Hits
+pub mod InQueue
 pub mod Joining
 pub mod Linked
 pub mod QueuesApart

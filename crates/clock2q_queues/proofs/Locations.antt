@@ -1,5 +1,5 @@
 -- What a slot's record says of the queue that it is in, and of the slots at the queues' ends.
-use Rattle.std.proofs.Common.{◌≡◌, ◌⊎◌, ℕ, ◌-◌, ◌<◌, ◌≢◌, Bool, true, false, ◌||◌, ◌&&◌, ◌++◌, Some, None, length, take, drop, slice_get, inl, inr, refl, sym, ap, ◌∙◌, subst}
+use Rattle.std.proofs.Common.{◌≡◌, ◌⊎◌, ℕ, ◌-◌, ◌≢◌, Bool, true, false, ◌||◌, ◌&&◌, ◌++◌, Some, None, length, take, drop, slice_get, inl, inr, refl, sym, ap, ◌∙◌, subst}
 use Rattle.std.specs.List.{last_or}
 use Rattle.std.proofs.lemmas.Bool.{cases_Bool}
 use Rattle.clock2q_machine.specs.Ages.{is_promoted}
@@ -13,7 +13,7 @@ use Rattle.clock2q_queues.specs.Links.{LinkState, location_at, bit_at, is_old}
 use Rattle.clock2q_queues.specs.MainRing.{main_slots, main_entries}
 use Rattle.clock2q_queues.specs.Small.{IsInSmall, small_slots, small_entries, age_of, age_at}
 use Rattle.clock2q_queues.specs.Queues.{QueueState, AreQueues, IsAt, queues_shown, slots_of, without_slot, tail_promoted, keeps_tail}
-use Rattle.clock2q_queues.proofs.Joining.{in_bounds}
+use Rattle.clock2q_queues.proofs.InQueue.{small_linked}
 use Rattle.clock2q_queues.proofs.Rings.{has-append}
 use Rattle.clock2q_queues.proofs.Sharing.{small_slots-of, main_slots-of}
 use Rattle.clock2q_queues.proofs.SlotLists.{tail_among, tail_entry, no_entry, first_out, last_out, none_last}
@@ -90,8 +90,8 @@ module _ (l : LinkState) (small : Small) (main : MainRing) (q : AreQueues l smal
     pub tail_there : has tail (small_slots l small) ≡ true
     tail_there = tail_among (small_slots l small) tail is
 
-    pub tail_in : tail < length l.records.items
-    tail_in = in_bounds l.records.items (small_slots l small) tail q.small.queue.linked tail_there
+    pub tail_linked : is_linked (location_at l.records.items tail) ≡ true
+    tail_linked = (small_linked l small q.small tail tail_there).own
 
     -- it goes on to Main if it is old and its bit is set
     pub tail_promoted-some : (is_old (location_at l.records.items tail) && bit_at l tail) ≡ tail_promoted (last_or None (small_entries l small))

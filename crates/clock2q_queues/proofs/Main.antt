@@ -3,15 +3,15 @@ use Rattle.std.proofs.Common.{◌≡◌, ℕ, ◌+◌, ◌-◌, ◌^◌, ◌<◌
 use Rattle.std.specs.List.{filter}
 use Rattle.std.proofs.lemmas.Bool.{both_ways, or_cases}
 use Rattle.std.proofs.lemmas.List.{map-append, length_push}
-use Rattle.clock2q_queues.specs.declared.links.Record.{Record}
 use Rattle.clock2q_queues.specs.declared.main_ring.MainRing.{MainRing}
 use Rattle.clock2q_queues.specs.declared.links.Location.TheVariants.{Free, Main}
-use Rattle.clock2q_queues.specs.Cells.{CellsState, written}
+use Rattle.clock2q_queues.specs.Cells.{written}
 use Rattle.clock2q_queues.specs.Rings.{has, without}
-use Rattle.clock2q_queues.specs.Links.{LinkState, IsSameBut, SetsBit, Attaches, Detaches, previous_at, record_at, location_at, bit_at}
+use Rattle.clock2q_queues.specs.Links.{LinkState, IsSameBut, SetsBit, Attaches, Detaches, record_at, location_at, bit_at}
 use Rattle.clock2q_queues.specs.MainRing.{IsMain, IsMainRing, main_slots, main_entries}
+use Rattle.clock2q_queues.proofs.InQueue.{AreInQueue, main_linked}
 use Rattle.clock2q_queues.proofs.Rings.{eqb_self, has-append, differs, has-without}
-use Rattle.clock2q_queues.proofs.Joining.{Inserts, Inserts-before, Inserts-first, first_in, neighbours_fit, Removes-detached, length-without, map-agree, slots_from-is, filter-entries}
+use Rattle.clock2q_queues.proofs.Joining.{Inserts, Inserts-before, Inserts-first, first_in, Removes-detached, length-without, map-agree, slots_from-is, filter-entries}
 use Rattle.clock2q_queues.proofs.Booleans.{or_parts}
 
 pub main_slots-is : (l : LinkState) (main : MainRing) (ss : List ℕ) → IsMain l main ss → main_slots l main ≡ ss
@@ -86,12 +86,9 @@ module _ (slot : ℕ) (old : LinkState) (main : MainRing) (mid new : LinkState) 
       pushed (Inserts-first old.records new.records (main_slots old main) slot Main starts b (w ∙ ap (λ z. written slot (record { previous = slot; next = slot; location = Main }) z) cleared.records))
       (h ∙ slice_get-first (main_slots old main) slot starts)
 
--- the hand, and the slot before it, are among the records
-pub hand_fits : (old mid : LinkState) (main : MainRing) (hand : ℕ) → IsMainRing old main → mid.records ≡ old.records → main.hand ≡ Some hand
-    → (hand < length mid.records.items) × (previous_at mid.records.items hand < length mid.records.items)
-hand_fits old mid main hand m e h =
-    let f = neighbours_fit old.records.items (main_slots old main) hand m.queue.linked (first_in (main_slots old main) hand (sym h ∙ m.queue.starts)) in
-    subst (λ (z : CellsState Record). (hand < length z.items) × (previous_at z.items hand < length z.items)) (sym e) (f.0, f.2)
+-- the hand's slot and its neighbours are in Main
+pub hand_linked : (l : LinkState) (main : MainRing) (hand : ℕ) → IsMainRing l main → main.hand ≡ Some hand → AreInQueue l hand
+hand_linked l main hand m h = main_linked l main m hand (first_in (main_slots l main) hand (sym h ∙ m.queue.starts))
 
 -- a slot was removed from Main
 pub record UnlinksMain (slot : ℕ) (old : LinkState) (main : MainRing) (new : LinkState) (main' : MainRing) : Type 0 where

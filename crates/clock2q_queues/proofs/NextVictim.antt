@@ -5,9 +5,12 @@ use Rattle.std.proofs.lemmas.Bool.{lt-ltb}
 use Rattle.std.proofs.lemmas.List.{length-map}
 use Rattle.clock2q_queues.specs.Queues.{QueueState, keeps_tail, victim_leaves}
 use Rattle.clock2q_queues.specs.declared.main_ring.MainRing.{MainRing}
-use Rattle.clock2q_queues.specs.Rings.{AllBelow, around}
-use Rattle.clock2q_queues.specs.Links.{LinkState, slots_from, next_at, bit_at}
+use Rattle.clock2q_queues.specs.Rings.{around}
+use Rattle.clock2q_queues.specs.Flags.{is_linked}
+use Rattle.clock2q_queues.specs.Links.{LinkState, location_at, slots_from, next_at, bit_at}
 use Rattle.clock2q_queues.specs.MainRing.{IsMainRing, main_slots, main_entries, set_front, from_victim}
+use Rattle.clock2q_queues.proofs.AllRecords.{linked_within}
+use Rattle.clock2q_queues.proofs.InQueue.{AllLinked, all_linked, main_linked}
 use Rattle.clock2q_queues.proofs.Hand.{first_of, from_victim-chosen}
 
 -- the first slot whose bit is clear, or this one if all are set
@@ -34,7 +37,7 @@ chosen hand true es =
 pub record Walks (l : LinkState) (main : MainRing) (hand slot passed : ℕ) : Type 0 where
   pub left : ℕ
   pub counted : passed + left ≡ main.len
-  pub below : AllBelow (length l.records.items) (around (next_at l.records.items) slot left)
+  pub linked : AllLinked l.records.items (around (next_at l.records.items) slot left)
   pub choice : first_clear hand (map (λ s. (s, bit_at l s)) (around (next_at l.records.items) slot left)) ≡ first_clear hand (main_entries l main)
 
 module _ (l : LinkState) (main : MainRing) (hand : ℕ) where
@@ -46,7 +49,7 @@ module _ (l : LinkState) (main : MainRing) (hand : ℕ) where
     Walks-start = record {
       left = main.len;
       counted = omega arith;
-      below = subst (AllBelow (length l.records.items)) slots_are whole.queue.linked.below;
+      linked = subst (AllLinked l.records.items) slots_are (all_linked l.records.items (main_slots l main) (λ t there. (main_linked l main whole t there).own));
       choice = ap (λ (ss : List ℕ). first_clear hand (map (λ s. (s, bit_at l s)) ss)) (sym slots_are);
     }
 
@@ -77,11 +80,14 @@ module _ (l : LinkState) (main : MainRing) (hand : ℕ) where
     abbrev ahead : List ℕ
     ahead = around (next_at l.records.items) (next_at l.records.items slot) left_after.0
 
-    all_below : AllBelow (length l.records.items) (slot ∷ ahead)
-    all_below = subst (λ n. AllBelow (length l.records.items) (around (next_at l.records.items) slot n)) left_after.1 w.below
+    all_are : AllLinked l.records.items (slot ∷ ahead)
+    all_are = subst (λ n. AllLinked l.records.items (around (next_at l.records.items) slot n)) left_after.1 w.linked
+
+    pub slot_linked : is_linked (location_at l.records.items slot) ≡ true
+    slot_linked = all_are.0
 
     pub slot_in : slot < length l.records.items
-    slot_in = all_below.0
+    slot_in = linked_within l.records.items slot slot_linked
 
     choice_from : (b : Bool) → bit_at l slot ≡ b → first_clear hand ((slot, b) ∷ map (λ s. (s, bit_at l s)) ahead) ≡ first_clear hand (main_entries l main)
     choice_from b is =
@@ -90,7 +96,7 @@ module _ (l : LinkState) (main : MainRing) (hand : ℕ) where
         ∙ w.choice
 
     pub Walks-on : bit_at l slot ≡ true → Walks l main hand (next_at l.records.items slot) (passed + 1)
-    Walks-on set = record { left = left_after.0; counted = omega (arith, w.counted, left_after.1); below = all_below.1; choice = choice_from true set }
+    Walks-on set = record { left = left_after.0; counted = omega (arith, w.counted, left_after.1); linked = all_are.1; choice = choice_from true set }
 
     pub Walks-here : IsMainRing l main → main.hand ≡ Some hand → bit_at l slot ≡ false → slice_get (from_victim (main_entries l main)) 0 ≡ Some (slot, false)
     Walks-here whole at clear = choice_is whole at slot (choice_from false clear)

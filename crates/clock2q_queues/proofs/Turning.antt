@@ -6,21 +6,22 @@ use Rattle.std.proofs.lemmas.List.{append-nil, length-set}
 use Rattle.clock2q_machine.proofs.Whole.{last_some}
 use Rattle.clock2q_queues.specs.declared.links.Record.{Record}
 use Rattle.clock2q_queues.specs.declared.links.Location.{Location}
-use Rattle.clock2q_queues.specs.declared.links.Location.TheVariants.{Free, SmallYoung, SmallOld, Main}
+use Rattle.clock2q_queues.specs.declared.links.Location.TheVariants.{SmallYoung, SmallOld}
 use Rattle.clock2q_queues.specs.declared.small.Small.{Small}
 use Rattle.clock2q_queues.specs.Cells.{CellsState, HitBits, accessed, bit_in, written}
 use Rattle.clock2q_queues.specs.Rings.{has, without, AllApart, AllBelow}
 use Rattle.clock2q_queues.specs.Links.{LinkState, IsLinked, IsSameBut, record_at, young_at, next_at, previous_at, location_at, bit_at, with_location, vacant}
 use Rattle.clock2q_queues.specs.Ends.{position_freed}
 use Rattle.clock2q_queues.specs.Flags.{is_linked}
-use Rattle.clock2q_queues.specs.Small.{IsSmallQueue, IsInSmall, GrowsOld, is_there, small_slots, small_entries, admitted, next_cursor}
+use Rattle.clock2q_queues.specs.Small.{IsSmallQueue, GrowsOld, is_there, small_slots, small_entries, admitted, next_cursor}
 use Rattle.clock2q_queues.proofs.Booleans.{and_false, or_parts, or_neither}
+use Rattle.clock2q_queues.proofs.InQueue.{in_small_linked}
 use Rattle.clock2q_queues.proofs.Records.{changed}
-use Rattle.clock2q_queues.proofs.Rings.{IsRing-kept, AllBelow-left, eqb_self, has-append, has-without_test, without-parted}
+use Rattle.clock2q_queues.proofs.Rings.{IsRing-kept, eqb_self, has-append, has-without_test, without-parted}
 use Rattle.clock2q_queues.proofs.Joining.{Inserts, IsLinked-turned, in_bounds, last_before, length-without, same_record, split_last}
 use Rattle.clock2q_queues.proofs.Leaving.{others_stay, ages_kept, records_now, window_now, bits-freed}
 use Rattle.clock2q_queues.proofs.SlotLists.{tail_among}
-use Rattle.clock2q_queues.proofs.Window.{AreStaying, Admits, Admits-from, aged_slots, cursor_fits}
+use Rattle.clock2q_queues.proofs.Window.{AreStaying, Admits, Admits-from, aged_slots, cursor_linked}
 
 -- a list that ends with this slot is the others, then the slot
 ends_in : (ss : List ℕ) (slot : ℕ) → AllApart ss → last_or None ss ≡ Some slot → ss ≡ without slot ss ++ slot ∷ []
@@ -40,11 +41,6 @@ pub gone : (slot : ℕ) (ss : List ℕ) → has slot (without slot ss) ≡ false
 gone slot ss = has-without_test slot slot ss ∙ rw (eqb_self slot) (and_false (has slot ss))
 
 -- a slot of Small is in a queue
-in_small_linked : (location : Location) → IsInSmall location → true ≡ is_linked location
-in_small_linked (SmallYoung position) i = refl
-in_small_linked SmallOld i = refl
-in_small_linked Free i = absurd i
-in_small_linked Main i = absurd i
 
 -- the location of a slot was changed, and nothing else
 pub relocated : (rs : CellsState Record) (slot : ℕ) (location : Location) (t : ℕ) → slot < length rs.items
@@ -112,26 +108,23 @@ module _ (slot : ℕ) (old : LinkState) (small : Small) (m : IsSmallQueue old sm
     bits_left : left.bits ≡ old.bits
     bits_left = ap (λ (l : LinkState). l.bits) e ∙ bits-freed location read ∙ ap (λ (l : LinkState). l.bits) r
 
-    -- the position of the cursor holds another slot, which has a record, or none
-    pub others_fit : IfSome (young_at left small.cursor) (λ t. t < length left.records.items)
-    others_fit =
-        let below : AllBelow (length left.records.items) rest =
-        subst (λ (rs : List Record). AllBelow (length rs) rest) (sym records_left) (AllBelow-left (length old.records.items) rest (slot ∷ []) linked_before.below) in
-        cursor_fits stay below
+    -- the position of the cursor holds another slot of Small, or none
+    pub others_linked : IfSome (young_at left small.cursor) (λ t. is_linked (location_at left.records.items t) ≡ true)
+    others_linked = cursor_linked stay
 
     module _ (mid aged : LinkState) (o : GrowsOld small.cursor left mid) (a : aged ≡ record mid { window = written small.cursor (Some slot) mid.window }) where
       pub aged_fits : slot < length aged.records.items
       aged_fits = rw (ap (λ (l : LinkState). length l.records.items) a ∙ o.as_many ∙ ap (λ (rs : List Record). length rs) records_left) slot_fits
 
       -- the slot is still in a queue
-      pub aged_linked : true ≡ is_linked (location_at aged.records.items slot)
+      pub aged_linked : is_linked (location_at aged.records.items slot) ≡ true
       aged_linked =
           let is_aged = ap (λ (l : LinkState). location_at l.records.items slot) a ∙ o.locations slot in
-          let was_in : true ≡ is_linked (location_at left.records.items slot) =
-          in_small_linked _ (m.location slot there) ∙ ap (λ (rs : List Record). is_linked (location_at rs slot)) (sym records_left) in
+          let was_in : is_linked (location_at left.records.items slot) ≡ true =
+          ap (λ (rs : List Record). is_linked (location_at rs slot)) records_left ∙ in_small_linked (location_at old.records.items slot) (m.location slot there) in
           elim (cases_Bool (is_there (young_at left small.cursor) slot)) [
-            | inl g ↦ let q : location_at aged.records.items slot ≡ SmallOld = is_aged ∙ rw g refl in ap is_linked (sym q)
-            | inr g ↦ let q : location_at aged.records.items slot ≡ location_at left.records.items slot = is_aged ∙ rw g refl in was_in ∙ ap is_linked (sym q)
+            | inl g ↦ let q : location_at aged.records.items slot ≡ SmallOld = is_aged ∙ rw g refl in ap is_linked q
+            | inr g ↦ let q : location_at aged.records.items slot ≡ location_at left.records.items slot = is_aged ∙ rw g refl in ap is_linked q ∙ was_in
           ]
 
     module _ (mid aged new : LinkState) (small' : Small) (w : 0 < length old.window.items) (o : GrowsOld small.cursor left mid)

@@ -12,11 +12,13 @@ use Rattle.clock2q_queues.specs.declared.small.Small.{Small}
 use Rattle.clock2q_queues.specs.Rings.{has, AllBelow}
 use Rattle.clock2q_queues.specs.declared.links.Record.{Record}
 use Rattle.clock2q_queues.specs.Cells.{CellsState, accessed, written}
+use Rattle.clock2q_queues.specs.Flags.{is_linked}
 use Rattle.clock2q_queues.specs.Links.{LinkState, IsBlank, IsLinked, IsSameBut, Attaches, record_at, next_at, previous_at, location_at, bit_at, young_at}
 use Rattle.clock2q_queues.specs.Small.{IsSmall, IsSmallQueue, IsInSmall, GrowsOld, small_slots, small_entries, admissions_since, next_cursor, age_of, age_at, admitted, is_there}
+use Rattle.clock2q_queues.proofs.InQueue.{in_small_linked}
 use Rattle.clock2q_queues.proofs.Records.{changed}
-use Rattle.clock2q_queues.proofs.Rings.{IsRing-kept, eqb_self, has_first, has_later, differs, below_of}
-use Rattle.clock2q_queues.proofs.Joining.{Inserts, Inserts-before, Inserts-first, slots_from-is, IsLinked-turned, first_in, neighbours_fit, same_record}
+use Rattle.clock2q_queues.proofs.Rings.{IsRing-kept, eqb_self, has_first, has_later, differs}
+use Rattle.clock2q_queues.proofs.Joining.{Inserts, Inserts-before, Inserts-first, slots_from-is, IsLinked-turned, first_in, previous_in, same_record}
 use Rattle.clock2q_queues.proofs.Booleans.{or_left, or_parts}
 
 -- Ages
@@ -110,13 +112,13 @@ pub record AreStaying (l : LinkState) (cursor : ℕ) (ss : List ℕ) : Type 0 wh
 pub all_stay : {l : LinkState} {small : Small} → IsSmallQueue l small → AreStaying l small.cursor (small_slots l small)
 all_stay m = record { location = m.location; placed = m.placed; occupied = m.occupied; cursor_in = m.cursor_in; countable = m.queue.countable; countable_positions = m.countable_positions }
 
--- a slot at the cursor has a record
-pub cursor_fits : {l : LinkState} {cursor : ℕ} {ss : List ℕ} → AreStaying l cursor ss → AllBelow (length l.records.items) ss → IfSome (young_at l cursor) (λ slot. slot < length l.records.items)
-cursor_fits {l} {cursor} {ss} m b = of (young_at l cursor) refl
+-- a slot at the cursor is in Small
+pub cursor_linked : {l : LinkState} {cursor : ℕ} {ss : List ℕ} → AreStaying l cursor ss → IfSome (young_at l cursor) (λ slot. is_linked (location_at l.records.items slot) ≡ true)
+cursor_linked {l} {cursor} {ss} m = of (young_at l cursor) refl
   where
-    of : (o : Option ℕ) → young_at l cursor ≡ o → IfSome o (λ slot. slot < length l.records.items)
+    of : (o : Option ℕ) → young_at l cursor ≡ o → IfSome o (λ slot. is_linked (location_at l.records.items slot) ≡ true)
     of None e = tt
-    of (Some t) e = below_of (length l.records.items) ss b t (m.occupied cursor t e).0
+    of (Some t) e = in_small_linked (location_at l.records.items t) (m.location t (m.occupied cursor t e).0)
 
 -- the slot at the cursor became old, and its position was given to another: the links between the two
 abbrev pub aged_before : LinkState → LinkState → LinkState
@@ -314,12 +316,21 @@ module _ (slot : ℕ) (old : LinkState) (small : Small) (mid aged : LinkState) (
   pub window_aged : length aged.window.items ≡ length old.window.items
   window_aged = ap (λ (l : LinkState). length l.window.items) e ∙ length-set mid.window.items small.cursor (Some slot) ∙ ap (λ (z : List (Option ℕ)). length z) o.positions
 
-  -- the slots between which a new one is put have records
-  pub first_fits : (newest : ℕ) → small.newest ≡ Some newest → (newest < length aged.records.items) × (previous_at aged.records.items newest < length aged.records.items)
-  first_fits newest h =
-      let k = linked_still old mid (small_slots old small) small.cursor m.queue.linked o in
-      let f = neighbours_fit mid.records.items (small_slots old small) newest k (first_in (small_slots old small) newest (sym h ∙ m.queue.starts)) in
-      subst (λ (z : CellsState Record). (newest < length z.items) × (previous_at z.items newest < length z.items)) (sym records_aged) (f.0, f.2)
+  still_in : (t : ℕ) → has t (small_slots old small) ≡ true → is_linked (location_at aged.records.items t) ≡ true
+  still_in t there =
+      let now = ap (λ (z : CellsState Record). location_at z.items t) records_aged ∙ o.locations t in
+      elim (cases_Bool (is_there (young_at old small.cursor) t)) [
+        | inl g ↦ let q : location_at aged.records.items t ≡ SmallOld = now ∙ rw g refl in ap is_linked q
+        | inr g ↦ let q : location_at aged.records.items t ≡ location_at old.records.items t = now ∙ rw g refl in ap is_linked q ∙ in_small_linked (location_at old.records.items t) (m.location t there)
+      ]
+
+  -- the slots between which a new one is put are in Small
+  pub first_linked : (newest : ℕ) → small.newest ≡ Some newest
+      → (is_linked (location_at aged.records.items newest) ≡ true) × (is_linked (location_at aged.records.items (previous_at aged.records.items newest)) ≡ true)
+  first_linked newest h =
+      let there = first_in (small_slots old small) newest (sym h ∙ m.queue.starts) in
+      let p : previous_at aged.records.items newest ≡ previous_at old.records.items newest = ap (λ (z : CellsState Record). previous_at z.items newest) records_aged ∙ o.previouses newest in
+      (still_in newest there, rw p (still_in (previous_at old.records.items newest) (previous_in old.records.items (small_slots old small) newest m.queue.linked there)))
 
   module _ (new : LinkState) (small' : Small) (b : slot < length old.records.items) (absent : has slot (small_slots old small) ≡ false) (w : 0 < length old.window.items)
       (rest : new ≡ record aged { records = new.records }) (n : small'.newest ≡ Some slot)

@@ -1,5 +1,5 @@
 -- What the links hold, and how it changes.
-use Rattle.std.specs.Prelude.{◌≡◌, ℕ, ◌+◌, ◌^◌, ◌<◌, ◌==◌, Bool, true, false, List, [], length, Option, Some, None, slice_get, slice_index_or, replicate, if◌then◌else◌}
+use Rattle.std.specs.Prelude.{◌≡◌, ℕ, ◌+◌, ◌-◌, ◌^◌, ◌<◌, ◌==◌, Bool, true, false, List, [], ◌++◌, length, Option, Some, None, slice_get, slice_index_or, replicate, if◌then◌else◌}
 use Rattle.clock2q_queues.specs.Cells.{CellsState, HitBits, cells_state, hit_bits, written, bit_in}
 use Rattle.clock2q_queues.specs.Rings.{has, AllApart, AllBelow, IsRing, around}
 use Rattle.clock2q_queues.specs.declared.links.Record.{Record}
@@ -14,6 +14,10 @@ vacant = record { previous = 0; next = 0; location = Free }
 
 abbrev pub record_at : List Record → ℕ → Record
 record_at rs slot = slice_index_or rs slot vacant
+
+-- the records of all slots, of which the first are in memory and the others vacant
+abbrev pub all_records : List Record → ℕ → List Record
+all_records rs slots = rs ++ replicate (slots - length rs) vacant
 
 abbrev pub next_at : List Record → ℕ → ℕ
 next_at rs slot = (record_at rs slot).next

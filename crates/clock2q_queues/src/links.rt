@@ -1,16 +1,18 @@
 //! What the queues are built on: the link records and the hit bits by slot number, and the
 //! positions of Small's window.
-ghost use Rattle.std.specs.Prelude.{◌≡◌, ℕ, ◌+◌, ◌^◌, ◌<◌, ◌&&◌, length, IfOk, replicate, None, false, if◌then◌else◌, ◌==◌};
+ghost use Rattle.std.specs.Prelude.{◌≡◌, ℕ, ◌+◌, ◌^◌, ◌<◌, ◌&&◌, length, IfOk, replicate, None, true, false, if◌then◌else◌, ◌==◌};
 ghost use Rattle.clock2q_queues.specs.Cells.{CellsState, cells_state, accessed, written};
 ghost use Rattle.clock2q_queues.specs.Flags.{is_linked};
 ghost use Rattle.clock2q_queues.specs.Links.{LinkState, vacant, is_old, Attaches, Detaches, SetsBit, fresh, record_at, next_at, previous_at, with_location, location_at, bit_at, young_at};
 
 mod cells;
 mod flags;
+mod records;
 
 use crate::link::Link;
 use cells::Bits;
 pub(crate) use cells::Cells;
+use records::Records;
 use std::alloc::{AllocError, Allocator, Global};
 use std::marker::Model;
 
@@ -59,7 +61,7 @@ pub(crate) const VACANT: Record = Record {
 /// The records and the hit bits of the slots, which both queues share, and the window's positions.
 #[derive(Drop)]
 pub(crate) struct Links<A: Allocator = Global> {
-    records: Cells<Record, A>,
+    records: Records<A>,
     window: Cells<Link, A>,
     bits: Bits<A>,
 }
@@ -82,11 +84,11 @@ impl<A: Allocator> Links<A> {
         A: Clone,
         ensures { IfOk result (λ l. l ≡ fresh slots window) }
     {
-        let records = Vec::from_elem(alloc.clone()?, VACANT, slots as usize)?;
+        let records = Records::new(alloc.clone()?, slots)?;
         let positions = Vec::from_elem(alloc.clone()?, Link::nowhere(), window as usize)?;
         let bits = Bits::new(alloc, slots)?;
         Ok(Links {
-            records: Cells::new(records),
+            records,
             window: Cells::new(positions),
             bits,
         })
@@ -110,13 +112,21 @@ impl<A: Allocator> Links<A> {
         self.records.charge();
     }
 
-    /// Returns the record of a slot.
+    /// Returns the record of a slot that is in a queue.
     pub(crate) fn read(&mut self, slot: u32) -> Record
-        requires { slot < length self.old.records.items }
+        requires { is_linked (location_at self.old.records.items slot) ≡ true }
         ensures value { result ≡ record_at self.old.records.items slot }
         ensures counted { self.new ≡ record self.old { records = accessed self.old.records } }
     {
         self.records.read(slot)
+    }
+
+    /// Returns where a slot is.
+    pub(crate) fn location(&mut self, slot: u32) -> Location
+        ensures value { result ≡ location_at self.old.records.items slot }
+        ensures counted { self.new ≡ record self.old { records = accessed self.old.records } }
+    {
+        self.records.read_any(slot).location
     }
 
     /// Writes the record of a slot.
@@ -128,11 +138,10 @@ impl<A: Allocator> Links<A> {
         self.records.write(slot, content);
     }
 
-    /// Writes the location of a slot that stays in a queue, or in none. It doesn't touch the slot's
-    /// flags.
+    /// Writes the location of a slot that stays in a queue. It doesn't touch the slot's flags.
     pub(crate) fn set_location(&mut self, slot: u32, location: Location)
-        requires slot_in { slot < length self.old.records.items }
-        requires stays { is_linked location ≡ is_linked (location_at self.old.records.items slot) }
+        requires was { is_linked (location_at self.old.records.items slot) ≡ true }
+        requires stays { is_linked location ≡ true }
         ensures { self.new ≡ record self.old {
           records = accessed
               (with_location slot location self.old.records);
@@ -144,9 +153,9 @@ impl<A: Allocator> Links<A> {
     /// Puts a slot just before another.
     pub(crate) fn attach(&mut self, slot: u32, before: u32, location: Location)
         requires slot_in { slot < length self.old.records.items }
-        requires before_in { before < length self.old.records.items }
-        requires previous_in { previous_at self.old.records.items before
-            < length self.old.records.items }
+        requires before_in { is_linked (location_at self.old.records.items before) ≡ true }
+        requires previous_in { is_linked (location_at self.old.records.items
+            (previous_at self.old.records.items before)) ≡ true }
         ensures attached { Attaches slot before location self.old.records self.new.records }
         ensures rest { self.new ≡ record self.old { records = self.new.records } }
     {
@@ -157,9 +166,9 @@ impl<A: Allocator> Links<A> {
     /// Puts a slot just before another, with a clear bit.
     pub(crate) fn attach_clear(&mut self, slot: u32, before: u32, location: Location)
         requires slot_in { slot < length self.old.records.items }
-        requires before_in { before < length self.old.records.items }
-        requires previous_in { previous_at self.old.records.items before
-            < length self.old.records.items }
+        requires before_in { is_linked (location_at self.old.records.items before) ≡ true }
+        requires previous_in { is_linked (location_at self.old.records.items
+            (previous_at self.old.records.items before)) ≡ true }
         ensures attached { Attaches slot before location self.old.records self.new.records }
         ensures cleared { SetsBit slot false self.old
             (record self.new { records = self.old.records }) }
@@ -168,9 +177,9 @@ impl<A: Allocator> Links<A> {
         self.records.attach(slot, before, location);
     }
 
-    /// Makes a slot old, with a clear bit.
+    /// Makes a slot that is in a queue old, with a clear bit.
     pub(crate) fn make_old(&mut self, slot: u32)
-        requires { slot < length self.old.records.items }
+        requires { is_linked (location_at self.old.records.items slot) ≡ true }
         ensures marked { self.new.records
             ≡ accessed (with_location slot Location.SmallOld self.old.records) }
         ensures cleared { SetsBit slot false self.old
@@ -182,10 +191,11 @@ impl<A: Allocator> Links<A> {
 
     /// Removes a slot from between its neighbours, and returns the record that it had.
     pub(crate) fn detach(&mut self, slot: u32) -> Record
-        requires slot_in { slot < length self.old.records.items }
-        requires next_in { next_at self.old.records.items slot < length self.old.records.items }
-        requires previous_in { previous_at self.old.records.items slot
-            < length self.old.records.items }
+        requires slot_in { is_linked (location_at self.old.records.items slot) ≡ true }
+        requires next_in { is_linked (location_at self.old.records.items
+            (next_at self.old.records.items slot)) ≡ true }
+        requires previous_in { is_linked (location_at self.old.records.items
+            (previous_at self.old.records.items slot)) ≡ true }
         ensures detached { Detaches slot self.old.records self.new.records }
         ensures value { result ≡ record_at self.old.records.items slot }
         ensures rest { self.new ≡ record self.old { records = self.new.records } }
@@ -240,9 +250,10 @@ impl<A: Allocator> Links<A> {
         self.bits.inspect(slot)
     }
 
-    /// Reads a slot's record, and returns true if the slot is old and its bit is set.
+    /// Reads the record of a slot that is in a queue, and returns true if the slot is old and its bit
+    /// is set.
     pub(crate) fn is_old_hit(&mut self, slot: u32) -> bool
-        requires { slot < length self.old.records.items }
+        requires { is_linked (location_at self.old.records.items slot) ≡ true }
         ensures value { result
             ≡ (is_old (location_at self.old.records.items slot) && bit_at self.old slot) }
         ensures counted { self.new ≡ record self.old { records = accessed self.old.records } }
@@ -255,7 +266,7 @@ impl<A: Allocator> Links<A> {
 
     /// Returns the slot after another in its queue. It counts no access.
     pub(crate) fn next_of(&self, slot: u32) -> u32
-        requires { slot < length self.now.records.items }
+        requires { is_linked (location_at self.now.records.items slot) ≡ true }
         ensures { result ≡ next_at self.now.records.items slot }
     {
         self.records.peek(slot).next
@@ -269,9 +280,9 @@ impl<A: Allocator> Links<A> {
         self.bits.is_set(slot)
     }
 
-    /// Returns true if a slot is old and its bit is set. It counts no access.
+    /// Returns true if a slot that is in a queue is old and its bit is set. It counts no access.
     pub(crate) fn is_promoted(&self, slot: u32) -> bool
-        requires { slot < length self.now.records.items }
+        requires { is_linked (location_at self.now.records.items slot) ≡ true }
         ensures { result
             ≡ (is_old (location_at self.now.records.items slot) && bit_at self.now slot) }
     {
@@ -284,12 +295,11 @@ impl<A: Allocator> Links<A> {
             ≡ replicate (length self.old.records.items) vacant }
         ensures positions { self.new.window.items ≡ replicate (length self.old.window.items) None }
         ensures inspections { self.new.bits.inspections ≡ self.old.bits.inspections }
-        ensures records_counted { self.new.records.accesses
-            ≡ self.old.records.accesses + length self.old.records.items }
+        ensures records_counted { self.new.records.accesses ≡ self.old.records.accesses }
         ensures positions_counted { self.new.window.accesses
             ≡ self.old.window.accesses + length self.old.window.items }
     {
-        self.records.fill(VACANT);
+        self.records.clear();
         self.window.fill(Link::nowhere());
         self.bits.clear();
     }

@@ -139,7 +139,7 @@ impl<A: Allocator> Queues<A> {
         ensures value { IsAt result slot self.old }
         ensures queues { self.new ≡ record self.old { accesses = self.old.accesses + 1 } }
     {
-        self.links.read(slot).location
+        self.links.location(slot)
     }
 
     /// Returns true if a slot is in a queue. It accesses no link.
@@ -327,13 +327,13 @@ impl<A: Allocator> Queues<A> {
     ///
     /// # Cost
     ///
-    /// Linear in the number of slots and the length of the window.
+    /// Linear in the number of slots, of which it writes a byte each, and in the length of the window.
     pub fn clear(&mut self)
         ensures queues { self.new
             ≡ record self.old {
               small = [];
               main = [];
-              accesses = self.old.accesses + self.old.slots + self.old.window;
+              accesses = self.old.accesses + self.old.window;
             } }
     {
         self.small.clear();

@@ -2,6 +2,7 @@
 ghost use Rattle.std.specs.Prelude.{◌≡◌, ℕ, ◌+◌, ◌-◌, ◌^◌, ◌<◌, ◌≤◌, ◌==◌, true, false, not, [], ◌∷◌, length, Some, None, IfSome};
 ghost use Rattle.std.specs.List.{filter, last_or};
 ghost use Rattle.clock2q_queues.specs.Cells.{Rises, accessed, written};
+ghost use Rattle.clock2q_queues.specs.Flags.{is_linked};
 ghost use Rattle.clock2q_queues.specs.Small.{GrowsOld, next_cursor};
 ghost use Rattle.clock2q_queues.specs.Rings.{has};
 ghost use Rattle.clock2q_queues.specs.Ends.{end_after, position_freed};
@@ -161,7 +162,7 @@ fn take_position<A: Allocator>(links: &mut Links<A>, cursor: u32, slot: u32)
     requires countable { slot < 2 ^ 32 - 1 }
     requires cursor { cursor < length links.old.window.items }
     requires there { IfSome (young_at links.old cursor)
-        (λ slot. slot < length links.old.records.items) }
+        (λ slot. is_linked (location_at links.old.records.items slot) ≡ true) }
     ensures taken { links.new.window ≡ written cursor (Some slot) (accessed links.old.window) }
     ensures older { GrowsOld cursor links.old
         (record links.new { window = accessed links.old.window }) }

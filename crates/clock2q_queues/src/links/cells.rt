@@ -1,12 +1,10 @@
 //! The vectors that hold the links. Only these accessors reach their items, and each read or write
 //! of a cell, and each inspection of a bit by the hand, raises a count, unless it is for a call that
 //! changes nothing.
-ghost use Rattle.std.specs.Prelude.{◌≡◌, ℕ, ◌+◌, ◌<◌, false, IfOk, length, replicate, slice_index_or, slice_set};
+ghost use Rattle.std.specs.Prelude.{◌≡◌, ◌+◌, ◌<◌, false, IfOk, length, replicate, slice_index_or, slice_set};
 ghost use Rattle.clock2q_queues.specs.Cells.{cells_state, accessed, written};
-ghost use Rattle.clock2q_queues.specs.Links.{Attaches, Detaches, next_at, previous_at, record_at, with_next, with_previous};
 
 use crate::links::flags::Flags;
-use crate::links::{Location, Record, VACANT};
 use clock2q_count::Count;
 use std::alloc::{AllocError, Allocator, Global};
 use std::marker::Model;
@@ -56,14 +54,6 @@ impl<T: Copy, A: Allocator> Cells<T, A> {
         self.items[at as usize]
     }
 
-    /// Returns the item of a cell to a walk that changes nothing, and so isn't counted.
-    pub(super) fn peek(&self, at: u32) -> T
-        requires { at < length self.now.items }
-        ensures { (d : T) → result ≡ slice_index_or self.now.items at d }
-    {
-        self.items[at as usize]
-    }
-
     /// Writes the item of a cell.
     pub(crate) fn write(&mut self, at: u32, item: T)
         requires { at < length self.old.items }
@@ -71,14 +61,6 @@ impl<T: Copy, A: Allocator> Cells<T, A> {
     {
         self.accesses.tick();
         self.items[at as usize] = item;
-    }
-
-    /// Raises the count of accesses by an amount that the proof of the call picks.
-    pub(super) fn charge(&mut self)
-        ghost more: { ℕ }
-        ensures { self.new ≡ cells_state self.old.items (self.old.accesses + more) }
-    {
-        self.accesses.raise(&());
     }
 
     /// Writes the same item to every cell.
@@ -91,115 +73,6 @@ impl<T: Copy, A: Allocator> Cells<T, A> {
             self.items[at] = item;
         }
     }
-}
-
-impl<A: Allocator> Cells<Record, A> {
-    ghost use Rattle.clock2q_queues.specs.Links.{with_location};
-
-    /// Writes the location of a slot. Changing one field counts as a read and a write of the record.
-    pub(super) fn set_location(&mut self, slot: u32, location: Location)
-        requires { slot < length self.old.items }
-        ensures { self.new ≡ accessed (with_location slot location self.old) }
-    {
-        self.accesses.tick();
-        self.accesses.tick();
-        self.items[slot as usize].location = location;
-    }
-
-    /// Puts a slot just before another.
-    pub(crate) fn attach(&mut self, slot: u32, before: u32, location: Location)
-        requires slot_in { slot < length self.old.items }
-        requires before_in { before < length self.old.items }
-        requires previous_in { previous_at self.old.items before < length self.old.items }
-        ensures { Attaches slot before location self.old self.new }
-    {
-        attach_in(
-            self.items.as_mut_slice(),
-            &mut self.accesses,
-            slot,
-            before,
-            location,
-        );
-    }
-
-    /// Removes a slot from between its neighbours, and returns the record that it had.
-    pub(crate) fn detach(&mut self, slot: u32) -> Record
-        requires slot_in { slot < length self.old.items }
-        requires next_in { next_at self.old.items slot < length self.old.items }
-        requires previous_in { previous_at self.old.items slot < length self.old.items }
-        ensures detached { Detaches slot self.old self.new }
-        ensures value { result ≡ record_at self.old.items slot }
-    {
-        detach_in(self.items.as_mut_slice(), &mut self.accesses, slot)
-    }
-}
-
-/// Puts a slot just before another, in a slice of the records.
-#[inline(always)]
-fn attach_in(
-    records: &mut [Record],
-    accesses: &mut Count,
-    slot: u32,
-    before: u32,
-    location: Location,
-)
-    requires slot_in { slot < length records.old }
-    requires before_in { before < length records.old }
-    requires previous_in { previous_at records.old before < length records.old }
-    ensures { Attaches slot before location (cells_state records.old accesses.old.total)
-        (cells_state records.new accesses.new.total) }
-{
-    accesses.tick();
-    let previous = records[before as usize].previous;
-    accesses.tick();
-    records[slot as usize] = Record {
-        previous,
-        next: before,
-        location,
-    };
-    set_next(records, accesses, previous, slot);
-    set_previous(records, accesses, before, slot);
-}
-
-/// Removes a slot from between its neighbours, in a slice of the records.
-#[inline(always)]
-fn detach_in(records: &mut [Record], accesses: &mut Count, slot: u32) -> Record
-    requires slot_in { slot < length records.old }
-    requires next_in { next_at records.old slot < length records.old }
-    requires previous_in { previous_at records.old slot < length records.old }
-    ensures detached { Detaches slot (cells_state records.old accesses.old.total)
-        (cells_state records.new accesses.new.total) }
-    ensures value { result ≡ record_at records.old slot }
-{
-    accesses.tick();
-    let was = records[slot as usize];
-    set_next(records, accesses, was.previous, was.next);
-    set_previous(records, accesses, was.next, was.previous);
-    accesses.tick();
-    records[slot as usize] = VACANT;
-    was
-}
-
-/// Writes the slot after another. Changing one field counts as a read and a write of the record.
-fn set_next(records: &mut [Record], accesses: &mut Count, slot: u32, next: u32)
-    requires { slot < length records.old }
-    ensures { cells_state records.new accesses.new.total
-        ≡ accessed (with_next slot next (cells_state records.old accesses.old.total)) }
-{
-    accesses.tick();
-    accesses.tick();
-    records[slot as usize].next = next;
-}
-
-/// Writes the slot before another.
-fn set_previous(records: &mut [Record], accesses: &mut Count, slot: u32, previous: u32)
-    requires { slot < length records.old }
-    ensures { cells_state records.new accesses.new.total
-        ≡ accessed (with_previous slot previous (cells_state records.old accesses.old.total)) }
-{
-    accesses.tick();
-    accesses.tick();
-    records[slot as usize].previous = previous;
 }
 
 /// The hit bits by slot, and whether each slot is in a queue, with the number of inspections by the

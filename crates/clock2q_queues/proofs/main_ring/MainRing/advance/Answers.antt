@@ -2,13 +2,13 @@ use Rattle.std.proofs.Common.{◌≡◌, refl, ap}
 use Rattle.clock2q_queues.specs.declared.links.Record.{Record}
 use Rattle.clock2q_queues.specs.Cells.{accessed}
 use Rattle.clock2q_queues.specs.Links.{next_at}
-use Rattle.clock2q_queues.proofs.Hand.{front_in, whole_passed, entries_passed}
+use Rattle.clock2q_queues.proofs.Hand.{front_linked, whole_passed, entries_passed}
 use Rattle.clock2q_queues.proofs.main_ring.MainRing.advance.Goals as goal
 
 pub read-requires : goal.read-requires
 read-requires g c =
     let l = c.args.links.now in
-    front_in l (record l { records = accessed l.records }) c.args.self.now c.args.slot c.requires.whole c.requires.first refl
+    front_linked l (record l { records = accessed l.records }) c.args.self.now c.args.slot c.requires.whole c.requires.first refl
 
 pub returns : goal.returns
 returns g c =

@@ -1,17 +1,17 @@
-use Rattle.std.proofs.Common.{◌+◌, refl, sym, ap, ◌∙◌, rules, arith}
+use Rattle.std.proofs.Common.{◌+◌, sym, ap, ◌∙◌, rules, arith}
 use Rattle.clock2q_queues.specs.Links.{LinkState}
 use Rattle.clock2q_queues.specs.MainRing.{main_slots}
 use Rattle.clock2q_queues.specs.declared.main_ring.MainRing.{MainRing}
 use Rattle.clock2q_queues.proofs.Joining.{count_fits}
-use Rattle.clock2q_queues.proofs.Main.{PushesMain, PushesMain-attached, PushesMain-alone, hand_fits}
+use Rattle.clock2q_queues.proofs.Main.{PushesMain, PushesMain-attached, PushesMain-alone, hand_linked}
 use Rattle.clock2q_queues.proofs.main_ring.MainRing.push.Goals as goal
 use Rattle.clock2q_queues.proofs.main_ring.MainRing.push.Goals.{in-None, in-Some}
 
 pub attach_clear-requires-clause-before_in : goal.attach_clear-requires-clause-before_in
-attach_clear-requires-clause-before_in g c = (hand_fits c.args.links.now c.args.links.now c.args.self.now c.in-Some.hand c.requires.whole refl c.in-Some.is).0
+attach_clear-requires-clause-before_in g c = (hand_linked c.args.links.now c.args.self.now c.in-Some.hand c.requires.whole c.in-Some.is).own
 
 pub attach_clear-requires-clause-previous_in : goal.attach_clear-requires-clause-previous_in
-attach_clear-requires-clause-previous_in g c = (hand_fits c.args.links.now c.args.links.now c.args.self.now c.in-Some.hand c.requires.whole refl c.in-Some.is).1
+attach_clear-requires-clause-previous_in g c = (hand_linked c.args.links.now c.args.self.now c.in-Some.hand c.requires.whole c.in-Some.is).previous
 
 pub overflow_add-self : goal.overflow_add-self
 overflow_add-self g c =

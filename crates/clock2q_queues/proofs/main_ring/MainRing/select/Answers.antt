@@ -1,6 +1,6 @@
 use Rattle.std.proofs.Common.{◌≡◌, sym, ap, subst, ◌∙◌}
 use Rattle.clock2q_queues.specs.MainRing.{IsMainRing}
-use Rattle.clock2q_queues.proofs.Hand.{Swept, Swept-start, Swept-step, Selects-at, fewer_left, hand_in, hand_in_still, with_hand}
+use Rattle.clock2q_queues.proofs.Hand.{Swept, Swept-start, Swept-step, Selects-at, fewer_left, hand_in, hand_linked_still, with_hand}
 use Rattle.clock2q_queues.proofs.main_ring.MainRing.select.Goals as goal
 
 pub loop-links-init : goal.loop-links-init
@@ -16,7 +16,7 @@ inspect-requires g c = hand_in c.args.links.now c.args.self.now c.loop-links.lin
 pub read-hand-requires : goal.read-hand-requires
 read-hand-requires g c =
     let i = c.inspect.ensures in
-    hand_in_still c.args.links.now c.args.self.now c.loop-links.links c.loop-links.hand c.loop-links.invariant c.inspect.new.self i.bits i.rest i.counted
+    hand_linked_still c.args.links.now c.args.self.now c.loop-links.links c.loop-links.hand c.loop-links.invariant c.inspect.new.self i.bits i.rest i.counted
 
 pub loop-links-smaller : goal.loop-links-smaller
 loop-links-smaller g c =

@@ -2,15 +2,15 @@ use Rattle.std.proofs.Common.{◌≡◌, ltb, ◌-◌, refl, ap, ◌∙◌}
 use Rattle.std.specs.Bool.{then_some}
 use Rattle.clock2q_queues.specs.declared.links.Record.{Record}
 use Rattle.clock2q_queues.specs.MainRing.{main_slots}
-use Rattle.clock2q_queues.proofs.Joining.{neighbours_fit, is_first, not_first, first_gone, first_stays}
+use Rattle.clock2q_queues.proofs.InQueue.{main_linked}
+use Rattle.clock2q_queues.proofs.Joining.{is_first, not_first, first_gone, first_stays}
 use Rattle.clock2q_queues.proofs.Main.{UnlinksMain-from, freed-from, others-from}
 use Rattle.clock2q_queues.proofs.main_ring.MainRing.unlink.Goals as goal
 
 pub detach-was-requires : goal.detach-was-requires
 detach-was-requires g c =
-    let l = c.args.links.now in
-    let n = neighbours_fit l.records.items (main_slots l c.args.self.now) c.args.slot c.requires.whole.queue.linked c.requires.present in
-    record { slot_in = n.0; next_in = n.1; previous_in = n.2 }
+    let in_main = main_linked c.args.links.now c.args.self.now c.requires.whole c.args.slot c.requires.present in
+    record { slot_in = in_main.own; next_in = in_main.next; previous_in = in_main.previous }
 
 -- the hand was at the slot, and is at the next one now
 pub returns-then-eq-clause-whole : goal.returns-then-eq-clause-whole

@@ -1,5 +1,5 @@
 use Rattle.std.proofs.Common.{◌+◌, sym, subst, ◌∙◌, arith}
-use Rattle.clock2q_queues.proofs.NextVictim.{Walks, Walks-start, Walks-on, Walks-here, Walks-over, slot_in}
+use Rattle.clock2q_queues.proofs.NextVictim.{Walks, Walks-start, Walks-on, Walks-here, Walks-over, slot_in, slot_linked}
 use Rattle.clock2q_queues.proofs.main_ring.MainRing.victim.Goals as goal
 
 pub loop-init : goal.loop-init
@@ -14,7 +14,7 @@ returns-then-not-has_bit g c =
     record { victim = Walks-here c.args.links.now c.args.self.now c.in_ok-hand.hand c.loop.invariant c.loop-test.true c.requires c.in_ok-hand.was clear }
 
 pub next_of-slot-requires : goal.next_of-slot-requires
-next_of-slot-requires g c = slot_in c.args.links.now c.args.self.now c.in_ok-hand.hand c.loop.invariant c.loop-test.true
+next_of-slot-requires g c = slot_linked c.args.links.now c.args.self.now c.in_ok-hand.hand c.loop.invariant c.loop-test.true
 
 pub loop-preserved : goal.loop-preserved
 loop-preserved g c =

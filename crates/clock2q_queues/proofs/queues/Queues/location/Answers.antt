@@ -1,13 +1,11 @@
-use Rattle.std.proofs.Common.{ap}
-use Rattle.clock2q_queues.specs.declared.links.Record.{Record}
 use Rattle.clock2q_queues.proofs.Locations.{is_at}
 use Rattle.clock2q_queues.proofs.Sharing.{after_reading}
 use Rattle.clock2q_queues.proofs.queues.Queues.location.Goals as goal
 
 pub invariant_of-self : goal.invariant_of-self
-invariant_of-self g c = (after_reading c.self.inside.links c.self.inside.small c.self.inside.main c.self.invariant c.read.new.self c.read.ensures.counted).queues
+invariant_of-self g c = (after_reading c.self.inside.links c.self.inside.small c.self.inside.main c.self.invariant c.location.new.self c.location.ensures.counted).queues
 
 pub returns-clause-value : goal.returns-clause-value
 returns-clause-value g c =
     let i = c.self.inside in
-    rw (← c.self.view_is) (is_at i.links i.small i.main c.self.invariant c.args.slot c.read.result.location (ap (λ (r : Record). r.location) c.read.ensures.value))
+    rw (← c.self.view_is) (is_at i.links i.small i.main c.self.invariant c.args.slot c.location.result c.location.ensures.value)

@@ -5,7 +5,7 @@ use Rattle.std.proofs.lemmas.Bool.{both_ways}
 use Rattle.clock2q_queues.specs.Small.{small_entries}
 use Rattle.clock2q_queues.specs.MainRing.{main_entries}
 use Rattle.clock2q_queues.specs.Queues.{keeps_tail, queues_shown}
-use Rattle.clock2q_queues.proofs.Locations.{tail_in, keeps_tail-some, keeps_tail-none}
+use Rattle.clock2q_queues.proofs.Locations.{tail_linked, keeps_tail-some, keeps_tail-none}
 use Rattle.clock2q_queues.proofs.NextVictim.{length-entries, leaves-with_main}
 use Rattle.clock2q_queues.proofs.Sharing.{small_slots-of}
 use Rattle.clock2q_queues.proofs.queues.Queues.next_victim.Goals.{in-Some+else-not-is_promoted, in_default}
@@ -19,7 +19,7 @@ returns-then-len-eq0-clause-tail g c leaves =
 pub is_promoted-requires : goal.is_promoted-requires
 is_promoted-requires g c =
     let i = c.self.inside in
-    tail_in i.links i.small i.main c.self.invariant c.in-Some.tail (sym (c.tail-tail.ensures i.links c.self.invariant.small) ∙ c.in-Some.is)
+    tail_linked i.links i.small i.main c.self.invariant c.in-Some.tail (sym (c.tail-tail.ensures i.links c.self.invariant.small) ∙ c.in-Some.is)
 
 pub returns-then-not-is_promoted-clause-tail : goal.returns-then-not-is_promoted-clause-tail
 returns-then-not-is_promoted-clause-tail g c leaves =

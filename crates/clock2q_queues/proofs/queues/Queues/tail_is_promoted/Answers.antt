@@ -5,7 +5,7 @@ use Rattle.clock2q_machine.specs.Ages.{Age}
 use Rattle.clock2q_queues.specs.Queues.{QueueState, tail_promoted}
 use Rattle.clock2q_queues.specs.Small.{small_slots, age_at}
 use Rattle.clock2q_queues.proofs.Sharing.{after_reading}
-use Rattle.clock2q_queues.proofs.Locations.{tail_in, tail_promoted-some}
+use Rattle.clock2q_queues.proofs.Locations.{tail_linked, tail_promoted-some}
 use Rattle.clock2q_queues.proofs.queues.Queues.tail_is_promoted.Goals as goal
 
 pub oldest-tail-requires-clause-some : goal.oldest-tail-requires-clause-some
@@ -21,7 +21,7 @@ oldest-tail-requires-clause-some g c =
 pub is_old_hit-requires : goal.is_old_hit-requires
 is_old_hit-requires g c =
     let i = c.self.inside in
-    tail_in i.links i.small i.main c.self.invariant c.oldest-tail.result c.oldest-tail.ensures.oldest
+    tail_linked i.links i.small i.main c.self.invariant c.oldest-tail.result c.oldest-tail.ensures.oldest
 
 pub invariant_of-self : goal.invariant_of-self
 invariant_of-self g c = (after_reading c.self.inside.links c.self.inside.small c.self.inside.main c.self.invariant c.is_old_hit.new.self c.is_old_hit.ensures.counted).queues

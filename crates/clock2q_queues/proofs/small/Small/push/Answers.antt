@@ -4,7 +4,7 @@ use Rattle.clock2q_queues.specs.Links.{LinkState}
 use Rattle.clock2q_queues.specs.Cells.{written}
 use Rattle.clock2q_queues.specs.Small.{small_slots, next_cursor}
 use Rattle.clock2q_queues.proofs.Joining.{count_fits}
-use Rattle.clock2q_queues.proofs.Window.{aged_before, position_taken, Admits, Admits-attached, Admits-alone, all_stay, cursor_fits, window_aged, first_fits}
+use Rattle.clock2q_queues.proofs.Window.{aged_before, position_taken, Admits, Admits-attached, Admits-alone, all_stay, cursor_linked, window_aged, first_linked}
 use Rattle.clock2q_queues.proofs.small.Small.push.Goals as goal
 use Rattle.clock2q_queues.proofs.small.Small.push.Goals.{in-None, in-Some}
 
@@ -19,17 +19,17 @@ pub to-self-requires-2 : goal.to-self-requires-2
 to-self-requires-2 g c = omega (arith, c.requires.slot_in, c.requires.whole.queue.countable)
 
 pub take_position-requires-clause-there : goal.take_position-requires-clause-there
-take_position-requires-clause-there g c = cursor_fits (all_stay c.requires.whole) c.requires.whole.queue.linked.below
+take_position-requires-clause-there g c = cursor_linked (all_stay c.requires.whole)
 
 pub attach-requires-clause-before_in : goal.attach-requires-clause-before_in
 attach-requires-clause-before_in g c =
-    (first_fits c.args.slot c.args.links.now c.args.self.now (aged_before c.args.links.now c.take_position.new.links) c.take_position.new.links
+    (first_linked c.args.slot c.args.links.now c.args.self.now (aged_before c.args.links.now c.take_position.new.links) c.take_position.new.links
     c.requires.whole c.take_position.ensures.older
     (position_taken c.args.links.now c.take_position.new.links c.args.self.now.cursor c.args.slot c.take_position.ensures.taken) c.in-Some.newest (sym c.slot.ensures ∙ c.in-Some.is)).0
 
 pub attach-requires-clause-previous_in : goal.attach-requires-clause-previous_in
 attach-requires-clause-previous_in g c =
-    (first_fits c.args.slot c.args.links.now c.args.self.now (aged_before c.args.links.now c.take_position.new.links) c.take_position.new.links
+    (first_linked c.args.slot c.args.links.now c.args.self.now (aged_before c.args.links.now c.take_position.new.links) c.take_position.new.links
     c.requires.whole c.take_position.ensures.older
     (position_taken c.args.links.now c.take_position.new.links c.args.self.now.cursor c.args.slot c.take_position.ensures.taken) c.in-Some.newest (sym c.slot.ensures ∙ c.in-Some.is)).1
 

@@ -3,9 +3,10 @@ use Rattle.clock2q_queues.specs.declared.links.Record.{Record}
 use Rattle.clock2q_queues.specs.declared.small.Small.{Small}
 use Rattle.clock2q_queues.specs.Links.{LinkState}
 use Rattle.clock2q_queues.specs.Small.{small_slots, next_cursor}
+use Rattle.clock2q_queues.proofs.InQueue.{small_linked}
 use Rattle.clock2q_queues.proofs.Joining.{neighbours_fit}
 use Rattle.clock2q_queues.proofs.Window.{aged_before, position_taken}
-use Rattle.clock2q_queues.proofs.Turning.{Turns, Turns-from, has_last, slot_fits, there, others_fit, aged_fits, aged_linked}
+use Rattle.clock2q_queues.proofs.Turning.{Turns, Turns-from, has_last, slot_fits, there, others_linked, aged_linked}
 use Rattle.clock2q_queues.proofs.small.Small.reuse_oldest.Goals as goal
 
 pub target-slot-requires : goal.target-slot-requires
@@ -13,7 +14,8 @@ target-slot-requires g c = subst (λ o. IsSome o) (sym c.requires.whole.ends) (h
 
 pub read-record-requires : goal.read-record-requires
 read-record-requires g c =
-    slot_fits c.target-slot.result c.args.links.now c.args.self.now c.requires.whole (sym c.requires.whole.ends ∙ c.target-slot.ensures)
+    let m = c.requires.whole in
+    (small_linked c.args.links.now c.args.self.now m c.target-slot.result (there c.target-slot.result c.args.links.now c.args.self.now m (sym m.ends ∙ c.target-slot.ensures))).own
 
 -- the slot has a number that a link can hold
 pub take_position-requires-clause-countable : goal.take_position-requires-clause-countable
@@ -37,20 +39,11 @@ leave_position-requires g c = λ position e.
 pub take_position-requires-clause-there : goal.take_position-requires-clause-there
 take_position-requires-clause-there g c =
     let m = c.requires.whole in
-    others_fit c.target-slot.result c.args.links.now c.args.self.now m (sym m.ends ∙ c.target-slot.ensures) c.read-record.new.self c.leave_position.new.links
+    others_linked c.target-slot.result c.args.links.now c.args.self.now m (sym m.ends ∙ c.target-slot.ensures) c.read-record.new.self c.leave_position.new.links
     c.read-record.ensures.counted c.read-record.result.location (ap (λ (r : Record). r.location) c.read-record.ensures.value) c.leave_position.ensures
 
-pub set_location-requires-clause-slot_in : goal.set_location-requires-clause-slot_in
-set_location-requires-clause-slot_in g c =
-    let m = c.requires.whole in
-    aged_fits c.target-slot.result c.args.links.now c.args.self.now m (sym m.ends ∙ c.target-slot.ensures) c.read-record.new.self c.leave_position.new.links
-    c.read-record.ensures.counted c.read-record.result.location (ap (λ (r : Record). r.location) c.read-record.ensures.value) c.leave_position.ensures
-    (aged_before c.leave_position.new.links c.take_position.new.links)
-    c.take_position.new.links c.take_position.ensures.older (position_taken c.leave_position.new.links c.take_position.new.links c.args.self.now.cursor c.target-slot.result
-    c.take_position.ensures.taken)
-
-pub set_location-requires-clause-stays : goal.set_location-requires-clause-stays
-set_location-requires-clause-stays g c =
+pub set_location-requires-clause-was : goal.set_location-requires-clause-was
+set_location-requires-clause-was g c =
     let m = c.requires.whole in
     aged_linked c.target-slot.result c.args.links.now c.args.self.now m (sym m.ends ∙ c.target-slot.ensures) c.read-record.new.self c.leave_position.new.links
     c.read-record.ensures.counted c.read-record.result.location (ap (λ (r : Record). r.location) c.read-record.ensures.value) c.leave_position.ensures

@@ -4,15 +4,15 @@ use Rattle.clock2q_queues.specs.declared.small.Small.{Small}
 use Rattle.clock2q_queues.specs.Ends.{end_after}
 use Rattle.clock2q_queues.specs.Links.{LinkState}
 use Rattle.clock2q_queues.specs.Small.{small_slots}
+use Rattle.clock2q_queues.proofs.InQueue.{small_linked}
 use Rattle.clock2q_queues.proofs.Joining.{neighbours_fit}
 use Rattle.clock2q_queues.proofs.Leaving.{UnlinksSmall-from}
 use Rattle.clock2q_queues.proofs.small.Small.unlink.Goals as goal
 
 pub detach-was-requires : goal.detach-was-requires
 detach-was-requires g c =
-    let l = c.args.links.now in
-    let n = neighbours_fit l.records.items (small_slots l c.args.self.now) c.args.slot c.requires.whole.queue.linked c.requires.present in
-    record { slot_in = n.0; next_in = n.1; previous_in = n.2 }
+    let in_small = small_linked c.args.links.now c.args.self.now c.requires.whole c.args.slot c.requires.present in
+    record { slot_in = in_small.own; next_in = in_small.next; previous_in = in_small.previous }
 
 -- its neighbours have numbers that a link can hold
 pub end_after-self-requires : goal.end_after-self-requires
