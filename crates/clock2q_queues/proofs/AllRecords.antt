@@ -59,23 +59,6 @@ module _ (rs : List Record) (slots : ℕ) where
       append_assoc rs (replicate k vacant) (replicate rest vacant) ∙ ap (λ z. rs ++ z) (replicate-append-replicate k rest vacant)
       ∙ ap (λ n. rs ++ replicate n vacant) (omega (arith, fit, length-append rs (replicate k vacant), length-replicate k vacant))
 
--- so many vacant records came into memory that a slot has one there
-module _ (rs ys : List Record) (slots slot : ℕ) (made : ys ≡ rs ++ replicate (slot + 1 - length rs) vacant) (fit : length rs ≤ slots) (below : slot < length (all_records rs slots)) where
-  long : length ys ≡ length rs + (slot + 1 - length rs)
-  long = ap length made ∙ length-append rs (replicate (slot + 1 - length rs) vacant) ∙ ap (λ n. length rs + n) (length-replicate (slot + 1 - length rs) vacant)
-
-  pub made-in : slot < length ys
-  made-in = omega (arith, long)
-
-  pub made-more : length rs ≤ length ys
-  made-more = omega (arith, long)
-
-  pub made-fit : length ys ≤ slots
-  made-fit = omega (arith, long, fit, below, length-all rs slots fit)
-
-  pub made-same : all_records ys slots ≡ all_records rs slots
-  made-same = ap (λ zs. all_records zs slots) made ∙ all-more rs slots (slot + 1 - length rs) (omega (arith, fit, below, length-all rs slots fit))
-
 -- a slot is put before another, or taken out, among the records in memory
 module _ (old new : List Record) (slots : ℕ) (fit : length old ≤ slots) (a b : ℕ) where
   pub all-attached : (slot before : ℕ) (location : Location) → Attaches slot before location (cells_state old a) (cells_state new b)

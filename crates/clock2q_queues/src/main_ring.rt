@@ -37,6 +37,7 @@ impl MainRing {
     }
 
     /// Puts a slot just before the hand, with a clear bit. In an empty ring, the hand goes to it.
+    #[inline(always)]
     pub(crate) fn push<A: Allocator>(&mut self, links: &mut Links<A>, slot: u32)
         requires whole { IsMainRing links.old self.old }
         requires slot_in { slot < length links.old.records.items }

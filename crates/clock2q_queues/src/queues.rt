@@ -119,6 +119,7 @@ impl<A: Allocator> Queues<A> {
     }
 
     /// Puts a slot at the end of Main, with a clear bit.
+    #[inline(always)]
     pub fn append(&mut self, slot: u32)
         requires slot_in { slot < self.old.slots }
         requires not_in_small { has slot (slots_of self.old.small) ≡ false }

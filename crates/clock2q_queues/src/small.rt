@@ -65,6 +65,7 @@ impl Small {
     }
 
     /// Admits a slot as the newest, and young. All other young slots grow older.
+    #[inline(always)]
     pub(crate) fn push<A: Allocator>(&mut self, links: &mut Links<A>, slot: u32)
         requires whole { IsSmallQueue links.old self.old }
         requires slot_in { slot < length links.old.records.items }

@@ -1,13 +1,16 @@
 //! The records of the slots. Memory is written for a record when its slot is first in a queue.
-ghost use Rattle.std.specs.Prelude.{◌≡◌, ℕ, ◌+◌, ◌-◌, ◌<◌, ◌++◌, true, IfOk, length, replicate, vec_len, vec_capacity};
+ghost use Rattle.std.specs.Prelude.{◌≡◌, ℕ, ◌+◌, ◌<◌, ◌≤◌, true, IfOk, length, replicate, vec_capacity};
 ghost use Rattle.clock2q_queues.specs.Cells.{cells_state, accessed, written};
 ghost use Rattle.clock2q_queues.specs.Flags.{is_linked};
-ghost use Rattle.clock2q_queues.specs.Links.{Attaches, Detaches, location_at, next_at, previous_at, record_at, vacant, with_location, with_next, with_previous};
+ghost use Rattle.clock2q_queues.specs.Links.{Attaches, Detaches, all_records, location_at, next_at, previous_at, record_at, vacant, with_location, with_next, with_previous};
 
 use crate::links::{Location, Record, VACANT};
 use clock2q_count::Count;
 use std::alloc::{AllocError, Allocator, Global};
 use std::marker::Model;
+
+/// The number of records that are made at once, so that few insertions into a new cache make any.
+const MADE_AT_ONCE: usize = 32;
 
 /// The record of each slot, with the number of reads and writes. Only the first ones are in memory:
 /// the record of any other slot is vacant.
@@ -80,7 +83,7 @@ impl<A: Allocator> Records<A> {
         requires { slot < length self.old.items }
         ensures written { self.new ≡ written slot content self.old }
     {
-        make_up_to(&mut self.items, slot);
+        make_up_to(&mut self.items, self.slots, slot);
         self.accesses.tick();
         self.items[slot as usize] = content;
     }
@@ -104,7 +107,7 @@ impl<A: Allocator> Records<A> {
             (previous_at self.old.items before)) ≡ true }
         ensures attached { Attaches slot before location self.old self.new }
     {
-        make_up_to(&mut self.items, slot);
+        make_up_to(&mut self.items, self.slots, slot);
         attach_in(
             self.items.as_mut_slice(),
             &mut self.accesses,
@@ -143,14 +146,23 @@ impl<A: Allocator> Records<A> {
     }
 }
 
-/// Adds vacant records until that of a slot is in memory.
-fn make_up_to<A: Allocator>(items: &mut Vec<Record, A>, slot: u32)
-    requires room { slot < vec_capacity items.old }
-    ensures made { items.new.items
-        ≡ items.old.items ++ replicate (slot + 1 - length items.old.items) vacant }
-    ensures capacity { vec_capacity items.new ≡ vec_capacity items.old }
+/// Makes the record of a slot in memory if it isn't there, and some of those after it.
+#[inline(always)]
+fn make_up_to<A: Allocator>(items: &mut Vec<Record, A>, slots: u32, slot: u32)
+    requires within { slot < slots }
+    requires fit { length items.old.items ≤ slots }
+    requires room { slots ≤ vec_capacity items.old }
+    ensures same { all_records items.new.items slots ≡ all_records items.old.items slots }
+    ensures there { slot < length items.new.items }
+    ensures more { length items.old.items ≤ length items.new.items }
+    ensures fit { length items.new.items ≤ slots }
+    ensures room { slots ≤ vec_capacity items.new }
 {
-    while items.len() <= slot as usize {
+    if items.len() > slot as usize {
+        return;
+    }
+    let len = (slot as usize + MADE_AT_ONCE).min(slots as usize);
+    while items.len() < len {
         items.push_reserved(VACANT);
     }
 }
