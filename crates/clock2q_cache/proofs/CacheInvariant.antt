@@ -19,7 +19,7 @@ module _ {K : Type 0} (h : Remembered K) {h' : Remembered K} {index : IndexState
   reindexed shared = record {
     entries = ap (λ (z : Remembered K). z.entries) is;
     limit = ap (λ (z : Remembered K). z.limit) is;
-    beside = ap (λ (z : Remembered K). most_beside z) is ∙ ap (λ b. if b then h.limit else 0) shared;
+    beside = ap (λ (z : Remembered K). most_beside z) is ∙ ap (λ b. if b then h.limit + 1 else 0) shared;
   }
 
   -- the slots are then those of the new index
@@ -28,7 +28,7 @@ module _ {K : Type 0} (h : Remembered K) {h' : Remembered K} {index : IndexState
 
 -- the slots after one replaced another
 pub slots-renewed : {K : Type 0} (h : Remembered K) {h' : Remembered K} (old hsh : ℕ) {slot : ℕ}
-    → h' ≡ record h { places = record h.places { index = known.entered hsh slot (left old slot h.places.index) } } → slot < 2 ^ 24
+    → h' ≡ record h { places = record h.places { index = known.entered_from h.places.index hsh slot (left old slot h.places.index) } } → slot < 2 ^ 24
     → slots h'.places.index ≡ with_handle (removed eqb (slots h.places.index) old slot) hsh slot
 slots-renewed h old hsh {slot} is below = now-slots h is (slots-entered (left old slot h.places.index) hsh slot (omega (arith, below))
     ∙ ap (λ z. with_handle z hsh slot) (slots-left h.places.index old slot (omega (arith, below))))

@@ -79,7 +79,7 @@ hashes-same {K} {V} eq hash key entries (p ∷ ps) respects a = of (hashes-same 
 pub no-slot : (r : Found) → ((slot : ℕ) → r ≡ Found.Resident slot → ⊥) → None ≡ found_slot r
 no-slot (Found.Resident slot) other = absurd (other slot refl)
 no-slot (Found.Remembered place) other = refl
-no-slot Found.Absent other = refl
+no-slot (Found.Absent gap) other = refl
 
 -- a key whose place is found is one of the keys
 placed-any : {K : Type 0} (is : K → Bool) (ks : List K) (ps : List ℕ) (p : ℕ) → place_of is ks ps ≡ Some p → list_any is ks ≡ true
@@ -158,7 +158,7 @@ module _ {K V : Type 0} {eq : K → K → Bool} {hash : K → ℕ} {shares : Sha
         → found_slot r ≡ slot_of (eq key) m
     looked respects hsh is (Found.Resident slot) at place absent = sym at ∙ found respects hsh is
     looked respects hsh is (Found.Remembered p) at place absent = unresident (placed-any (eq key) m.history h.places.taken p (sym (place refl)))
-    looked respects hsh is Found.Absent at place absent = sym (absent refl refl) ∙ found respects hsh is
+    looked respects hsh is (Found.Absent gap) at place absent = sym (absent refl refl) ∙ found respects hsh is
 
     pub found-made : (o : Option ℕ) → o ≡ slot_of (eq key) m → IfSome o (λ slot. slot < length m.values)
     found-made None is = tt

@@ -8,10 +8,9 @@ use Rattle.clock2q_machine.specs.Leaving.{leaves_for, leaves_for_main, leaves_fo
 use Rattle.clock2q_machine.proofs.MachineInvariant.{lasting-inserted}
 use Rattle.clock2q_machine.proofs.Entering.{slots_apart, differs, entered_there}
 use Rattle.clock2q_machine.proofs.Victims.{others_stay}
-use Rattle.clock2q_directory.specs.Accesses.{most_changed}
 use Rattle.clock2q_directory.specs.Index.{IndexState, IsWithinCapacity, looked_up, most_reached}
 use Rattle.clock2q_directory.specs.History.{freed_place}
-use Rattle.clock2q_directory.proofs.Prices.{reached_oldest, left-dear, freed-dear, freed-accesses, pushed-shared, pushed-accesses}
+use Rattle.clock2q_directory.proofs.Prices.{reached_oldest, freed-dear, freed-accesses, pushed-accesses}
 use Rattle.clock2q_cache.specs.Costs.{reached, reached_if, walked, slots_for, slots_to_take}
 use Rattle.clock2q_cache.specs.Places.{vacated_for, out_of}
 use Rattle.clock2q_cache.proofs.Listed.{at_its_slot}
@@ -98,10 +97,9 @@ module _ {K V S H : Type 0} (key : HashMembers K) (build : builder.Ghosts S H) (
   abbrev before : Places
   before = discarded (key.eq k) (hashed k) c
 
-  -- the places once the slot is vacated
-  record IsVacated (q : Places) : Type 0 where
-    pub accesses : q.index.accesses ≤ c.known.index.accesses + reached key build hash c k + reached_if key build hash c leaving + reached_if key build hash c (last_or None c.machine.history)
-    pub shared : (y : ℕ) → most_changed q.index.shared y ≤ most_changed c.known.index.shared y
+  -- the most slots of the index that are read and written until the slot is vacated
+  abbrev most_vacated : ℕ
+  most_vacated = c.known.index.accesses + reached key build hash c k + reached_if key build hash c leaving + reached_if key build hash c (last_or None c.machine.history)
 
   pub oldest_reached : (ks : List K) (ps : List ℕ) → length ps ≡ length ks
       → reached_oldest c.known.index (oldest_hash hashed ks) (last_or None ps) ≤ reached_if key build hash c (last_or None ks)
@@ -117,26 +115,17 @@ module _ {K V S H : Type 0} (key : HashMembers K) (build : builder.Ghosts S H) (
       )
 
   -- by the resident that is there
-  vacated_there : slot_of (key.eq k) c.machine ≡ None → (o : Option (K × ℕ)) → resident_at c.machine slot ≡ o → IsVacated (left_by hashed o slot before)
-  vacated_there absent None is =
-      let place = place_of (key.eq k) c.machine.history c.known.taken in
-      record {
-        accesses = omega (arith, freed-accesses c.known within (hashed k) place);
-        shared = (freed-dear c.known within (hashed k) place).shared;
-      }
+  vacated_there : slot_of (key.eq k) c.machine ≡ None → (o : Option (K × ℕ)) → resident_at c.machine slot ≡ o → (left_by hashed o slot before).index.accesses ≤ most_vacated
+  vacated_there absent None is = omega (arith, freed-accesses c.known within (hashed k) (place_of (key.eq k) c.machine.history c.known.taken))
   vacated_there absent (Some r) is =
       let place = place_of (key.eq k) c.machine.history c.known.taken in
-      let d = freed-dear c.known within (hashed k) place in
       let l = leaves-there key.eq laws c.machine whole k absent r is in
       let same : reached key build hash c r.0 ≡ reached_if key build hash c leaving =
       ap (λ x. most_reached c.known.index (hash_of build hash c.hasher x)) (respects r.0 l.0.0 l.2) ∙ sym (ap (λ o. reached_if key build hash c (option_map (λ x. x.0) o)) l.1) in
-      record {
-        accesses = omega (arith, freed-accesses c.known within (hashed k) place, d.shared (hashed r.0), same);
-        shared = λ y. omega (arith, (left-dear before.index d.within (hashed r.0) slot).shared y, d.shared y);
-      }
+      omega (arith, freed-accesses c.known within (hashed k) place, (freed-dear c.known within (hashed k) place).shared (hashed r.0), same)
 
   -- by that resident, or by Small's tail, which is remembered
-  vacated_by : slot_of (key.eq k) c.machine ≡ None → (o : Option K) → out_of (goes_to_main known c.machine) rest ≡ o → IsVacated (vacated_for hashed o slot rest before)
+  vacated_by : slot_of (key.eq k) c.machine ≡ None → (o : Option K) → out_of (goes_to_main known c.machine) rest ≡ o → (vacated_for hashed o slot rest before).index.accesses ≤ most_vacated
   vacated_by absent None is = vacated_there absent (resident_at c.machine slot) refl
   vacated_by absent (Some tail) is =
       let share = history_share c.machine.shares in
@@ -147,22 +136,20 @@ module _ {K V S H : Type 0} (key : HashMembers K) (build : builder.Ghosts S H) (
       let frees : before ≡ c.known = ap (λ o. freed_place (hashed k) o c.known) (place-none (key.eq k) c.machine.history c.known.taken t.0) in
       let becomes : vacated_for hashed (Some tail) slot rest before ≡ pushed_places share (hashed tail) slot oldest c.known =
       ap (λ ks. pushed_places share (hashed tail) slot (oldest_hash hashed ks) before) forgets ∙ ap (pushed_places share (hashed tail) slot oldest) frees in
-      subst IsVacated (sym becomes) (record {
-        accesses = omega (
-          arith,
-          pushed-accesses c.known within share (hashed tail) slot oldest,
-          oldest_reached c.machine.history c.known.taken as_many,
-          ap (reached_if key build hash c) t.1,
-        );
-        shared = pushed-shared c.known within share (hashed tail) slot oldest;
-      })
+      omega (
+        arith,
+        ap (λ (p : Places). p.index.accesses) becomes,
+        pushed-accesses c.known within share (hashed tail) slot oldest,
+        oldest_reached c.machine.history c.known.taken as_many,
+        ap (reached_if key build hash c) t.1,
+      )
 
   -- once the key has its slot
   known_price : slot_of (key.eq k) c.machine ≡ None → (known_at key build hash k slot c).index.accesses
       ≤ c.known.index.accesses + (2 * reached key build hash c k + reached_if key build hash c leaving + reached_if key build hash c (last_or None c.machine.history))
   known_price absent =
-      let q = vacated_by absent (out_of (goes_to_main known c.machine) rest) refl in
-      omega (arith, q.accesses, q.shared (hashed k))
+      let place = place_of (key.eq k) c.machine.history c.known.taken in
+      omega (arith, vacated_by absent (out_of (goes_to_main known c.machine) rest) refl, (freed-dear c.known within (hashed k) place).shared (hashed k))
 
 -- a lookup changes no entry
 pub within-looked : {v : IndexState} (x : ℕ) → IsWithinCapacity v → IsWithinCapacity (looked_up x v)

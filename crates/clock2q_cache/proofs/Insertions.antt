@@ -1,7 +1,11 @@
 -- What the insertion of a key costs.
-use Rattle.std.proofs.Common.{◌≡◌, ℕ, ◌+◌, ◌<◌, ◌≤◌, ◌==◌, Bool, true, false, not, ◌&&◌, List, [], ◌∷◌, length, Option, Some, None, refl, ap, sym, ◌∙◌, arith, eq-eqb, ne_eqb}
-use Rattle.clock2q_cache.proofs.Names.{if◌then◌else◌, is_some, IfSome, list_any, last_or, IsEquivalence, KeyPlaces, key_at, inspections, QueueState, Entry, Remembered, Places, Age, is_promoted, last_some, none_is, Shares, main_share, SmallEntry, Machine, slot_of, vacancy, goes_to_main, forgotten, goes_on, takes_victim, inspections_for, placed_inspections, main_inspections, small_inspections, machine_of, IsKept, counts_of, Counts, Spends, accesses_for}
+use Rattle.std.proofs.Common.{◌≡◌, ℕ, ◌+◌, ◌<◌, ◌≤◌, ◌==◌, Bool, true, false, not, ◌&&◌, List, [], ◌∷◌, length, Option, Some, None, refl, ap, sym, ◌∙◌, subst, arith, eq-eqb, ne_eqb}
+use Rattle.clock2q_cache.proofs.Names.{if◌then◌else◌, is_some, IfSome, list_any, last_or, IsEquivalence, KeyPlaces, key_at, inspections, QueueState, Entry, Remembered, Places, Age, is_promoted, last_some, none_is, Shares, main_share, SmallEntry, Machine, slot_of, vacancy, goes_to_main, forgotten, goes_on, takes_victim, inspections_for, placed_inspections, main_inspections, small_inspections, machine_of, IsKept, counts_of, CacheState, Counts, Spends, accesses_for, discarded}
 use Rattle.clock2q_queues.specs.Cells.{Rises}
+use Rattle.clock2q_directory.specs.declared.history.Found.{Found}
+use Rattle.clock2q_directory.specs.History.{found_gap, freed_place}
+use Rattle.clock2q_directory.specs.Index.{IsGapFor}
+use Rattle.clock2q_cache.specs.Insertions.{IsFoundFor}
 use Rattle.clock2q_machine.specs.Entries as machine
 use Rattle.clock2q_cache.proofs.Spent.{spends-both, spends-more}
 use Rattle.clock2q_cache.proofs.WithKeys.{main-inspections}
@@ -107,6 +111,15 @@ module _ {K V : Type 0} {is : K → Bool} {m m1 : Machine K V} {main : Bool} (s 
   -- the number of inspections by the hand then
   pub placed-inspections : slot_of is m ≡ None → placed_inspections main m1 ≡ inspections_for is m
   placed-inspections absent = ap (placed_inspections main) s.erased ∙ ap (λ b. placed_inspections b m) goes-there ∙ sym (insertion m is absent)
+
+-- the gap that a lookup found is still there then
+pub gap-still : {K V S : Type 0} {eq : K → K → Bool} (found : Found) {k : K} {x : ℕ} {c : CacheState K V S} {p : Places} → IsFoundFor eq found k x c
+    → p ≡ discarded (eq k) x c → IsGapFor (found_gap found) x p.index
+gap-still (Found.Resident slot) f erased = tt
+gap-still (Found.Remembered place) f erased = tt
+gap-still (Found.Absent None) f erased = tt
+gap-still (Found.Absent (Some gap)) {x = x} {c = c} f erased =
+    subst (λ (p : Places). IsGapFor (Some gap) x p.index) (sym (erased ∙ ap (λ o. freed_place x o c.known) (sym f.place))) f.gap
 
 -- after a look at Small's tail
 pub looked-spends : {looks : ℕ} {a b c : Counts} → Spends 0 1 0 a b → Spends looks (looks + 28) 0 b c → Spends looks (looks + 29) 0 a c

@@ -67,20 +67,20 @@ module _ {K V : Type 0} {eq : K → K → Bool} {hash : K → ℕ} {shares : Sha
     pub entered-vacant : has slot (places_of q) ≡ false → p' ≡ record p { index = known.entered hsh slot p.index } → p' ≡ entered hash key slot None m p
     entered-vacant absent indexed =
         indexed ∙ ap (λ x. record p { index = known.entered x slot p.index }) is
-        ∙ sym (ap (λ z. let r = left_by hash z slot p in record r { index = known.entered (hash key) slot r.index }) (resident-none slot absent))
+        ∙ sym (ap (λ z. let r = left_by hash z slot p in record r { index = known.entered_from p.index (hash key) slot r.index }) (resident-none slot absent))
 
     -- a key takes the slot of a resident, which leaves
     pub entered-renewed : {old : ℕ} → has slot (places_of q) ≡ true → hash_at keys.entries slot ≡ Some old
-        → p' ≡ record p { index = known.entered hsh slot (known.left old slot p.index) } → p' ≡ entered hash key slot None m p
+        → p' ≡ record p { index = known.entered_from p.index hsh slot (known.left old slot p.index) } → p' ≡ entered hash key slot None m p
     entered-renewed {old} there at indexed =
         let k = have slot there in
-        indexed ∙ ap (λ x. record p { index = known.entered x slot (known.left old slot p.index) }) is
-        ∙ ap (λ x. record p { index = known.entered (hash key) slot (known.left x slot p.index) }) (hash-of-key hash keys.entries slot old k.0 kept.stored.hashed at k.1)
-        ∙ sym (ap (λ z. let r = left_by hash z slot p in record r { index = known.entered (hash key) slot r.index }) (resident-there slot k.0 there k.1))
+        indexed ∙ ap (λ x. record p { index = known.entered_from p.index x slot (known.left old slot p.index) }) is
+        ∙ ap (λ x. record p { index = known.entered_from p.index (hash key) slot (known.left x slot p.index) }) (hash-of-key hash keys.entries slot old k.0 kept.stored.hashed at k.1)
+        ∙ sym (ap (λ z. let r = left_by hash z slot p in record r { index = known.entered_from p.index (hash key) slot r.index }) (resident-there slot k.0 there k.1))
 
     -- a key takes the slot of Small's tail, whose key goes into the history
     pub entered-evicting : {key_out : K} {old : ℕ} → last_or None (slots_of q.small) ≡ Some slot → key_at keys.entries slot ≡ Some key_out → hash_at keys.entries slot ≡ Some old
-        → (let r = pushed_places h.limit old slot (oldest_hash (λ (e : ℕ × K). e.0) h.entries) p in p' ≡ record r { index = known.entered hsh slot r.index })
+        → (let r = pushed_places h.limit old slot (oldest_hash (λ (e : ℕ × K). e.0) h.entries) p in p' ≡ record r { index = known.entered_from p.index hsh slot r.index })
         → p' ≡ entered hash key slot (option_map (λ (e : SmallEntry K). e.key) (last_or None m.small)) m p
     entered-evicting {key_out} {old} last key_is hash_is indexed =
         let out : option_map (λ (e : SmallEntry K). e.key) (last_or None m.small) ≡ Some key_out =
@@ -89,6 +89,6 @@ module _ {K V : Type 0} {eq : K → K → Bool} {hash : K → ℕ} {shares : Sha
         ap (λ z. pushed_places z old slot (oldest_hash (λ (e : ℕ × K). e.0) h.entries) p) kept.sized.remembers
         ∙ ap (λ z. pushed_places (history_share shares) z slot (oldest_hash (λ (e : ℕ × K). e.0) h.entries) p) (hash-of-key hash keys.entries slot old key_out kept.stored.hashed hash_is key_is)
         ∙ ap (λ z. pushed_places (history_share shares) (hash key_out) slot z p) (oldest-hashed hash None None h.entries refl kept.hashed) in
-        indexed ∙ ap (λ (r : Places). record r { index = known.entered hsh slot r.index }) pushed
-        ∙ ap (λ x. let r = remembering hash key_out slot m p in record r { index = known.entered x slot r.index }) is
+        indexed ∙ ap (λ (r : Places). record r { index = known.entered_from p.index hsh slot r.index }) pushed
+        ∙ ap (λ x. let r = remembering hash key_out slot m p in record r { index = known.entered_from p.index x slot r.index }) is
         ∙ ap (λ o. entered hash key slot o m p) (sym out)

@@ -27,7 +27,8 @@ module _ {K V S H : Type 0} (key : HashMembers K) (build : builder.Ghosts S H) (
     pub remembered : HasPlaces (λ k. hash_of build hash c.hasher (key.hash_input k)) (remembered_in c.known) (zip c.machine.history c.known.taken)
 
 -- three quarters of the index's slots are enough for every key that it may ever have: the residents and, if they share
--- their table, the remembered keys, which otherwise have a table of their own
+-- their table, the remembered keys and one that enters before another leaves; otherwise the remembered keys have a table
+-- of their own
 pub record IsSpacious {K V S : Type 0} (c : CacheState K V S) : Type 0 where
-  pub residents : c.machine.shares.capacity + (if is_shared c.known.index then history_share c.machine.shares else 0) ≤ capacity (length (residents_in c.known))
+  pub residents : c.machine.shares.capacity + (if is_shared c.known.index then history_share c.machine.shares + 1 else 0) ≤ capacity (length (residents_in c.known))
   pub remembered : is_shared c.known.index ≡ false → history_share c.machine.shares ≤ capacity (length (remembered_in c.known))

@@ -9,6 +9,10 @@ use Rattle.std.specs.declared.hash.BuildHasher as builder
 use Rattle.std.specs.HashMap.Lent.{HashMembers}
 use Rattle.clock2q_machine.specs.Shares.{main_share}
 use Rattle.clock2q_machine.specs.Entries.{inspections}
+use Rattle.clock2q_handles.specs.Positions.{GapValue}
+use Rattle.clock2q_directory.specs.declared.history.Found.{Found}
+use Rattle.clock2q_directory.specs.Index.{IsGapFor}
+use Rattle.clock2q_directory.specs.History.{place_of, found_place, found_gap}
 use Rattle.clock2q_directory.specs.Keys.{IsValueFor}
 use Rattle.clock2q_machine.specs.Machine.{Machine, Placement, vacancy, into_main, into_small, slot_of, stored}
 use Rattle.clock2q_machine.specs.Whole.{known_count}
@@ -54,6 +58,11 @@ module _ {K V : Type 0} where
   abbrev pub leaves_placed : Bool → Machine K V → Option (K × ℕ)
   leaves_placed main m = if main then leaves_for_main m else leaves_for_small (vacancy m) (last_or None m.small) m.main
 
+-- what a lookup of a key with this hash found, unless it is resident: its place in the history, or the gap for it
+pub record IsFoundFor {K V S : Type 0} (eq : K → K → Bool) (found : Found) (k : K) (x : ℕ) (c : CacheState K V S) : Type 0 where
+  pub place : found_place found ≡ place_of (eq k) c.machine.history c.known.taken
+  pub gap : IsGapFor (found_gap found) x c.known.index
+
 module _ {F K R : Type 0} (g : Once F (Bor K × Unit {0}) R) (f : F) where
   -- the closure was called with the key that left this slot, and returned the note; without a note none left
   pub record Notes (leaver : Option (K × ℕ)) (slot : ℕ) (note : Option R) : Type 0 where
@@ -65,10 +74,11 @@ module _ {K V S H : Type 0} (key : HashMembers K) (build : builder.Ghosts S H) (
     pub hashed : x ≡ hash_in key build hash c k
     pub absent : slot_of (key.eq k) c.machine ≡ None
 
-  -- a key that is neither resident nor in the history, with its hash
-  pub record IsUnknown (k : K) (x : ℕ) (c : CacheState K V S) : Type 0 where
+  -- a key that is neither resident nor in the history, with its hash and the gap for it, if a lookup found that
+  pub record IsUnknown (k : K) (x : ℕ) (gap : Option GapValue) (c : CacheState K V S) : Type 0 where
     pub hashed : x ≡ hash_in key build hash c k
     pub absent : known_count (key.eq k) c.machine ≡ 0
+    pub at : IsGapFor gap x c.known.index
 
   -- a key was placed with its value, while another left for the history, if it did; the hand made `looks` inspections,
   -- and at most `links` more links were accessed

@@ -33,9 +33,9 @@ module _ {K V : Type 0} where
     vacated_for None slot m p = left_by hash (resident_at m slot) slot p
     vacated_for (Some key) slot m p = remembering key slot m p
 
-    -- a key is at a slot that another one vacated, or that was free
+    -- a key is at a slot that another one vacated, or that was free, at the cost that it had before that
     abbrev pub entered : K → ℕ → Option K → Machine K V → Places → Places
-    entered key slot out m p = let q = vacated_for out slot m p in record q { index = known.entered (hash key) slot q.index }
+    entered key slot out m p = let q = vacated_for out slot m p in record q { index = known.entered_from p.index (hash key) slot q.index }
 
 module _ {K : Type 0} where
   -- the key of Small's tail, if the tail is evicted

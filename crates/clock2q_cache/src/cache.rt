@@ -88,8 +88,8 @@ impl<K: Hash + Eq, V, S: BuildHasher, A: Allocator> Cache<K, V, S, A> {
     ghost use Rattle.std.specs.Borrow.{sem};
     ghost use Rattle.clock2q_machine.specs.Whole.{IsWhole};
     ghost use Rattle.clock2q_handles.specs.Homes.{candidates};
-    ghost use Rattle.clock2q_directory.specs.History.{found_slot, found_place, place_of};
-    ghost use Rattle.clock2q_directory.specs.Index.{IsWithinCapacity};
+    ghost use Rattle.clock2q_directory.specs.History.{found_slot, found_place, found_gap, place_of};
+    ghost use Rattle.clock2q_directory.specs.Index.{IsGapFor, IsWithinCapacity};
     ghost use Rattle.clock2q_cache.specs.CacheState.{residents_in, remembered_in};
     ghost use Rattle.clock2q_machine.specs.Calls.{Get, GetAt};
     ghost use Rattle.clock2q_cache.specs.CacheLends.{LeavesMachine, LendsHit, LendsSlot};
@@ -307,6 +307,7 @@ impl<K: Hash + Eq, V, S: BuildHasher, A: Allocator> Cache<K, V, S, A> {
         ensures place { found_slot result ≡ None →
             found_place result ≡
             place_of (K.eq key.now) self.old.machine.history self.old.known.taken }
+        ensures gap { IsGapFor (found_gap result) hash self.old.known.index }
         ensures machine { self.new.machine ≡ self.old.machine }
         ensures whole { IsWhole K.eq self.old.machine }
         ensures hasher { self.new.hasher ≡ self.old.hasher }
@@ -429,7 +430,7 @@ impl<K: Hash + Eq + Drop, V: Drop, S: BuildHasher, A: Allocator> Cache<K, V, S, 
         let hash = self.hash(&key);
         let found = self.lookup(hash, &key);
         let Found::Resident(slot) = found else {
-            self.insert(hash, key, value, found.place());
+            self.insert(hash, key, value, found);
             return None;
         };
         self.record_rare_hit(slot, &key);

@@ -1,5 +1,5 @@
 -- An empty index: a new one, or one that was cleared.
-use Rattle.std.proofs.Common.{◌≡◌, ℕ, zero, suc, ◌+◌, ◌^◌, ◌<◌, ◌≤◌, ◌⊎◌, ◌==◌, true, false, List, [], ◌∷◌, length, inl, inr, refl, sym, ap, ◌∙◌, arith}
+use Rattle.std.proofs.Common.{◌≡◌, ℕ, zero, suc, ◌+◌, ◌^◌, ◌<◌, ◌≤◌, ◌⊎◌, max, ◌==◌, true, false, List, [], ◌∷◌, length, inl, inr, refl, sym, ap, ◌∙◌, arith}
 use Rattle.std.specs.Prelude.{if◌then◌else◌}
 use Rattle.std.proofs.lemmas.Bool.{both_ways, cases_Bool, eqb-true}
 use Rattle.std.proofs.lemmas.Bool.Decides.{leb_tells}
@@ -35,8 +35,8 @@ made-none : (n : ℕ) → (m : ℕ) × (made_for {H = ℕ} n ≡ no_entries m)
 made-none zero = (0, refl)
 made-none (suc k) = (fit (suc k), refl)
 
-room_enough : (n : ℕ) → n ≤ index_room n
-room_enough n = elim (leb_tells n small_table) [
+room_enough : (n : ℕ) → 0 < n → n < index_room n
+room_enough n some = elim (leb_tells n small_table) [
   | inl q ↦ rw q.0 (omega arith)
   | inr q ↦ elim (leb_tells n middle_table) [
     | inl r ↦ rw (q.0, r.0) (omega arith)
@@ -44,13 +44,13 @@ room_enough n = elim (leb_tells n small_table) [
   ]
 ]
 
-made_enough : (n : ℕ) → n ≤ capacity (length (made_for {H = ℕ} (index_room n)))
-made_enough n = omega (arith, room_enough n, fits_new (index_room n))
+made_enough : (n : ℕ) → 0 < n → n < capacity (length (made_for {H = ℕ} (index_room n)))
+made_enough n some = omega (arith, room_enough n some, fits_new (index_room n))
 
--- room for as many as the index was made for
+-- room for as many as the index was made for, and for one more if they share a table
 pub record IsFor (s p : ℕ) (v : IndexState) : Type 0 where
-  pub slots : s + (if is_shared v then p else 0) ≤ capacity (length (slots v))
-  pub few : s + (if is_shared v then p else 0) < 2 ^ 24
+  pub slots : s + (if is_shared v then p + 1 else 0) ≤ capacity (length (slots v))
+  pub few : s + (if is_shared v then p + 1 else 0) < 2 ^ 24
   pub own : is_shared v ≡ false → p ≤ capacity (length (places v))
   pub some : (0 < length (places v)) ⊎ (p ≡ 0)
 
@@ -64,7 +64,7 @@ module _ (s p : ℕ) (least : 0 < s) (slots_few : s < 2 ^ 24) (places_few : p < 
     | inl q ↦ let t = made-none (index_room (s + p)) in (t.0, 0, rw (q.0, t.1) refl)
     | inr q ↦
         let t = made-none (index_room s) in
-        let u = made-none (index_room p) in
+        let u = made-none (index_room (max p 1)) in
         (t.0, u.0, rw (q.0, t.1, u.1) refl)
   ]
 
@@ -72,7 +72,7 @@ module _ (s p : ℕ) (least : 0 < s) (slots_few : s < 2 ^ 24) (places_few : p < 
   for-new = elim (leb_tells (s + p) most_entries) [
     | inl q ↦
         let t = made-none (index_room (s + p)) in
-        let enough = made_enough (s + p) in
+        let enough = made_enough (s + p) (omega (arith, least)) in
         let n = ap (λ (z : List (List (ℕ × ℕ))). length z) t.1 in
         let l = as_many t.0 in
         let k = ap (λ (z : List (List (ℕ × ℕ))). length z) (places_in-none t.0) in
@@ -84,9 +84,9 @@ module _ (s p : ℕ) (least : 0 < s) (slots_few : s < 2 ^ 24) (places_few : p < 
         })
     | inr q ↦
         let t = made-none (index_room s) in
-        let u = made-none (index_room p) in
-        let enough = made_enough s in
-        let own_enough = made_enough p in
+        let u = made-none (index_room (max p 1)) in
+        let enough = made_enough s least in
+        let own_enough = made_enough (max p 1) (omega arith) in
         let n = ap (λ (z : List (List (ℕ × ℕ))). length z) t.1 in
         let k = ap (λ (z : List (List (ℕ × ℕ))). length z) u.1 in
         let l = as_many t.0 in

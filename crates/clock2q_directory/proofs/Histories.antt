@@ -1,5 +1,5 @@
 -- A new history, one that was cleared, and what callers see of one.
-use Rattle.std.proofs.Common.{◌≡◌, ℕ, ◌^◌, ◌<◌, ◌≤◌, Bool, true, false, List, [], length, refl, sym, ap, ◌∙◌, subst, arith}
+use Rattle.std.proofs.Common.{◌≡◌, ℕ, ◌+◌, ◌^◌, ◌<◌, ◌≤◌, Bool, true, false, List, [], length, refl, sym, ap, ◌∙◌, subst, arith}
 use Rattle.std.specs.Prelude.{if◌then◌else◌}
 use Rattle.clock2q_handles.specs.Homes.{total}
 use Rattle.clock2q_directory.specs.declared.keys.store.Entry.{Entry}
@@ -7,11 +7,16 @@ use Rattle.clock2q_queues.specs.Order.{PlaceOrder, IsWholeOrder, unused, used}
 use Rattle.clock2q_directory.specs.Keys.{KeyPlaces, entries_of}
 use Rattle.clock2q_directory.specs.Indexes.{IsIndex, AllDistinct}
 use Rattle.clock2q_directory.specs.Index as known
-use Rattle.clock2q_directory.specs.Index.{IndexState, emptied, index_for, is_shared, HasSlotRoom}
+use Rattle.clock2q_directory.specs.Index.{IndexState, beside, emptied, index_for, is_shared, HasSlotRoom, HasRoomBeside}
+use Rattle.clock2q_directory.specs.Directory.{IsWithinRoom}
 use Rattle.clock2q_directory.specs.History.{Places, Remembered, HasRoom, IsHistory, IsWholeHistory, remembered, places_from, accesses_of}
 use Rattle.clock2q_queues.proofs.Rings.{AllBelow-left}
 use Rattle.clock2q_directory.proofs.Entries.{length-entries}
 use Rattle.clock2q_directory.proofs.Emptied.{for-new, new-none, emptied-places, cleared_like}
+
+beside_most : (b : Bool) (n limit : ℕ) → n ≤ limit → (if b then n else 0) ≤ (if b then limit + 1 else 0)
+beside_most true n limit l = omega (arith, l)
+beside_most false n limit l = omega arith
 
 module _ {K V : Type 0} (eq : K → K → Bool) where
   pub IsHistory-new : (residents limit : ℕ) (keys : KeyPlaces K V) → 0 < residents → residents < 2 ^ 24 → limit < 2 ^ 24 → IsWholeOrder (unused limit)
@@ -54,10 +59,23 @@ module _ {K V : Type 0} (eq : K → K → Bool) where
       let r : HasRoom (remembered (entries_of keys.entries order.places) order.limit (places_from index order) (accesses_of order keys) keys.comparisons) = subst (λ z. HasRoom z) (sym is) room in
       let most = beside_most (is_shared index) (total (known.places index)) order.limit (omega (arith, i.indexed.counted, i.whole.within)) in
       record { room = omega (arith, r.room, most); few = omega (arith, r.few, most) }
-    where
-      beside_most : (b : Bool) (n limit : ℕ) → n ≤ limit → (if b then n else 0) ≤ (if b then limit else 0)
-      beside_most true n limit l = l
-      beside_most false n limit l = omega arith
+
+  -- so no run is too long
+  pub few-entries : (index : IndexState) (order : PlaceOrder) (keys : KeyPlaces K V) (h : Remembered K) → IsHistory eq index order keys
+      → remembered (entries_of keys.entries order.places) order.limit (places_from index order) (accesses_of order keys) keys.comparisons ≡ h → IsWithinRoom h
+      → total (known.slots index) + beside index < 2 ^ 24
+  few-entries index order keys h i is room =
+      let r : IsWithinRoom (remembered (entries_of keys.entries order.places) order.limit (places_from index order) (accesses_of order keys) keys.comparisons) = subst (λ z. IsWithinRoom z) (sym is) room in
+      omega (arith, r.few, beside_most (is_shared index) (total (known.places index)) order.limit (omega (arith, i.indexed.counted, i.whole.within)))
+
+  -- and one entry more fits if they share a table
+  pub beside-room : (index : IndexState) (order : PlaceOrder) (keys : KeyPlaces K V) (h : Remembered K) → IsHistory eq index order keys
+      → remembered (entries_of keys.entries order.places) order.limit (places_from index order) (accesses_of order keys) keys.comparisons ≡ h → IsWithinRoom h → HasRoomBeside index
+  beside-room index order keys h i is room =
+      let r : IsWithinRoom (remembered (entries_of keys.entries order.places) order.limit (places_from index order) (accesses_of order keys) keys.comparisons) = subst (λ z. IsWithinRoom z) (sym is) room in
+      let spare : is_shared index ≡ true → (if is_shared index then total (known.places index) else 0) < (if is_shared index then order.limit + 1 else 0) = (λ shared.
+      omega (arith, i.indexed.counted, i.whole.within, ap (λ b. if b then total (known.places index) else 0) shared, ap (λ b. if b then order.limit + 1 else 0) shared)) in
+      record { room = λ shared. omega (arith, r.room, spare shared); few = λ shared. omega (arith, r.few, spare shared) }
 
   pub IsHistory-cleared : (index : IndexState) (order order' : PlaceOrder) (keys keys' : KeyPlaces K V) → IsHistory eq index order keys
       → IsWholeOrder order' → order'.places ≡ [] → order'.free ≡ [] → order'.limit ≡ order.limit

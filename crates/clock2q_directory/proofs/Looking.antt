@@ -1,5 +1,5 @@
 -- What a lookup among residents and remembered keys finds, and how many comparisons it makes.
-use Rattle.std.proofs.Common.{◌≡◌, ℕ, ◌+◌, ◌-◌, ◌<◌, ◌≤◌, Bool, true, false, ltb, Some, None, slice_get, List, [], ◌∷◌, drop, length, map, inl, inr, refl, sym, ap, ◌∙◌, subst, arith}
+use Rattle.std.proofs.Common.{◌≡◌, ℕ, ◌+◌, ◌-◌, ◌<◌, ◌≤◌, Bool, true, false, ltb, Option, Some, None, slice_get, List, [], ◌∷◌, drop, length, map, inl, inr, refl, sym, ap, ◌∙◌, subst, arith}
 use Rattle.std.specs.Prelude.{IfSome}
 use Rattle.std.specs.List.{find, AllByRecursion}
 use Rattle.std.specs.Cmp.{IsEquivalence}
@@ -7,12 +7,13 @@ use Rattle.std.proofs.lemmas.Bool.{cases_Bool, lt-ltb, le-ltb, ltb-true, ltb-fal
 use Rattle.clock2q_directory.specs.declared.handle.Handle.{Handle}
 use Rattle.clock2q_directory.specs.declared.history.Found.{Found}
 use Rattle.clock2q_handles.specs.Homes.{candidates}
+use Rattle.clock2q_handles.specs.Positions.{GapValue, gap_of}
 use Rattle.clock2q_directory.specs.Index as known
-use Rattle.clock2q_directory.specs.Index.{IndexState, first_remembered, unpacked, is_shared, slots_among, places_among}
+use Rattle.clock2q_directory.specs.Index.{IndexState, IsGapFor, first_remembered, unpacked, is_shared, slots_among, places_among}
 use Rattle.clock2q_queues.specs.Order.{PlaceOrder}
 use Rattle.clock2q_directory.specs.Keys.{KeyPlaces, entries_of, is_key_at}
 use Rattle.clock2q_directory.specs.Indexes.{HasHash}
-use Rattle.clock2q_directory.specs.History.{Remembered, IsHistory, remembered, places_from, accesses_of, place_of, found_slot, found_place, first_known}
+use Rattle.clock2q_directory.specs.History.{Remembered, IsHistory, remembered, places_from, accesses_of, place_of, found_slot, found_place, found_gap, first_known}
 use Rattle.clock2q_directory.proofs.Indexes.{candidates_there}
 use Rattle.clock2q_directory.proofs.Lookups.{Asked, begins_with}
 use Rattle.clock2q_directory.proofs.Views.{candidates-slots, candidates-places, candidates-own}
@@ -60,15 +61,36 @@ pub slots-all : (hs : List ℕ) → AllByRecursion (λ h. h < first_remembered) 
 slots-all [] a = refl
 slots-all (h ∷ hs) a = slots-first h hs a.0 ∙ ap (λ zs. h ∷ zs) (slots-all hs a.1)
 
--- the first that is found, of each kind
-pub record IsFirst (resident remembered_key : ℕ → Bool) (hs : List ℕ) (r : Found) : Type 0 where
+-- the first that is found, of each kind, or the gap where the handles end
+pub record IsFirst (resident remembered_key : ℕ → Bool) (end : Option GapValue) (hs : List ℕ) (r : Found) : Type 0 where
   pub slot : IfSome (found_slot r) (λ s. find resident (slots_among hs) ≡ Some s)
   pub place : found_slot r ≡ None → found_place r ≡ find remembered_key (places_among hs)
   pub absent : found_slot r ≡ None → found_place r ≡ None → find resident (slots_among hs) ≡ None
+  pub gap : IfSome (found_gap r) (λ gap. end ≡ Some gap)
 
-module _ (a b : ℕ → Bool) where
-  pub first-known : (hs : List ℕ) → IsFirst a b hs (first_known a b hs)
-  first-known [] = record { slot = tt; place = λ _. refl; absent = λ _ _. refl }
+some_itself : (end : Option GapValue) → IfSome end (λ gap. end ≡ Some gap)
+some_itself None = tt
+some_itself (Some gap) = refl
+
+-- the gap that a lookup found in a table of slots and places, and none
+pub shared-gap : (hash : ℕ) (v : IndexState) (o : Option GapValue) → IfSome o (λ g. g ≡ gap_of v.shared hash) → is_shared v ≡ true → IsGapFor o hash v
+shared-gap hash v None is p = tt
+shared-gap hash v (Some g) is p = (is, p)
+
+pub no-gap : (hash : ℕ) (v : IndexState) (o : Option GapValue) → o ≡ None → IsGapFor o hash v
+no-gap hash v o none = rw none tt
+
+pub some-not : {X : Type 0} {x : X} → Some x ≡ None → ⊥
+some-not e = absurd (cc)
+
+-- a gap that is the end is the one that the end is
+pub some-same : (o : Option GapValue) {end : Option GapValue} {gap : GapValue} → end ≡ Some gap → IfSome o (λ g. end ≡ Some g) → IfSome o (λ g. g ≡ gap)
+some-same None is same = tt
+some-same (Some g) is same = cc
+
+module _ (a b : ℕ → Bool) (end : Option GapValue) where
+  pub first-known : (hs : List ℕ) → IsFirst a b end hs (first_known a b end hs)
+  first-known [] = record { slot = tt; place = λ _. refl; absent = λ _ _. refl; gap = some_itself end }
   first-known (h ∷ hs) =
       let r = first-known hs in
       elim (cases_Bool (ltb h first_remembered)) [
@@ -78,12 +100,12 @@ module _ (a b : ℕ → Bool) where
             let places_are = places-passed h hs below in
             elim (cases_Bool (a h)) [
               | inl q ↦
-                  let is : first_known a b (h ∷ hs) ≡ Found.Resident h = rw (l, q) refl in
-                  rw is (record { slot = ap (λ z. find a z) slots_are ∙ rw q refl; place = λ n. absurd (cc); absent = λ n. absurd (cc) })
+                  let is : first_known a b end (h ∷ hs) ≡ Found.Resident h = rw (l, q) refl in
+                  rw is (record { slot = ap (λ z. find a z) slots_are ∙ rw q refl; place = λ n. absurd (cc); absent = λ n. absurd (cc); gap = tt })
               | inr q ↦
-                  let is : first_known a b (h ∷ hs) ≡ first_known a b hs = rw (l, q) refl in
+                  let is : first_known a b end (h ∷ hs) ≡ first_known a b end hs = rw (l, q) refl in
                   let same : find a (slots_among (h ∷ hs)) ≡ find a (slots_among hs) = ap (λ z. find a z) slots_are ∙ rw q refl in
-                  rw is (record { slot = rw same r.slot; place = λ n. r.place n ∙ ap (λ z. find b z) (sym places_are); absent = λ n m. same ∙ r.absent n m })
+                  rw is (record { slot = rw same r.slot; place = λ n. r.place n ∙ ap (λ z. find b z) (sym places_are); absent = λ n m. same ∙ r.absent n m; gap = r.gap })
             ]
         | inr l ↦
             let past = ltb-false h first_remembered l in
@@ -91,18 +113,18 @@ module _ (a b : ℕ → Bool) where
             let places_are = places-first h hs past in
             elim (cases_Bool (b (h - first_remembered))) [
               | inl q ↦
-                  let is : first_known a b (h ∷ hs) ≡ Found.Remembered (h - first_remembered) = rw (l, q) refl in
-                  rw is (record { slot = tt; place = λ n. sym (ap (λ z. find b z) places_are ∙ rw q refl); absent = λ n m. absurd (cc) })
+                  let is : first_known a b end (h ∷ hs) ≡ Found.Remembered (h - first_remembered) = rw (l, q) refl in
+                  rw is (record { slot = tt; place = λ n. sym (ap (λ z. find b z) places_are ∙ rw q refl); absent = λ n m. absurd (cc); gap = tt })
               | inr q ↦
-                  let is : first_known a b (h ∷ hs) ≡ first_known a b hs = rw (l, q) refl in
+                  let is : first_known a b end (h ∷ hs) ≡ first_known a b end hs = rw (l, q) refl in
                   let same : find b (places_among (h ∷ hs)) ≡ find b (places_among hs) = ap (λ z. find b z) places_are ∙ rw q refl in
-                  rw is (record { slot = rw (ap (λ z. find a z) slots_are) r.slot; place = λ n. r.place n ∙ sym same; absent = λ n m. ap (λ z. find a z) slots_are ∙ r.absent n m })
+                  rw is (record { slot = rw (ap (λ z. find a z) slots_are) r.slot; place = λ n. r.place n ∙ sym same; absent = λ n m. ap (λ z. find a z) slots_are ∙ r.absent n m; gap = r.gap })
             ]
       ]
 
   -- none of the handles so far has the key, and no more were compared than there are
   pub record LooksOn (all left : List ℕ) (slot_bound place_bound asked asked_now comparisons comparisons_now : ℕ) : Type 0 where
-    pub first : first_known a b all ≡ first_known a b left
+    pub first : first_known a b end all ≡ first_known a b end left
     pub slots : AllByRecursion (λ s. s < slot_bound) (slots_among left)
     pub places : AllByRecursion (λ p. p < place_bound) (places_among left)
     pub asked_from : asked ≤ asked_now
@@ -122,7 +144,7 @@ module _ (a b : ℕ → Bool) where
       pub resident-there : s < n
       resident-there = (subst (λ z. AllByRecursion (λ s. s < n) z) slots_are on.slots).0
 
-      pub resident-found : true ≡ a s → (Found.Resident s ≡ first_known a b all) × (p' + 1 ≤ p + length (slots_among all)) × (q' ≤ q + length (places_among all))
+      pub resident-found : true ≡ a s → (Found.Resident s ≡ first_known a b end all) × (p' + 1 ≤ p + length (slots_among all)) × (q' ≤ q + length (places_among all))
       resident-found it = let q = says-slot says in (
         sym (on.first ∙ rw (lt-ltb h first_remembered q.1, q.0, sym it) refl),
         omega (arith, on.asked_most, ap (λ (z : List ℕ). length z) slots_are),
@@ -136,7 +158,7 @@ module _ (a b : ℕ → Bool) where
       pub place-there : t < m
       place-there = (subst (λ z. AllByRecursion (λ s. s < m) z) places_still on.places).0
 
-      pub place-found : true ≡ b t → (Found.Remembered t ≡ first_known a b all) × (p' ≤ p + length (slots_among all)) × (q' + 1 ≤ q + length (places_among all))
+      pub place-found : true ≡ b t → (Found.Remembered t ≡ first_known a b end all) × (p' ≤ p + length (slots_among all)) × (q' + 1 ≤ q + length (places_among all))
       place-found it = let q = says-place says in (
         sym (on.first ∙ rw (le-ltb h first_remembered q.1, q.0, sym it) refl),
         omega (arith, on.asked_most),

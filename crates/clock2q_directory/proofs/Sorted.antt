@@ -1,15 +1,16 @@
 -- What holds of every index, and what its calls rely on.
-use Rattle.std.proofs.Common.{◌≡◌, ℕ, zero, suc, ◌+◌, ◌-◌, ◌^◌, ◌<◌, true, false, ◌&&◌, ◌==◌, if◌then◌else◌, eqb, ltb, List, [], ◌∷◌, length, inl, inr, refl, sym, ap, ◌∙◌, subst, arith, eq-eqb, ne_eqb, eqb-true}
+use Rattle.std.proofs.Common.{◌≡◌, ℕ, zero, suc, ◌+◌, ◌-◌, ◌^◌, ◌<◌, true, false, ◌&&◌, ◌==◌, if◌then◌else◌, eqb, ltb, leb, List, [], ◌∷◌, length, Option, Some, None, IfSome, IsSome, inl, inr, refl, sym, ap, ◌∙◌, subst, arith, eq-eqb, ne_eqb, eqb-true}
 use Rattle.std.specs.List.{list_any}
 use Rattle.std.proofs.lemmas.Bool.{both_ways, cases_Bool}
 use Rattle.std.proofs.lemmas.List.{length-map, length-replicate}
 use Rattle.std.proofs.lemmas.List.Sums.{sum_by-cons}
 use Rattle.clock2q_handles.specs.Homes.{top, listed, no_entries, capacity, total, candidates, with_handle, removed, is_entry_of}
-use Rattle.clock2q_handles.specs.TableStep.{made_for}
+use Rattle.clock2q_handles.specs.Positions.{GapValue, gap_of}
+use Rattle.clock2q_handles.specs.TableStep.{made_for, HasSpare}
 use Rattle.clock2q_handles.proofs.FewerEntries.{total-no_entries}
 use Rattle.clock2q_queues.specs.Rings.{has}
-use Rattle.clock2q_directory.specs.Index.{IndexState, index_state, IsSorted, HasSlotRoom, HasPlaceRoom, first_remembered, is_shared, slots, places, beside, slot_entries, place_entries, slots_in, places_in}
-use Rattle.clock2q_directory.proofs.Indexes.{any-candidate, length-put, fits_new, total_new}
+use Rattle.clock2q_directory.specs.Index.{IndexState, index_state, IsSorted, HasSlotRoom, HasPlaceRoom, HasRoomBeside, IsGapFor, first_remembered, small_table, middle_table, index_room, is_shared, slots, places, beside, slot_entries, place_entries, slots_in, places_in}
+use Rattle.clock2q_directory.proofs.Indexes.{any-candidate, length-put, length-taken, fits_new, total_new}
 use Rattle.clock2q_directory.proofs.Views.{place_of, listed-view, others-entered, others-left}
 
 -- The number of entries
@@ -56,6 +57,14 @@ slot_fits v s r = omega (arith, total-both v s, r.room, ap capacity (length-map 
 pub slot_is_few : (v : IndexState) → IsSorted v → HasSlotRoom v → total v.shared + 1 < 2 ^ 24
 slot_is_few v s r = omega (arith, total-both v s, r.few)
 
+-- the entries of the table of the slots are few enough for no run to be too long
+pub shared-few : (v : IndexState) → IsSorted v → total (slots v) + beside v < 2 ^ 24 → total v.shared < 2 ^ 24
+shared-few v s few = omega (arith, total-both v s, few)
+
+-- one entry more fits beside the others
+pub spare-there : (v : IndexState) → IsSorted v → HasRoomBeside v → is_shared v ≡ true → HasSpare v.shared
+spare-there v s r shared = record { room = omega (arith, total-both v s, r.room shared, ap capacity (length-map v.shared slot_entries)); few = omega (arith, total-both v s, r.few shared) }
+
 pub place_fits : (v : IndexState) → is_shared v ≡ false → HasPlaceRoom v → total v.own < capacity (length v.own)
 place_fits v h r = subst (λ b. total (if b then places_in v.shared else v.own) < capacity (length (if b then places_in v.shared else v.own))) h (r.room h)
 
@@ -87,32 +96,49 @@ held_own v x p h held =
     let is : places v ≡ v.own = ap (λ b. if b then places_in v.shared else v.own) h in
     any-candidate x p (listed v.own x) ∙ subst (λ z. has p (candidates z x) ≡ true) is held
 
+-- a gap that a lookup found, without where it is
+pub only-gap : (hash : ℕ) (v : IndexState) (o : Option GapValue) → IsGapFor o hash v → IfSome o (λ g. g ≡ gap_of v.shared hash)
+only-gap hash v None gap = tt
+only-gap hash v (Some g) gap = gap.0
+
+pub gap-shared : (hash : ℕ) (v : IndexState) (o : Option GapValue) → IsGapFor o hash v → IsSome o → is_shared v ≡ true
+gap-shared hash v None gap some = absurd (cc)
+gap-shared hash v (Some g) gap some = gap.1
+
 -- What holds of every index
 
-sorted : (v w : IndexState) → IsSorted v → length w.own ≡ length v.own → (is_shared v ≡ false → places_in w.shared ≡ places_in v.shared) → IsSorted w
-sorted v w s own others =
+sorted : (v w : IndexState) → IsSorted v → length w.shared ≡ length v.shared → length w.own ≡ length v.own → (is_shared v ≡ false → places_in w.shared ≡ places_in v.shared) → IsSorted w
+sorted v w s shared own others =
     let before = (λ (h : is_shared w ≡ false). sym (ap (λ n. n == 0) own) ∙ h) in
     record {
+      some = omega (arith, s.some, shared);
       apart = λ h. ap (λ (z : List (List (ℕ × ℕ))). total z) (others (before h)) ∙ s.apart (before h);
       takes = λ h. subst (λ n. 0 < capacity n) (sym own) (s.takes (before h));
     }
 
 pub sorted-entered : (v : IndexState) (homes : List (List (ℕ × ℕ))) (x s : ℕ) → s < first_remembered → IsSorted v → homes ≡ with_handle v.shared x s → IsSorted (index_state homes v.own)
-sorted-entered v homes x s below sorts is = sorted v (index_state homes v.own) sorts refl (λ _. ap (λ z. places_in z) is ∙ others-entered v.shared x s below)
+sorted-entered v homes x s below sorts is =
+    sorted v (index_state homes v.own) sorts (ap (λ (z : List (List (ℕ × ℕ))). length z) is ∙ length-put v.shared x s) refl (λ _. ap (λ z. places_in z) is ∙ others-entered v.shared x s below)
 
 pub sorted-left : (v : IndexState) (homes : List (List (ℕ × ℕ))) (x s : ℕ) → s < first_remembered → IsSorted v → homes ≡ removed eqb v.shared x s → IsSorted (index_state homes v.own)
-sorted-left v homes x s below sorts is = sorted v (index_state homes v.own) sorts refl (λ _. ap (λ z. places_in z) is ∙ others-left v.shared x s below)
+sorted-left v homes x s below sorts is =
+    sorted v (index_state homes v.own) sorts (ap (λ (z : List (List (ℕ × ℕ))). length z) is ∙ length-taken v.shared x s) refl (λ _. ap (λ z. places_in z) is ∙ others-left v.shared x s below)
 
 pub sorted-remembered : (v : IndexState) (homes own : List (List (ℕ × ℕ))) (x s p : ℕ) → s < first_remembered → IsSorted v
     → homes ≡ removed eqb v.shared x s → own ≡ with_handle v.own x p → IsSorted (index_state homes own)
 sorted-remembered v homes own x s p below sorts is own_is =
-    sorted v (index_state homes own) sorts (ap (λ (z : List (List (ℕ × ℕ))). length z) own_is ∙ length-put v.own x p) (λ _. ap (λ z. places_in z) is ∙ others-left v.shared x s below)
+    sorted v (index_state homes own) sorts (ap (λ (z : List (List (ℕ × ℕ))). length z) is ∙ length-taken v.shared x s) (ap (λ (z : List (List (ℕ × ℕ))). length z) own_is ∙ length-put v.own x p)
+    (λ _. ap (λ z. places_in z) is ∙ others-left v.shared x s below)
 
-pub sorted-cleared : (v : IndexState) (m : ℕ) → IsSorted v → IsSorted (index_state (no_entries m) (no_entries (length v.own)))
-sorted-cleared v m s =
+pub sorted-own : (v : IndexState) (own : List (List (ℕ × ℕ))) → length own ≡ length v.own → IsSorted v → IsSorted (index_state v.shared own)
+sorted-own v own same sorts = sorted v (index_state v.shared own) sorts refl same (λ _. refl)
+
+pub sorted-cleared : (v : IndexState) → IsSorted v → IsSorted (index_state (no_entries (length v.shared)) (no_entries (length v.own)))
+sorted-cleared v s =
     let same : length (no_entries {E = ℕ × ℕ} (length v.own)) ≡ length v.own = length-replicate {A = List (ℕ × ℕ)} (length v.own) [] in
     record {
-      apart = λ _. none-parted (no_entries m) (total-no_entries (λ (h : ℕ). h) m);
+      some = omega (arith, s.some, length-replicate {A = List (ℕ × ℕ)} (length v.shared) []);
+      apart = λ _. none-parted (no_entries (length v.shared)) (total-no_entries (λ (h : ℕ). h) (length v.shared));
       takes = λ h. subst (λ n. 0 < capacity n) (sym same) (s.takes (sym (ap (λ n. n == 0) same) ∙ h));
     }
 
@@ -120,8 +146,23 @@ made_takes : (m : ℕ) → (length (made_for {H = ℕ} m) == 0) ≡ false → 0 
 made_takes zero h = absurd (both_ways true h refl)
 made_takes (suc m) h = omega (arith, fits_new (suc m))
 
-pub sorted-made : (n m : ℕ) → IsSorted (index_state (made_for n) (made_for m))
-sorted-made n m = record {
+-- a table that is made for some entries has slots
+made_some : (n : ℕ) → 0 < n → 0 < length (made_for {H = ℕ} n)
+made_some n some = omega (arith, fits_new n)
+
+-- where there may be some entries, a table is made for some
+pub room_some : (most : ℕ) → 0 < most → 0 < index_room most
+room_some most some = elim (cases_Bool (leb most small_table)) [
+  | inl h ↦ rw h (omega arith)
+  | inr h ↦ elim (cases_Bool (leb most middle_table)) [
+    | inl k ↦ rw (h, k) (omega arith)
+    | inr k ↦ rw (h, k) (omega arith)
+  ]
+]
+
+pub sorted-made : (n m : ℕ) → 0 < n → IsSorted (index_state (made_for n) (made_for m))
+sorted-made n m some = record {
+  some = made_some n some;
   apart = λ _. none-parted (made_for n) (total_new n);
   takes = λ h. made_takes m h;
 }

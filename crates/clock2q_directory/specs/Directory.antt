@@ -7,7 +7,7 @@ use Rattle.clock2q_queues.specs.Cells.{Rises}
 use Rattle.clock2q_queues.specs.Rings.{has, AllApart}
 use Rattle.clock2q_directory.specs.Keys.{KeyPlaces, keys_code, key_places, hash_at, key_at}
 use Rattle.clock2q_directory.specs.Indexes.{IsIndex}
-use Rattle.clock2q_directory.specs.Index.{index_for, slots, entered, left}
+use Rattle.clock2q_directory.specs.Index.{index_for, slots, entered_from, left}
 use Rattle.clock2q_directory.specs.History.{Remembered, HasRoom, remembered, remembered_code, places_with, pushed_places, oldest_hash, most_beside}
 use mathlib.Core.Path.{refl}
 
@@ -26,7 +26,7 @@ known_code {K} {V} k v = code_by (Remembered K × KeyPlaces K V) (coded× (remem
 abbrev pub nothing_known : {K V : Type 0} → (residents limit : ℕ) → Known K V
 nothing_known residents limit = known (remembered [] limit (places_with (index_for residents limit) [] []) 0 0) (key_places [] residents 0 0)
 
--- the index has room for the slots that it has, beside the most places that there may be
+-- the index has room for the slots that it has, beside the most entries that there may be
 pub record IsWithinRoom {K : Type 0} (h : Remembered K) : Type 0 where
   pub room : total (slots h.places.index) + most_beside h ≤ capacity (length (slots h.places.index))
   pub few : total (slots h.places.index) + most_beside h < 2 ^ 24
@@ -82,5 +82,5 @@ module _ {K V : Type 0} where
       accesses = new.accesses;
     }
     pub places : new.places ≡ (let p = pushed_places old.history.limit old_hash slot (oldest_hash (λ (e : ℕ × K). e.0) old.history.entries) old.history.places in
-        record p { index = entered hash slot p.index })
+        record p { index = entered_from old.history.places.index hash slot p.index })
     pub accesses : Rises 0 8 old.history.accesses new.accesses

@@ -1,16 +1,17 @@
 -- The history as a list of keys, newest first, and the index that has each key's place under its hash.
-use Rattle.std.specs.Prelude.{◌≡◌, ℕ, ◌+◌, ◌-◌, ◌^◌, ◌⊎◌, max, ◌<◌, ◌≤◌, Bool, false, not, nat_lt, if◌then◌else◌, List, [], ◌∷◌, length, take, drop, Option, Some, None}
+use Rattle.std.specs.Prelude.{◌≡◌, ℕ, ◌+◌, ◌-◌, ◌^◌, ◌⊎◌, max, ◌<◌, ◌≤◌, Bool, false, not, nat_lt, if◌then◌else◌, List, [], ◌∷◌, length, take, drop, Option, Some, None, IfSome, map}
 use Rattle.std.specs.List.{filter, find, zip, last_or}
 use Rattle.std.specs.Option.{option_map}
 use Rattle.std.specs.Coded.{Coded, code_by, coded×, coded_ℕ, coded_list}
-use Rattle.clock2q_handles.specs.Homes.{total, capacity}
+use Rattle.clock2q_handles.specs.Homes.{total, capacity, candidates}
+use Rattle.clock2q_handles.specs.Positions.{GapValue}
 use Rattle.clock2q_queues.specs.Rings.{has, without}
 use Rattle.clock2q_directory.specs.Index as known
-use Rattle.clock2q_directory.specs.Index.{IndexState, index_code, first_remembered, is_shared, left, looked_up, remembered_at, forgotten_at}
+use Rattle.clock2q_directory.specs.Index.{IndexState, index_code, first_remembered, is_shared, entered_from, left, looked_up, remembered_at, forgotten_at}
 use Rattle.clock2q_directory.specs.declared.history.Found.{Found}
 use Rattle.clock2q_queues.specs.Cells.{Rises}
 use Rattle.clock2q_directory.specs.declared.keys.store.Entry.{Entry}
-use Rattle.clock2q_directory.specs.Keys.{KeyPlaces, entries_of}
+use Rattle.clock2q_directory.specs.Keys.{KeyPlaces, entries_of, is_key_at}
 use Rattle.clock2q_directory.specs.Indexes.{IsIndex, AllDistinct, has_key}
 use Rattle.clock2q_queues.specs.Order.{PlaceOrder, IsWholeOrder, used, place_for}
 use mathlib.Core.Path.{refl}
@@ -47,6 +48,15 @@ taking_oldest hash slot oldest (Some place) p = places_with (remembered_at hash 
 abbrev pub pushed_places : (limit hash slot oldest : ℕ) → Places → Places
 pushed_places limit hash slot oldest p = if nat_lt (length p.taken) limit then taking_free hash slot p else taking_oldest hash slot oldest (last_or None p.taken) p
 
+-- a key enters at a slot once its resident has left
+abbrev pub entering_places : (hash slot : ℕ) → Places → Places → Places
+entering_places hash slot before p = record p { index = entered_from before.index hash slot p.index }
+
+-- the oldest key, if one is forgotten, had this place
+abbrev pub forgotten_if : Option ℕ → ℕ → IndexState → IndexState
+forgotten_if None place v = v
+forgotten_if (Some oldest) place v = forgotten_at oldest place v
+
 -- the key at this place is forgotten
 abbrev pub freed_place : ℕ → Option ℕ → Places → Places
 freed_place hash None p = p
@@ -82,22 +92,38 @@ remembered_code {K} k =
 abbrev pub places_from : IndexState → PlaceOrder → Places
 places_from index order = places_with index order.places order.free
 
--- the slot that a lookup finds, and the place
+-- the slot that a lookup finds, and the place, and the gap where a key that is absent would go, if it is known
 abbrev pub found_slot : Found → Option ℕ
 found_slot (Found.Resident slot) = Some slot
 found_slot (Found.Remembered place) = None
-found_slot Found.Absent = None
+found_slot (Found.Absent gap) = None
 
 abbrev pub found_place : Found → Option ℕ
 found_place (Found.Resident slot) = None
 found_place (Found.Remembered place) = Some place
-found_place Found.Absent = None
+found_place (Found.Absent gap) = None
 
--- the most places that there may be in the table of the slots
+abbrev pub found_gap : Found → Option GapValue
+found_gap (Found.Resident slot) = None
+found_gap (Found.Remembered place) = None
+found_gap (Found.Absent gap) = gap
+
+-- a key was searched for among the residents and in the history; both counted their comparisons
+pub record Searches {K V : Type 0} (eq : K → K → Bool) (key : K) (hash : ℕ) (found : Found) (h : Remembered K) (r : KeyPlaces K V) (h' : Remembered K) (r' : KeyPlaces K V) : Type 0 where
+  pub slot : IfSome (found_slot found) (λ slot. find (is_key_at eq key r.entries) (candidates (known.slots h.places.index) hash) ≡ Some slot)
+  pub place : found_slot found ≡ None → found_place found ≡ place_of (eq key) (map (λ e. e.1) h.entries) h.places.taken
+  pub absent : found_slot found ≡ None → found_place found ≡ None → find (is_key_at eq key r.entries) (candidates (known.slots h.places.index) hash) ≡ None
+  pub residents : r' ≡ record r { comparisons = r'.comparisons }
+  pub kept : h' ≡ record h { comparisons = h'.comparisons }
+  pub asked : Rises 0 (length (candidates (known.slots h.places.index) hash)) r.comparisons r'.comparisons
+  pub comparisons : Rises 0 (length (candidates (known.places h.places.index) hash)) h.comparisons h'.comparisons
+
+-- the most entries that there may be beside the slots in their table: the places, and one that enters before another
+-- leaves
 abbrev pub most_beside : {K : Type 0} → Remembered K → ℕ
-most_beside h = if is_shared h.places.index then h.limit else 0
+most_beside h = if is_shared h.places.index then h.limit + 1 else 0
 
--- one more slot fits beside the most places that there may be
+-- one more slot fits beside the most entries that there may be
 pub record HasRoom {K : Type 0} (h : Remembered K) : Type 0 where
   pub room : total (known.slots h.places.index) + most_beside h < capacity (length (known.slots h.places.index))
   pub few : total (known.slots h.places.index) + most_beside h + 1 < 2 ^ 24
@@ -152,10 +178,10 @@ pub record MakesPlace {K V : Type 0} (index index' : IndexState) (order order' :
 abbrev pub accesses_of : {K V : Type 0} → PlaceOrder → KeyPlaces K V → ℕ
 accesses_of order keys = order.accesses + keys.writes
 
--- the first handle that has a key, as a resident or as a remembered key
-module _ (resident remembered_key : ℕ → Bool) where
+-- the first handle that has a key, as a resident or as a remembered key, or else the gap where the handles end
+module _ (resident remembered_key : ℕ → Bool) (end : Option GapValue) where
   abbrev pub first_known : List ℕ → Found
-  first_known [] = Found.Absent
+  first_known [] = Found.Absent end
   first_known (h ∷ handles) =
       if nat_lt h first_remembered then (if resident h then Found.Resident h else first_known handles)
       else (if remembered_key (h - first_remembered) then Found.Remembered (h - first_remembered) else first_known handles)

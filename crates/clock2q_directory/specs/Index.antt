@@ -1,10 +1,10 @@
 -- The index of a cache: where each known key is, under the key's hash.
-use Rattle.std.specs.Prelude.{◌≡◌, ℕ, ◌+◌, ◌-◌, ◌*◌, ◌^◌, ◌<◌, ◌≤◌, nat_eq, nat_lt, nat_le, Bool, false, not, ◌==◌, if◌then◌else◌, List, [], map, length}
+use Rattle.std.specs.Prelude.{◌≡◌, ℕ, ◌+◌, ◌-◌, ◌*◌, ◌^◌, ◌<◌, ◌≤◌, max, nat_eq, nat_lt, nat_le, Bool, true, false, not, ◌==◌, if◌then◌else◌, List, [], map, length, Option, IfSome}
 use Rattle.std.specs.List.{filter}
 use Rattle.std.specs.Coded.{Coded, code_by, coded×, coded_ℕ, coded_list}
 use Rattle.clock2q_handles.specs.Homes.{total, capacity, no_entries, with_handle, removed}
 use Rattle.clock2q_handles.specs.Layout.{walk}
-use Rattle.clock2q_handles.specs.Positions.{handle_replaced}
+use Rattle.clock2q_handles.specs.Positions.{GapValue, gap_of, handle_replaced}
 use Rattle.clock2q_handles.specs.TableStep.{made_for}
 use Rattle.clock2q_directory.specs.declared.handle.Handle.{Handle}
 use Rattle.clock2q_directory.specs.Accesses.{CountedTable, most_changed}
@@ -94,6 +94,10 @@ beside v = if is_shared v then total (places v) else 0
 abbrev pub entered : (hash slot : ℕ) → IndexState → IndexState
 entered hash slot v = record v { shared = with_handle v.shared hash slot; accesses = v.accesses + most_changed v.shared hash }
 
+-- it becomes resident once others have left, at the cost that it has in the index before that
+abbrev pub entered_from : (base : IndexState) → (hash slot : ℕ) → IndexState → IndexState
+entered_from base hash slot v = record v { shared = with_handle v.shared hash slot; accesses = v.accesses + most_changed base.shared hash }
+
 -- the resident at a slot leaves
 abbrev pub left : (hash slot : ℕ) → IndexState → IndexState
 left hash slot v = record v { shared = removed nat_eq v.shared hash slot; accesses = v.accesses + most_changed v.shared hash }
@@ -150,21 +154,23 @@ middle_table = 262144
 -- the number of entries that a table of at most `most` is made for: three times as many if it is small, twice as many
 -- if it is of medium size, and no more if it is large
 abbrev pub index_room : ℕ → ℕ
-index_room most = if nat_le most small_table then 3 * most else (if nat_le most middle_table then 2 * most else most)
+index_room most = if nat_le most small_table then 3 * most else (if nat_le most middle_table then 2 * most else most + 1)
 
--- the most entries with which no run of a table can be too long: fewer than 2^24
+-- the most entries of slots and places that share a table: with one more, no run is too long
 abbrev pub most_entries : ℕ
-most_entries = 16777215
+most_entries = 16777214
 
 -- an empty index for at most `slots` residents and `places` remembered keys: one table has the entries of both, unless
 -- they are too many
 abbrev pub index_for : (slots places : ℕ) → IndexState
 index_for slots places =
     if nat_le (slots + places) most_entries then index_state (made_for (index_room (slots + places))) []
-    else index_state (made_for (index_room slots)) (made_for (index_room places))
+    else index_state (made_for (index_room slots)) (made_for (index_room (max places 1)))
 
--- if the places have a table of their own, it has room for some, and none is among the slots
+-- the table of the slots has slots; if the places have a table of their own, it has room for some places, and no place
+-- is among the slots
 pub record IsSorted (v : IndexState) : Type 0 where
+  pub some : 0 < length v.shared
   pub apart : is_shared v ≡ false → total (places_in v.shared) ≡ 0
   pub takes : is_shared v ≡ false → 0 < capacity (length v.own)
 
@@ -177,3 +183,12 @@ pub record HasSlotRoom (v : IndexState) : Type 0 where
 pub record HasPlaceRoom (v : IndexState) : Type 0 where
   pub room : is_shared v ≡ false → total (places v) < capacity (length (places v))
   pub few : is_shared v ≡ false → total (places v) + 1 < 2 ^ 24
+
+-- the table of the slots and places has room for one entry more, if they share it
+pub record HasRoomBeside (v : IndexState) : Type 0 where
+  pub room : is_shared v ≡ true → total (slots v) + beside v < capacity (length (slots v))
+  pub few : is_shared v ≡ true → total (slots v) + beside v + 1 < 2 ^ 24
+
+-- if a lookup of the hash found a gap, it is this one, and slots and places share a table
+abbrev pub IsGapFor : Option GapValue → ℕ → IndexState → Type 0
+IsGapFor gap hash v = IfSome gap (λ g. (g ≡ gap_of v.shared hash) × (is_shared v ≡ true))

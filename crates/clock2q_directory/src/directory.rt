@@ -6,8 +6,8 @@ ghost use Rattle.clock2q_handles.specs.Homes.{candidates};
 ghost use Rattle.clock2q_queues.specs.Cells.{Rises};
 ghost use Rattle.clock2q_directory.specs.Keys.{hash_at, key_at, value_at, with_value, is_key_at, comparisons_of};
 ghost use Rattle.clock2q_directory.specs.Indexes.{HasHash};
-ghost use Rattle.clock2q_directory.specs.Index.{slots, places, IsWithinCapacity};
-ghost use Rattle.clock2q_directory.specs.History.{IsWholeHistory, place_of, places_looked_up, found_slot, found_place};
+ghost use Rattle.clock2q_directory.specs.Index.{slots, places, IsGapFor, IsWithinCapacity};
+ghost use Rattle.clock2q_directory.specs.History.{IsWholeHistory, place_of, places_looked_up, found_slot, found_place, found_gap};
 ghost use Rattle.clock2q_directory.specs.Directory.{nothing_known};
 ghost use Rattle.clock2q_directory.specs.DirectoryLends.{LendsValueOf};
 
@@ -33,8 +33,8 @@ use std::marker::Model;
 ///
 /// ```
 /// let mut directory: Directory<u64, u64> = Directory::new(rt.alloc(), 1, 2)?;
-/// directory.enter(0, hash_of(1), 1, Some(10));
-/// directory.remember(0, hash_of(2), 2, Some(20));
+/// directory.enter(None, 0, hash_of(1), 1, Some(10));
+/// directory.remember(None, 0, hash_of(2), 2, Some(20));
 /// let place = directory.lookup(hash_of(1), &1).place();
 /// assert!(rt; directory.forget(hash_of(1), &1, place));
 /// assert_eq!(rt; *directory.value(0), 20);
@@ -212,6 +212,7 @@ impl<K: Eq, V, A: Allocator> Directory<K, V, A> {
         ensures absent { found_slot result ≡ None → found_place result ≡ None →
             find (is_key_at K.eq key.now self.old.residents.entries)
             (candidates (slots self.old.history.places.index) hash) ≡ None }
+        ensures gap { IsGapFor (found_gap result) hash self.old.history.places.index }
         ensures residents { self.new.residents ≡
             record self.old.residents { comparisons = self.new.residents.comparisons } }
         ensures kept { self.new.history ≡

@@ -1,45 +1,69 @@
 //! The history of the keys that Small evicted, which the literature calls Ghost.
-ghost use Rattle.std.specs.Prelude.{◌≡◌, ℕ, ◌+◌, ◌^◌, ◌<◌, ◌≤◌, true, false, None, [], ◌∷◌, map, take, length, IfOk, IfSome};
+ghost use Rattle.std.specs.Prelude.{◌≡◌, ℕ, ◌+◌, ◌^◌, ◌<◌, ◌≤◌, true, false, None, [], ◌∷◌, map, take, length, IfOk, IfSome, IfNone, IsSome};
 ghost use Rattle.std.specs.List.{find, AllByRecursion};
 ghost use Rattle.clock2q_handles.specs.Homes.{candidates, removed, no_entries};
 ghost use Rattle.clock2q_handles.specs.Layout.{walk};
+ghost use Rattle.clock2q_handles.specs.Positions.{gap_of};
 ghost use Rattle.clock2q_queues.specs.Cells.{Rises};
 ghost use Rattle.clock2q_queues.specs.Rings.{has};
 ghost use Rattle.clock2q_queues.specs.Order.{IsWholeOrder, used};
 ghost use Rattle.clock2q_directory.specs.Keys.{entry, is_key_at, comparisons_of, written};
 ghost use Rattle.clock2q_directory.specs.Indexes.{IsIndex, HasHash};
 ghost use Rattle.clock2q_directory.specs.Index as known;
-ghost use Rattle.clock2q_directory.specs.Index.{emptied, index_for, is_shared, entered, left, slots_among, places_among, IsWithinCapacity};
-ghost use Rattle.clock2q_directory.specs.History.{IsWholeHistory, MakesPlace, HasRoom, places_with, places_looked_up, pushed_places, freed_place, place_of, oldest_hash, remembered, is_remembered, forgotten, found_slot, found_place, first_known};
+ghost use Rattle.clock2q_directory.specs.Index.{emptied, index_for, is_shared, entered, entered_from, left, slots_among, places_among, IsGapFor, IsWithinCapacity};
+ghost use Rattle.clock2q_directory.specs.History.{IsWholeHistory, MakesPlace, Searches, HasRoom, places_with, places_looked_up, pushed_places, entering_places, forgotten_if, freed_place, place_of, oldest_hash, remembered, is_remembered, forgotten, found_slot, found_place, found_gap, first_known};
+ghost use Rattle.clock2q_directory.specs.Directory.{IsWithinRoom};
 
 use crate::handle::Handle;
 use crate::index::Index;
 use crate::keys::Keys;
 use crate::place::Place;
-use clock2q_handles::Candidates;
+use clock2q_handles::{Candidates, Gap};
 use clock2q_queues::order::Order;
 use std::alloc::{AllocError, Allocator, Global};
 use std::marker::Model;
 
 /// What a lookup of a key finds.
-#[derive(Clone, Copy)]
+#[derive(Drop)]
 pub enum Found {
     /// The slot of a resident.
     Resident(u32),
     /// The place of a remembered key.
     Remembered(Place),
-    /// Neither.
-    Absent,
+    /// Neither; if the index was walked to its end, with the gap where the key would go.
+    Absent(Option<Gap>),
 }
 
 impl Found {
+    /// Returns what a search of the history alone found of a key that is not resident.
+    pub fn from_place(place: Option<Place>) -> Self
+        ensures slot { found_slot result ≡ None }
+        ensures place { found_place result ≡ place }
+        ensures gap { found_gap result ≡ None }
+    {
+        match place {
+            Some(place) => Found::Remembered(place),
+            None => Found::Absent(None),
+        }
+    }
+
     /// Returns the place of a remembered key.
-    pub fn place(self) -> Option<Place>
-        ensures place { result ≡ found_place self }
+    pub fn place(&self) -> Option<Place>
+        ensures place { result ≡ found_place self.now }
     {
         match self {
-            Found::Remembered(place) => Some(place),
-            Found::Resident(_) | Found::Absent => None,
+            Found::Remembered(place) => Some(*place),
+            Found::Resident(_) | Found::Absent(_) => None,
+        }
+    }
+
+    /// Returns the gap where the key would go, if it is absent and the gap is known.
+    pub fn gap(self) -> Option<Gap>
+        ensures gap { result ≡ found_gap self }
+    {
+        match self {
+            Found::Absent(gap) => gap,
+            Found::Resident(_) | Found::Remembered(_) => None,
         }
     }
 }
@@ -54,7 +78,7 @@ impl Found {
 ///
 /// ```
 /// let mut history: History<u64> = History::new(rt.alloc(), 1, 2)?;
-/// history.enter(hash_of(1), 0);
+/// history.enter(None, hash_of(1), 0);
 /// history.remember(hash_of(1), 0, 1);
 /// let place = history.lookup(hash_of(1), &1, &mut residents).place();
 /// assert!(rt; history.forget(hash_of(1), &1, place));
@@ -143,6 +167,7 @@ impl<K: Eq, A: Allocator> History<K, A> {
         ensures absent { found_slot result ≡ None → found_place result ≡ None →
             find (is_key_at K.eq key.now residents.old.entries)
             (candidates (known.slots self.old.places.index) hash) ≡ None }
+        ensures gap { IsGapFor (found_gap result) hash self.old.places.index }
         ensures residents { residents.new ≡
             record residents.old { comparisons = residents.new.comparisons } }
         ensures kept { self.new ≡
@@ -216,29 +241,41 @@ impl<K: Eq, A: Allocator> History<K, A> {
         requires hash { HasHash K.eq hash key.now self.old.entries }
         requires used { AllByRecursion (λ slot. slot < length residents.old.entries)
             (candidates (known.slots self.old.places.index) hash) }
-        ensures slot { IfSome (found_slot result)
-            (λ slot. find (is_key_at K.eq key.now residents.old.entries)
-            (candidates (known.slots self.old.places.index) hash) ≡ Some slot) }
-        ensures place { found_slot result ≡ None →
-            found_place result ≡
-            place_of (K.eq key.now) (map (λ e. e.1) self.old.entries) self.old.places.taken }
-        ensures absent { found_slot result ≡ None → found_place result ≡ None →
-            find (is_key_at K.eq key.now residents.old.entries)
-            (candidates (known.slots self.old.places.index) hash) ≡ None }
-        ensures residents { residents.new ≡
-            record residents.old { comparisons = residents.new.comparisons } }
-        ensures kept { self.new ≡ record self.old { comparisons = self.new.comparisons } }
-        ensures asked { Rises 0
-            (length (candidates
-            (known.slots self.old.places.index) hash)) residents.old.comparisons residents.new.comparisons }
-        ensures comparisons { Rises 0
-            (length (candidates
-            (known.places self.old.places.index) hash)) self.old.comparisons self.new.comparisons }
+        ensures found { Searches K.eq key.now hash result self.old residents.old self.new residents.new }
+        ensures gap { IsGapFor (found_gap result) hash self.old.places.index }
     {
         if self.index.is_shared() {
-            return look_among(self.index.handles(hash), key, residents, &mut self.keys);
+            return self.search_shared(hash, key, residents);
         }
-        self.lookup_split(hash, key, residents)
+        self.search_split(hash, key, residents)
+    }
+
+    /// Looks a key up as `search` does, if slots and places are in one table.
+    #[inline(always)]
+    fn search_shared<V>(&mut self, hash: u64, key: &K, residents: &mut Keys<K, V, A>) -> Found
+        requires shared { is_shared self.old.places.index ≡ true }
+        requires hash { HasHash K.eq hash key.now self.old.entries }
+        requires used { AllByRecursion (λ slot. slot < length residents.old.entries)
+            (candidates (known.slots self.old.places.index) hash) }
+        ensures found { Searches K.eq key.now hash result self.old residents.old self.new residents.new }
+        ensures gap { IfSome (found_gap result)
+            (λ gap. gap ≡ gap_of self.old.places.index.shared hash) }
+    {
+        look_among(self.index.handles(hash), key, residents, &mut self.keys)
+    }
+
+    /// Looks a key up as `search` does, if the places have a table of their own. It finds no gap.
+    fn search_split<V>(&mut self, hash: u64, key: &K, residents: &mut Keys<K, V, A>) -> Found
+        requires hash { HasHash K.eq hash key.now self.old.entries }
+        requires used { AllByRecursion (λ slot. slot < length residents.old.entries)
+            (candidates (known.slots self.old.places.index) hash) }
+        ensures found { Searches K.eq key.now hash result self.old residents.old self.new residents.new }
+        ensures gap { found_gap result ≡ None }
+    {
+        if let Some(slot) = residents.find(self.index.handles(hash), key) {
+            return Found::Resident(slot);
+        }
+        Found::from_place(self.search_places(hash, key))
     }
 
     /// Returns the place of a remembered key. The index is not charged.
@@ -259,49 +296,35 @@ impl<K: Eq, A: Allocator> History<K, A> {
         Some(Place::new(place))
     }
 
-    /// Looks a key up as `search` does, if the places have a table of their own.
-    fn lookup_split<V>(&mut self, hash: u64, key: &K, residents: &mut Keys<K, V, A>) -> Found
-        requires apart { is_shared self.old.places.index ≡ false }
-        requires hash { HasHash K.eq hash key.now self.old.entries }
-        requires used { AllByRecursion (λ slot. slot < length residents.old.entries)
-            (candidates (known.slots self.old.places.index) hash) }
-        ensures slot { IfSome (found_slot result)
-            (λ slot. find (is_key_at K.eq key.now residents.old.entries)
-            (candidates (known.slots self.old.places.index) hash) ≡ Some slot) }
-        ensures place { found_slot result ≡ None →
-            found_place result ≡
-            place_of (K.eq key.now) (map (λ e. e.1) self.old.entries) self.old.places.taken }
-        ensures absent { found_slot result ≡ None → found_place result ≡ None →
-            find (is_key_at K.eq key.now residents.old.entries)
-            (candidates (known.slots self.old.places.index) hash) ≡ None }
-        ensures residents { residents.new ≡
-            record residents.old { comparisons = residents.new.comparisons } }
-        ensures kept { self.new ≡ record self.old { comparisons = self.new.comparisons } }
-        ensures asked { Rises 0
-            (length (candidates
-            (known.slots self.old.places.index) hash)) residents.old.comparisons residents.new.comparisons }
-        ensures comparisons { Rises 0
-            (length (candidates
-            (known.places self.old.places.index) hash)) self.old.comparisons self.new.comparisons }
-    {
-        if let Some(slot) = residents.find(self.index.handles(hash), key) {
-            return Found::Resident(slot);
-        }
-        let Some(place) = self.search_places(hash, key) else {
-            return Found::Absent;
-        };
-        Found::Remembered(place)
-    }
-
-    /// Adds a slot to the index, for a key that becomes resident.
+    /// Adds a slot to the index, for a key that becomes resident, at the gap for its hash if a lookup
+    /// found that.
     #[inline(always)]
-    pub fn enter(&mut self, hash: u64, slot: u32)
+    pub fn enter(&mut self, gap: Option<Gap>, hash: u64, slot: u32)
         requires below { slot < 2 ^ 31 }
         requires room { HasRoom self.old }
+        requires gap { IsGapFor gap hash self.old.places.index }
         ensures added { self.new ≡
             record self.old { places = record self.old.places { index = entered hash slot self.old.places.index } } }
     {
-        self.index.add_slot(hash, slot);
+        self.index.add_slot(gap, hash, slot);
+    }
+
+    /// Replaces the resident at a slot in the index with a key that becomes resident.
+    #[inline(always)]
+    pub fn renew(&mut self, gap: Option<Gap>, hash: u64, slot: u32, old_hash: u64)
+        requires below { slot < 2 ^ 31 }
+        requires gap { IsGapFor gap hash self.old.places.index }
+        requires room { IsWithinRoom self.old }
+        requires held { has slot (candidates (known.slots self.old.places.index) old_hash) ≡ true }
+        ensures renewed { self.new ≡
+            record self.old {
+              places = record self.old.places {
+                index = entered_from self.old.places.index hash slot
+                    (left old_hash slot self.old.places.index);
+              };
+            } }
+    {
+        self.index.renew(gap, hash, slot, old_hash);
     }
 
     /// Removes a slot from the index, for a resident that leaves.
@@ -317,7 +340,7 @@ impl<K: Eq, A: Allocator> History<K, A> {
 
     /// Adds the key of a resident that leaves its slot, as the newest key. If the history is full,
     /// the oldest key is forgotten and dropped. If the limit is zero, the new key is dropped.
-    pub fn remember(&mut self, hash: u64, slot: u32, key: K)
+    pub fn retire(&mut self, hash: u64, slot: u32, key: K)
     where
         K: Drop,
         requires below { slot < 2 ^ 31 }
@@ -338,8 +361,39 @@ impl<K: Eq, A: Allocator> History<K, A> {
             self.index.remove_slot(hash, slot);
             return;
         }
-        let place = place_key(&mut self.index, &mut self.order, &mut self.keys, hash, key);
+        let (place, oldest) = put_key(&self.index, &mut self.order, &mut self.keys, hash, key);
+        self.index.forget_oldest(oldest, place);
         self.index.remember(hash, slot, place);
+    }
+
+    /// Does what [`retire`](History::retire) does for the key of a resident, while another key, of
+    /// which `new` is the hash, takes its slot in the index.
+    pub fn remember(&mut self, gap: Option<Gap>, new: u64, slot: u32, hash: u64, key: K)
+    where
+        K: Drop,
+        requires below { slot < 2 ^ 31 }
+        requires gap { IsGapFor gap new self.old.places.index }
+        requires room { IsWithinRoom self.old }
+        requires held { has slot (candidates (known.slots self.old.places.index) hash) ≡ true }
+        requires absent { is_remembered K.eq key self.old.entries ≡ false }
+        ensures pushed { self.new ≡
+            record self.old {
+              entries = take self.old.limit ((hash, key) ∷ self.old.entries);
+              places = self.new.places;
+              accesses = self.new.accesses;
+            } }
+        ensures places { self.new.places ≡
+            entering_places new slot self.old.places
+            (pushed_places self.old.limit hash slot
+            (oldest_hash (λ (e : ℕ × K). e.0) self.old.entries) self.old.places) }
+        ensures accesses { Rises 0 8 self.old.accesses self.new.accesses }
+    {
+        if self.order.limit() == 0 {
+            self.index.renew(gap, new, slot, hash);
+            return;
+        }
+        let (place, oldest) = put_key(&self.index, &mut self.order, &mut self.keys, hash, key);
+        self.index.succeed(gap, new, slot, hash, place, oldest);
     }
 
     /// Forgets a key, which is at `place`, and returns true if it was remembered. The history drops
@@ -391,7 +445,8 @@ impl<K: Eq, A: Allocator> History<K, A> {
     }
 }
 
-/// Returns the first of `handles` that has `key`, as a resident or as a remembered key.
+/// Returns the first of `handles` that has `key`, as a resident or as a remembered key, or else the
+/// gap where they end.
 #[inline(always)]
 fn look_among<K: Eq, V, A: Allocator>(
     mut handles: Candidates<'_, u32>,
@@ -399,13 +454,14 @@ fn look_among<K: Eq, V, A: Allocator>(
     residents: &mut Keys<K, V, A>,
     remembered: &mut Keys<K, (), A>,
 ) -> Found
+    requires walking { IsSome handles.end }
     requires slots { AllByRecursion (λ slot. slot < length residents.old.entries)
         (slots_among handles.left) }
     requires places { AllByRecursion (λ place. place < length remembered.old.entries)
         (places_among handles.left) }
     ensures found { result ≡
         first_known (is_key_at K.eq key.now residents.old.entries)
-        (is_key_at K.eq key.now remembered.old.entries) handles.entry.left }
+        (is_key_at K.eq key.now remembered.old.entries) handles.entry.end handles.entry.left }
     ensures residents { residents.new ≡
         record residents.old { comparisons = residents.new.comparisons } }
     ensures remembered { remembered.new ≡
@@ -415,7 +471,11 @@ fn look_among<K: Eq, V, A: Allocator>(
     ensures comparisons { Rises 0
         (length (places_among handles.entry.left)) remembered.old.comparisons remembered.new.comparisons }
 {
-    while let Some(handle) = handles.peek() {
+    loop {
+        let handle = match handles.peek_or_gap() {
+            Ok(handle) => handle,
+            Err(gap) => return Found::Absent(Some(gap)),
+        };
         match Handle::unpack(handle) {
             Handle::Resident(slot) => {
                 if residents.key_equals(slot, key) {
@@ -430,38 +490,40 @@ fn look_among<K: Eq, V, A: Allocator>(
         }
         handles.advance();
     }
-    Found::Absent
 }
 
 /// Writes a key to a place at the front: to a free one, or, if every place has a key, to the oldest
-/// key's, which is removed from the index.
-fn place_key<K: Drop, A: Allocator>(
-    index: &mut Index<A>,
+/// key's. Then it also returns the hash of that key, which the index still has.
+fn put_key<K: Drop, A: Allocator>(
+    index: &Index<A>,
     order: &mut Order<A>,
     keys: &mut Keys<K, (), A>,
     hash: u64,
     key: K,
-) -> Place
-    requires indexed { IsIndex (known.places index.old) keys.old.entries order.old.places }
+) -> (Place, Option<u64>)
+    requires indexed { IsIndex (known.places index.now) keys.old.entries order.old.places }
     requires as_many { length keys.old.entries ≡ used order.old }
     requires room { order.old.limit ≤ keys.old.room }
     requires some { 0 < order.old.limit }
     requires short { order.old.limit < 2 ^ 24 }
-    ensures made { MakesPlace index.old index.new order.old order.new keys.old.entries result }
+    ensures made { MakesPlace index.now (forgotten_if result.1 result.0 index.now) order.old order.new
+        keys.old.entries result.0 }
+    ensures held { IfSome result.1
+        (λ oldest. has result.0 (candidates (known.places index.now) oldest) ≡ true) }
     ensures written { keys.new ≡
         record keys.old {
-          entries = written result (entry hash key tt) keys.old.entries;
+          entries = written result.0 (entry hash key tt) keys.old.entries;
           writes = keys.old.writes + 1;
         } }
     ensures whole { IsWholeOrder order.new }
 {
+    let _ = index;
     if order.len() < order.limit() {
         let place = Place::new(order.push());
         keys.write(place.number(), hash, key, ());
-        return place;
+        return (place, None);
     }
     let place = Place::new(order.reuse_oldest());
     let (oldest_hash, _) = keys.refill(place.number(), hash, key, Some(()));
-    index.forget(oldest_hash, place);
-    place
+    (place, Some(oldest_hash))
 }

@@ -1,21 +1,24 @@
 //! The index of a cache: where each known key is, under the key's hash.
-ghost use Rattle.std.specs.Prelude.{◌≡◌, ◌+◌, ◌^◌, ◌<◌, true, IfOk};
-ghost use Rattle.clock2q_handles.specs.Homes.{candidates};
+ghost use Rattle.std.specs.Prelude.{◌≡◌, ◌+◌, ◌^◌, ◌<◌, true, Some, IfOk, IfSome, IfNone};
+ghost use Rattle.clock2q_handles.specs.Homes.{candidates, total};
 ghost use Rattle.clock2q_queues.specs.Rings.{has};
 ghost use Rattle.clock2q_handles.specs.Layout.{walk};
-ghost use Rattle.clock2q_directory.specs.Index.{emptied, index_for, index_room, is_shared, slots, places, entered, left, looked_up, remembered_at, forgotten_at, HasSlotRoom, HasPlaceRoom, IsWithinCapacity};
+ghost use Rattle.clock2q_handles.specs.Positions.{gap_of};
+ghost use Rattle.clock2q_directory.specs.Index.{beside, emptied, index_for, index_room, is_shared, slots, places, entered, entered_from, left, looked_up, remembered_at, forgotten_at, HasSlotRoom, HasPlaceRoom, HasRoomBeside, IsGapFor, IsWithinCapacity};
+ghost use Rattle.clock2q_directory.specs.History.{forgotten_if};
 
 mod counted_table;
+mod succession;
 
 use crate::handle::Handle;
 use crate::index::counted_table::CountedTable;
 use crate::place::Place;
-use clock2q_handles::Candidates;
+use clock2q_handles::{Candidates, Gap};
 use std::alloc::{AllocError, Allocator, Global};
 use std::marker::Model;
 
-/// The most entries with which no run of a table can be too long.
-const MOST_ENTRIES: usize = (1 << 24) - 1;
+/// The most entries of slots and places that share a table: with one more, no run is too long.
+const MOST_ENTRIES: usize = (1 << 24) - 2;
 
 /// The most entries for which a table gets three times the room.
 const SMALL_TABLE: usize = 16_384;
@@ -25,7 +28,8 @@ const MIDDLE_TABLE: usize = 262_144;
 
 /// Returns the number of entries to make room for in a table of at most `most`: three times as many
 /// if it is small, which keeps lookups short, twice as many if it is of medium size, and no more if
-/// it would take much memory. Such a table is never more than three quarters full.
+/// it would take much memory, but for one: a key that takes another's slot may enter before the other
+/// leaves. Such a table is never more than three quarters full.
 pub fn index_room(most: usize) -> usize
     requires countable { most < 2 ^ 32 }
     ensures room { result ≡ index_room most }
@@ -35,7 +39,7 @@ pub fn index_room(most: usize) -> usize
     } else if most <= MIDDLE_TABLE {
         most * 2
     } else {
-        most
+        most + 1
     }
 }
 
@@ -49,9 +53,9 @@ pub fn index_room(most: usize) -> usize
 ///
 /// ```
 /// let mut index = Index::new(rt.alloc(), 2, 1)?;
-/// index.add_slot(7, 0);
-/// index.remember(7, 0, 0);
-/// index.add_slot(9, 0);
+/// index.add_slot(None, 7, 0);
+/// index.remember(7, 0, Place::new(0));
+/// index.add_slot(None, 9, 0);
 /// index.forget(7, 0);
 /// ```
 #[derive(Drop)]
@@ -80,6 +84,7 @@ impl<A: Allocator + Copy> Index<A> {
     ///
     /// `AllocError` if a request for memory is refused. Memory taken so far is given back.
     pub fn new(alloc: A, slots: usize, places: usize) -> Result<Self, AllocError>
+        requires some { 0 < slots }
         requires slots { slots < 2 ^ 24 }
         requires places { places < 2 ^ 24 }
         ensures made { IfOk result (λ i. i ≡ index_for slots places) }
@@ -87,7 +92,7 @@ impl<A: Allocator + Copy> Index<A> {
         let is_shared = slots + places <= MOST_ENTRIES;
         let most = if is_shared { slots + places } else { slots };
         let shared = CountedTable::with_capacity(alloc, index_room(most))?;
-        let beside = if is_shared { 0 } else { places };
+        let beside = if is_shared { 0 } else { places.max(1) };
         let own = CountedTable::with_capacity(alloc, index_room(beside))?;
         Ok(Index { shared, own })
     }
@@ -109,8 +114,9 @@ impl<A: Allocator> Index<A> {
     pub fn handles(&self, hash: u64) -> Candidates<'_, u32>
         ensures handles { result.left ≡ candidates self.now.shared hash }
         ensures reads { result.reads + result.unread ≡ walk self.now.shared hash }
+        ensures end { result.end ≡ Some (gap_of self.now.shared hash) }
     {
-        self.shared.get(hash)
+        self.shared.get_in_slots(hash)
     }
 
     /// Returns the places under a hash, if they have a table of their own.
@@ -130,14 +136,28 @@ impl<A: Allocator> Index<A> {
         self.own.charge_lookup(hash);
     }
 
-    /// Adds the slot of a key that becomes resident.
+    /// Adds the slot of a key that becomes resident, at the gap for its hash if a lookup found that.
     #[inline(always)]
-    pub fn add_slot(&mut self, hash: u64, slot: u32)
+    pub fn add_slot(&mut self, gap: Option<Gap>, hash: u64, slot: u32)
         requires below { slot < 2 ^ 31 }
         requires room { HasSlotRoom self.old }
+        requires gap { IsGapFor gap hash self.old }
         ensures entered { self.new ≡ entered hash slot self.old }
     {
-        self.shared.insert(hash, slot);
+        self.shared.insert(gap, hash, slot);
+    }
+
+    /// Adds the slot of a key that becomes resident in place of another, which leaves.
+    #[inline(always)]
+    pub fn renew(&mut self, gap: Option<Gap>, hash: u64, slot: u32, old_hash: u64)
+        requires below { slot < 2 ^ 31 }
+        requires gap { IsGapFor gap hash self.old }
+        requires few { total (slots self.old) + beside self.old < 2 ^ 24 }
+        requires beside { HasRoomBeside self.old }
+        requires held { has slot (candidates (slots self.old) old_hash) ≡ true }
+        ensures renewed { self.new ≡ entered_from self.old hash slot (left old_hash slot self.old) }
+    {
+        self.shared.exchange(gap, hash, slot, old_hash, slot);
     }
 
     /// Removes the slot of a resident that leaves.
@@ -164,7 +184,7 @@ impl<A: Allocator> Index<A> {
             self.shared.replace_handle(hash, slot, handle);
         } else {
             self.shared.remove_existing(hash, slot);
-            self.own.insert(hash, place.number());
+            self.own.insert(None, hash, place.number());
         }
     }
 
@@ -180,6 +200,19 @@ impl<A: Allocator> Index<A> {
             self.shared.remove_existing(hash, handle);
         } else {
             self.own.remove_existing(hash, place.number());
+        }
+    }
+
+    /// Removes the place of the oldest key, if one is forgotten.
+    #[inline(always)]
+    pub fn forget_oldest(&mut self, oldest: Option<u64>, place: Place)
+        requires short { place < 2 ^ 31 }
+        requires held { IfSome oldest
+            (λ oldest. has place (candidates (places self.old) oldest) ≡ true) }
+        ensures forgotten { self.new ≡ forgotten_if oldest place self.old }
+    {
+        if let Some(oldest) = oldest {
+            self.forget(oldest, place);
         }
     }
 

@@ -23,6 +23,7 @@ pub mod Promises
 -- What proofs of the crates above cite, by its own name.
 pub use Rattle.clock2q_handles.proofs.shifts.Changes
 pub use Rattle.clock2q_handles.proofs.layout.FewerEntries
+pub use Rattle.clock2q_handles.proofs.layout.MoreEntries
 pub use Rattle.clock2q_handles.proofs.rebuild.HashOfHandle
 pub use Rattle.clock2q_handles.proofs.rebuild.Hashes
 pub use Rattle.clock2q_handles.proofs.rebuild.Held

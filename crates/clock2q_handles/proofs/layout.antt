@@ -12,4 +12,5 @@ pub mod Tables
 pub mod Placement
 pub mod Reaching
 pub mod FewerEntries
+pub mod MoreEntries
 pub mod TooLong

@@ -11,3 +11,4 @@ pub mod Wrapping
 pub mod Insertions
 pub mod FewEntries
 pub mod Replacement
+pub mod Exchanges

@@ -1,30 +1,33 @@
--- What a lookup yields, and how many slots it reads.
+-- What a lookup yields, how many slots it reads, and where it ends.
 use Rattle.std.specs.Prelude.{◌≡◌, ℕ, ◌+◌, ◌-◌, ◌%◌, ◌<◌, ◌≤◌, ◌==◌, ◌&&◌, Bool, false, List, [], map, filter, length, Option, Some, None, IfNone}
 use Rattle.std.specs.Iterator.{YieldsFirst}
-use Rattle.std.specs.Coded.{Coded, code_by, coded×, coded_ℕ, coded_bool, coded_list}
+use Rattle.std.specs.Coded.{Coded, code_by, coded×, coded_ℕ, coded_bool, coded_list, coded_option}
 use Rattle.std.specs.Fn.{Mut}
 use Rattle.clock2q_handles.specs.Homes.{top}
 use Rattle.clock2q_handles.specs.Offers.{AcceptsNext}
+use Rattle.clock2q_handles.specs.Positions.{GapValue, gap_code, gap_from}
 use Rattle.clock2q_handles.specs.Slots.{Mark, mark_of, mark_reach}
 use Rattle.clock2q_handles.specs.Shifts.{HasCome}
 use Rattle.clock2q_handles.specs.Layout.{Placed, placed, slot_at, reach, met, homes_of, walk, IsTidy, AreNear}
 use mathlib.Core.Path.{refl}
 
--- what contracts see of a lookup: the handles left to yield, the number of slot reads so far and still to come, the number of handle reads, and whether the lookup is at the first of the handles left
+-- what contracts see of a lookup: the handles left to yield, the number of slot reads so far and still to come, the number of handle reads, whether the lookup is at the first of the handles left,
+-- and the gap where it ends, or None once it looks for nothing
 pub record CandidatesValue (H : Type 0) : Type 0 where
   pub left : List H
   pub reads : ℕ
   pub unread : ℕ
   pub handles : ℕ
   pub peeked : Bool
+  pub end : Option GapValue
 
-abbrev pub candidates_value : {H : Type 0} → List H → ℕ → ℕ → ℕ → Bool → CandidatesValue H
-candidates_value left reads unread handles peeked = record { left = left; reads = reads; unread = unread; handles = handles; peeked = peeked }
+abbrev pub candidates_value : {H : Type 0} → List H → ℕ → ℕ → ℕ → Bool → Option GapValue → CandidatesValue H
+candidates_value left reads unread handles peeked end = record { left = left; reads = reads; unread = unread; handles = handles; peeked = peeked; end = end }
 
 abbrev pub candidates_code : {H : Type 0} → Coded H → Coded (CandidatesValue H)
 candidates_code {H} h =
-    code_by (List H × (ℕ × (ℕ × (ℕ × Bool)))) (coded× (coded_list h) (coded× coded_ℕ (coded× coded_ℕ (coded× coded_ℕ coded_bool)))) (λ c. (c.left, (c.reads, (c.unread, (c.handles, c.peeked)))))
-    (λ p. candidates_value p.0 p.1.0 p.1.1.0 p.1.1.1.0 p.1.1.1.1) (λ _. refl)
+    code_by (List H × (ℕ × (ℕ × (ℕ × (Bool × Option GapValue))))) (coded× (coded_list h) (coded× coded_ℕ (coded× coded_ℕ (coded× coded_ℕ (coded× coded_bool (coded_option gap_code))))))
+    (λ c. (c.left, (c.reads, (c.unread, (c.handles, (c.peeked, c.end)))))) (λ p. candidates_value p.0 p.1.0 p.1.1.0 p.1.1.1.0 p.1.1.1.1.0 p.1.1.1.1.1) (λ _. refl)
 
 -- a call yields the first handle that is left; the sum of what is read and what is still to be read stays the same, for slots and for handles, and at the end nothing is left to read
 abbrev pub YieldsCandidate : {H : Type 0} → CandidatesValue H → Option H → CandidatesValue H → Type 0
@@ -65,6 +68,11 @@ module _ {H : Type 0} where
   abbrev pub unread_at : List (Option (Placed (ℕ × H))) → Mark → ℕ → ℕ
   unread_at slots None n = 0
   unread_at slots (Some s) n = walk (homes_of slots) (home_back slots n s.0) - s.0
+
+  -- and where it ends
+  abbrev pub end_at : List (Option (Placed (ℕ × H))) → Mark → ℕ → Option GapValue
+  end_at slots None n = None
+  end_at slots (Some s) n = Some (gap_from (homes_of slots) (home_back slots n s.0) s.1)
 
   -- whether a walk looking for the mark in slot n has found it there
   abbrev pub peeked_at : List (Option (Placed (ℕ × H))) → Mark → ℕ → Bool

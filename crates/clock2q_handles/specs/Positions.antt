@@ -36,6 +36,10 @@ gap_value position mark = record { position = position; mark = mark }
 abbrev pub gap_code : Coded GapValue
 gap_code = code_by (ℕ × Mark) (coded× coded_ℕ (coded_option (coded× coded_ℕ coded_ℕ))) (λ g. (g.position, g.mark)) (λ p. gap_value p.0 p.1) (λ _. refl)
 
--- where a walk for x ends: just past the entries of its home, where one more would be
+-- where a walk for the fingerprint f from the home of x ends: just past the entries of that home, where one more would be
+abbrev pub gap_from : {E : Type 0} → List (List E) → ℕ → ℕ → GapValue
+gap_from homes x f = gap_value ((x + spill_of homes x + count homes x) % length homes) (Some (spill_of homes x + count homes x, f))
+
+-- where a walk for x ends
 abbrev pub gap_of : {E : Type 0} → List (List E) → ℕ → GapValue
-gap_of homes x = gap_value ((x + spill_of homes x + count homes x) % length homes) (Some (spill_of homes x + count homes x, top x))
+gap_of homes x = gap_from homes x (top x)

@@ -51,6 +51,11 @@ module _ {H : Type 0} where
   abbrev pub IsBelowCapacity : List (List (ℕ × H)) → Type 0
   IsBelowCapacity homes = total homes < capacity (length homes)
 
+  -- one more entry fits, and makes no run too long
+  pub record HasSpare (homes : List (List (ℕ × H))) : Type 0 where
+    pub room : IsBelowCapacity homes
+    pub few : total homes + 1 < 2 ^ 24
+
   -- no more entries fit
   abbrev pub IsFull : List (List (ℕ × H)) → Type 0
   IsFull homes = total homes ≡ capacity (length homes)

@@ -31,22 +31,23 @@ pub struct Candidates<'a, H: Copy + Eq + Default> {
 }
 
 impl<'a, H: Copy + Eq + Default> Model for Candidates<'a, H> {
-    ghost use Rattle.clock2q_handles.specs.Candidates.{CandidatesValue, candidates_code, candidates_value, left_at, unread_at, peeked_at, IsLookup};
+    ghost use Rattle.clock2q_handles.specs.Candidates.{CandidatesValue, candidates_code, candidates_value, left_at, unread_at, peeked_at, end_at, IsLookup};
     ghost use Rattle.clock2q_handles.specs.Slots.{sought};
 
     ghost Value = { CandidatesValue H };
 
     ghost coded = { candidates_code H.code };
 
-    ghost view = { λ c. candidates_value (left_at c.reader.slots (sought c.wanted) c.slot) c.reader.reads (unread_at c.reader.slots (sought c.wanted) c.slot) c.reader.handles (peeked_at c.reader.slots (sought c.wanted) c.slot) };
+    ghost view = { λ c. candidates_value (left_at c.reader.slots (sought c.wanted) c.slot) c.reader.reads (unread_at c.reader.slots (sought c.wanted) c.slot) c.reader.handles (peeked_at c.reader.slots (sought c.wanted) c.slot) (end_at c.reader.slots (sought c.wanted) c.slot) };
 
     ghost invariant = { λ c. IsLookup c.reader.slots (sought c.wanted) c.slot };
 }
 
 impl<'a, H: Copy + Eq + Default> Candidates<'a, H> {
     ghost use Rattle.clock2q_handles.specs.Candidates.{left_from, unread_from};
-    ghost use Rattle.clock2q_handles.specs.Layout.{reach, IsTidy, AreNear};
-    ghost use Rattle.std.specs.Prelude.{ℕ, ◌≤◌, true, drop, slice_get, IfSome, IfNone};
+    ghost use Rattle.clock2q_handles.specs.Layout.{homes_of, IsTidy, AreNear};
+    ghost use Rattle.clock2q_handles.specs.Positions.{gap_of};
+    ghost use Rattle.std.specs.Prelude.{ℕ, ◌≤◌, Some, true, drop, slice_get, IfSome, IfNone, IfOk, IfErr};
 
     /// Returns a lookup that has read nothing yet. If there are no slots, it yields nothing.
     pub(super) fn new<A: Allocator>(slots: &'a Slots<H, A>, hash: u64) -> Candidates<'a, H>
@@ -56,18 +57,37 @@ impl<'a, H: Copy + Eq + Default> Candidates<'a, H> {
         ensures reads { result.reads ≡ 0 }
         ensures unread { result.unread ≡ unread_from slots.now.slots hash 0 }
         ensures handles { result.handles ≡ 0 }
+        ensures end { 0 < length slots.now.slots
+            → result.end ≡ Some (gap_of (homes_of slots.now.slots) hash) }
     {
-        let wanted = if slots.count() == 0 {
-            Wanted::nothing()
-        } else {
-            Wanted::new(hash)
-        };
+        if slots.count() == 0 {
+            return Candidates {
+                reader: Reader::new(slots),
+                slot: 0,
+                wanted: Wanted::nothing(),
+            };
+        }
+        Candidates::in_slots(slots, hash)
+    }
+
+    /// Returns a lookup that has read nothing yet, given that there are slots.
+    #[inline(always)]
+    pub(super) fn in_slots<A: Allocator>(slots: &'a Slots<H, A>, hash: u64) -> Candidates<'a, H>
+        requires tidy { IsTidy slots.now.slots }
+        requires near { AreNear slots.now.slots }
+        requires some { 0 < length slots.now.slots }
+        ensures left { result.left ≡ left_from slots.now.slots hash 0 }
+        ensures reads { result.reads ≡ 0 }
+        ensures unread { result.unread ≡ unread_from slots.now.slots hash 0 }
+        ensures handles { result.handles ≡ 0 }
+        ensures end { result.end ≡ Some (gap_of (homes_of slots.now.slots) hash) }
+    {
         let reader = Reader::new(slots);
         let slot = reader.home(hash);
         Candidates {
             reader,
             slot,
-            wanted,
+            wanted: Wanted::new(hash),
         }
     }
 
@@ -78,6 +98,7 @@ impl<'a, H: Copy + Eq + Default> Candidates<'a, H> {
     pub fn peek(&mut self) -> Option<H>
         ensures candidate { result ≡ slice_get self.old.left 0 }
         ensures left { self.new.left ≡ self.old.left }
+        ensures end { IfSome result (λ _. self.new.end ≡ self.old.end) }
         ensures peeked { IfSome result (λ _. self.new.peeked ≡ true) }
         ensures reads { self.old.reads ≤ self.new.reads }
         ensures within { self.new.reads ≤ self.old.reads + self.old.unread }
@@ -91,14 +112,43 @@ impl<'a, H: Copy + Eq + Default> Candidates<'a, H> {
         if self.wanted.is_nothing() {
             return None;
         }
-        let Ok((slot, wanted)) = self.reader.candidate(self.slot, self.wanted) else {
+        let Ok(handle) = self.peek_or_gap() else {
             self.wanted = Wanted::nothing();
             return None;
         };
-        let handle = self.reader.handle(slot);
-        self.slot = slot;
-        self.wanted = wanted;
         Some(handle)
+    }
+
+    /// Returns the next candidate and stays at it, as [`peek`](Candidates::peek) does, or else the
+    /// gap where an entry of the hash would be inserted.
+    #[inline(always)]
+    pub fn peek_or_gap(&mut self) -> Result<H, Gap>
+        requires walking { IsSome self.old.end }
+        ensures candidate { IfOk result (λ h. slice_get self.old.left 0 ≡ Some h) }
+        ensures none { IfErr result (λ _. self.old.left ≡ []) }
+        ensures gap { IfErr result (λ gap. self.old.end ≡ Some gap) }
+        ensures left { self.new.left ≡ self.old.left }
+        ensures end { self.new.end ≡ self.old.end }
+        ensures peeked { IfOk result (λ _. self.new.peeked ≡ true) }
+        ensures reads { self.old.reads ≤ self.new.reads }
+        ensures within { self.new.reads ≤ self.old.reads + self.old.unread }
+        ensures again { IfOk result
+            (λ _. self.new.reads + self.new.unread ≡ self.old.reads + self.old.unread + 1) }
+        ensures read_all { IfErr result
+            (λ _. (self.new.reads ≡ self.old.reads + self.old.unread)
+            × (self.new.unread ≡ self.old.unread)) }
+        ensures handle { IfOk result (λ _. self.new.handles ≡ self.old.handles + 1) }
+        ensures no_handle { IfErr result (λ _. self.new.handles ≡ self.old.handles) }
+    {
+        match self.reader.candidate(self.slot, self.wanted) {
+            Err(end) => Err(Gap::new(end.0, end.1)),
+            Ok((slot, wanted)) => {
+                let handle = self.reader.handle(slot);
+                self.slot = slot;
+                self.wanted = wanted;
+                Ok(handle)
+            }
+        }
     }
 
     /// Moves past the candidate that [`peek`](Candidates::peek) is at. It reads no slot.
@@ -107,6 +157,7 @@ impl<'a, H: Copy + Eq + Default> Candidates<'a, H> {
         requires peeked { self.old.peeked ≡ true }
         ensures some { 0 < length self.old.left }
         ensures left { self.new.left ≡ drop 1 self.old.left }
+        ensures end { self.new.end ≡ self.old.end }
         ensures reads { self.new.reads ≡ self.old.reads }
         ensures unread { self.new.unread + 1 ≡ self.old.unread }
         ensures handles { self.new.handles ≡ self.old.handles }

@@ -3,7 +3,10 @@ use crate::metadata::Wanted;
 use std::marker::Model;
 
 /// The slot of a table where a lookup that found nothing ended, and where an entry of its hash
-/// would be inserted.
+/// would be inserted. [`Table::search`](crate::Table::search) and
+/// [`Candidates::peek_or_gap`](crate::Candidates::peek_or_gap) return it.
+///
+/// A gap stays valid until an entry is inserted or removed, or the table grows.
 #[derive(Drop)]
 pub struct Gap {
     slot: usize,

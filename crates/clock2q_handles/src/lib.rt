@@ -50,5 +50,6 @@ mod table;
 
 pub use candidates::Candidates;
 pub use error::TableError;
+pub use gap::Gap;
 pub use partitions::partition;
 pub use table::Table;

@@ -1,9 +1,10 @@
 //! A multimap from 64-bit hashes to handles that its caller owns.
 ghost use Rattle.clock2q_handles.specs.Homes.{candidates, capacity, total};
 ghost use Rattle.clock2q_handles.specs.TableStep.{fit};
-ghost use Rattle.std.specs.Prelude.{◌≡◌, ◌≢◌, Err, ◌^◌, ◌<◌, ◌≤◌, ◌↔◌, [], IsTrue, IsOk, IsErrOf, IfOk, length};
+ghost use Rattle.std.specs.Prelude.{◌≡◌, ◌≢◌, Some, Err, ◌^◌, ◌<◌, ◌≤◌, ◌↔◌, [], IsTrue, IsOk, IsErrOf, IfOk, length};
 
 mod clearing;
+mod exchange;
 mod growth;
 mod insertion;
 mod removal;
@@ -104,6 +105,7 @@ impl<H: Copy + Eq + Default, A: Allocator + Copy> Table<H, A> {
 
 impl<H: Copy + Eq + Default, A: Allocator> Table<H, A> {
     ghost use Rattle.clock2q_handles.specs.Layout.{walk};
+    ghost use Rattle.clock2q_handles.specs.Positions.{gap_of};
     ghost use Rattle.clock2q_handles.specs.Table.{IsWhole};
 
     /// Returns the number of entries.
@@ -142,8 +144,22 @@ impl<H: Copy + Eq + Default, A: Allocator> Table<H, A> {
         ensures reads { result.reads ≡ 0 }
         ensures unread { result.unread ≡ walk self.now.homes hash }
         ensures handles { result.handles ≡ 0 }
+        ensures end { 0 < length self.now.homes → result.end ≡ Some (gap_of self.now.homes hash) }
     {
         Candidates::new(&self.slots, hash)
+    }
+
+    /// Returns what [`get`](Table::get) does, given that the table has slots. It doesn't test for that.
+    #[inline(always)]
+    pub fn get_in_slots(&self, hash: u64) -> Candidates<'_, H>
+        requires slots { 0 < length self.now.homes }
+        ensures candidates { result.left ≡ candidates self.now.homes hash }
+        ensures reads { result.reads ≡ 0 }
+        ensures unread { result.unread ≡ walk self.now.homes hash }
+        ensures handles { result.handles ≡ 0 }
+        ensures end { result.end ≡ Some (gap_of self.now.homes hash) }
+    {
+        Candidates::in_slots(&self.slots, hash)
     }
 
     /// Hints that `hash` will be looked up next. It changes nothing, and does nothing yet.

@@ -6,6 +6,8 @@
 #[cfg(test)]
 mod crowded;
 #[cfg(test)]
+mod gaps;
+#[cfg(test)]
 mod growing;
 #[cfg(test)]
 mod hashed;

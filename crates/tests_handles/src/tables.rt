@@ -7,7 +7,7 @@ use std::test::Fail;
 use testing::{same, same_at};
 
 /// From this number of entries on, a run may become too long.
-const FEWEST_OF_MANY: usize = (1 << 24) - 1;
+pub(crate) const FEWEST_OF_MANY: usize = (1 << 24) - 1;
 
 /// Inserts a handle, for which there is room.
 fn put(table: &mut Table<usize>, hash: u64, handle: usize) -> Result<(), Fail> {
@@ -26,14 +26,14 @@ fn put_each(table: &mut Table<usize>, entries: &[(u64, usize)]) -> Result<(), Fa
 }
 
 /// Makes a table of 16 slots, and inserts handles under their hashes.
-fn table_of(alloc: Global, entries: &[(u64, usize)]) -> Result<Table<usize>, Fail> {
+pub(crate) fn table_of(alloc: Global, entries: &[(u64, usize)]) -> Result<Table<usize>, Fail> {
     let mut table = Table::with_capacity(alloc, 12)?;
     put_each(&mut table, entries)?;
     Ok(table)
 }
 
 /// Slots, each with its handle and displacement.
-type Layout<'a> = &'a [(usize, usize, usize)];
+pub(crate) type Layout<'a> = &'a [(usize, usize, usize)];
 
 /// The same of lookups that peek at each candidate first.
 fn each_yields_as_peeked(
@@ -48,7 +48,7 @@ fn each_yields_as_peeked(
 }
 
 /// Lookups yield what they should, and each slot has its handle.
-fn is_as(
+pub(crate) fn is_as(
     alloc: Global,
     table: &Table<usize>,
     (lookups, layout): (Lookups<'_, usize>, Layout<'_>),

@@ -1,3 +1,4 @@
 mod Either
 mod Filling
+mod Gaps
 mod Residents

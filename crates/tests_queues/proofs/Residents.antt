@@ -1,11 +1,11 @@
 -- The state after each call of a directory with one slot.
-use Rattle.std.proofs.Common.{◌≡◌, ℕ, ◌%◌, ◌^◌, ◌<◌, Bool, true, false, eqb, Option, Some, None, List, [], ◌∷◌, take, length, refl, sym, ap, ◌∙◌, subst, arith}
+use Rattle.std.proofs.Common.{◌≡◌, ℕ, ◌+◌, ◌%◌, ◌^◌, ◌<◌, Bool, false, eqb, Option, Some, None, List, [], ◌∷◌, take, length, refl, sym, ap, ◌∙◌, subst, arith}
 use Rattle.std.specs.Prelude.{IfSome, if◌then◌else◌}
 use Rattle.std.specs.List.{find, AllByRecursion}
 use Rattle.std.proofs.lemmas.Bool.{both_ways}
-use Rattle.clock2q_handles.specs.Homes.{candidates, with_handle, removed, no_entries}
+use Rattle.clock2q_handles.specs.Homes.{candidates, with_handle, removed}
 use Rattle.clock2q_directory.specs.declared.keys.store.Entry.{Entry}
-use Rattle.clock2q_directory.specs.Index.{emptied, index_for, is_shared, slots, entered, left}
+use Rattle.clock2q_directory.specs.Index.{IndexState, emptied, index_for, is_shared, slots, entered_from, left}
 use Rattle.clock2q_directory.specs.Indexes.{IsIndex}
 use Rattle.clock2q_directory.specs.Keys.{KeyPlaces, key_places, entry, written, hash_at, key_at, Writes}
 use Rattle.clock2q_directory.specs.Directory.{Known, IsResident, IsWithinRoom, Remembers}
@@ -57,8 +57,8 @@ module _ {hashes : ℕ} {h : Remembered ℕ} {r : KeyPlaces ℕ (Unit {0})} (k :
   fits = record { room = omega (arith, k.indexed.counted, k.room); few = omega (arith, k.indexed.counted, k.few) }
 
   -- a key is written to the first place, and takes slot 0
-  module _ (hash key : ℕ) (h' : Remembered ℕ) (r' : KeyPlaces ℕ (Unit {0})) (wrote : r'.entries ≡ written 0 (entry hash key tt) r.entries) (room : r'.room ≡ r.room)
-      (added : h' ≡ record h { places = record h.places { index = entered hash 0 h.places.index } }) where
+  module _ (hash key : ℕ) (base : IndexState) (h' : Remembered ℕ) (r' : KeyPlaces ℕ (Unit {0})) (wrote : r'.entries ≡ written 0 (entry hash key tt) r.entries) (room : r'.room ≡ r.room)
+      (added : h' ≡ record h { places = record h.places { index = entered_from base hash 0 h.places.index } }) where
     now : slots h'.places.index ≡ with_handle (slots h.places.index) hash 0
     now = ap (λ (z : Remembered ℕ). slots z.places.index) added ∙ slots-entered h.places.index hash 0 (omega arith)
 
@@ -146,7 +146,7 @@ module _ {key hashes : ℕ} {h : Remembered ℕ} {r : KeyPlaces ℕ (Unit {0})} 
     beside : most_beside h' ≡ most_beside h
     beside =
         let shared : is_shared h'.places.index ≡ is_shared h.places.index = ap (λ (z : Places). is_shared z.index) places ∙ shared-pushed h.limit (key % hashes) 0 oldest h.places (omega arith) in
-        ap (λ b. if b then h'.limit else 0) shared ∙ ap (λ n. if is_shared h.places.index then n else 0) limit
+        ap (λ b. if b then h'.limit + 1 else 0) shared ∙ ap (λ n. if is_shared h.places.index then n + 1 else 0) limit
 
     pub left-alone : IsAlone hashes h' r'
     left-alone = record {
@@ -200,7 +200,7 @@ pub cleared-alone : {hashes : ℕ} {h h' : Remembered ℕ} {r r' : KeyPlaces ℕ
 cleared-alone {hashes} {h} {h'} {r} {r'} k cleared keys =
     let index = h.places.index in
     let like = cleared_like index in
-    let beside : most_beside h' ≡ most_beside h = ap (λ (z : Remembered ℕ). most_beside z) cleared ∙ ap (λ b. if b then h.limit else 0) like.shared in
+    let beside : most_beside h' ≡ most_beside h = ap (λ (z : Remembered ℕ). most_beside z) cleared ∙ ap (λ b. if b then h.limit + 1 else 0) like.shared in
     let as_many : length (slots h'.places.index) ≡ length (slots h.places.index) = ap (λ (z : Remembered ℕ). length (slots z.places.index)) cleared ∙ like.slots in
     record {
       some = k.some;
@@ -225,16 +225,16 @@ remembered-resident {key} {other} {hashes} {d} {h'} {r'} k m w room =
     let hashed : AllByRecursion (λ e. e.0 ≡ e.1 % hashes) h'.entries =
     rw entries (all-take (λ e. e.0 ≡ e.1 % hashes) d.history.limit ((m.old_hash, m.old_key) ∷ d.history.entries) (hash_is ∙ ap (λ z. z % hashes) (sym key_is), k.taken.hashed)) in
     let alone : IsAlone hashes h1 d.residents = left-alone k h1 d.residents oldest hashed refl (ap (λ (z : Remembered ℕ). z.limit) m.becomes) refl refl in
-    let places : h'.places ≡ record pushed { index = entered (other % hashes) 0 pushed.index } =
-    m.places ∙ ap (λ x. let p = pushed_places d.history.limit x 0 oldest d.history.places in record p { index = entered (other % hashes) 0 p.index }) hash_is in
-    entered-resident alone (other % hashes) other h' r' w.becomes room (ap (λ (z : Places). record h' { places = z }) places) refl
+    let places : h'.places ≡ record pushed { index = entered_from d.history.places.index (other % hashes) 0 pushed.index } =
+    m.places ∙ ap (λ x. let p = pushed_places d.history.limit x 0 oldest d.history.places in record p { index = entered_from d.history.places.index (other % hashes) 0 p.index }) hash_is in
+    entered-resident alone (other % hashes) other d.history.places.index h' r' w.becomes room (ap (λ (z : Places). record h' { places = z }) places) refl
 
 -- and if it is not remembered
 pub renewed-resident : {key other hashes x : ℕ} {d : Known ℕ (Unit {0})} {h' : Remembered ℕ} {r' : KeyPlaces ℕ (Unit {0})} → HasResident key hashes d.history d.residents
-    → hash_at d.residents.entries 0 ≡ Some x → h' ≡ record d.history { places = record d.history.places { index = entered (other % hashes) 0 (left x 0 d.history.places.index) } }
+    → hash_at d.residents.entries 0 ≡ Some x → h' ≡ record d.history { places = record d.history.places { index = entered_from d.history.places.index (other % hashes) 0 (left x 0 d.history.places.index) } }
     → {value : Option (Unit {0})} → Writes (other % hashes) other value 0 d.residents.entries r'.entries → r'.room ≡ d.residents.room → HasResident other hashes h' r'
 renewed-resident {key} {other} {hashes} {x} {d} {h'} {r'} k at is w room =
     let h = d.history in
     let h1 : Remembered ℕ = record h { places = record h.places { index = left (key % hashes) 0 h.places.index } } in
-    entered-resident (withdrawn-alone k h1 refl) (other % hashes) other h' r' w.becomes room
-    (is ∙ ap (λ z. record h { places = record h.places { index = entered (other % hashes) 0 (left z 0 h.places.index) } }) (same_hash k at)) refl
+    entered-resident (withdrawn-alone k h1 refl) (other % hashes) other h.places.index h' r' w.becomes room
+    (is ∙ ap (λ z. record h { places = record h.places { index = entered_from h.places.index (other % hashes) 0 (left z 0 h.places.index) } }) (same_hash k at)) refl

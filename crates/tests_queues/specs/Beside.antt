@@ -7,7 +7,11 @@ use Rattle.clock2q_directory.specs.Indexes.{IsIndex}
 use Rattle.clock2q_directory.specs.History.{Remembered, most_beside}
 use Rattle.clock2q_directory.specs.Keys.{KeyPlaces, hash_at, key_at}
 
--- the index has these slots, and room for one beside the most places that there may be
+-- the key that takes a slot for a moment, and that is never remembered
+abbrev pub nobody : ℕ
+nobody = 18446744073709551615
+
+-- the index has these slots, and room for one beside the most entries that there may be
 pub record HasSlots (taken : List ℕ) (hashes : ℕ) (h : Remembered ℕ) (residents : KeyPlaces ℕ (Unit {0})) : Type 0 where
   pub some : 0 < hashes
   pub hashed : AllByRecursion (λ e. e.0 ≡ e.1 % hashes) h.entries

@@ -1,10 +1,12 @@
 //! A directory with one slot, which each key has for a while before it is remembered.
-ghost use Rattle.std.specs.Prelude.{◌≡◌, ◌<◌, ◌^◌, false, nat_eq};
+ghost use Rattle.std.specs.Prelude.{◌≡◌, ◌<◌, ◌^◌, ◌%◌, false, nat_eq};
+ghost use Rattle.clock2q_directory.specs.Index.{IsGapFor};
 ghost use Rattle.clock2q_directory.specs.History.{is_remembered};
 ghost use Rattle.tests_queues.specs.Beside.{IsAlone, HasResident};
 
 use clock2q_directory::directory::Directory;
 use clock2q_directory::history::Found;
+use clock2q_handles::Gap;
 use std::alloc::{AllocError, Allocator, Global};
 use std::marker::Model;
 
@@ -54,14 +56,15 @@ impl<A: Allocator> Beside<A> {
 
     /// Forgets a key, and returns true if it was remembered.
     pub fn forget(&mut self, key: u64) -> bool {
-        forget(&mut self.directory, key, self.hashes)
+        let (known, _) = forget(&mut self.directory, key, self.hashes);
+        known
     }
 
     /// Forgets a key, gives it the slot, and remembers it. Returns whether it was remembered
     /// before, and whether it was found at the slot.
     pub fn renew(&mut self, key: u64) -> (bool, bool) {
-        let known = forget(&mut self.directory, key, self.hashes);
-        enter(&mut self.directory, key, self.hashes);
+        let (known, gap) = forget(&mut self.directory, key, self.hashes);
+        enter(&mut self.directory, gap, key, self.hashes);
         let found = remember(&mut self.directory, key, self.hashes);
         leave(&mut self.directory, NOBODY, self.hashes);
         (known, matches!(found, Found::Resident(0)))
@@ -70,8 +73,8 @@ impl<A: Allocator> Beside<A> {
     /// Forgets a key, gives it the slot, and takes it away again without remembering the key.
     /// Returns true if it was remembered.
     pub fn pass(&mut self, key: u64) -> bool {
-        let known = forget(&mut self.directory, key, self.hashes);
-        enter(&mut self.directory, key, self.hashes);
+        let (known, gap) = forget(&mut self.directory, key, self.hashes);
+        enter(&mut self.directory, gap, key, self.hashes);
         leave(&mut self.directory, key, self.hashes);
         known
     }
@@ -79,8 +82,8 @@ impl<A: Allocator> Beside<A> {
     /// Forgets a key, gives it the slot, looks it up there, and replaces it with [`NOBODY`].
     /// Returns where it was found, and the hash and the key that left.
     pub fn replace(&mut self, key: u64) -> (Looked, (u64, u64)) {
-        let _ = forget(&mut self.directory, key, self.hashes);
-        enter(&mut self.directory, key, self.hashes);
+        let (_, gap) = forget(&mut self.directory, key, self.hashes);
+        enter(&mut self.directory, gap, key, self.hashes);
         let looked = look(&mut self.directory, key, self.hashes);
         let old = replace(&mut self.directory, key, self.hashes);
         leave(&mut self.directory, NOBODY, self.hashes);
@@ -96,34 +99,49 @@ impl<A: Allocator> Beside<A> {
 /// Where a resident key was found, twice, and whether it equals the one at the slot.
 pub type Looked = (Option<u32>, Option<u32>, bool);
 
-/// Forgets a key.
-fn forget<A: Allocator>(directory: &mut Directory<u64, (), A>, key: u64, hashes: u64) -> bool
+/// Forgets a key. Returns true if it was remembered, and otherwise the gap for its hash, if the
+/// lookup found it.
+fn forget<A: Allocator>(
+    directory: &mut Directory<u64, (), A>,
+    key: u64,
+    hashes: u64,
+) -> (bool, Option<Gap>)
     requires alone { IsAlone hashes directory.old.history directory.old.residents }
     ensures alone { IsAlone hashes directory.new.history directory.new.residents }
     ensures absent { is_remembered nat_eq key directory.new.history.entries ≡ false }
+    ensures gap { IsGapFor result.1 (key % hashes) directory.new.history.places.index }
 {
     let hash = key % hashes;
     let found = directory.lookup(hash, &key);
-    directory.forget(hash, &key, found.place())
+    let known = directory.forget(hash, &key, found.place());
+    (known, found.gap())
 }
 
-/// Makes a key the resident.
-fn enter<A: Allocator>(directory: &mut Directory<u64, (), A>, key: u64, hashes: u64)
+/// Makes a key the resident, at the gap for its hash if that is known.
+fn enter<A: Allocator>(
+    directory: &mut Directory<u64, (), A>,
+    gap: Option<Gap>,
+    key: u64,
+    hashes: u64,
+)
     requires alone { IsAlone hashes directory.old.history directory.old.residents }
+    requires gap { IsGapFor gap (key % hashes) directory.old.history.places.index }
     ensures resident { HasResident key hashes directory.new.history directory.new.residents }
     ensures remembered { directory.new.history.entries ≡ directory.old.history.entries }
 {
-    directory.enter(0, key % hashes, key, Some(()));
+    directory.enter(gap, 0, key % hashes, key, Some(()));
 }
 
-/// Looks the resident up, and remembers it. Returns what was found.
+/// Looks the resident up, and remembers it when [`NOBODY`] takes its slot, at the gap that a lookup
+/// finds. Returns what was found.
 fn remember<A: Allocator>(directory: &mut Directory<u64, (), A>, key: u64, hashes: u64) -> Found
     requires resident { HasResident key hashes directory.old.history directory.old.residents }
     requires absent { is_remembered nat_eq key directory.old.history.entries ≡ false }
     ensures resident { HasResident NOBODY hashes directory.new.history directory.new.residents }
 {
     let found = directory.lookup(key % hashes, &key);
-    directory.remember(0, NOBODY % hashes, NOBODY, Some(()));
+    let gap = directory.lookup(NOBODY % hashes, &NOBODY).gap();
+    directory.remember(gap, 0, NOBODY % hashes, NOBODY, Some(()));
     found
 }
 
@@ -138,13 +156,15 @@ fn look<A: Allocator>(directory: &mut Directory<u64, (), A>, key: u64, hashes: u
     (slot, again, directory.key_equals(0, &key))
 }
 
-/// Replaces the resident with [`NOBODY`]. Returns the resident's hash and key.
+/// Replaces the resident with [`NOBODY`], at the gap that a lookup finds. Returns the resident's hash
+/// and key.
 fn replace<A: Allocator>(directory: &mut Directory<u64, (), A>, key: u64, hashes: u64) -> (u64, u64)
     requires resident { HasResident key hashes directory.old.history directory.old.residents }
     ensures resident { HasResident NOBODY hashes directory.new.history directory.new.residents }
 {
     let _ = key;
-    directory.renew(0, NOBODY % hashes, NOBODY, None)
+    let gap = directory.lookup(NOBODY % hashes, &NOBODY).gap();
+    directory.renew(gap, 0, NOBODY % hashes, NOBODY, None)
 }
 
 /// Takes the slot away from the resident.

@@ -143,7 +143,7 @@ fn keys_of_one_hash(rt: HostRuntime) -> Result<(), Fail> {
 }
 
 /// A small index is made for three times as many entries, one of medium size for twice as many, and
-/// a large one for no more.
+/// a large one for one more.
 #[test]
 fn room_of_an_index(rt: HostRuntime) -> Result<(), Fail> {
     same(index_room(0), 0)?;
@@ -151,6 +151,6 @@ fn room_of_an_index(rt: HostRuntime) -> Result<(), Fail> {
     same(index_room(16_384), 49_152)?;
     same(index_room(16_385), 32_770)?;
     same(index_room(262_144), 524_288)?;
-    same(index_room(262_145), 262_145)?;
-    same(index_room(16_777_215), 16_777_215)
+    same(index_room(262_145), 262_146)?;
+    same(index_room(16_777_215), 16_777_216)
 }

@@ -2,7 +2,6 @@
 use crate::cache::Cache;
 use crate::occupant::Occupant;
 use clock2q_directory::history::Found;
-use clock2q_directory::place::Place;
 use std::alloc::Allocator;
 use std::hash::{BuildHasher, Hash};
 
@@ -16,10 +15,9 @@ impl<K: Hash + Eq + Copy, V: Drop, S: BuildHasher, A: Allocator> Cache<K, V, S, 
     ghost use Rattle.clock2q_machine.specs.Leaving.{leaver, leaves_for, victim_of, with_value};
     ghost use Rattle.clock2q_machine.specs.Machine.{inserted, placement, slot_of, value_of};
     ghost use Rattle.clock2q_machine.specs.Steps.{put};
-    ghost use Rattle.clock2q_directory.specs.History.{place_of};
     ghost use Rattle.clock2q_cache.specs.CacheState.{remembered_in};
     ghost use Rattle.clock2q_cache.specs.Costs.{Costs, Spends};
-    ghost use Rattle.clock2q_cache.specs.Insertions.{IsAbsent};
+    ghost use Rattle.clock2q_cache.specs.Insertions.{IsAbsent, IsFoundFor};
     ghost use Rattle.clock2q_cache.specs.Occupants.{evicted_from};
     ghost use Rattle.clock2q_cache.specs.Places.{known_at, known_with, looked_for};
 
@@ -49,22 +47,16 @@ impl<K: Hash + Eq + Copy, V: Drop, S: BuildHasher, A: Allocator> Cache<K, V, S, 
         let hash = self.hash(&key);
         let found = self.lookup(hash, &key);
         let Found::Resident(slot) = found else {
-            return self.insert_evicting(hash, key, value, found.place());
+            return self.insert_evicting(hash, key, value, found);
         };
         self.record_hit(slot, &key);
         Some((key, self.replace(slot, value)))
     }
 
-    /// Inserts a key that is not resident, and hands over the resident that leaves. If the history
-    /// has the key, it is there at `place`.
-    fn insert_evicting(
-        &mut self,
-        hash: u64,
-        key: K,
-        value: V,
-        place: Option<Place>,
-    ) -> Option<(K, V)>
-        requires place { place ≡ place_of (K.eq key) self.old.machine.history self.old.known.taken }
+    /// Inserts a key that is not resident, for which a lookup found `found`, and hands over the
+    /// resident that leaves.
+    fn insert_evicting(&mut self, hash: u64, key: K, value: V, found: Found) -> Option<(K, V)>
+        requires found { IsFoundFor K.eq found key hash self.old }
         requires absent { IsAbsent K.Hash S.BuildHasher S.Hasher.Hasher key hash self.old }
         ensures evicted { result ≡
             option_map (λ v. (v.0, v.1.1))
@@ -78,13 +70,14 @@ impl<K: Hash + Eq + Copy, V: Drop, S: BuildHasher, A: Allocator> Cache<K, V, S, 
         ensures counts { Spends (inspections_for (K.eq key) self.old.machine)
             (inspections_for (K.eq key) self.old.machine + 36) 0 self.old.counts self.new.counts }
     {
-        let known = self.forget(hash, &key, place);
+        let known = self.forget(hash, &key, found.place());
         let main = self.admits_to_main(known);
+        let gap = found.gap();
         if self.makes_slot(main) {
-            self.insert_unknown(hash, key, Some(value), main, |_| ());
+            self.insert_unknown(gap, hash, key, Some(value), main, |_| ());
             return None;
         }
-        let (slot, left) = self.insert_unknown(hash, key, None, main, |key| *key);
+        let (slot, left) = self.insert_unknown(gap, hash, key, None, main, |key| *key);
         let before = self.replace(slot, value);
         let evicted = left?;
         Some((evicted, before))
@@ -142,7 +135,7 @@ impl<K: Hash + Eq + Copy, V: Drop, S: BuildHasher, A: Allocator> Cache<K, V, S, 
         let place = self.find_place(hash, &key);
         let known = self.forget(hash, &key, place);
         let main = self.admits_to_main(known);
-        let (slot, left) = self.insert_unknown(hash, key, Some(value), main, |key| *key);
+        let (slot, left) = self.insert_unknown(None, hash, key, Some(value), main, |key| *key);
         match left {
             Some(evicted) => (slot, Occupant::Other(evicted)),
             None => (slot, Occupant::Nobody),

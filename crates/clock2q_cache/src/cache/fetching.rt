@@ -215,7 +215,7 @@ impl<K: Hash + Eq + Drop, V: Drop, S: BuildHasher, A: Allocator> Cache<K, V, S, 
             return slot;
         }
         let value = f();
-        self.insert(hash, key, value, found.place())
+        self.insert(hash, key, value, found)
     }
 
     /// Returns the slot of a key, which is hit or inserted. A slot that was made before keeps its
@@ -299,6 +299,6 @@ impl<K: Hash + Eq + Drop, V: Drop, S: BuildHasher, A: Allocator> Cache<K, V, S, 
             return Ok(slot);
         }
         let value = f()?;
-        Ok(self.insert(hash, key, value, found.place()))
+        Ok(self.insert(hash, key, value, found))
     }
 }

@@ -1,7 +1,8 @@
 //! Insertion of a key that is not resident.
 use crate::cache::Cache;
 use crate::vacancies::take_vacancy;
-use clock2q_directory::place::Place;
+use clock2q_directory::history::Found;
+use clock2q_handles::Gap;
 use std::alloc::Allocator;
 use std::hash::{BuildHasher, Hash};
 
@@ -13,20 +14,19 @@ impl<K: Hash + Eq + Drop, V: Drop, S: BuildHasher, A: Allocator> Cache<K, V, S, 
     ghost use Rattle.clock2q_machine.specs.Ages.{is_promoted};
     ghost use Rattle.clock2q_machine.specs.Whole.{IsWhole};
     ghost use Rattle.clock2q_handles.specs.Homes.{candidates};
-    ghost use Rattle.clock2q_directory.specs.History.{place_of};
     ghost use Rattle.clock2q_machine.specs.Bounds.{inspections_for};
     ghost use Rattle.clock2q_cache.specs.Costs.{Spends};
     ghost use Rattle.clock2q_cache.specs.CacheState.{remembered_in};
     ghost use Rattle.clock2q_machine.specs.Entries.{inspections};
     ghost use Rattle.clock2q_cache.specs.Closures.{Reuses};
     ghost use Rattle.clock2q_cache.specs.Places.{known_at, looked_for, out_of_small};
-    ghost use Rattle.clock2q_cache.specs.Insertions.{EntersMain, EntersQueue, EntersSmall, IsAbsent, IsUnknown, Notes, placed, makes_slot, next_is_vacant, main_inspections, small_inspections, leaves_placed};
+    ghost use Rattle.clock2q_cache.specs.Insertions.{EntersMain, EntersQueue, EntersSmall, IsAbsent, IsFoundFor, IsUnknown, Notes, placed, makes_slot, next_is_vacant, main_inspections, small_inspections, leaves_placed};
     ghost use Rattle.clock2q_machine.specs.Leaving.{leaves_for, leaves_for_main};
     ghost use Rattle.clock2q_machine.specs.Machine.{vacancy, goes_to_main, into_main, into_small, placement, inserted};
 
-    /// Inserts a key that is not resident. If the history has it, it is there at `place`.
-    pub(crate) fn insert(&mut self, hash: u64, key: K, value: V, place: Option<Place>) -> u32
-        requires place { place ≡ place_of (K.eq key) self.old.machine.history self.old.known.taken }
+    /// Inserts a key that is not resident, for which a lookup found `found`.
+    pub(crate) fn insert(&mut self, hash: u64, key: K, value: V, found: Found) -> u32
+        requires found { IsFoundFor K.eq found key hash self.old }
         requires absent { IsAbsent K.Hash S.BuildHasher S.Hasher.Hasher key hash self.old }
         ensures slot { result ≡ (placement (K.eq key) key self.old.machine).slot }
         ensures machine { self.new.machine ≡ inserted (K.eq key) key value self.old.machine }
@@ -36,9 +36,10 @@ impl<K: Hash + Eq + Drop, V: Drop, S: BuildHasher, A: Allocator> Cache<K, V, S, 
         ensures counts { Spends (inspections_for (K.eq key) self.old.machine)
             (inspections_for (K.eq key) self.old.machine + 36) 0 self.old.counts self.new.counts }
     {
-        let known = self.forget(hash, &key, place);
+        let known = self.forget(hash, &key, found.place());
         let main = self.admits_to_main(known);
-        self.insert_unknown(hash, key, Some(value), main, |_| ()).0
+        self.insert_unknown(found.gap(), hash, key, Some(value), main, |_| ())
+            .0
     }
 
     /// Inserts a key that is not resident, whether or not the history has it. A slot that was made
@@ -73,14 +74,16 @@ impl<K: Hash + Eq + Drop, V: Drop, S: BuildHasher, A: Allocator> Cache<K, V, S, 
         let known = self.forget(hash, &key, place);
         let main = self.admits_to_main(known);
         let value = self.makes_slot(main).then(make);
-        let (slot, left) = self.insert_unknown(hash, key, value, main, |_| ());
+        let (slot, left) = self.insert_unknown(None, hash, key, value, main, |_| ());
         (slot, left.is_some())
     }
 
-    /// Inserts a key that is not known into Main or into Small. If a resident leaves, `leaves` is
-    /// called with its key, and what it returns comes back beside the slot.
+    /// Inserts a key that is not known into Main or into Small. A lookup may have found the gap for
+    /// its hash. If a resident leaves, `leaves` is called with its key, and what it returns comes back
+    /// beside the slot.
     pub(super) fn insert_unknown<R, F: FnOnce(&K) -> R>(
         &mut self,
+        gap: Option<Gap>,
         hash: u64,
         key: K,
         value: Option<V>,
@@ -88,7 +91,7 @@ impl<K: Hash + Eq + Drop, V: Drop, S: BuildHasher, A: Allocator> Cache<K, V, S, 
         leaves: F,
     ) -> (u32, Option<R>)
         requires callable { F.IsAlwaysCallable leaves }
-        requires unknown { IsUnknown K.Hash S.BuildHasher S.Hasher.Hasher key hash self.old }
+        requires unknown { IsUnknown K.Hash S.BuildHasher S.Hasher.Hasher key hash gap self.old }
         requires small { main ≡ false → goes_to_main false self.old.machine ≡ false }
         requires had { IfNone value
             ((placed main key self.old.machine).slot < length self.old.machine.values) }
@@ -97,9 +100,9 @@ impl<K: Hash + Eq + Drop, V: Drop, S: BuildHasher, A: Allocator> Cache<K, V, S, 
             (leaves_placed main self.old.machine) result.0 result.1 }
     {
         if main {
-            self.insert_into_main(hash, key, value, leaves)
+            self.insert_into_main(gap, hash, key, value, leaves)
         } else {
-            self.insert_into_small(hash, key, value, leaves)
+            self.insert_into_small(gap, hash, key, value, leaves)
         }
     }
 
@@ -154,13 +157,14 @@ impl<K: Hash + Eq + Drop, V: Drop, S: BuildHasher, A: Allocator> Cache<K, V, S, 
     /// slot.
     fn insert_into_main<R, F: FnOnce(&K) -> R>(
         &mut self,
+        gap: Option<Gap>,
         hash: u64,
         key: K,
         value: Option<V>,
         leaves: F,
     ) -> (u32, Option<R>)
         requires callable { F.IsAlwaysCallable leaves }
-        requires unknown { IsUnknown K.Hash S.BuildHasher S.Hasher.Hasher key hash self.old }
+        requires unknown { IsUnknown K.Hash S.BuildHasher S.Hasher.Hasher key hash gap self.old }
         requires had { IfNone value
             ((into_main key self.old.machine).slot < length self.old.machine.values) }
         ensures entered { EntersMain K.Hash S.BuildHasher S.Hasher.Hasher key value
@@ -168,42 +172,43 @@ impl<K: Hash + Eq + Drop, V: Drop, S: BuildHasher, A: Allocator> Cache<K, V, S, 
         ensures left { Notes F.FnOnce leaves (leaves_for_main self.old.machine) result.0 result.1 }
     {
         if self.queues.main_len() == self.shares.main() {
-            self.replace_victim(hash, key, value, leaves)
+            self.replace_victim(gap, hash, key, value, leaves)
         } else {
-            (self.join_main(hash, key, value), None)
+            (self.join_main(gap, hash, key, value), None)
         }
     }
 
     /// Inserts a key into a full Main, in place of its victim.
     fn replace_victim<R, F: FnOnce(&K) -> R>(
         &mut self,
+        gap: Option<Gap>,
         hash: u64,
         key: K,
         value: Option<V>,
         leaves: F,
     ) -> (u32, Option<R>)
         requires callable { F.IsAlwaysCallable leaves }
-        requires unknown { IsUnknown K.Hash S.BuildHasher S.Hasher.Hasher key hash self.old }
+        requires unknown { IsUnknown K.Hash S.BuildHasher S.Hasher.Hasher key hash gap self.old }
         requires full { length self.old.machine.main ≡ main_share self.old.machine.shares }
         ensures entered { EntersMain K.Hash S.BuildHasher S.Hasher.Hasher key value
             (inspections self.old.machine.main) result.0 self.old self.new }
         ensures left { Notes F.FnOnce leaves (leaves_for_main self.old.machine) result.0 result.1 }
     {
         let victim = self.queues.reuse_victim();
-        let old = self.directory.renew(victim, hash, key, value);
+        let old = self.directory.renew(gap, victim, hash, key, value);
         (victim, Some(leaves(&old.1)))
     }
 
     /// Inserts a key into Main, which has room, at a vacancy.
-    fn join_main(&mut self, hash: u64, key: K, value: Option<V>) -> u32
-        requires unknown { IsUnknown K.Hash S.BuildHasher S.Hasher.Hasher key hash self.old }
+    fn join_main(&mut self, gap: Option<Gap>, hash: u64, key: K, value: Option<V>) -> u32
+        requires unknown { IsUnknown K.Hash S.BuildHasher S.Hasher.Hasher key hash gap self.old }
         requires room { length self.old.machine.main < main_share self.old.machine.shares }
         requires had { IfNone value
             ((into_main key self.old.machine).slot < length self.old.machine.values) }
         ensures entered { EntersMain K.Hash S.BuildHasher S.Hasher.Hasher key value 0 result self.old self.new }
     {
         let slot = take_vacancy(&mut self.free, self.directory.made());
-        self.directory.enter(slot, hash, key, value);
+        self.directory.enter(gap, slot, hash, key, value);
         self.queues.append(slot);
         slot
     }
@@ -212,13 +217,14 @@ impl<K: Hash + Eq + Drop, V: Drop, S: BuildHasher, A: Allocator> Cache<K, V, S, 
     /// tail or of Main's victim.
     fn insert_into_small<R, F: FnOnce(&K) -> R>(
         &mut self,
+        gap: Option<Gap>,
         hash: u64,
         key: K,
         value: Option<V>,
         leaves: F,
     ) -> (u32, Option<R>)
         requires callable { F.IsAlwaysCallable leaves }
-        requires unknown { IsUnknown K.Hash S.BuildHasher S.Hasher.Hasher key hash self.old }
+        requires unknown { IsUnknown K.Hash S.BuildHasher S.Hasher.Hasher key hash gap self.old }
         requires small { goes_to_main false self.old.machine ≡ false }
         requires had { IfNone value
             ((into_small key self.old.machine).slot < length self.old.machine.values) }
@@ -229,17 +235,17 @@ impl<K: Hash + Eq + Drop, V: Drop, S: BuildHasher, A: Allocator> Cache<K, V, S, 
             (leaves_placed false self.old.machine) result.0 result.1 }
     {
         if self.has_vacancy() {
-            (self.join_small(hash, key, value), None)
+            (self.join_small(gap, hash, key, value), None)
         } else if self.tail_is_promoted() {
-            self.promote_tail(hash, key, value, leaves)
+            self.promote_tail(gap, hash, key, value, leaves)
         } else {
-            self.evict_tail(hash, key, value, leaves)
+            self.evict_tail(gap, hash, key, value, leaves)
         }
     }
 
     /// Inserts a key into Small, which has room, at a vacancy.
-    fn join_small(&mut self, hash: u64, key: K, value: Option<V>) -> u32
-        requires unknown { IsUnknown K.Hash S.BuildHasher S.Hasher.Hasher key hash self.old }
+    fn join_small(&mut self, gap: Option<Gap>, hash: u64, key: K, value: Option<V>) -> u32
+        requires unknown { IsUnknown K.Hash S.BuildHasher S.Hasher.Hasher key hash gap self.old }
         requires room { length self.old.machine.small < self.old.machine.shares.small }
         requires vacant { is_some (vacancy self.old.machine) ≡ true }
         requires had { IfNone value
@@ -247,7 +253,7 @@ impl<K: Hash + Eq + Drop, V: Drop, S: BuildHasher, A: Allocator> Cache<K, V, S, 
         ensures entered { EntersSmall K.Hash S.BuildHasher S.Hasher.Hasher key value None 0 28 result self.old self.new }
     {
         let slot = take_vacancy(&mut self.free, self.directory.made());
-        self.directory.enter(slot, hash, key, value);
+        self.directory.enter(gap, slot, hash, key, value);
         self.queues.admit(slot);
         slot
     }
@@ -267,13 +273,14 @@ impl<K: Hash + Eq + Drop, V: Drop, S: BuildHasher, A: Allocator> Cache<K, V, S, 
     /// Inserts a key into Small in the slot of its tail, which is evicted and remembered.
     fn evict_tail<R, F: FnOnce(&K) -> R>(
         &mut self,
+        gap: Option<Gap>,
         hash: u64,
         key: K,
         value: Option<V>,
         leaves: F,
     ) -> (u32, Option<R>)
         requires callable { F.IsAlwaysCallable leaves }
-        requires unknown { IsUnknown K.Hash S.BuildHasher S.Hasher.Hasher key hash self.old }
+        requires unknown { IsUnknown K.Hash S.BuildHasher S.Hasher.Hasher key hash gap self.old }
         requires some { 0 < length self.old.machine.small }
         requires full { vacancy self.old.machine ≡ None }
         requires out { IfSome (last_or None self.old.machine.small)
@@ -286,20 +293,21 @@ impl<K: Hash + Eq + Drop, V: Drop, S: BuildHasher, A: Allocator> Cache<K, V, S, 
     {
         let tail = self.queues.reuse_tail();
         let left = leaves(self.directory.key(tail));
-        self.directory.remember(tail, hash, key, value);
+        self.directory.remember(gap, tail, hash, key, value);
         (tail, Some(left))
     }
 
     /// Inserts a key into Small in the slot of Main's victim, while Small's tail moves on to Main.
     fn promote_tail<R, F: FnOnce(&K) -> R>(
         &mut self,
+        gap: Option<Gap>,
         hash: u64,
         key: K,
         value: Option<V>,
         leaves: F,
     ) -> (u32, Option<R>)
         requires callable { F.IsAlwaysCallable leaves }
-        requires unknown { IsUnknown K.Hash S.BuildHasher S.Hasher.Hasher key hash self.old }
+        requires unknown { IsUnknown K.Hash S.BuildHasher S.Hasher.Hasher key hash gap self.old }
         requires some { 0 < length self.old.machine.small }
         requires full { vacancy self.old.machine ≡ None }
         requires on { IfSome (last_or None self.old.machine.small)
@@ -315,7 +323,7 @@ impl<K: Hash + Eq + Drop, V: Drop, S: BuildHasher, A: Allocator> Cache<K, V, S, 
             unreachable!()
         };
         self.queues.append(tail);
-        let old = self.directory.renew(slot, hash, key, value);
+        let old = self.directory.renew(gap, slot, hash, key, value);
         self.queues.admit(slot);
         (slot, Some(leaves(&old.1)))
     }

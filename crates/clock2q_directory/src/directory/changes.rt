@@ -1,6 +1,7 @@
 //! What happens to a key: it enters, leaves, is remembered or forgotten.
 use crate::directory::Directory;
 use crate::place::Place;
+use clock2q_handles::Gap;
 use std::alloc::Allocator;
 
 impl<K: Eq, V, A: Allocator> Directory<K, V, A> {
@@ -50,7 +51,7 @@ impl<K: Eq, V, A: Allocator> Directory<K, V, A> {
         ensures kept { self.new.residents ≡ self.old.residents }
     {
         let key = *self.residents.key(slot);
-        self.history.remember(self.residents.hash(slot), slot, key);
+        self.history.retire(self.residents.hash(slot), slot, key);
         key
     }
 
@@ -101,15 +102,16 @@ impl<K: Eq, V, A: Allocator> Directory<K, V, A> {
 impl<K: Eq + Drop, V: Drop, A: Allocator> Directory<K, V, A> {
     ghost use Rattle.std.specs.Prelude.{◌≡◌, ◌+◌, false, Some};
     ghost use Rattle.clock2q_directory.specs.Keys.{hash_at, key_at, Writes};
-    ghost use Rattle.clock2q_directory.specs.Index.{entered, left};
+    ghost use Rattle.clock2q_directory.specs.Index.{entered, entered_from, left, IsGapFor};
     ghost use Rattle.clock2q_directory.specs.History.{is_remembered};
     ghost use Rattle.clock2q_directory.specs.Directory.{IsVacant, IsResident, IsWithinRoom, Remembers};
 
     /// Makes a key the resident of a slot that has none, with a new value, or with the one that the
-    /// slot had.
+    /// slot had. A lookup may have found the gap for its hash.
     #[inline(always)]
-    pub fn enter(&mut self, slot: u32, hash: u64, key: K, value: Option<V>)
+    pub fn enter(&mut self, gap: Option<Gap>, slot: u32, hash: u64, key: K, value: Option<V>)
         requires vacant { IsVacant value slot self.old }
+        requires gap { IsGapFor gap hash self.old.history.places.index }
         ensures index { self.new.history ≡
             record self.old.history { places = record self.old.history.places { index = entered hash slot self.old.history.places.index } } }
         ensures entries { Writes hash key value slot self.old.residents.entries self.new.residents.entries }
@@ -120,20 +122,28 @@ impl<K: Eq + Drop, V: Drop, A: Allocator> Directory<K, V, A> {
             } }
     {
         self.residents.put(slot, hash, key, value);
-        self.history.enter(hash, slot);
+        self.history.enter(gap, hash, slot);
     }
 
     /// Makes a key the resident of a slot in place of another, which is no longer known, with a new
     /// value, or with the one that the slot had. Returns the other's hash and key.
-    pub fn renew(&mut self, slot: u32, hash: u64, key: K, value: Option<V>) -> (u64, K)
+    pub fn renew(
+        &mut self,
+        gap: Option<Gap>,
+        slot: u32,
+        hash: u64,
+        key: K,
+        value: Option<V>,
+    ) -> (u64, K)
         requires resident { IsResident slot self.old }
+        requires gap { IsGapFor gap hash self.old.history.places.index }
         requires room { IsWithinRoom self.old.history }
         ensures hash { hash_at self.old.residents.entries slot ≡ Some result.0 }
         ensures key { key_at self.old.residents.entries slot ≡ Some result.1 }
         ensures index { self.new.history ≡
             record self.old.history {
               places = record self.old.history.places {
-                index = entered hash slot
+                index = entered_from self.old.history.places.index hash slot
                     (left result.0 slot self.old.history.places.index);
               };
             } }
@@ -145,15 +155,15 @@ impl<K: Eq + Drop, V: Drop, A: Allocator> Directory<K, V, A> {
             } }
     {
         let old = self.residents.refill(slot, hash, key, value);
-        self.history.leave(old.0, slot);
-        self.history.enter(hash, slot);
+        self.history.renew(gap, hash, slot, old.0);
         old
     }
 
     /// Makes a key the resident of a slot in place of another, which is remembered as the newest.
     /// If the history is full, the oldest remembered key is forgotten.
-    pub fn remember(&mut self, slot: u32, hash: u64, key: K, value: Option<V>)
+    pub fn remember(&mut self, gap: Option<Gap>, slot: u32, hash: u64, key: K, value: Option<V>)
         requires resident { IsResident slot self.old }
+        requires gap { IsGapFor gap hash self.old.history.places.index }
         requires room { IsWithinRoom self.old.history }
         requires absent { (old : K) → key_at self.old.residents.entries slot ≡ Some old →
             is_remembered K.eq old self.old.history.entries ≡ false }
@@ -166,7 +176,6 @@ impl<K: Eq + Drop, V: Drop, A: Allocator> Directory<K, V, A> {
             } }
     {
         let (old_hash, old_key) = self.residents.refill(slot, hash, key, value);
-        self.history.remember(old_hash, slot, old_key);
-        self.history.enter(hash, slot);
+        self.history.remember(gap, hash, slot, old_hash, old_key);
     }
 }

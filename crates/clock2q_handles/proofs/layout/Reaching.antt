@@ -13,7 +13,7 @@ module _ {E : Type 0} where
       by_slot None l = absurd (omega arith)
       by_slot (Some s) l = refl
 
-  occupied-is : (A : ℕ → Option (Placed E)) (h v k : ℕ) → v < k → A (h + v) ≡ None → ((j : ℕ) → j < v → 1 ≤ reach (A (h + j))) → occupied A h k ≡ v
+  pub occupied-is : (A : ℕ → Option (Placed E)) (h v k : ℕ) → v < k → A (h + v) ≡ None → ((j : ℕ) → j < v → 1 ≤ reach (A (h + j))) → occupied A h k ≡ v
   occupied-is A h zero zero l hole full = absurd (omega arith)
   occupied-is A h zero (suc k) l hole full =
       let e : h ≡ h + 0 = omega arith in

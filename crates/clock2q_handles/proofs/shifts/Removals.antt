@@ -1,13 +1,16 @@
 -- What removing an entry from its home's list results in: the list that a removal specifies, the table as it was before an insertion, and walks that are no longer.
-use Rattle.std.proofs.Common.{◌≡◌, ℕ, suc, ◌+◌, ◌%◌, ◌<◌, ◌≤◌, refl, ap, sym, ◌∙◌, arith, Bool, true, false, cond, ◌||◌, ◌&&◌, eq-eqb, List, [], ◌∷◌, ◌++◌, length, set, set-set, append-nil}
+use Rattle.std.proofs.Common.{◌≡◌, ℕ, suc, ◌+◌, ◌%◌, ◌<◌, ◌≤◌, inl, inr, refl, ap, sym, ◌∙◌, arith, Bool, true, false, cond, ◌||◌, ◌&&◌, eq-eqb, List, [], ◌∷◌, ◌++◌, length, get_or, set, set-set, append-nil}
+use Rattle.std.proofs.lemmas.Bool.{cases_eq}
+use Rattle.std.proofs.lemmas.List.{set_comm}
 use Rattle.std.proofs.Common.{Option, Some, ◌-◌}
 use Rattle.std.specs.List.{list_any}
 use Rattle.std.proofs.Math.Seq.{set-get_or}
-use Rattle.clock2q_handles.specs.Homes.{top, capacity, home, listed, total, with_list, without_first, with_handle, is_entry_of, removed, IsNew}
+use Rattle.clock2q_handles.specs.Homes.{top, capacity, home, listed, total, with_list, put_last, without_first, with_handle, is_entry_of, removed, IsNew}
+use Rattle.clock2q_handles.specs.Positions.{with_first, handle_replaced}
 use Rattle.clock2q_handles.specs.Layout.{Placed, placed, slot_at, walk, layout, homes_of, met, IsTidy}
 use Rattle.clock2q_handles.proofs.layout.TidyLayout.{tidy-layout, length-homes_of}
 use Rattle.clock2q_handles.proofs.layout.FewerEntries.{shorter-walk}
-use Rattle.clock2q_handles.proofs.shifts.Changes.{list_without, read-split, length-with_list, listed-with_same}
+use Rattle.clock2q_handles.proofs.shifts.Changes.{list_without, read-split, length-with_list, listed-with_same, listed-with_other}
 
 module _ {E : Type 0} (test : E → Bool) where
   none_at : (e : E) (es : List E) (b : Bool) → (list_any test es ≡ false → without_first test es ≡ es) → (b || list_any test es) ≡ false → cond b es (e ∷ without_first test es) ≡ e ∷ es
@@ -29,6 +32,16 @@ module _ {E : Type 0} (test : E → Bool) where
   without_first-at [] ys e none is = ap (λ b. cond b ys (e ∷ without_first test ys)) is
   without_first-at (x ∷ xs) ys e none is = later_at x e xs ys (test x) (λ n. without_first-at xs ys e n is) none
 
+  append_at : (e : E) (es ys : List E) (b : Bool) → (list_any test es ≡ true → without_first test (es ++ ys) ≡ without_first test es ++ ys)
+      → (b || list_any test es) ≡ true → cond b (es ++ ys) (e ∷ without_first test (es ++ ys)) ≡ cond b es (e ∷ without_first test es) ++ ys
+  append_at e es ys true rest some = refl
+  append_at e es ys false rest some = ap (λ xs. e ∷ xs) (rest some)
+
+  -- what comes after the first that passes stays
+  pub without_first-append : (es ys : List E) → list_any test es ≡ true → without_first test (es ++ ys) ≡ without_first test es ++ ys
+  without_first-append [] ys some = absurd (cc)
+  without_first-append (e ∷ es) ys some = append_at e es ys (test e) (without_first-append es ys) some
+
   shorter_at : (e : E) (es : List E) (b : Bool) → length (without_first test es) ≤ length es → length (cond b es (e ∷ without_first test es)) ≤ suc (length es)
   shorter_at e es true l = omega arith
   shorter_at e es false l = omega (arith, l)
@@ -36,6 +49,42 @@ module _ {E : Type 0} (test : E → Bool) where
   pub length-without_first : (es : List E) → length (without_first test es) ≤ length es
   length-without_first [] = omega arith
   length-without_first (e ∷ es) = shorter_at e es (test e) (length-without_first es)
+
+module _ {E : Type 0} (test : E → Bool) (new : E) where
+  with_at : (e : E) (es ys : List E) (b : Bool) → (list_any test es ≡ true → with_first test new (es ++ ys) ≡ with_first test new es ++ ys)
+      → (b || list_any test es) ≡ true → cond b (new ∷ es ++ ys) (e ∷ with_first test new (es ++ ys)) ≡ cond b (new ∷ es) (e ∷ with_first test new es) ++ ys
+  with_at e es ys true rest some = refl
+  with_at e es ys false rest some = ap (λ xs. e ∷ xs) (rest some)
+
+  with_first-append : (es ys : List E) → list_any test es ≡ true → with_first test new (es ++ ys) ≡ with_first test new es ++ ys
+  with_first-append [] ys some = absurd (cc)
+  with_first-append (e ∷ es) ys some = with_at e es ys (test e) (with_first-append es ys) some
+
+-- a change of the list of y that leaves what is put last may be made after e is put in under x
+changed-after : {E : Type 0} (f : List E → List E) (homes : List (List E)) (x y : ℕ) (e : E) → 0 < length homes → f (listed homes y ++ e ∷ []) ≡ f (listed homes y) ++ e ∷ []
+    → with_list (put_last homes x e) y (f (listed (put_last homes x e) y)) ≡ put_last (with_list homes y (f (listed homes y))) x e
+changed-after {E} f homes x y e some kept =
+    let es : List E = listed homes x ++ e ∷ [] in
+    let fs : List E = f (listed homes y) in
+    let more : List (List E) = put_last homes x e in
+    let other : List (List E) = with_list homes y fs in
+    let len : length more ≡ length homes = length-with_list homes x es in
+    let len' : length other ≡ length homes = length-with_list homes y fs in
+    elim (cases_eq (y % length homes) (x % length homes)) [
+      | inl same ↦
+          let alike : listed homes y ≡ listed homes x = ap (λ k. get_or homes k []) same in
+          let left : f (listed more y) ≡ fs ++ e ∷ [] = ap f (listed-with_same homes x y es some same ∙ ap (λ xs. xs ++ e ∷ []) (sym alike)) ∙ kept in
+          let right : listed other x ++ e ∷ [] ≡ fs ++ e ∷ [] = ap (λ xs. xs ++ e ∷ []) (listed-with_same homes y x fs some (sym same)) in
+          ap (set more (home more y)) left ∙ ap (λ k. set more (y % k) (fs ++ e ∷ [])) len ∙ ap (λ k. set more k (fs ++ e ∷ [])) same
+          ∙ set-set homes (home homes x) es (fs ++ e ∷ [])
+          ∙ sym (ap (set other (home other x)) right ∙ ap (λ k. set other (x % k) (fs ++ e ∷ [])) len'
+          ∙ ap (λ k. set (set homes k fs) (home homes x) (fs ++ e ∷ [])) same ∙ set-set homes (home homes x) fs (fs ++ e ∷ []))
+      | inr apart ↦
+          let left : f (listed more y) ≡ fs = ap f (listed-with_other homes x y es apart) in
+          let right : listed other x ++ e ∷ [] ≡ es = ap (λ xs. xs ++ e ∷ []) (listed-with_other homes y x fs (λ q. apart (sym q))) in
+          ap (set more (home more y)) left ∙ ap (λ k. set more (y % k) fs) len ∙ set_comm homes (home homes x) (home homes y) es fs (λ q. apart (sym q))
+          ∙ sym (ap (set other (home other x)) right ∙ ap (λ k. set other (x % k) es) len')
+    ]
 
 module _ {H : Type 0} (eq : H → H → Bool) where
   -- if there is no such entry, nothing changes
@@ -48,6 +97,36 @@ module _ {H : Type 0} (eq : H → H → Bool) where
   removed-found slots x d v e l here none is =
       ap (set (homes_of slots) (home (homes_of slots) x)) (ap (without_first (is_entry_of eq x v)) (read-split slots x d e l here)
       ∙ without_first-at (is_entry_of eq x v) (met (slot_at slots) x 0 d) (met (slot_at slots) x (suc d) (length slots - suc d)) e none is)
+
+  any_by : (xs ys : Bool) (b : Bool) → (xs ≡ true → ys ≡ true) → (b || xs) ≡ true → (b || ys) ≡ true
+  any_by xs ys true rest some = refl
+  any_by xs ys false rest some = rest some
+
+  any_at : (test : ℕ × H → Bool) (es ys : List (ℕ × H)) → list_any test es ≡ true → list_any test (es ++ ys) ≡ true
+  any_at test [] ys some = absurd (cc)
+  any_at test (e ∷ es) ys some = any_by (list_any test es) (list_any test (es ++ ys)) (test e) (any_at test es ys) some
+
+  -- an entry that is held is held once another is put in
+  pub held-still : (homes : List (List (ℕ × H))) (x y : ℕ) (v w : H) → 0 < length homes → list_any (is_entry_of eq y w) (listed homes y) ≡ true
+      → list_any (is_entry_of eq y w) (listed (with_handle homes x v) y) ≡ true
+  held-still homes x y v w some held = elim (cases_eq (y % length homes) (x % length homes)) [
+    | inl same ↦
+        ap (list_any (is_entry_of eq y w)) (listed-with_same homes x y (listed homes x ++ (top x, v) ∷ []) some same ∙ ap (λ k. get_or homes k [] ++ (top x, v) ∷ []) (sym same))
+        ∙ any_at (is_entry_of eq y w) (listed homes y) ((top x, v) ∷ []) held
+    | inr other ↦ ap (list_any (is_entry_of eq y w)) (listed-with_other homes x y (listed homes x ++ (top x, v) ∷ []) other) ∙ held
+  ]
+
+  -- an entry may be removed after another is put in
+  pub exchanged-homes : (homes : List (List (ℕ × H))) (x y : ℕ) (v w : H) → 0 < length homes → list_any (is_entry_of eq y w) (listed homes y) ≡ true
+      → removed eq (with_handle homes x v) y w ≡ with_handle (removed eq homes y w) x v
+  exchanged-homes homes x y v w some held =
+      changed-after (without_first (is_entry_of eq y w)) homes x y (top x, v) some (without_first-append (is_entry_of eq y w) (listed homes y) ((top x, v) ∷ []) held)
+
+  -- or get another handle
+  pub replaced-homes : (homes : List (List (ℕ × H))) (x y : ℕ) (v w w' : H) → 0 < length homes → list_any (is_entry_of eq y w) (listed homes y) ≡ true
+      → handle_replaced eq (with_handle homes x v) y w w' ≡ with_handle (handle_replaced eq homes y w w') x v
+  replaced-homes homes x y v w w' some held =
+      changed-after (with_first (is_entry_of eq y w) (top y, w')) homes x y (top x, v) some (with_first-append (is_entry_of eq y w) (top y, w') (listed homes y) ((top x, v) ∷ []) held)
 
   -- no walk becomes longer
   pub removed-walk : (homes : List (List (ℕ × H))) (x : ℕ) (v : H) → total homes ≤ capacity (length homes) → (y : ℕ) → walk (removed eq homes x v) y ≤ walk homes y

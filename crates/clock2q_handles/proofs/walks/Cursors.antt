@@ -1,7 +1,7 @@
 -- Lookups that keep a slot and what they look for there: how far they are, and what a step does to what is left.
-use Rattle.std.proofs.Common.{◌≡◌, ◌≢◌, ℕ, suc, ◌+◌, ◌-◌, ◌%◌, ◌<◌, ◌≤◌, inl, inr, refl, ap, sym, ◌∙◌, subst, arith, ◌==◌, eq-eqb, List, [], ◌∷◌, map, filter, length, Option, Some, None, IfSome}
+use Rattle.std.proofs.Common.{◌≡◌, ◌≢◌, ℕ, suc, ◌+◌, ◌-◌, ◌%◌, ◌<◌, ◌≤◌, inl, inr, refl, ap, sym, ◌∙◌, subst, arith, ◌==◌, List, [], ◌∷◌, map, filter, length, Option, Some, None, IfSome}
 use Rattle.std.specs.Prelude.{IsSome, IsTrue, Bool, true, false, ◌↔◌}
-use Rattle.std.proofs.lemmas.Bool.{cases_lt, eqb-true, and_from, and_parts}
+use Rattle.std.proofs.lemmas.Bool.{cases_lt, eqb-true, and_parts}
 use Rattle.std.proofs.lemmas.Nat.{mod_below}
 use Rattle.std.proofs.Math.Nat.{add-mod_right}
 use Rattle.clock2q_handles.specs.Homes.{top}
@@ -18,13 +18,17 @@ use Rattle.clock2q_handles.proofs.walks.Yields.{left_end, left_skip, left_take, 
 pub rem-plus : (m y k : ℕ) → (y % m + k) % m ≡ (y + k) % m
 rem-plus m y k = rem-same (λ z. (z + k) % m) m (λ n. let e : n + m + k ≡ n + k + m = omega arith in ap (λ z. z % m) e ∙ add-mod_right (n + k) m) y
 
+-- the home of a walk that has come from x
+pub home_of_walk : {H : Type 0} (slots : List (Option (Placed (ℕ × H)))) (x d n : ℕ) → d < length slots → n ≡ (x + d) % length slots → home_back slots n d ≡ x % length slots
+home_of_walk slots x d n within at =
+    let m : ℕ = length slots in
+    let s : n + m - d ≡ n + (m - d) = omega (arith, within) in
+    let t : x + d + (m - d) ≡ x + m = omega (arith, within) in
+    ap (λ z. z % m) s ∙ ap (λ z. (z + (m - d)) % m) at ∙ rem-plus m (x + d) (m - d) ∙ ap (λ z. z % m) t ∙ add-mod_right x m
+
 module _ {H : Type 0} (slots : List (Option (Placed (ℕ × H)))) (tidy : IsTidy slots) (d f n : ℕ) (on : IsOnWalk slots d f n) where
   home_is : home_back slots n d ≡ on.hash % length slots
-  home_is =
-      let m : ℕ = length slots in
-      let s : n + m - d ≡ n + (m - d) = omega (arith, on.within) in
-      let t : on.hash + d + (m - d) ≡ on.hash + m = omega (arith, on.within) in
-      ap (λ z. z % m) s ∙ ap (λ z. (z + (m - d)) % m) on.slot ∙ rem-plus m (on.hash + d) (m - d) ∙ ap (λ z. z % m) t ∙ add-mod_right on.hash m
+  home_is = home_of_walk slots on.hash d n on.within on.slot
 
   -- the contents of the slot that the walk has reached
   pub walk_here : slot_at slots n ≡ slot_at slots (on.hash + d)
@@ -183,10 +187,6 @@ module _ {H : Type 0} (slots : List (Option (Placed (ℕ × H)))) where
 
 -- a walk in a slot where it has found what it looks for
 module _ {H : Type 0} (slots : List (Option (Placed (ℕ × H)))) where
-  pub found_peeked : (s : Mark) (n : ℕ) → IsSome s → mark_of (slot_at slots n) ≡ s → peeked_at slots s n ≡ true
-  found_peeked None n some is = absurd (cc)
-  found_peeked (Some s) n some is = ap (λ m. is_mark s m) is ∙ and_from (s.0 == s.0) (s.1 == s.1) (eq-eqb s.0 s.0 refl) (eq-eqb s.1 s.1 refl)
-
   this_mark : (s : ℕ × ℕ) (m : Mark) → is_mark s m ≡ true → m ≡ Some s
   this_mark s None h = absurd (cc)
   this_mark s (Some m) h =

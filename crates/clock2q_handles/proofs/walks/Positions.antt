@@ -1,17 +1,22 @@
 -- Where a home's entries are and its walks end, as slots show it.
-use Rattle.std.proofs.Common.{◌≡◌, ℕ, suc, ◌+◌, ◌-◌, ◌%◌, ◌<◌, ◌≤◌, refl, ap, sym, ◌∙◌, arith, List, [], ◌∷◌, ◌++◌, length, set, Option, Some, slice_get}
+use Rattle.std.proofs.Common.{◌≡◌, ℕ, suc, ◌+◌, ◌-◌, ◌%◌, ◌<◌, ◌≤◌, refl, ap, sym, ◌∙◌, arith, List, [], ◌∷◌, ◌++◌, length, set, Option, Some, None, slice_get}
+use Rattle.std.specs.Prelude.{IsSome}
+use Rattle.std.proofs.Math.Nat.{add-mod_right}
 use Rattle.std.proofs.Math.Seq.{set-append_seam}
 use Rattle.clock2q_handles.specs.Homes.{top, listed, count, with_list}
 use Rattle.clock2q_handles.specs.Layout.{Placed, placed, slot_at, reach, met, homes_of, layout, spill_of, IsTidy}
 use Rattle.clock2q_handles.specs.Slots.{Mark, mark_reach}
-use Rattle.clock2q_handles.specs.Candidates.{EndsAt}
-use Rattle.clock2q_handles.specs.Positions.{IsEntryAt, gap_value, gap_of, with_entry}
-use Rattle.clock2q_handles.proofs.layout.Reading.{slot-again}
+use Rattle.clock2q_handles.specs.Candidates.{end_at, IsLookup, IsWalkFor, EndsAt}
+use Rattle.clock2q_handles.specs.Positions.{IsEntryAt, GapValue, gap_value, gap_from, gap_of, with_entry}
+use Rattle.clock2q_handles.specs.Shifts.{HasCome}
+use Rattle.clock2q_handles.proofs.layout.Reading.{slot-again, count-again}
 use Rattle.clock2q_handles.proofs.layout.Periods.{rem-same}
 use Rattle.clock2q_handles.proofs.shifts.Carrying.{slot_from}
-use Rattle.clock2q_handles.proofs.walks.Cursors.{rem-plus}
+use Rattle.clock2q_handles.proofs.walks.Cursors.{rem-plus, home_of_walk}
 use Rattle.clock2q_handles.proofs.layout.FewerEntries.{walk-is}
-use Rattle.clock2q_handles.proofs.layout.TidyLayout.{length-homes_of, layout-standing, tidy-layout, tidy-room, capacity-lt}
+use Rattle.clock2q_handles.proofs.layout.Spill.{spill-again}
+use Rattle.clock2q_handles.proofs.layout.TidyLayout.{length-homes_of, layout-standing, tidy-layout, tidy-room, tidy-vacant, capacity-lt}
+use Rattle.clock2q_handles.proofs.layout.Walk.{stop}
 use Rattle.clock2q_handles.proofs.shifts.Changes.{read-split, read-count}
 use Rattle.clock2q_handles.proofs.shifts.Steps.{past_home}
 use Rattle.clock2q_handles.proofs.walks.Yields.{walk-at, walk-beyond}
@@ -78,10 +83,21 @@ module _ {E : Type 0} where
           ap (λ k. set (listed (homes_of slots) x) k e') at ∙ ap (λ es. set es (length before) e') (read-split slots x d e here_within here) ∙ set-append_seam before e after e' in
           ap (with_list (homes_of slots) x) (sym other)
 
-module _ {H : Type 0} (slots : List (Option (Placed (ℕ × H)))) (tidy : IsTidy slots) (some : 0 < length slots) (x n : ℕ) where
+-- the gap of a hash is that of its home
+gap-home : {E : Type 0} (homes : List (List E)) (x f : ℕ) → gap_from homes (x % length homes) f ≡ gap_from homes x f
+gap-home homes x f = rem-same (λ h. gap_from homes h f) (length homes) (λ h.
+    let m : ℕ = length homes in
+    let d : ℕ = spill_of homes h + count homes h in
+    let same : spill_of homes (h + m) + count homes (h + m) ≡ d = omega (arith, spill-again (count homes) m (count-again homes) h, count-again homes h) in
+    let at : h + m + spill_of homes (h + m) + count homes (h + m) ≡ h + spill_of homes h + count homes h + m = omega (arith, same) in
+    ap (λ k. gap_value (k % m) (Some (spill_of homes (h + m) + count homes (h + m), f))) at
+    ∙ ap (λ k. gap_value ((h + spill_of homes h + count homes h + m) % m) (Some (k, f))) same
+    ∙ ap (λ k. gap_value k (Some (d, f))) (add-mod_right (h + spill_of homes h + count homes h) m)) x
+
+module _ {H : Type 0} (slots : List (Option (Placed (ℕ × H)))) (tidy : IsTidy slots) (some : 0 < length slots) (x : ℕ) where
   -- a walk ends at the gap
-  pub ends_gap : (s : Mark) → EndsAt slots x s n → gap_value n s ≡ gap_of (homes_of slots) x
-  ends_gap s ends =
+  pub ends_gap : (n : ℕ) (s : Mark) → EndsAt slots x s n → gap_value n s ≡ gap_of (homes_of slots) x
+  ends_gap n s ends =
       let homes = homes_of slots in
       let d : ℕ = ends.walk.distance in
       let come = ends.walk.come in
@@ -93,3 +109,60 @@ module _ {H : Type 0} (slots : List (Option (Placed (ℕ × H)))) (tidy : IsTidy
       ap (λ k. gap_value k s)
       (come.slot ∙ rem-plus (length slots) x d ∙ ap (λ k. k % length slots) q ∙ ap (λ m. (x + spill_of homes x + count homes x) % m) (sym (length-homes_of slots)))
       ∙ ap (gap_value ((x + spill_of homes x + count homes x) % length homes)) (ends.walk.mark ∙ ap (λ k. Some (k, top x)) sum)
+
+  -- and so the gap is where one ends
+  pub gap_ends : (g : GapValue) → g ≡ gap_of (homes_of slots) x → EndsAt slots x g.mark g.position
+  gap_ends g is =
+      let v = tidy-vacant slots tidy some in
+      let h : ℕ = x % length slots in
+      let past = past_home slots (length slots) h x refl refl in
+      let t = stop (slot_at slots) tidy.ordered (length slots) (slot-again slots) some v.0 v.1 h 0 in
+      let come : HasCome slots h t.0 ((h + t.0) % length slots) = record { slot = refl; within = t.1; passed = λ j l. omega (arith, t.2.before j l) } in
+      let mark : Mark = Some (t.0, top x) in
+      let ends : EndsAt slots x mark ((h + t.0) % length slots) = record {
+        walk = record { distance = t.0; come = come; mark = refl };
+        stop = omega (arith, t.2.stop, ap reach (past_at slots tidy some x t.0 ((h + t.0) % length slots) refl), ap reach (past t.0));
+      } in
+      let at : gap_value ((h + t.0) % length slots) mark ≡ g = ends_gap ((h + t.0) % length slots) mark ends ∙ sym is in
+      rw (← at) ends
+
+module _ {H : Type 0} (slots : List (Option (Placed (ℕ × H)))) where
+  -- a walk for x ends at the gap of x, wherever it is
+  pub end_of : (x : ℕ) (s : Mark) (n : ℕ) → IsWalkFor slots x s n → end_at slots s n ≡ Some (gap_of (homes_of slots) x)
+  end_of x s n walk =
+      let homes = homes_of slots in
+      let d : ℕ = walk.distance in
+      let m : ℕ = length slots in
+      ap (λ t. end_at slots t n) walk.mark
+      ∙ ap (λ h. Some (gap_from homes h (top x))) (home_of_walk slots x d n walk.come.within (walk.come.slot ∙ rem-plus m x d) ∙ ap (λ k. x % k) (sym (length-homes_of slots)))
+      ∙ ap Some (gap-home homes x (top x))
+
+  -- a lookup that has an end looks for something
+  pub some_sought : (s : Mark) (n : ℕ) → IsSome (end_at slots s n) → IsSome s
+  some_sought None n some = absurd (cc)
+  some_sought (Some s) n some = refl
+
+  -- a lookup that looks for something is on a walk for some hash
+  walking : (s : Mark) (n : ℕ) → IsSome s → IsLookup slots s n → (x : ℕ) × IsWalkFor slots x s n
+  walking None n some lookup = absurd (cc)
+  walking (Some s) n some lookup =
+      let on = lookup.walk in
+      let past = past_home slots (length slots) (on.hash % length slots) on.hash refl refl in (
+        on.hash,
+        record {
+          distance = s.0;
+          come = record { slot = on.slot ∙ sym (rem-plus (length slots) on.hash s.0); within = on.within; passed = λ j l. omega (arith, on.passed j l, ap reach (past j)) };
+          mark = ap (λ t. Some (s.0, t)) on.fingerprint;
+        },
+      )
+
+  module _ (s s' : Mark) (n n' : ℕ) (some : IsSome s) (lookup : IsLookup slots s n) where
+    -- a walk that goes on keeps its end
+    pub same_end : ((x : ℕ) → IsWalkFor slots x s n → IsWalkFor slots x s' n') → end_at slots s n ≡ end_at slots s' n'
+    same_end on = let w = walking s n some lookup in end_of w.0 s n w.1 ∙ sym (end_of w.0 s' n' (on w.0 w.1))
+
+    -- and stops there
+    pub end_is : ((x : ℕ) → IsWalkFor slots x s n → EndsAt slots x s' n') → end_at slots s n ≡ Some (gap_value n' s')
+    end_is on =
+        let w = walking s n some lookup in
+        end_of w.0 s n w.1 ∙ ap Some (sym (ends_gap slots lookup.tidy (omega (arith, w.1.come.within)) w.0 n' s' (on w.0 w.1)))

@@ -222,7 +222,7 @@ impl<H: Copy + Eq + Default, A: Allocator> Table<H, A> {
 
     /// Returns the gap for a hash: where its walk ends.
     #[inline(always)]
-    fn gap(&mut self, hash: u64) -> Gap
+    pub(super) fn gap(&mut self, hash: u64) -> Gap
         requires below { IsBelowCapacity self.old.homes }
         ensures ends { EndsAt self.old.slots hash result.mark result.position }
         ensures few { H → total self.old.homes + 1 < 2 ^ 24
@@ -279,7 +279,7 @@ impl<H: Copy + Eq + Default, A: Allocator> Table<H, A> {
 
     /// Inserts an entry at the gap for its hash, given that there is room.
     #[inline(always)]
-    fn put_at(&mut self, gap: Gap, hash: u64, handle: H)
+    pub(super) fn put_at(&mut self, gap: Gap, hash: u64, handle: H)
         requires below { IsBelowCapacity self.old.homes }
         requires ends { EndsAt self.old.slots hash gap.mark gap.position }
         requires room { HasRoomAt self.old.slots gap.mark gap.position }

@@ -1,5 +1,5 @@
 //! Removal of entries from a table.
-ghost use Rattle.clock2q_handles.specs.Changes.{WritesAtMost, ReadsAtMost, OnlyReads, IsLaidOut};
+ghost use Rattle.clock2q_handles.specs.Changes.{WritesAtMost, ReadsAtMost, OnlyReads, TakesUnder, IsLaidOut};
 ghost use Rattle.clock2q_handles.specs.Homes.{listed, removed, is_entry_of};
 ghost use Rattle.clock2q_handles.specs.Layout.{run, walk};
 ghost use Rattle.std.specs.Bool.{OnFalse};
@@ -37,13 +37,12 @@ impl<H: Copy + Eq + Default, A: Allocator> Table<H, A> {
     }
 
     /// Removes the first candidate of `hash` that equals `handle`, as [remove](Table::remove) does,
-    /// given that there is one. Its walk doesn't test for an end. Out of line, so that a caller that
-    /// removes one entry to insert another has fewer registers to save.
+    /// given that there is one. Its walk doesn't test for an end.
     ///
     /// # Cost
     ///
     /// That of [remove](Table::remove).
-    #[inline(never)]
+    #[inline(always)]
     pub fn remove_existing(&mut self, hash: u64, handle: H)
         requires held { list_any (is_entry_of H.PartialEq.eq hash handle)
             (listed self.old.homes hash) ≡ true }
@@ -52,6 +51,17 @@ impl<H: Copy + Eq + Default, A: Allocator> Table<H, A> {
         ensures reads { ReadsAtMost (walk self.old.homes hash) self.old self.new }
         ensures laid { IsLaidOut self.new }
         ensures shorter { (x : ℕ) → walk self.new.homes x ≤ walk self.old.homes x }
+    {
+        self.take_existing(hash, handle);
+    }
+
+    /// Does what [`remove_existing`](Table::remove_existing) does, out of line, so that a caller that
+    /// removes one entry to insert another has fewer registers to save.
+    #[inline(never)]
+    pub(super) fn take_existing(&mut self, hash: u64, handle: H)
+        requires held { list_any (is_entry_of H.PartialEq.eq hash handle)
+            (listed self.old.homes hash) ≡ true }
+        ensures taken { TakesUnder H.PartialEq.eq hash handle self.old self.new }
     {
         let held = self.slots.find_existing(hash, handle, &mut self.reads);
         self.slots.take_out(held, &mut self.reads);

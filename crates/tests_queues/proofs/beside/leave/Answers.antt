@@ -1,6 +1,5 @@
-use Rattle.std.proofs.Common.{◌≡◌, ap, ◌∙◌, ℕ}
+use Rattle.std.proofs.Common.{ap, ◌∙◌}
 use Rattle.clock2q_directory.specs.Index.{left}
-use Rattle.clock2q_directory.specs.History.{Remembered}
 use Rattle.tests_queues.proofs.Residents.{is-resident, same_hash, withdrawn-alone}
 use Rattle.tests_queues.proofs.beside.leave.Goals as goal
 

@@ -1,4 +1,4 @@
-use Rattle.std.proofs.Common.{◌≡◌, ℕ, ◌%◌}
+use Rattle.std.proofs.Common.{◌%◌}
 use Rattle.clock2q_directory.specs.Index.{slots}
 use Rattle.clock2q_directory.proofs.Indexes.{candidates_there}
 use Rattle.tests_queues.proofs.Residents.{asked_resident, looked_resident, is-resident}

@@ -1,5 +1,5 @@
 -- The tail's key goes into the history, and the new key takes its slot.
-use Rattle.std.proofs.Common.{◌≡◌, ℕ, eqb, refl, ap, ◌∙◌, arith, vec_capacity}
+use Rattle.std.proofs.Common.{◌+◌, ◌≡◌, ℕ, eqb, refl, ap, ◌∙◌, arith, vec_capacity}
 use Rattle.clock2q_cache.proofs.Names.{oldest_hash, pushed_places, if◌then◌else◌, with_handle, removed, is_shared, slots, Remembered, Places, most_beside, slots-pushed, shared-pushed, slots-entered, into_small}
 use Rattle.clock2q_cache.proofs.CacheInvariant.{m, IsDone}
 use Rattle.clock2q_cache.proofs.Renewed.{is-resident, within-room, slot-below, tail-in, tail-unremembered, tail-leaves, evicted-done}
@@ -20,6 +20,7 @@ remember-requires g c =
     let last = c.reuse_tail-tail.ensures.tail in
     record {
       resident = is-resident c.self.inside.directory g.met.K.Eq.laws c.self.invariant c.reuse_tail-tail.result (tail-in g.met.K.Eq.laws c.self.invariant c.reuse_tail-tail.result last);
+      gap = rw (← c.self.view_is) at c.requires.unknown.at;
       room = within-room c.self.inside.directory g.met.K.Eq.laws c.self.invariant;
       absent = λ old is. tail-unremembered g.met.K.Eq.laws c.self.invariant c.reuse_tail-tail.result last old is;
     }
@@ -40,7 +41,7 @@ done g c =
     ∙ ap (λ z. with_handle z c.args.hash c.reuse_tail-tail.result) (slots-pushed h.limit r.old_hash c.reuse_tail-tail.result oldest h.places (omega (arith, below))) in
     let beside : most_beside c.remember.new.self.history ≡ most_beside h =
     ap (λ (z : Remembered _). most_beside z) r.becomes
-    ∙ ap (λ b. if b then h.limit else 0) (ap (λ (z : Places). is_shared z.index) r.places ∙ shared-pushed h.limit r.old_hash c.reuse_tail-tail.result oldest h.places (omega (arith, below))) in
+    ∙ ap (λ b. if b then h.limit + 1 else 0) (ap (λ (z : Places). is_shared z.index) r.places ∙ shared-pushed h.limit r.old_hash c.reuse_tail-tail.result oldest h.places (omega (arith, below))) in
     evicted-done g.met.K.Eq.laws c.self.invariant (rw (← c.self.view_is) at c.requires.unknown.hashed) (rw (← c.self.view_is) at c.requires.unknown.absent) there r.had_hash indexed
     c.remember.ensures.entries c.remember.ensures.kept last r.had_key (rw (← c.self.view_is) at c.requires.full) (rw (← c.self.view_is) at c.requires.out)
     c.reuse_tail-tail.ensures.queues r.becomes beside

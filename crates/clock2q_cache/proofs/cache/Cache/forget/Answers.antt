@@ -1,5 +1,5 @@
 -- The key's history is erased.
-use Rattle.std.proofs.Common.{ap, ◌∙◌}
+use Rattle.std.proofs.Common.{◌+◌, ap, ◌∙◌}
 use Rattle.clock2q_cache.proofs.Names.{list_any, is_shared, slots, Remembered, Places, most_beside, slots-freed, shared-freed, if◌then◌else◌, hash_of, CacheState, forgotten, discarded}
 use Rattle.clock2q_cache.proofs.Changed.{known-any, discard-hash, forgotten-machine, kept-forgotten}
 use Rattle.clock2q_cache.proofs.cache.Cache.forget.Goals as goal
@@ -17,7 +17,7 @@ invariant_of-self g c =
     rw c.forget.ensures.kept (kept-forgotten g.met.K.Eq.laws c.self.invariant c.args.key.now c.forget.new.self.history
     (ap (λ (z : Remembered _). z.entries) c.forget.ensures.forgotten) (ap (λ (z : Remembered _). z.limit) c.forget.ensures.forgotten)
     (ap (λ (z : Remembered _). most_beside z) c.forget.ensures.forgotten
-    ∙ ap (λ b. if b then c.self.inside.directory.history.limit else 0)
+    ∙ ap (λ b. if b then c.self.inside.directory.history.limit + 1 else 0)
     (ap (λ (z : Places). is_shared z.index) c.forget.ensures.places
     ∙ shared-freed c.args.hash _ c.self.inside.directory.history.places))
     (ap (λ (z : Places). slots z.index) c.forget.ensures.places ∙ slots-freed c.args.hash _ c.self.inside.directory.history.places))

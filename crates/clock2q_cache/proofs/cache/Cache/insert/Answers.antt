@@ -1,7 +1,7 @@
 -- A key that is not resident is not known once its history is erased.
 use Rattle.std.proofs.Common.{ap, ◌∙◌}
 use Rattle.clock2q_cache.proofs.Names.{known_count, Placement, placement, stored, unknown_once_forgotten}
-use Rattle.clock2q_cache.proofs.Insertions.{IsSent, goes-there, placed-inspections, forgotten-spends}
+use Rattle.clock2q_cache.proofs.Insertions.{IsSent, gap-still, goes-there, placed-inspections, forgotten-spends}
 use Rattle.clock2q_cache.proofs.Making.{small-unknown, placed-there}
 use Rattle.clock2q_cache.proofs.cache.Cache.insert.Given.{Over}
 use Rattle.clock2q_cache.proofs.cache.Cache.insert.Goals.{After-admits_to_main-main}
@@ -17,6 +17,7 @@ insert_unknown-requires-clause-unknown g c =
     record {
       hashed = rw c.forget-known.ensures.hasher c.requires.absent.hashed;
       absent = ap (known_count is) c.forget-known.ensures.machine ∙ unknown_once_forgotten is c.args.self.now.machine c.requires.absent.absent;
+      at = rw c.gap.ensures.gap (gap-still c.args.found c.requires.found c.forget-known.ensures.places);
     }
 
 pub insert_unknown-requires-clause-small : goal.insert_unknown-requires-clause-small

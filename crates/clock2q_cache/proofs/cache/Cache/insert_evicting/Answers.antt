@@ -1,7 +1,7 @@
 -- A key that takes the slot of another: the other comes back with the value of the slot.
 use Rattle.std.proofs.Common.{Some, None, false, sym, ap, ◌∙◌, rules}
 use Rattle.clock2q_cache.proofs.Names.{ltb-true, known_count, Placement, CacheState, placement, stored, unknown_once_forgotten}
-use Rattle.clock2q_cache.proofs.Insertions.{IsSent, goes-there, placed-inspections, forgotten-spends}
+use Rattle.clock2q_cache.proofs.Insertions.{IsSent, gap-still, goes-there, placed-inspections, forgotten-spends}
 use Rattle.clock2q_cache.proofs.Making.{small-unknown, placed-there, makes-here}
 use Rattle.clock2q_cache.proofs.Evicting.{leaver-there, maker-leaves, hands-none, hands-over, slot-made, slot-had, slot-stored}
 use Rattle.clock2q_cache.proofs.cache.Cache.insert_evicting.Given.{Over}
@@ -18,6 +18,7 @@ insert_unknown-requires-clause-unknown g c =
     record {
       hashed = rw c.forget-known.ensures.hasher c.requires.absent.hashed;
       absent = ap (known_count is) c.forget-known.ensures.machine ∙ unknown_once_forgotten is c.args.self.now.machine c.requires.absent.absent;
+      at = rw c.gap-gap.ensures.gap (gap-still c.args.found c.requires.found c.forget-known.ensures.places);
     }
 
 pub insert_unknown-requires-clause-small : goal.insert_unknown-requires-clause-small
@@ -51,6 +52,7 @@ insert_unknown-slot-requires-clause-unknown g c =
     record {
       hashed = rw c.forget-known.ensures.hasher c.requires.absent.hashed;
       absent = ap (known_count is) c.forget-known.ensures.machine ∙ unknown_once_forgotten is c.args.self.now.machine c.requires.absent.absent;
+      at = rw c.gap-gap.ensures.gap (gap-still c.args.found c.requires.found c.forget-known.ensures.places);
     }
 
 pub insert_unknown-slot-requires-clause-small : goal.insert_unknown-slot-requires-clause-small

@@ -33,6 +33,7 @@ insert_unknown-slot-requires-clause-unknown g c =
     record {
       hashed = rw (c.forget-known.ensures.hasher, c.find_place-place.ensures.kept) c.requires.absent.hashed;
       absent = ap (known_count is) erased ∙ unknown_once_forgotten is c.args.self.now.machine c.requires.absent.absent;
+      at = tt;
     }
 
 pub insert_unknown-slot-requires-clause-small : goal.insert_unknown-slot-requires-clause-small

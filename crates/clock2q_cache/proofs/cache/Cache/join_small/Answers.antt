@@ -24,6 +24,7 @@ enter-requires g c =
         below = f.short;
         index_room = record { room = f.index_room; few = f.few };
       };
+      gap = rw (← c.self.view_is) at c.requires.unknown.at;
     }
 
 pub admit-requires : goal.admit-requires

@@ -34,6 +34,7 @@ renew-old-requires g c =
     let there = victim-in g.met.K.Eq.laws c.self.invariant c.take_victim-slot.result c.take_victim-slot.ensures.victim in
     record {
       resident = is-resident c.self.inside.directory g.met.K.Eq.laws c.self.invariant c.take_victim-slot.result there;
+      gap = rw (← c.self.view_is) at c.requires.unknown.at;
       room = within-room c.self.inside.directory g.met.K.Eq.laws c.self.invariant;
     }
 

@@ -15,6 +15,7 @@ renew-old-requires g c =
     let there = victim-in g.met.K.Eq.laws c.self.invariant c.reuse_victim-victim.result c.reuse_victim-victim.ensures.victim in
     record {
       resident = is-resident c.self.inside.directory g.met.K.Eq.laws c.self.invariant c.reuse_victim-victim.result there;
+      gap = rw (← c.self.view_is) at c.requires.unknown.at;
       room = within-room c.self.inside.directory g.met.K.Eq.laws c.self.invariant;
     }
 

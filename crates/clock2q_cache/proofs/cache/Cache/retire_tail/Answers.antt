@@ -1,5 +1,5 @@
 -- The tail's key goes into the history, and its slot is free.
-use Rattle.std.proofs.Common.{◌≡◌, ℕ, None, length, sym, ap, ◌∙◌, arith, rules, vec_len}
+use Rattle.std.proofs.Common.{◌+◌, ◌≡◌, ℕ, None, length, sym, ap, ◌∙◌, arith, rules, vec_len}
 use Rattle.std.specs.Option.{option_map}
 use Rattle.clock2q_machine.specs.Machine.{tail_evicted}
 use Rattle.clock2q_cache.proofs.Names.{CacheState, Remembered, Places, last_or, oldest_hash, is_shared, slots, most_beside, slots-pushed, shared-pushed, if◌then◌else◌, hash_of, remembering}
@@ -47,7 +47,7 @@ invariant_of-self-2 g c =
     rw c.retire-key.ensures.kept (kept-retired laws c.self.invariant tail last _ _ c.free_slot.new.free.items _ _ _ c.in_ok-tail.ensures.queues r.had_hash r.had_key r.becomes c.free_slot.ensures.top
     (ap (λ (z : Places). slots z.index) r.places ∙ slots-pushed h.limit r.hash tail oldest h.places (omega (arith, below)))
     (ap (λ (z : Remembered _). most_beside z) r.becomes
-    ∙ ap (λ b. if b then h.limit else 0) (ap (λ (z : Places). is_shared z.index) r.places ∙ shared-pushed h.limit r.hash tail oldest h.places (omega (arith, below))))
+    ∙ ap (λ b. if b then h.limit + 1 else 0) (ap (λ (z : Places). is_shared z.index) r.places ∙ shared-pushed h.limit r.hash tail oldest h.places (omega (arith, below))))
     c.free_slot.ensures.capacity)
 
 pub returns-clause-left : goal.returns-clause-left

@@ -5,4 +5,4 @@ pub put-requires : goal.put-requires
 put-requires g c = let v = rw (← c.self.view_is) at c.requires.vacant in record { next = v.next; had = v.had; room = v.room; few = v.few }
 
 pub enter-requires : goal.enter-requires
-enter-requires g c = let v = rw (← c.self.view_is) at c.requires.vacant in record { below = omega (arith, v.below); room = v.index_room }
+enter-requires g c = let v = rw (← c.self.view_is) at c.requires.vacant in record { below = omega (arith, v.below); room = v.index_room; gap = rw (← c.self.view_is) at c.requires.gap }

@@ -7,7 +7,7 @@ returns-clause-retired g c =
       hash = c.hash.result;
       had_hash = c.hash.ensures.hash;
       had_key = c.key-key.ensures.key;
-      becomes = c.remember.ensures.pushed;
-      places = c.remember.ensures.places;
-      accesses = c.remember.ensures.accesses;
+      becomes = c.retire.ensures.pushed;
+      places = c.retire.ensures.places;
+      accesses = c.retire.ensures.accesses;
     })

@@ -1,9 +1,9 @@
 use Rattle.std.proofs.Common.{sym, ap, ◌∙◌, subst}
 use Rattle.clock2q_handles.specs.Homes.{with_handle}
 use Rattle.clock2q_directory.specs.Accesses.{CountedTable, most_changed}
-use Rattle.clock2q_directory.specs.Index.{index_state, index_of, entered, HasSlotRoom}
+use Rattle.clock2q_directory.specs.Index.{index_state, index_of, entered, HasSlotRoom, IsGapFor}
 use Rattle.clock2q_directory.proofs.Charging.{cost_first}
-use Rattle.clock2q_directory.proofs.Sorted.{slot_fits, slot_is_few, sorted-entered}
+use Rattle.clock2q_directory.proofs.Sorted.{only-gap, slot_fits, slot_is_few, sorted-entered}
 use Rattle.clock2q_directory.proofs.index.Index.add_slot.Goals as goal
 
 pub insert-requires : goal.insert-requires
@@ -12,7 +12,8 @@ insert-requires g c =
     let v = index_state i.shared.homes i.own.homes in
     let room = subst (λ z. HasSlotRoom z) (sym c.self.view_is) c.requires.room in
     let fits : HasSlotRoom v = record { room = room.room; few = room.few } in
-    record { room = slot_fits v c.self.invariant fits; few = slot_is_few v c.self.invariant fits }
+    let gap = subst (λ z. IsGapFor c.args.gap c.args.hash z) (sym c.self.view_is) c.requires.gap in
+    record { spare = record { room = slot_fits v c.self.invariant fits; few = slot_is_few v c.self.invariant fits }; gap = only-gap c.args.hash v c.args.gap gap }
 
 pub invariant_of-self : goal.invariant_of-self
 invariant_of-self g c =

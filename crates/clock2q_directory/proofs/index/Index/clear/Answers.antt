@@ -8,7 +8,7 @@ use Rattle.clock2q_directory.proofs.index.Index.clear.Goals as goal
 pub invariant_of-self : goal.invariant_of-self
 invariant_of-self g c =
     let i = c.self.inside in
-    let cleared = sorted-cleared (index_state i.shared.homes i.own.homes) (length i.shared.homes) c.self.invariant in
+    let cleared = sorted-cleared (index_state i.shared.homes i.own.homes) c.self.invariant in
     subst (λ z. IsSorted (index_state z c.clear-2.new.self.homes)) (sym (ap (λ (t : CountedTable). t.homes) c.clear.ensures.cleared))
     (subst (λ z. IsSorted (index_state (no_entries (length i.shared.homes)) z)) (sym (ap (λ (t : CountedTable). t.homes) c.clear-2.ensures.cleared)) cleared)
 

@@ -22,21 +22,14 @@ remove_existing-requires g c =
     let held = subst (λ z. has c.args.slot (candidates (slots z) c.args.hash) ≡ true) (sym c.self.view_is) c.requires.held in
     record { held = held_entry (index_state i.shared.homes i.own.homes) c.args.hash c.args.slot held }
 
-pub insert-requires-clause-few : goal.insert-requires-clause-few
-insert-requires-clause-few g c =
+pub insert-requires-clause-spare : goal.insert-requires-clause-spare
+insert-requires-clause-spare g c =
     let i = c.self.inside in
     let v = index_state i.shared.homes i.own.homes in
     let own : is_shared v ≡ false = ap is_shared c.self.view_is ∙ sym c.is_shared.ensures.shared ∙ c.if-is_shared.false in
-    let room = subst (λ z. HasPlaceRoom z) (sym c.self.view_is) c.requires.room in
-    place_is_few v own (record { room = room.room; few = room.few })
-
-pub insert-requires-clause-room : goal.insert-requires-clause-room
-insert-requires-clause-room g c =
-    let i = c.self.inside in
-    let v = index_state i.shared.homes i.own.homes in
-    let own : is_shared v ≡ false = ap is_shared c.self.view_is ∙ sym c.is_shared.ensures.shared ∙ c.if-is_shared.false in
-    let room = subst (λ z. HasPlaceRoom z) (sym c.self.view_is) c.requires.room in
-    place_fits v own (record { room = room.room; few = room.few })
+    let b = subst (λ z. HasPlaceRoom z) (sym c.self.view_is) c.requires.room in
+    let room : HasPlaceRoom v = record { room = b.room; few = b.few } in
+    record { room = place_fits v own room; few = place_is_few v own room }
 
 pub invariant_of-self-else-is_shared : goal.invariant_of-self-else-is_shared
 invariant_of-self-else-is_shared g c =

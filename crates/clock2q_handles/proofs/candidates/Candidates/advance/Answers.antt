@@ -1,6 +1,8 @@
 use Rattle.std.proofs.Common.{length, drop, arith, sym, ap, ◌∙◌}
 use Rattle.clock2q_handles.specs.Slots.{sought}
 use Rattle.clock2q_handles.proofs.walks.Cursors.{HasPassed, standing, passed_on}
+use Rattle.clock2q_handles.proofs.shifts.Carrying.{walks_on}
+use Rattle.clock2q_handles.proofs.walks.Positions.{same_end}
 use Rattle.clock2q_handles.proofs.candidates.Candidates.advance.Given.{Over}
 use Rattle.clock2q_handles.proofs.candidates.Candidates.advance.Goals.{After-after-self-inside, After-next-self-inside}
 use Rattle.clock2q_handles.proofs.candidates.Candidates.advance.Goals as goal
@@ -36,3 +38,14 @@ pub returns-clause-unread : goal.returns-clause-unread
 returns-clause-unread g c =
     let p = passed g (goal.at.returns-clause-unread g c).After-next-self-inside in
     omega (arith, p.read, ap (λ t. t.unread) c.self.view_is)
+
+pub returns-clause-end : goal.returns-clause-end
+returns-clause-end g c =
+    let slots = c.self.inside.reader.slots in
+    let s = sought c.self.inside.wanted in
+    let s' = sought c.next-self-inside.result in
+    let n = c.self.inside.slot in
+    let n' = c.after-self-inside.result in
+    let here = standing slots s n c.self.invariant (ap (λ t. t.peeked) c.self.view_is ∙ c.requires.peeked) in
+    sym (same_end slots s s' n n' here.some c.self.invariant (λ x walk. walks_on slots c.self.invariant.tidy x s s' n n' walk here.far c.next-self-inside.ensures c.after-self-inside.ensures.after))
+    ∙ ap (λ t. t.end) c.self.view_is

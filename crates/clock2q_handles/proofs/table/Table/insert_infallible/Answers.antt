@@ -8,3 +8,6 @@ put_at-requires-clause-ends g c = subst (λ t. EndsAt t.slots c.args.hash c.gap-
 
 pub put_at-requires-clause-room : goal.put_at-requires-clause-room
 put_at-requires-clause-room g c = subst (λ t. HasRoomAt t.slots c.gap-gap.result.mark c.gap-gap.result.position) (sym c.gap-gap.ensures.reads) (c.gap-gap.ensures.few c.args.handle c.requires.few)
+
+pub returns-clause-short : goal.returns-clause-short
+returns-clause-short g c = rw c.gap-gap.ensures.reads at c.put_at.ensures.short

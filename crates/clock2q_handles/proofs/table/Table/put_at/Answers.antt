@@ -1,9 +1,10 @@
-use Rattle.std.proofs.Common.{◌≤◌, ◌+◌, ◌<◌, ◌%◌, length, sym, ap, ◌∙◌, subst, arith}
+use Rattle.std.proofs.Common.{ℕ, suc, refl, ◌≤◌, ◌+◌, ◌<◌, ◌%◌, length, sym, ap, ◌∙◌, subst, arith}
 use Rattle.clock2q_handles.specs.Candidates.{EndsAt}
 use Rattle.clock2q_handles.specs.Homes.{total, capacity, with_handle}
-use Rattle.clock2q_handles.specs.Layout.{homes_of, run, IsTooLong}
+use Rattle.clock2q_handles.specs.Layout.{homes_of, run, slot_at, reach, IsTooLong}
 use Rattle.clock2q_handles.specs.Shifts.{HasRoomAt}
 use Rattle.clock2q_handles.proofs.layout.TidyLayout.{length-homes_of}
+use Rattle.clock2q_handles.proofs.shifts.Exchanges.{put_on}
 use Rattle.clock2q_handles.proofs.shifts.Steps.{table-laid}
 use Rattle.clock2q_handles.proofs.shifts.Insertions.{Insertion, inserted}
 use Rattle.clock2q_handles.proofs.shifts.Carrying.{come_slot}
@@ -68,4 +69,11 @@ returns g c =
           c.self.invariant.tidy c.requires.below (g.met.H.Eq.laws.refl c.args.handle) lists fresh
           ∙ ap (λ t. t.slots) c.self.view_is;
       laid = table-laid others (c.self.inside.len + 1) done.table c.put_at.new.self.writes c.put_at.new.reads.total;
+      further = record {
+        tidy = done.table.tidy;
+        lists = refl;
+        same = c.put_at.ensures.puts.len ∙ ap (λ t. length t.slots) c.self.view_is;
+        on = subst (λ t. (k : ℕ) → reach (slot_at others (suc k)) ≤ suc (reach (slot_at t.slots k))) c.self.view_is
+            (put_on c.args.hash c.self.invariant.tidy (ends g at.After-self).walk c.put_at.ensures.puts);
+      };
     }

@@ -1,25 +1,26 @@
-use Rattle.std.proofs.Common.{◌+◌, ◌^◌, ◌<◌, sym, ap, ◌∙◌, subst, arith}
-use Rattle.clock2q_handles.specs.Homes.{with_handle, total}
-use Rattle.clock2q_handles.specs.TableStep.{IsBelowCapacity}
+use Rattle.std.proofs.Common.{◌≡◌, ◌+◌, IfSome, sym, ap, ◌∙◌, subst}
+use Rattle.clock2q_handles.specs.Homes.{with_handle}
+use Rattle.clock2q_handles.specs.Positions.{gap_of}
+use Rattle.clock2q_handles.specs.TableStep.{HasSpare}
 use Rattle.clock2q_directory.specs.Accesses.{CountedTable, counted, most_changed}
 use Rattle.clock2q_directory.proofs.Charging.{at_bound}
 use Rattle.clock2q_directory.proofs.index.counted_table.CountedTable.insert.Goals as goal
 
-pub insert_infallible-requires : goal.insert_infallible-requires
-insert_infallible-requires g c = record {
-  room = subst (λ (z : CountedTable). IsBelowCapacity z.homes) (sym c.self.view_is) c.requires.room;
-  few = subst (λ (z : CountedTable). total z.homes + 1 < 2 ^ 24) (sym c.self.view_is) c.requires.few;
+pub insert_at_gap-requires : goal.insert_at_gap-requires
+insert_at_gap-requires g c = record {
+  spare = subst (λ (z : CountedTable). HasSpare z.homes) (sym c.self.view_is) c.requires.spare;
+  gap = subst (λ (z : CountedTable). IfSome c.args.gap (λ gap. gap ≡ gap_of z.homes c.args.hash)) (sym c.self.view_is) c.requires.gap;
 }
 
 pub invariant_of-self : goal.invariant_of-self
-invariant_of-self g c = c.insert_infallible.ensures.laid.laid
+invariant_of-self g c = c.insert_at_gap.ensures.laid.laid
 
 pub returns : goal.returns
 returns g c =
-    let e = c.insert_infallible.ensures in
+    let e = c.insert_at_gap.ensures in
     let old = c.args.self.now in
-    let done = at_bound c.self.inside.table c.insert_infallible.new.self old c.charge.new.self c.self.inside.charged.total c.args.hash c.most-most.result.value
-    c.self.invariant c.self.view_is (omega (arith, e.reads)) (e.writes.1) c.most-most.ensures.picked c.charge.ensures.charged in
+    let done = at_bound c.self.inside.table c.insert_at_gap.new.self old c.charge.new.self c.self.inside.charged.total c.args.hash c.most-most.result.value
+    c.self.invariant c.self.view_is (e.reads.1) (e.writes.1) c.most-most.ensures.picked c.charge.ensures.charged in
     record {
       put = done ∙ ap (λ hs. counted hs (old.accesses + most_changed old.homes c.args.hash)) (e.put ∙ ap (λ (z : CountedTable). with_handle z.homes c.args.hash c.args.handle) c.self.view_is);
     }

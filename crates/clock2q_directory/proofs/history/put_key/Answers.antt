@@ -1,7 +1,8 @@
-use Rattle.std.proofs.Common.{◌<◌, ◌≤◌, length, ap, arith}
+use Rattle.std.proofs.Common.{◌<◌, ◌≤◌, length, ap, arith, refl}
+use Rattle.clock2q_directory.specs.Index.{forgotten_at}
 use Rattle.clock2q_queues.specs.Order.{PlaceOrder}
 use Rattle.clock2q_directory.proofs.MakingPlaces.{MakesPlace-new, MakesPlace-oldest, oldest_held}
-use Rattle.clock2q_directory.proofs.history.place_key.Goals as goal
+use Rattle.clock2q_directory.proofs.history.put_key.Goals as goal
 
 pub write-requires-clause-next : goal.write-requires-clause-next
 write-requires-clause-next g c =
@@ -18,8 +19,8 @@ returns-then-len-limit-clause-made g c =
     rw c.new-place.ensures.place (MakesPlace-new c.args.index.now c.args.order.now c.push.new.self c.args.keys.now.entries c.push.result c.requires.indexed c.requires.as_many c.len.ensures.whole
     room e.place (ap (λ (z : PlaceOrder). z.places) e.order) (ap (λ (z : PlaceOrder). z.free) e.order) (ap (λ (z : PlaceOrder). z.limit) e.order) e.accesses)
 
-pub forget-requires-clause-held : goal.forget-requires-clause-held
-forget-requires-clause-held g c =
+pub returns-clause-held : goal.returns-clause-held
+returns-clause-held g c =
     rw c.new-place-2.ensures.place (oldest_held c.args.index.now c.args.order.now c.reuse_oldest.new.self c.args.keys.now.entries c.reuse_oldest.result
     c.requires.indexed c.requires.as_many c.len.ensures.whole c.refill-oldest_hash.result.0 c.reuse_oldest.ensures.oldest (rw (c.number-2.ensures.number, c.new-place-2.ensures.place) at c.refill-oldest_hash.ensures.hash))
 
@@ -29,5 +30,5 @@ returns-clause-made g c =
     let full : c.args.order.now.limit ≤ length c.args.order.now.places = omega (arith, c.if-len-limit.false, c.len.ensures.len, c.limit.ensures) in
     rw c.new-place-2.ensures.place (MakesPlace-oldest c.args.index.now c.args.order.now c.reuse_oldest.new.self
     c.args.keys.now.entries c.reuse_oldest.result c.requires.indexed c.requires.as_many c.len.ensures.whole
-    c.forget.new.self c.refill-oldest_hash.result.0 full e.oldest (ap (λ (z : PlaceOrder). z.places) e.order) (ap (λ (z : PlaceOrder). z.free) e.order)
-    (ap (λ (z : PlaceOrder). z.limit) e.order) (ap (λ (z : PlaceOrder). z.accesses) e.order) (rw (c.number-2.ensures.number, c.new-place-2.ensures.place) at c.refill-oldest_hash.ensures.hash) (rw c.new-place-2.ensures.place at c.forget.ensures.forgotten))
+    (forgotten_at c.refill-oldest_hash.result.0 c.reuse_oldest.result c.args.index.now) c.refill-oldest_hash.result.0 full e.oldest (ap (λ (z : PlaceOrder). z.places) e.order) (ap (λ (z : PlaceOrder). z.free) e.order)
+    (ap (λ (z : PlaceOrder). z.limit) e.order) (ap (λ (z : PlaceOrder). z.accesses) e.order) (rw (c.number-2.ensures.number, c.new-place-2.ensures.place) at c.refill-oldest_hash.ensures.hash) refl)

@@ -1,0 +1,194 @@
+//! A key that becomes resident in place of another, which is remembered.
+use crate::handle::Handle;
+use crate::index::Index;
+use crate::place::Place;
+use clock2q_handles::Gap;
+use std::alloc::Allocator;
+
+impl<A: Allocator> Index<A> {
+    ghost use Rattle.std.specs.Prelude.{◌≡◌, ◌+◌, ◌^◌, ◌<◌, true, false, IfSome};
+    ghost use Rattle.clock2q_handles.specs.Homes.{candidates, total};
+    ghost use Rattle.clock2q_queues.specs.Rings.{has};
+    ghost use Rattle.clock2q_directory.specs.Index.{beside, entered_from, forgotten_at, is_shared, places, remembered_at, slots, HasPlaceRoom, HasRoomBeside, IsGapFor};
+    ghost use Rattle.clock2q_directory.specs.History.{forgotten_if};
+
+    /// Adds the slot of a key that becomes resident in place of another, which is remembered at a
+    /// place: that of the oldest key, if one is forgotten.
+    #[inline(always)]
+    pub fn succeed(
+        &mut self,
+        gap: Option<Gap>,
+        hash: u64,
+        slot: u32,
+        old_hash: u64,
+        place: Place,
+        oldest: Option<u64>,
+    )
+        requires below { slot < 2 ^ 31 }
+        requires short { place < 2 ^ 31 }
+        requires gap { IsGapFor gap hash self.old }
+        requires few { total (slots self.old) + beside self.old < 2 ^ 24 }
+        requires beside { HasRoomBeside self.old }
+        requires held { has slot (candidates (slots self.old) old_hash) ≡ true }
+        requires held_place { IfSome oldest
+            (λ oldest. has place (candidates (places self.old) oldest) ≡ true) }
+        requires room { HasPlaceRoom (forgotten_if oldest place self.old) }
+        ensures renewed { self.new ≡ entered_from self.old hash slot
+            (remembered_at old_hash slot place (forgotten_if oldest place self.old)) }
+    {
+        if gap.is_some() {
+            self.succeed_shared(gap, hash, slot, old_hash, place, oldest);
+        } else {
+            self.succeed_without_gap(hash, slot, old_hash, place, oldest);
+        }
+    }
+
+    /// Does what `succeed` does if no gap is known. It is out of line, since it is rare.
+    #[inline(never)]
+    fn succeed_without_gap(
+        &mut self,
+        hash: u64,
+        slot: u32,
+        old_hash: u64,
+        place: Place,
+        oldest: Option<u64>,
+    )
+        requires below { slot < 2 ^ 31 }
+        requires short { place < 2 ^ 31 }
+        requires few { total (slots self.old) + beside self.old < 2 ^ 24 }
+        requires beside { HasRoomBeside self.old }
+        requires held { has slot (candidates (slots self.old) old_hash) ≡ true }
+        requires held_place { IfSome oldest
+            (λ oldest. has place (candidates (places self.old) oldest) ≡ true) }
+        requires room { HasPlaceRoom (forgotten_if oldest place self.old) }
+        ensures renewed { self.new ≡ entered_from self.old hash slot
+            (remembered_at old_hash slot place (forgotten_if oldest place self.old)) }
+    {
+        if self.is_shared() {
+            self.succeed_shared(None, hash, slot, old_hash, place, oldest);
+            return;
+        }
+        match oldest {
+            Some(oldest) => self.forget_split(hash, slot, old_hash, place, oldest),
+            None => self.remember_split(hash, slot, old_hash, place),
+        }
+    }
+
+    /// Does what `succeed` does if slots and places share a table.
+    #[inline(always)]
+    fn succeed_shared(
+        &mut self,
+        gap: Option<Gap>,
+        hash: u64,
+        slot: u32,
+        old_hash: u64,
+        place: Place,
+        oldest: Option<u64>,
+    )
+        requires shared { is_shared self.old ≡ true }
+        requires below { slot < 2 ^ 31 }
+        requires short { place < 2 ^ 31 }
+        requires gap { IsGapFor gap hash self.old }
+        requires few { total (slots self.old) + beside self.old < 2 ^ 24 }
+        requires beside { HasRoomBeside self.old }
+        requires held { has slot (candidates (slots self.old) old_hash) ≡ true }
+        requires held_place { IfSome oldest
+            (λ oldest. has place (candidates (places self.old) oldest) ≡ true) }
+        ensures renewed { self.new ≡ entered_from self.old hash slot
+            (remembered_at old_hash slot place (forgotten_if oldest place self.old)) }
+    {
+        match oldest {
+            Some(oldest) => self.forget_shared(gap, hash, slot, old_hash, place, oldest),
+            None => self.remember_shared(gap, hash, slot, old_hash, place),
+        }
+    }
+
+    /// Adds a slot in a table of slots and places, whose old key is remembered at a place that has no
+    /// key.
+    #[inline(always)]
+    fn remember_shared(
+        &mut self,
+        gap: Option<Gap>,
+        hash: u64,
+        slot: u32,
+        old_hash: u64,
+        place: Place,
+    )
+        requires shared { is_shared self.old ≡ true }
+        requires below { slot < 2 ^ 31 }
+        requires short { place < 2 ^ 31 }
+        requires gap { IsGapFor gap hash self.old }
+        requires beside { HasRoomBeside self.old }
+        requires held { has slot (candidates (slots self.old) old_hash) ≡ true }
+        ensures renewed { self.new ≡ entered_from self.old hash slot
+            (remembered_at old_hash slot place self.old) }
+    {
+        let handle = Handle::Remembered(place).pack();
+        let most = self.shared.most_of_two(hash, old_hash);
+        self.shared.insert(gap, hash, slot);
+        self.shared
+            .replace_handle_up_to(old_hash, slot, handle, &most);
+    }
+
+    /// Adds a slot in a table of slots and places, whose old key is remembered at the place of the
+    /// oldest key.
+    #[inline(always)]
+    fn forget_shared(
+        &mut self,
+        gap: Option<Gap>,
+        hash: u64,
+        slot: u32,
+        old_hash: u64,
+        place: Place,
+        oldest: u64,
+    )
+        requires shared { is_shared self.old ≡ true }
+        requires below { slot < 2 ^ 31 }
+        requires short { place < 2 ^ 31 }
+        requires gap { IsGapFor gap hash self.old }
+        requires beside { HasRoomBeside self.old }
+        requires few { total (slots self.old) + beside self.old < 2 ^ 24 }
+        requires held { has slot (candidates (slots self.old) old_hash) ≡ true }
+        requires held_place { has place (candidates (places self.old) oldest) ≡ true }
+        ensures renewed { self.new ≡ entered_from self.old hash slot
+            (remembered_at old_hash slot place (forgotten_at oldest place self.old)) }
+    {
+        let handle = Handle::Remembered(place).pack();
+        let most = self
+            .shared
+            .most_after_exchange(hash, oldest, handle, old_hash);
+        self.shared.exchange(gap, hash, slot, oldest, handle);
+        self.shared
+            .replace_handle_up_to(old_hash, slot, handle, &most);
+    }
+
+    /// Adds a slot, whose old key is remembered at a place that has no key in the places' own table.
+    fn remember_split(&mut self, hash: u64, slot: u32, old_hash: u64, place: Place)
+        requires apart { is_shared self.old ≡ false }
+        requires below { slot < 2 ^ 31 }
+        requires few { total (slots self.old) + beside self.old < 2 ^ 24 }
+        requires held { has slot (candidates (slots self.old) old_hash) ≡ true }
+        requires room { HasPlaceRoom self.old }
+        ensures renewed { self.new ≡ entered_from self.old hash slot
+            (remembered_at old_hash slot place self.old) }
+    {
+        self.shared.exchange(None, hash, slot, old_hash, slot);
+        self.own.insert(None, old_hash, place.number());
+    }
+
+    /// Adds a slot, whose old key is remembered at the oldest key's place in the places' own table.
+    fn forget_split(&mut self, hash: u64, slot: u32, old_hash: u64, place: Place, oldest: u64)
+        requires apart { is_shared self.old ≡ false }
+        requires below { slot < 2 ^ 31 }
+        requires few { total (slots self.old) + beside self.old < 2 ^ 24 }
+        requires held { has slot (candidates (slots self.old) old_hash) ≡ true }
+        requires held_place { has place (candidates (places self.old) oldest) ≡ true }
+        requires room { HasPlaceRoom (forgotten_at oldest place self.old) }
+        ensures renewed { self.new ≡ entered_from self.old hash slot
+            (remembered_at old_hash slot place (forgotten_at oldest place self.old)) }
+    {
+        self.own.remove_existing(oldest, place.number());
+        self.shared.exchange(None, hash, slot, old_hash, slot);
+        self.own.insert(None, old_hash, place.number());
+    }
+}

@@ -1,0 +1,29 @@
+use Rattle.std.proofs.Common.{ap, ◌∙◌, arith, length, ◌%◌}
+use Rattle.clock2q_handles.specs.Candidates.{left_at, unread_at, end_at}
+use Rattle.clock2q_handles.specs.Slots.{sought}
+use Rattle.clock2q_handles.proofs.walks.Cursors.{begins_whole, lookup_begins}
+use Rattle.clock2q_handles.proofs.shifts.Carrying.{walks_begin}
+use Rattle.clock2q_handles.proofs.walks.Positions.{end_of}
+use Rattle.clock2q_handles.proofs.candidates.Candidates.in_slots.Goals as goal
+
+pub invariant_of-result : goal.invariant_of-result
+invariant_of-result g c =
+    let slots = c.args.slots.now.slots in
+    let home = c.home-slot.ensures.home (omega (arith, c.requires.some, ap (λ r. length r.slots) c.new-reader.ensures)) ∙ ap (λ r. c.args.hash % length r.slots) c.new-reader.ensures in
+    rw (c.new-reader.ensures, c.new.ensures) (lookup_begins slots c.args.hash c.home-slot.result c.requires.tidy c.requires.near c.requires.some home)
+
+pub returns : goal.returns
+returns g c =
+    let slots = c.args.slots.now.slots in
+    let x = c.args.hash in
+    let n = c.home-slot.result in
+    let wanted = sought c.new.result in
+    let home = c.home-slot.ensures.home (omega (arith, c.requires.some, ap (λ r. length r.slots) c.new-reader.ensures)) ∙ ap (λ r. x % length r.slots) c.new-reader.ensures in
+    let whole = begins_whole slots x n c.requires.tidy c.requires.near c.requires.some home in
+    record {
+      left = ap (λ r. left_at r.slots wanted n) c.new-reader.ensures ∙ ap (λ s. left_at slots s n) c.new.ensures ∙ whole.0;
+      reads = ap (λ r. r.reads) c.new-reader.ensures;
+      unread = ap (λ r. unread_at r.slots wanted n) c.new-reader.ensures ∙ ap (λ s. unread_at slots s n) c.new.ensures ∙ whole.1;
+      handles = ap (λ r. r.handles) c.new-reader.ensures;
+      end = ap (λ r. end_at r.slots wanted n) c.new-reader.ensures ∙ end_of slots x wanted n (walks_begin slots c.requires.tidy x wanted n c.requires.some home c.new.ensures);
+    }

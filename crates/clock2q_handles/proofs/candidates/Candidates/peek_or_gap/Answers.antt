@@ -1,0 +1,56 @@
+use Rattle.std.proofs.Common.{◌≡◌, ◌+◌, ◌%◌, length, arith, sym, ap, ◌∙◌, subst, refl, Some, IfSome, slice_get}
+use Rattle.std.specs.Prelude.{IsSome}
+use Rattle.clock2q_handles.specs.Layout.{slot_at}
+use Rattle.clock2q_handles.specs.Candidates.{end_at}
+use Rattle.clock2q_handles.specs.Slots.{sought, mark_on}
+use Rattle.clock2q_handles.proofs.shifts.Moves.{reach_of_meaning}
+use Rattle.clock2q_handles.proofs.walks.Cursors.{HasStepped, lookup_steps}
+use Rattle.clock2q_handles.proofs.walks.Positions.{some_sought, same_end, end_is}
+use Rattle.clock2q_handles.proofs.candidates.Candidates.peek_or_gap.Given.{Over}
+use Rattle.clock2q_handles.proofs.candidates.Candidates.peek_or_gap.Goals.{After-candidate, After-handle-handle}
+use Rattle.clock2q_handles.proofs.candidates.Candidates.peek_or_gap.Goals as goal
+
+-- the walk would go on to the slot after the candidate's
+on : (g : Over) (c : After-handle-handle g) → let slots = c.self.inside.reader.slots in
+    HasStepped slots (sought c.in-Ok.wanted) (mark_on (sought c.in-Ok.wanted)) c.in-Ok.slot ((c.in-Ok.slot + 1) % length slots)
+on g c =
+    let slots = c.self.inside.reader.slots in
+    let wanted = sought c.in-Ok.wanted in
+    lookup_steps slots wanted (mark_on wanted) c.in-Ok.slot ((c.in-Ok.slot + 1) % length slots) c.in-Ok.ensures.some refl refl c.in-Ok.ensures.lookup
+    (omega (arith, reach_of_meaning wanted (slot_at slots c.in-Ok.slot) (sym c.in-Ok.ensures.found)))
+
+pub returns-in-Ok-clause-candidate : goal.returns-in-Ok-clause-candidate
+returns-in-Ok-clause-candidate g c =
+    let before = goal.at.returns-in-Ok-clause-candidate g c in
+    let v = c.handle-handle.result in
+    let handle = subst (λ s. IfSome (slot_at s c.in-Ok.slot) (λ p. v ≡ p.entry.1)) c.candidate.ensures.same c.handle-handle.ensures.handle in
+    ap (λ hs. slice_get hs 0) (ap (λ t. t.left) (sym c.self.view_is) ∙ c.in-Ok.ensures.left ∙ (on g before.After-handle-handle).takes v c.in-Ok.ensures.found handle)
+
+-- it looks for something
+looks : (g : Over) (c : After-candidate g) → IsSome (sought c.self.inside.wanted)
+looks g c = some_sought c.self.inside.reader.slots (sought c.self.inside.wanted) c.self.inside.slot (subst IsSome (sym (ap (λ t. t.end) c.self.view_is)) c.requires.walking)
+
+pub returns-in-Err-clause-gap : goal.returns-in-Err-clause-gap
+returns-in-Err-clause-gap g c =
+    let slots = c.self.inside.reader.slots in
+    let some = looks g (goal.at.returns-in-Err-clause-gap g c).After-candidate in
+    ap (λ t. t.end) (sym c.self.view_is)
+    ∙ end_is slots (sought c.self.inside.wanted) (sought c.in-Err.end.1) c.self.inside.slot c.in-Err.end.0 some c.self.invariant c.in-Err.ensures.ends ∙ ap Some (sym c.new.ensures)
+
+pub returns-in-Ok-clause-within : goal.returns-in-Ok-clause-within
+returns-in-Ok-clause-within g c =
+    omega (
+      arith,
+      (on g (goal.at.returns-in-Ok-clause-within g c).After-handle-handle).read,
+      c.in-Ok.ensures.read,
+      ap (λ t. t.reads) c.self.view_is,
+      ap (λ t. t.unread) c.self.view_is,
+      c.handle-handle.ensures.reads,
+    )
+
+pub returns-in-Ok-clause-end : goal.returns-in-Ok-clause-end
+returns-in-Ok-clause-end g c =
+    let slots = c.self.inside.reader.slots in
+    let some = looks g (goal.at.returns-in-Ok-clause-end g c).After-candidate in
+    ap (λ s. end_at s (sought c.in-Ok.wanted) c.in-Ok.slot) (c.handle-handle.ensures.same ∙ c.candidate.ensures.same)
+    ∙ sym (same_end slots (sought c.self.inside.wanted) (sought c.in-Ok.wanted) c.self.inside.slot c.in-Ok.slot some c.self.invariant c.in-Ok.ensures.walks) ∙ ap (λ t. t.end) c.self.view_is

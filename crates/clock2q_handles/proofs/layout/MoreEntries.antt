@@ -1,0 +1,73 @@
+-- One entry more makes no walk more than one slot longer.
+use Rattle.std.proofs.Common.{◌≡◌, ℕ, zero, suc, ◌+◌, ◌-◌, ◌/◌, ◌%◌, ◌<◌, ◌≤◌, inl, inr, sym, ap, ◌∙◌, arith, List, [], ◌∷◌, ◌++◌, length, length-append, get_or, div-add-mod', mul-le-mul_right}
+use Rattle.std.proofs.lemmas.Bool.{cases_lt, cases_eq}
+use Rattle.clock2q_handles.specs.Homes.{listed, count, put_last}
+use Rattle.clock2q_handles.specs.Layout.{window, spill, walk}
+use Rattle.clock2q_handles.proofs.layout.FewerEntries.{walk-is}
+use Rattle.clock2q_handles.proofs.layout.Spill.{spill-above, spill-found, window-same}
+use Rattle.clock2q_handles.proofs.shifts.Changes.{length-with_list, listed-with_same, listed-with_other}
+
+-- two slots within a lap aren't the same
+apart : (m a j k : ℕ) → j < k → k < j + m → (a + j) % m ≡ (a + k) % m → ⊥
+apart m a j k below within same =
+    let p : ℕ = (a + j) / m in
+    let q : ℕ = (a + k) / m in
+    elim (cases_lt p q) [
+      | inl less ↦ omega (arith, div-add-mod' (a + j) m, div-add-mod' (a + k) m, same, mul-le-mul_right {m = p + 1} {n = q} m (omega (arith, less)))
+      | inr more ↦ omega (arith, div-add-mod' (a + j) m, div-add-mod' (a + k) m, same, mul-le-mul_right {m = q} {n = p} m more)
+    ]
+
+-- counts that differ at one home, by one at most
+module _ (c d : ℕ → ℕ) (m x : ℕ) (some : 0 < m) (other : (n : ℕ) → (n % m ≡ x % m → ⊥) → d n ≡ c n) (one : (n : ℕ) → d n ≤ c n + 1) where
+  window_more : (a k : ℕ) → k ≤ m → window d a k ≤ window c a k + 1
+  window_more a zero l = omega arith
+  window_more a (suc k) l = elim (cases_eq ((a + k) % m) (x % m)) [
+    | inl at ↦ omega (arith, window-same d c a k (λ j below. other (a + j) (λ q. apart m a j k below (omega (arith, l)) (q ∙ sym at))), one (a + k))
+    | inr away ↦ omega (arith, window_more a k (omega (arith, l)), other (a + k) away)
+  ]
+
+  -- push no home's entries more than one slot further
+  spill_more : (h : ℕ) → spill d m h ≤ spill c m h + 1
+  spill_more h =
+      let r = spill-found d m h some in
+      omega (arith, r.1, r.2, window_more (h + m - r.0) r.0 (omega (arith, r.1)), spill-above c m h r.0 r.1)
+
+  -- and not those of that home
+  spill_own : (h : ℕ) → h % m ≡ x % m → spill d m h ≤ spill c m h
+  spill_own h at =
+      let r = spill-found d m h some in
+      let same = window-same d c (h + m - r.0) r.0 (λ j below.
+      let e : h + m - r.0 + j ≡ h + (m - r.0 + j) = omega (arith, r.1) in
+      let z : h + 0 ≡ h = omega arith in
+      other (h + m - r.0 + j) (λ q. apart m h 0 (m - r.0 + j) (omega (arith, r.1)) (omega (arith, below, r.1)) (ap (λ k. k % m) z ∙ at ∙ sym q ∙ ap (λ k. k % m) e))) in
+      omega (arith, r.1, r.2, same, spill-above c m h r.0 r.1)
+
+module _ {E : Type 0} (homes : List (List E)) (x : ℕ) (e : E) (some : 0 < length homes) where
+  abbrev es : List E
+  es = listed homes x ++ e ∷ []
+
+  abbrev more : List (List E)
+  more = put_last homes x e
+
+  len : length more ≡ length homes
+  len = length-with_list homes x es
+
+  at : (n : ℕ) → n % length homes ≡ x % length homes → count more n ≡ count homes n + 1
+  at n same = omega (arith, ap length (listed-with_same homes x n es some same), length-append (listed homes x) (e ∷ []), ap (λ k. length (get_or homes k [])) same)
+
+  away : (n : ℕ) → (n % length homes ≡ x % length homes → ⊥) → count more n ≡ count homes n
+  away n other = ap length (listed-with_other homes x n es other)
+
+  one : (n : ℕ) → count more n ≤ count homes n + 1
+  one n = elim (cases_eq (n % length homes) (x % length homes)) [ inl same ↦ omega (arith, at n same) | inr other ↦ omega (arith, away n other) ]
+
+  -- no walk becomes more than one slot longer
+  pub walk-more : (y : ℕ) → walk more y ≤ walk homes y + 1
+  walk-more y =
+      let spilled = ap (λ m. spill (count more) m y) len in
+      let was = walk-is homes y some in
+      let now = walk-is more y (omega (arith, some, len)) in
+      elim (cases_eq (y % length homes) (x % length homes)) [
+        | inl same ↦ omega (arith, was, now, spilled, spill_own (count homes) (count more) (length homes) x some away one y same, at y same)
+        | inr other ↦ omega (arith, was, now, spilled, spill_more (count homes) (count more) (length homes) x some away one y, away y other)
+      ]

@@ -1,0 +1,128 @@
+-- A removal that follows an insertion: no walk is more than one slot longer than before both, and the removal writes at most one slot more than the run was long.
+use Rattle.std.proofs.Common.{◌≡◌, ℕ, suc, ◌+◌, ◌%◌, ◌<◌, ◌≤◌, inl, inr, refl, sym, ap, ◌∙◌, arith, Bool, List, length, Option, Some, None}
+use Rattle.std.proofs.lemmas.Bool.{cases_lt}
+use Rattle.clock2q_handles.specs.Candidates.{IsWalkFor}
+use Rattle.clock2q_handles.specs.Found.{TakesOut}
+use Rattle.clock2q_handles.specs.Homes.{top}
+use Rattle.clock2q_handles.specs.Layout.{Placed, slot_at, reach, homes_of, walk, run, IsOrdered, IsTidy}
+use Rattle.clock2q_handles.specs.Shifts.{Opens, PutsAt, moved_on}
+use Rattle.clock2q_handles.specs.Slots.{Mark}
+use Rattle.clock2q_handles.proofs.layout.Periods.{lap, lap-lt, lap-same}
+use Rattle.clock2q_handles.proofs.layout.Reaching.{occupied-is}
+use Rattle.clock2q_handles.proofs.layout.Reading.{slot-again}
+use Rattle.clock2q_handles.proofs.layout.TidyLayout.{tidy-vacant}
+use Rattle.clock2q_handles.proofs.layout.TooLong.{first-vacant}
+use Rattle.clock2q_handles.proofs.layout.Walk.{after as after_stop, stop}
+use Rattle.clock2q_handles.proofs.shifts.Steps.{past_home}
+use Rattle.clock2q_handles.proofs.walks.Yields.{walk-at}
+
+module _ {E : Type 0} where
+  moved_reach : (o : Option (Placed E)) → reach (moved_on o) ≤ suc (reach o)
+  moved_reach None = omega arith
+  moved_reach (Some s) = omega arith
+
+  moved_far : (o : Option (Placed E)) → 0 < reach (moved_on o) → 1 < reach (moved_on o)
+  moved_far None some = absurd (omega (arith, some))
+  moved_far (Some s) some = omega arith
+
+-- slots that were opened: B is A, of m slots, with e put in n slots past g
+module _ {E : Type 0} (A B : ℕ → Option (Placed E)) (m : ℕ) (again : (k : ℕ) → A (k + m) ≡ A k) (again' : (k : ℕ) → B (k + m) ≡ B k) (some : 0 < m)
+    (ordered : IsOrdered A) (g n w : ℕ) (e : E) (passed : (j : ℕ) → j < n → j < reach (A (g + j))) (opens : Opens A B m g n w e) where
+  next : (j : ℕ) → reach (A (g + suc j)) ≤ suc (reach (A (g + j)))
+  next j =
+      let q : g + suc j ≡ suc (g + j) = omega arith in
+      omega (arith, ordered.next (g + j), ap (λ k. reach (A k)) q)
+
+  wrapped : (j : ℕ) → suc j ≡ m → reach (B (g + suc j)) ≤ suc (reach (A (g + j)))
+  wrapped j last =
+      let p : g + suc j ≡ g + m = omega (arith, last) in
+      let z : g + 0 ≡ g = omega arith in
+      let here = ap (λ k. reach (B k)) p ∙ ap reach (again' g) in
+      elim (cases_lt 0 n) [
+        | inl later ↦
+            omega (arith, here, ap (λ k. reach (B k)) z, ap reach (opens.before 0 later), ap (λ k. reach (A k)) z, ap reach (again g), ap (λ k. reach (A k)) p, next j)
+        | inr home ↦
+            let q : g + n ≡ g = omega (arith, home) in
+            omega (arith, here, ap (λ k. reach (B k)) q, ap reach opens.put, home)
+      ]
+
+  inside : (j : ℕ) → suc j < m → reach (B (g + suc j)) ≤ suc (reach (A (g + j)))
+  inside j within = elim (cases_lt (suc j) n) [
+    | inl early ↦ omega (arith, ap reach (opens.before (suc j) early), next j)
+    | inr late ↦ elim (cases_lt j n) [
+      | inl at ↦
+          let q : g + suc j ≡ g + n = omega (arith, at, late) in
+          omega (arith, ap (λ k. reach (B k)) q, ap reach opens.put, passed j at, at, late)
+      | inr from ↦ elim (cases_lt j w) [
+        | inl upto ↦ omega (arith, ap reach (opens.moved j from upto), moved_reach (A (g + j)))
+        | inr beyond ↦ omega (arith, ap reach (opens.after (suc j) (omega (arith, beyond)) within), next j)
+      ]
+    ]
+  ]
+
+  step : (j : ℕ) → j < m → reach (B (g + suc j)) ≤ suc (reach (A (g + j)))
+  step j below = elim (cases_lt (suc j) m) [
+    | inl within ↦ inside j within
+    | inr last ↦ wrapped j (omega (arith, below, last))
+  ]
+
+  -- no entry reaches more than one slot further than the slot before it allowed
+  pub one_on : (k : ℕ) → reach (B (suc k)) ≤ suc (reach (A k))
+  one_on k =
+      let j : ℕ = lap m g k in
+      let q : g + suc j ≡ suc (g + j) = omega arith in
+      omega (
+        arith,
+        step j (lap-lt m g k some),
+        ap (λ i. reach (B i)) q,
+        ap reach (lap-same (λ i. B (suc i)) m (λ i. let z : suc (i + m) ≡ suc i + m = omega arith in ap B z ∙ again' (suc i)) some g k),
+        ap reach (lap-same A m again some g k),
+      )
+
+-- so tidy slots, and those that an insertion made of them
+module _ {E : Type 0} (slots more : List (Option (Placed E))) (tidy : IsTidy slots) (tidy' : IsTidy more) (same : length more ≡ length slots) (some : 0 < length slots)
+    (on : (k : ℕ) → reach (slot_at more (suc k)) ≤ suc (reach (slot_at slots k))) where
+  further : (h j : ℕ) → reach (slot_at more (h + suc j)) ≤ suc (reach (slot_at slots (h + j)))
+  further h j =
+      let q : h + suc j ≡ suc (h + j) = omega arith in
+      omega (arith, on (h + j), ap (λ k. reach (slot_at more k)) q)
+
+  -- have walks that are at most one slot longer
+  pub walk_on : (x : ℕ) → walk (homes_of more) x ≤ walk (homes_of slots) x + 1
+  walk_on x =
+      let v = tidy-vacant slots tidy some in
+      let v' = tidy-vacant more tidy' (omega (arith, some, same)) in
+      let s = stop (slot_at slots) tidy.ordered (length slots) (slot-again slots) some v.0 v.1 x 0 in
+      let t = stop (slot_at more) tidy'.ordered (length more) (slot-again more) (omega (arith, some, same)) v'.0 v'.1 x 0 in
+      let was = walk-at slots tidy x s.0 some (λ j l. omega (arith, s.2.before j l)) (omega (arith, s.2.stop)) in
+      let now = walk-at more tidy' x t.0 (omega (arith, some, same)) (λ j l. omega (arith, t.2.before j l)) (omega (arith, t.2.stop)) in
+      elim (cases_lt (suc s.0) t.0) [
+        | inl beyond ↦ absurd (omega (arith, t.2.before (suc s.0) beyond, further x s.0, s.2.stop))
+        | inr upto ↦ omega (arith, was, now, upto)
+      ]
+
+  -- and a removal from them writes at most one slot more than the run was long
+  pub taken_within : {test : E → Bool} {less : List (Option (Placed E))} (x : ℕ) {before after : ℕ} → TakesOut test more less (x % length more) before after → after ≤ before + (run slots x + 1)
+  taken_within {test} {less} x {before} {after} taken =
+      let v = first-vacant slots tidy some x in
+      let is : run slots x ≡ v.0 = occupied-is (slot_at slots) x v.0 (length slots) v.1 v.2 v.3 in
+      let g : ℕ = x % length more in
+      let closes = taken.closes in
+      let end : reach (slot_at more (g + suc v.0)) ≤ 1 = omega (arith, further x v.0, ap reach v.2, ap reach (past_home more (length more) g x refl refl (suc v.0))) in
+      elim (cases_lt v.0 taken.vacancy) [
+        | inr upto ↦ omega (arith, is, upto, taken.written)
+        | inl beyond ↦ elim (cases_lt v.0 taken.distance) [
+          | inr from ↦
+              let far = ap reach (closes.opens.moved v.0 from beyond) in
+              absurd (omega (arith, end, far, moved_far (slot_at less (g + v.0)) (omega (arith, far, closes.occupied (suc v.0) beyond))))
+          | inl past ↦ absurd (omega (arith, ap reach taken.finds.here, after_stop (slot_at more) tidy'.ordered g 0 (suc v.0) (omega (arith, end)) taken.distance past))
+        ]
+      ]
+
+-- slots that an entry was put into where a walk ended
+pub put_on : {H : Type 0} (x : ℕ) {slots more : List (Option (Placed (ℕ × H)))} {mark : Mark} {s before after : ℕ} {v : H} → IsTidy slots → IsWalkFor slots x mark s
+    → PutsAt slots more mark s v before after → (k : ℕ) → reach (slot_at more (suc k)) ≤ suc (reach (slot_at slots k))
+put_on x {slots} {more} tidy walks puts =
+    let put = puts.opens (x % length slots) walks.distance (top x) walks.come walks.mark in
+    one_on (slot_at slots) (slot_at more) (length slots) (slot-again slots) (λ k. ap (λ m. slot_at more (k + m)) (sym puts.len) ∙ slot-again more k)
+    (omega (arith, walks.come.within)) tidy.ordered (x % length slots) walks.distance put.0 (top x, _) walks.come.passed put.2
