@@ -13,7 +13,7 @@ use std::marker::Model;
 const MADE_AT_ONCE: usize = 32;
 
 /// The record of each slot, with the number of reads and writes. Only the first ones are in memory:
-/// the record of any other slot is vacant.
+/// the record of any other slot is vacant. Making records isn't counted.
 #[derive(Drop)]
 pub(crate) struct Records<A: Allocator = Global> {
     items: Vec<Record, A>,
