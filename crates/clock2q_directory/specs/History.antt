@@ -52,11 +52,6 @@ pushed_places limit hash slot oldest p = if nat_lt (length p.taken) limit then t
 abbrev pub entering_places : (hash slot : ℕ) → Places → Places → Places
 entering_places hash slot before p = record p { index = entered_from before.index hash slot p.index }
 
--- the oldest key, if one is forgotten, had this place
-abbrev pub forgotten_if : Option ℕ → ℕ → IndexState → IndexState
-forgotten_if None place v = v
-forgotten_if (Some oldest) place v = forgotten_at oldest place v
-
 -- the key at this place is forgotten
 abbrev pub freed_place : ℕ → Option ℕ → Places → Places
 freed_place hash None p = p

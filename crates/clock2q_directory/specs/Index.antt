@@ -1,11 +1,12 @@
 -- The index of a cache: where each known key is, under the key's hash.
-use Rattle.std.specs.Prelude.{◌≡◌, ℕ, ◌+◌, ◌-◌, ◌*◌, ◌^◌, ◌<◌, ◌≤◌, max, nat_eq, nat_lt, nat_le, Bool, true, false, not, ◌==◌, if◌then◌else◌, List, [], map, length, Option, IfSome}
+use Rattle.std.specs.Prelude.{◌≡◌, ℕ, ◌+◌, ◌-◌, ◌*◌, ◌^◌, ◌<◌, ◌≤◌, max, nat_eq, nat_lt, nat_le, Bool, true, false, not, ◌==◌, if◌then◌else◌, List, [], map, length, Option, Some, None, IfSome}
 use Rattle.std.specs.List.{filter}
 use Rattle.std.specs.Coded.{Coded, code_by, coded×, coded_ℕ, coded_list}
-use Rattle.clock2q_handles.specs.Homes.{total, capacity, no_entries, with_handle, removed}
+use Rattle.clock2q_handles.specs.Homes.{candidates, total, capacity, no_entries, with_handle, removed}
 use Rattle.clock2q_handles.specs.Layout.{walk}
 use Rattle.clock2q_handles.specs.Positions.{GapValue, gap_of, handle_replaced}
 use Rattle.clock2q_handles.specs.TableStep.{made_for}
+use Rattle.clock2q_queues.specs.Rings.{has}
 use Rattle.clock2q_directory.specs.declared.handle.Handle.{Handle}
 use Rattle.clock2q_directory.specs.Accesses.{CountedTable, most_changed}
 use mathlib.Core.Path.{refl}
@@ -118,6 +119,11 @@ forgotten_at hash place v =
     if is_shared v then record v { shared = removed nat_eq v.shared hash (first_remembered + place); accesses = v.accesses + most_changed v.shared hash }
     else record v { own = removed nat_eq v.own hash place; accesses = v.accesses + most_changed v.own hash }
 
+-- the oldest key, whose hash this is, is forgotten, if one is
+abbrev pub forgotten_if : Option ℕ → ℕ → IndexState → IndexState
+forgotten_if None place v = v
+forgotten_if (Some oldest) place v = forgotten_at oldest place v
+
 -- no key is known
 abbrev pub emptied : IndexState → IndexState
 emptied v = record {
@@ -192,3 +198,14 @@ pub record HasRoomBeside (v : IndexState) : Type 0 where
 -- if a lookup of the hash found a gap, it is this one, and slots and places share a table
 abbrev pub IsGapFor : Option GapValue → ℕ → IndexState → Type 0
 IsGapFor gap hash v = IfSome gap (λ g. (g ≡ gap_of v.shared hash) × (is_shared v ≡ true))
+
+-- a key may take a slot, whose old key is remembered at a place: one that has no key, or that of the oldest key, whose
+-- hash this is
+pub record MaySucceed (slot old_hash place : ℕ) (oldest : Option ℕ) (v : IndexState) : Type 0 where
+  pub below : slot < 2 ^ 31
+  pub short : place < 2 ^ 31
+  pub few : total (slots v) + beside v < 2 ^ 24
+  pub beside : HasRoomBeside v
+  pub held : has slot (candidates (slots v) old_hash) ≡ true
+  pub held_place : IfSome oldest (λ o. has place (candidates (places v) o) ≡ true)
+  pub room : HasPlaceRoom (forgotten_if oldest place v)

@@ -10,8 +10,8 @@ ghost use Rattle.clock2q_queues.specs.Order.{IsWholeOrder, used};
 ghost use Rattle.clock2q_directory.specs.Keys.{entry, is_key_at, comparisons_of, written};
 ghost use Rattle.clock2q_directory.specs.Indexes.{IsIndex, HasHash};
 ghost use Rattle.clock2q_directory.specs.Index as known;
-ghost use Rattle.clock2q_directory.specs.Index.{emptied, index_for, is_shared, entered, entered_from, left, slots_among, places_among, IsGapFor, IsWithinCapacity};
-ghost use Rattle.clock2q_directory.specs.History.{IsWholeHistory, MakesPlace, Searches, HasRoom, places_with, places_looked_up, pushed_places, entering_places, forgotten_if, freed_place, place_of, oldest_hash, remembered, is_remembered, forgotten, found_slot, found_place, found_gap, first_known};
+ghost use Rattle.clock2q_directory.specs.Index.{forgotten_if, emptied, index_for, is_shared, entered, entered_from, left, slots_among, places_among, IsGapFor, IsWithinCapacity};
+ghost use Rattle.clock2q_directory.specs.History.{IsWholeHistory, MakesPlace, Searches, HasRoom, places_with, places_looked_up, pushed_places, entering_places, freed_place, place_of, oldest_hash, remembered, is_remembered, forgotten, found_slot, found_place, found_gap, first_known};
 ghost use Rattle.clock2q_directory.specs.Directory.{IsWithinRoom};
 
 use crate::handle::Handle;

@@ -4,8 +4,7 @@ ghost use Rattle.clock2q_handles.specs.Homes.{candidates, total};
 ghost use Rattle.clock2q_queues.specs.Rings.{has};
 ghost use Rattle.clock2q_handles.specs.Layout.{walk};
 ghost use Rattle.clock2q_handles.specs.Positions.{gap_of};
-ghost use Rattle.clock2q_directory.specs.Index.{beside, emptied, index_for, index_room, is_shared, slots, places, entered, entered_from, left, looked_up, remembered_at, forgotten_at, HasSlotRoom, HasPlaceRoom, HasRoomBeside, IsGapFor, IsWithinCapacity};
-ghost use Rattle.clock2q_directory.specs.History.{forgotten_if};
+ghost use Rattle.clock2q_directory.specs.Index.{beside, emptied, index_for, index_room, is_shared, slots, places, entered, entered_from, left, looked_up, remembered_at, forgotten_at, HasSlotRoom, HasPlaceRoom, HasRoomBeside, IsGapFor, IsWithinCapacity, forgotten_if};
 
 mod counted_table;
 mod succession;

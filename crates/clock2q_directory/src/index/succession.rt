@@ -6,11 +6,8 @@ use clock2q_handles::Gap;
 use std::alloc::Allocator;
 
 impl<A: Allocator> Index<A> {
-    ghost use Rattle.std.specs.Prelude.{◌≡◌, ◌+◌, ◌^◌, ◌<◌, true, false, IfSome};
-    ghost use Rattle.clock2q_handles.specs.Homes.{candidates, total};
-    ghost use Rattle.clock2q_queues.specs.Rings.{has};
-    ghost use Rattle.clock2q_directory.specs.Index.{beside, entered_from, forgotten_at, is_shared, places, remembered_at, slots, HasPlaceRoom, HasRoomBeside, IsGapFor};
-    ghost use Rattle.clock2q_directory.specs.History.{forgotten_if};
+    ghost use Rattle.std.specs.Prelude.{◌≡◌, true, false, None, Some};
+    ghost use Rattle.clock2q_directory.specs.Index.{entered_from, forgotten_at, forgotten_if, is_shared, remembered_at, IsGapFor, MaySucceed};
 
     /// Adds the slot of a key that becomes resident in place of another, which is remembered at a
     /// place: that of the oldest key, if one is forgotten.
@@ -24,15 +21,8 @@ impl<A: Allocator> Index<A> {
         place: Place,
         oldest: Option<u64>,
     )
-        requires below { slot < 2 ^ 31 }
-        requires short { place < 2 ^ 31 }
+        requires may { MaySucceed slot old_hash place oldest self.old }
         requires gap { IsGapFor gap hash self.old }
-        requires few { total (slots self.old) + beside self.old < 2 ^ 24 }
-        requires beside { HasRoomBeside self.old }
-        requires held { has slot (candidates (slots self.old) old_hash) ≡ true }
-        requires held_place { IfSome oldest
-            (λ oldest. has place (candidates (places self.old) oldest) ≡ true) }
-        requires room { HasPlaceRoom (forgotten_if oldest place self.old) }
         ensures renewed { self.new ≡ entered_from self.old hash slot
             (remembered_at old_hash slot place (forgotten_if oldest place self.old)) }
     {
@@ -53,14 +43,7 @@ impl<A: Allocator> Index<A> {
         place: Place,
         oldest: Option<u64>,
     )
-        requires below { slot < 2 ^ 31 }
-        requires short { place < 2 ^ 31 }
-        requires few { total (slots self.old) + beside self.old < 2 ^ 24 }
-        requires beside { HasRoomBeside self.old }
-        requires held { has slot (candidates (slots self.old) old_hash) ≡ true }
-        requires held_place { IfSome oldest
-            (λ oldest. has place (candidates (places self.old) oldest) ≡ true) }
-        requires room { HasPlaceRoom (forgotten_if oldest place self.old) }
+        requires may { MaySucceed slot old_hash place oldest self.old }
         ensures renewed { self.new ≡ entered_from self.old hash slot
             (remembered_at old_hash slot place (forgotten_if oldest place self.old)) }
     {
@@ -86,14 +69,8 @@ impl<A: Allocator> Index<A> {
         oldest: Option<u64>,
     )
         requires shared { is_shared self.old ≡ true }
-        requires below { slot < 2 ^ 31 }
-        requires short { place < 2 ^ 31 }
+        requires may { MaySucceed slot old_hash place oldest self.old }
         requires gap { IsGapFor gap hash self.old }
-        requires few { total (slots self.old) + beside self.old < 2 ^ 24 }
-        requires beside { HasRoomBeside self.old }
-        requires held { has slot (candidates (slots self.old) old_hash) ≡ true }
-        requires held_place { IfSome oldest
-            (λ oldest. has place (candidates (places self.old) oldest) ≡ true) }
         ensures renewed { self.new ≡ entered_from self.old hash slot
             (remembered_at old_hash slot place (forgotten_if oldest place self.old)) }
     {
@@ -115,11 +92,8 @@ impl<A: Allocator> Index<A> {
         place: Place,
     )
         requires shared { is_shared self.old ≡ true }
-        requires below { slot < 2 ^ 31 }
-        requires short { place < 2 ^ 31 }
+        requires may { MaySucceed slot old_hash place None self.old }
         requires gap { IsGapFor gap hash self.old }
-        requires beside { HasRoomBeside self.old }
-        requires held { has slot (candidates (slots self.old) old_hash) ≡ true }
         ensures renewed { self.new ≡ entered_from self.old hash slot
             (remembered_at old_hash slot place self.old) }
     {
@@ -143,13 +117,8 @@ impl<A: Allocator> Index<A> {
         oldest: u64,
     )
         requires shared { is_shared self.old ≡ true }
-        requires below { slot < 2 ^ 31 }
-        requires short { place < 2 ^ 31 }
+        requires may { MaySucceed slot old_hash place (Some oldest) self.old }
         requires gap { IsGapFor gap hash self.old }
-        requires beside { HasRoomBeside self.old }
-        requires few { total (slots self.old) + beside self.old < 2 ^ 24 }
-        requires held { has slot (candidates (slots self.old) old_hash) ≡ true }
-        requires held_place { has place (candidates (places self.old) oldest) ≡ true }
         ensures renewed { self.new ≡ entered_from self.old hash slot
             (remembered_at old_hash slot place (forgotten_at oldest place self.old)) }
     {
@@ -165,10 +134,7 @@ impl<A: Allocator> Index<A> {
     /// Adds a slot, whose old key is remembered at a place that has no key in the places' own table.
     fn remember_split(&mut self, hash: u64, slot: u32, old_hash: u64, place: Place)
         requires apart { is_shared self.old ≡ false }
-        requires below { slot < 2 ^ 31 }
-        requires few { total (slots self.old) + beside self.old < 2 ^ 24 }
-        requires held { has slot (candidates (slots self.old) old_hash) ≡ true }
-        requires room { HasPlaceRoom self.old }
+        requires may { MaySucceed slot old_hash place None self.old }
         ensures renewed { self.new ≡ entered_from self.old hash slot
             (remembered_at old_hash slot place self.old) }
     {
@@ -179,11 +145,7 @@ impl<A: Allocator> Index<A> {
     /// Adds a slot, whose old key is remembered at the oldest key's place in the places' own table.
     fn forget_split(&mut self, hash: u64, slot: u32, old_hash: u64, place: Place, oldest: u64)
         requires apart { is_shared self.old ≡ false }
-        requires below { slot < 2 ^ 31 }
-        requires few { total (slots self.old) + beside self.old < 2 ^ 24 }
-        requires held { has slot (candidates (slots self.old) old_hash) ≡ true }
-        requires held_place { has place (candidates (places self.old) oldest) ≡ true }
-        requires room { HasPlaceRoom (forgotten_at oldest place self.old) }
+        requires may { MaySucceed slot old_hash place (Some oldest) self.old }
         ensures renewed { self.new ≡ entered_from self.old hash slot
             (remembered_at old_hash slot place (forgotten_at oldest place self.old)) }
     {

@@ -3,8 +3,8 @@ use Rattle.clock2q_handles.specs.Homes.{candidates}
 use Rattle.clock2q_queues.specs.Rings.{has}
 use Rattle.clock2q_directory.specs.Keys.{entries_of}
 use Rattle.clock2q_directory.specs.Index as known
-use Rattle.clock2q_directory.specs.Index.{entered_from, left, remembered_at, IsGapFor}
-use Rattle.clock2q_directory.specs.History.{Remembered, remembered, accesses_of, is_remembered, forgotten_if, entering_places, places_from, pushed_places, oldest_hash}
+use Rattle.clock2q_directory.specs.Index.{entered_from, forgotten_if, left, remembered_at, IsGapFor}
+use Rattle.clock2q_directory.specs.History.{Remembered, remembered, accesses_of, is_remembered, entering_places, places_from, pushed_places, oldest_hash}
 use Rattle.clock2q_directory.proofs.Histories.{IsHistory-index, beside-room, few-entries}
 use Rattle.clock2q_directory.proofs.Remembering.{remembers, place_room, place_below, pushed-nowhere}
 use Rattle.clock2q_directory.proofs.Views.{places-entered, places-left, entered-like, left-like}
@@ -30,14 +30,16 @@ succeed-requires g c =
     ap (λ (z : Remembered _). has c.args.slot (candidates (known.slots z.places.index) c.args.hash)) c.self.view_is ∙ c.requires.held in
     let below = place_below g.K.PartialEq.eq c.args.hash c.args.slot c.args.key tt i.index less less i.order c.put_key-place.new.order i.keys i.keys place c.self.invariant some made in
     record {
-      below = c.requires.below;
-      short = omega (arith, below);
       gap = subst (λ (z : Remembered _). IsGapFor c.args.gap c.args.new z.places.index) (sym c.self.view_is) c.requires.gap;
-      few = few-entries g.K.PartialEq.eq c.self.inside.index c.self.inside.order c.self.inside.keys c.args.self.now c.self.invariant c.self.view_is c.requires.room;
-      beside = beside-room g.K.PartialEq.eq c.self.inside.index c.self.inside.order c.self.inside.keys c.args.self.now c.self.invariant c.self.view_is c.requires.room;
-      held = held;
-      held_place = c.put_key-place.ensures.held;
-      room = place_room g.K.PartialEq.eq c.args.hash c.args.slot c.args.key tt i.index less less i.order c.put_key-place.new.order i.keys i.keys place c.self.invariant some made;
+      may = record {
+        below = c.requires.below;
+        short = omega (arith, below);
+        few = few-entries g.K.PartialEq.eq i.index i.order i.keys c.args.self.now c.self.invariant c.self.view_is c.requires.room;
+        beside = beside-room g.K.PartialEq.eq i.index i.order i.keys c.args.self.now c.self.invariant c.self.view_is c.requires.room;
+        held = held;
+        held_place = c.put_key-place.ensures.held;
+        room = place_room g.K.PartialEq.eq c.args.hash c.args.slot c.args.key tt i.index less less i.order c.put_key-place.new.order i.keys i.keys place c.self.invariant some made;
+      };
     }
 
 pub invariant_of-self : goal.invariant_of-self

@@ -27,11 +27,11 @@ exchange-requires g c =
     let i = c.self.inside in
     let v = index_state i.shared.homes i.own.homes in
     let shared : is_shared v ≡ true = ap is_shared c.self.view_is ∙ c.requires.shared in
-    let held = subst (λ z. has c.args.place (candidates (places z) c.args.oldest) ≡ true) (sym c.self.view_is) c.requires.held_place in
+    let held = subst (λ z. has c.args.place (candidates (places z) c.args.oldest) ≡ true) (sym c.self.view_is) c.requires.may.held_place in
     let gap = subst (λ z. IsGapFor c.args.gap c.args.hash z) (sym c.self.view_is) c.requires.gap in
     let w = index_state i.shared.homes i.own.homes in
-    let few = subst (λ z. total (slots z) + beside z < 2 ^ 24) (sym c.self.view_is) c.requires.few in
-    let b = subst (λ z. HasRoomBeside z) (sym c.self.view_is) c.requires.beside in
+    let few = subst (λ z. total (slots z) + beside z < 2 ^ 24) (sym c.self.view_is) c.requires.may.few in
+    let b = subst (λ z. HasRoomBeside z) (sym c.self.view_is) c.requires.may.beside in
     let spare = spare-there w c.self.invariant (record { room = b.room; few = b.few }) shared in
     record { few = shared-few w c.self.invariant few; gap = only-gap c.args.hash w c.args.gap gap; spare = λ _. spare; held = rw c.pack-handle.ensures.packed (held_place v c.args.oldest c.args.place shared held) }
 
@@ -43,7 +43,7 @@ replace_handle_up_to-requires g c =
     let fewer = removed nat_eq i.shared.homes c.args.oldest (first_remembered + c.args.place) in
     let some : 0 < length fewer = omega (arith, length-taken i.shared.homes c.args.oldest (first_remembered + c.args.place), c.self.invariant.some) in
     let done = rw c.pack-handle.ensures.packed at c.exchange.ensures.exchanged in
-    let held = subst (λ z. has c.args.slot (candidates (slots z) c.args.old_hash) ≡ true) (sym c.self.view_is) c.requires.held in
+    let held = subst (λ z. has c.args.slot (candidates (slots z) c.args.old_hash) ≡ true) (sym c.self.view_is) c.requires.may.held in
     record {
       held = ap (λ (t : CountedTable). list_any (is_entry_of nat_eq c.args.old_hash c.args.slot) (listed t.homes c.args.old_hash)) done
           ∙ held-still nat_eq fewer c.args.hash c.args.old_hash c.args.slot c.args.slot some (still_there v c.args.old_hash c.args.slot c.args.oldest c.args.place shared held);
@@ -67,7 +67,7 @@ returns g c =
     let n = most_changed fewer c.args.old_hash in
     let some : 0 < length fewer = omega (arith, length-taken a c.args.oldest handle, c.self.invariant.some) in
     let shared : is_shared (index_of i.shared i.own) ≡ true = ap is_shared c.self.view_is ∙ c.requires.shared in
-    let held = subst (λ z. has c.args.slot (candidates (slots z) c.args.old_hash) ≡ true) (sym c.self.view_is) c.requires.held in
+    let held = subst (λ z. has c.args.slot (candidates (slots z) c.args.old_hash) ≡ true) (sym c.self.view_is) c.requires.may.held in
     let homes = with_handle (handle_replaced nat_eq fewer c.args.old_hash c.args.slot handle) c.args.hash c.args.slot in
     let done = rw c.pack-handle.ensures.packed at c.exchange.ensures.exchanged in
     let lists : c.replace_handle_up_to.new.self.homes ≡ homes =

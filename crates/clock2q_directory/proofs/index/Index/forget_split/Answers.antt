@@ -15,15 +15,15 @@ remove_existing-requires g c =
     let i = c.self.inside in
     let v = index_state i.shared.homes i.own.homes in
     let own : is_shared v ≡ false = ap is_shared c.self.view_is ∙ c.requires.apart in
-    let held = subst (λ z. has c.args.place (candidates (places z) c.args.oldest) ≡ true) (sym c.self.view_is) c.requires.held_place in
+    let held = subst (λ z. has c.args.place (candidates (places z) c.args.oldest) ≡ true) (sym c.self.view_is) c.requires.may.held_place in
     rw c.number.ensures.number (record { held = held_own v c.args.oldest c.args.place own held })
 
 pub exchange-requires : goal.exchange-requires
 exchange-requires g c =
     let i = c.self.inside in
-    let held = subst (λ z. has c.args.slot (candidates (slots z) c.args.old_hash) ≡ true) (sym c.self.view_is) c.requires.held in
+    let held = subst (λ z. has c.args.slot (candidates (slots z) c.args.old_hash) ≡ true) (sym c.self.view_is) c.requires.may.held in
     let w = index_state i.shared.homes i.own.homes in
-    let few = subst (λ z. total (slots z) + beside z < 2 ^ 24) (sym c.self.view_is) c.requires.few in
+    let few = subst (λ z. total (slots z) + beside z < 2 ^ 24) (sym c.self.view_is) c.requires.may.few in
     record { few = shared-few w c.self.invariant few; gap = tt; spare = λ none. absurd (cc); held = held_entry (index_state i.shared.homes i.own.homes) c.args.old_hash c.args.slot held }
 
 -- the places' own table, once the oldest key's place is gone
@@ -38,7 +38,7 @@ insert-requires g c =
     let fewer = removed nat_eq i.own.homes c.args.oldest c.args.place in
     let w = index_state i.shared.homes fewer in
     let own' = still_own v c.args.oldest c.args.place own in
-    let room = subst (λ z. HasPlaceRoom (forgotten_at c.args.oldest c.args.place z)) (sym c.self.view_is) c.requires.room in
+    let room = subst (λ z. HasPlaceRoom (forgotten_at c.args.oldest c.args.place z)) (sym c.self.view_is) c.requires.may.room in
     let there = rw own at room in
     let fits : HasPlaceRoom w = record { room = there.room; few = there.few } in
     let done = rw c.number.ensures.number at c.remove_existing.ensures.removed in
@@ -54,8 +54,8 @@ invariant_of-self g c =
     let less = sorted-own v fewer (length-taken i.own.homes c.args.oldest c.args.place) c.self.invariant in
     let done = rw c.number.ensures.number at c.remove_existing.ensures.removed in
     let put = ap (λ (t : CountedTable). t.homes) (rw (done, c.number-2.ensures.number) at c.insert.ensures.put) in
-    let moved = sorted-remembered (index_state i.shared.homes fewer) homes own c.args.old_hash c.args.slot c.args.place c.requires.below less refl put in
-    sorted-entered (index_state homes own) c.exchange.new.self.homes c.args.hash c.args.slot c.requires.below moved (ap (λ (t : CountedTable). t.homes) c.exchange.ensures.exchanged)
+    let moved = sorted-remembered (index_state i.shared.homes fewer) homes own c.args.old_hash c.args.slot c.args.place c.requires.may.below less refl put in
+    sorted-entered (index_state homes own) c.exchange.new.self.homes c.args.hash c.args.slot c.requires.may.below moved (ap (λ (t : CountedTable). t.homes) c.exchange.ensures.exchanged)
 
 pub returns : goal.returns
 returns g c =

@@ -18,7 +18,7 @@ pub insert-requires : goal.insert-requires
 insert-requires g c =
     let i = c.self.inside in
     let shared = ap is_shared c.self.view_is ∙ c.requires.shared in
-    let beside = subst (λ z. HasRoomBeside z) (sym c.self.view_is) c.requires.beside in
+    let beside = subst (λ z. HasRoomBeside z) (sym c.self.view_is) c.requires.may.beside in
     let gap = subst (λ z. IsGapFor c.args.gap c.args.hash z) (sym c.self.view_is) c.requires.gap in
     let w = index_state i.shared.homes i.own.homes in
     record { spare = spare-there w c.self.invariant (record { room = beside.room; few = beside.few }) shared; gap = only-gap c.args.hash w c.args.gap gap }
@@ -28,7 +28,7 @@ replace_handle_up_to-requires g c =
     let i = c.self.inside in
     let homes = i.shared.homes in
     let put = c.insert.ensures.put in
-    let held = subst (λ z. has c.args.slot (candidates (slots z) c.args.old_hash) ≡ true) (sym c.self.view_is) c.requires.held in
+    let held = subst (λ z. has c.args.slot (candidates (slots z) c.args.old_hash) ≡ true) (sym c.self.view_is) c.requires.may.held in
     record {
       held = ap (λ (t : CountedTable). list_any (is_entry_of nat_eq c.args.old_hash c.args.slot) (listed t.homes c.args.old_hash)) put
           ∙ held-still nat_eq homes c.args.hash c.args.old_hash c.args.slot c.args.slot c.self.invariant.some (held_entry (index_state homes i.own.homes) c.args.old_hash c.args.slot held);
@@ -48,7 +48,7 @@ returns g c =
     let m = most_changed a in
     let handle = first_remembered + c.args.place in
     let shared : is_shared (index_of i.shared i.own) ≡ true = ap is_shared c.self.view_is ∙ c.requires.shared in
-    let held = subst (λ z. has c.args.slot (candidates (slots z) c.args.old_hash) ≡ true) (sym c.self.view_is) c.requires.held in
+    let held = subst (λ z. has c.args.slot (candidates (slots z) c.args.old_hash) ≡ true) (sym c.self.view_is) c.requires.may.held in
     let homes = with_handle (handle_replaced nat_eq a c.args.old_hash c.args.slot handle) c.args.hash c.args.slot in
     let lists : c.replace_handle_up_to.new.self.homes ≡ homes =
     ap (λ (t : CountedTable). t.homes) c.replace_handle_up_to.ensures.handle_replaced

@@ -12,9 +12,9 @@ use Rattle.clock2q_directory.proofs.index.Index.remember_split.Goals as goal
 pub exchange-requires : goal.exchange-requires
 exchange-requires g c =
     let i = c.self.inside in
-    let held = subst (λ z. has c.args.slot (candidates (slots z) c.args.old_hash) ≡ true) (sym c.self.view_is) c.requires.held in
+    let held = subst (λ z. has c.args.slot (candidates (slots z) c.args.old_hash) ≡ true) (sym c.self.view_is) c.requires.may.held in
     let w = index_state i.shared.homes i.own.homes in
-    let few = subst (λ z. total (slots z) + beside z < 2 ^ 24) (sym c.self.view_is) c.requires.few in
+    let few = subst (λ z. total (slots z) + beside z < 2 ^ 24) (sym c.self.view_is) c.requires.may.few in
     record { few = shared-few w c.self.invariant few; gap = tt; spare = λ none. absurd (cc); held = held_entry (index_state i.shared.homes i.own.homes) c.args.old_hash c.args.slot held }
 
 pub insert-requires : goal.insert-requires
@@ -22,7 +22,7 @@ insert-requires g c =
     let i = c.self.inside in
     let v = index_state i.shared.homes i.own.homes in
     let own : is_shared v ≡ false = ap is_shared c.self.view_is ∙ c.requires.apart in
-    let room = subst (λ z. HasPlaceRoom z) (sym c.self.view_is) c.requires.room in
+    let room = subst (λ z. HasPlaceRoom z) (sym c.self.view_is) c.requires.may.room in
     let fits : HasPlaceRoom v = record { room = room.room; few = room.few } in
     record { spare = record { room = place_fits v own fits; few = place_is_few v own fits }; gap = tt }
 
@@ -33,8 +33,8 @@ invariant_of-self g c =
     let homes = removed nat_eq i.shared.homes c.args.old_hash c.args.slot in
     let own = c.insert.new.self.homes in
     let fewer = sorted-remembered v homes own c.args.old_hash c.args.slot c.args.place
-    c.requires.below c.self.invariant refl (ap (λ (t : CountedTable). t.homes) (rw c.number.ensures.number at c.insert.ensures.put)) in
-    sorted-entered (index_state homes own) c.exchange.new.self.homes c.args.hash c.args.slot c.requires.below fewer (ap (λ (t : CountedTable). t.homes) c.exchange.ensures.exchanged)
+    c.requires.may.below c.self.invariant refl (ap (λ (t : CountedTable). t.homes) (rw c.number.ensures.number at c.insert.ensures.put)) in
+    sorted-entered (index_state homes own) c.exchange.new.self.homes c.args.hash c.args.slot c.requires.may.below fewer (ap (λ (t : CountedTable). t.homes) c.exchange.ensures.exchanged)
 
 pub returns : goal.returns
 returns g c =
