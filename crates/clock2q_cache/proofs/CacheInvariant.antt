@@ -1,6 +1,6 @@
 -- A cache's fields keep their invariant after each change of the layers, and the machine becomes what it should.
 use Rattle.std.proofs.Common.{◌≡◌, ℕ, suc, ◌+◌, ◌^◌, ◌<◌, ◌≤◌, Bool, true, false, Option, Some, None, List, [], ◌∷◌, ◌++◌, map, length, drop, reverse, refl, sym, ap, ◌∙◌, subst, arith, ne_eqb, length-append, eqb}
-use Rattle.clock2q_cache.proofs.Names.{key_at-own, key_at-others, values-written, length-values, if◌then◌else◌, IfNone, IsEquivalence, last_or, AllByRecursion, total, capacity, candidates, with_handle, has, KeyPlaces, entry, written, hash_at, key_at, admitted, QueueState, slots_of, IndexState, is_shared, slots, Remembered, most_beside, has-append, length-put, named-own, or_parts, Shares, main_share, Machine, Placement, vacancy, vacant_slot, into_main, into_small, into_small_at, joining_main, replacing_victim, stored, IsWhole, known_count, IsValueFor, Fills, Writes, machine_of, places_of, with_keys_small, with_keys_main, IsStored, IsSized, IsKept, IsPlaced, whole-stored, placed-admitted, placed-joining, slots-entered, slots-left, removed, left}
+use Rattle.clock2q_cache.proofs.Names.{Entry, length-written, made_below, key_at-own, key_at-others, values-written, length-values, if◌then◌else◌, IfNone, IsEquivalence, last_or, AllByRecursion, total, capacity, candidates, with_handle, has, KeyPlaces, entry, written, hash_at, key_at, admitted, QueueState, slots_of, IndexState, is_shared, slots, Remembered, most_beside, has-append, length-put, named-own, or_parts, Shares, main_share, Machine, Placement, vacancy, vacant_slot, into_main, into_small, into_small_at, joining_main, replacing_victim, stored, IsWhole, known_count, IsValueFor, Fills, Writes, machine_of, places_of, with_keys_small, with_keys_main, IsStored, IsSized, IsKept, IsPlaced, whole-stored, placed-admitted, placed-joining, slots-entered, slots-left, removed, left}
 use Rattle.clock2q_directory.specs.Index as known
 use Rattle.clock2q_machine.specs.Entries as machine
 use Rattle.clock2q_cache.proofs.WithKeys.{small-admitted, main-behind, small_with, main_with, keys-agree, length-small, length-main}
@@ -55,6 +55,7 @@ kept-reindexed {eq = eq} {hash} {shares} {q} {keys = keys} {free} moved kept = r
   whole = subst (λ z. IsWhole eq (machine_of shares q keys.entries z free)) (sym moved.entries) kept.whole;
   stored = kept.stored;
   hashed = subst (λ z. AllByRecursion (λ e. e.0 ≡ hash e.1) z) (sym moved.entries) kept.hashed;
+  linked = kept.linked;
   sized = sized-same kept.sized refl refl moved.limit moved.beside refl refl refl;
 }
 
@@ -116,6 +117,10 @@ module _ {K V : Type 0} {eq : K → K → Bool} {hash : K → ℕ} {shares : Sha
   pub free-main : {slot made : ℕ} → made ≡ length keys.entries → vacant_slot (reverse free) made (made + 1) ≡ Some slot → length m.main < main_share shares → IsFree slot
   free-main is picked some = is-free is picked (omega (arith, some, kept.whole.small_within, kept.whole.small_below, length_in_small, length_in_main))
 
+  -- no link record is made for a slot that was made
+  pub made-still : {slot : ℕ} → slot < length keys.entries → made_below (slot + 1) q.made ≡ q.made
+  made-still there = omega (arith, there, kept.linked)
+
   -- a key that has its slot: the invariant still holds, and the machine is as it should be
   pub record IsDone (slot : ℕ) (value : Option V) (p : Placement K V) (q' : QueueState) (h' : Remembered K)
       (index' : List (List (ℕ × ℕ))) (keys' : KeyPlaces K V) (free' : List ℕ) (room' : ℕ) : Type 0 where
@@ -138,9 +143,9 @@ module _ {K V : Type 0} {eq : K → K → Bool} {hash : K → ℕ} {shares : Sha
       → known_count (eq key) m ≡ 0 → IsPlaced key m p → (w : Writes hsh key value slot keys.entries keys'.entries) → slot ≡ p.slot
       → machine_of shares q' keys'.entries h'.entries free' ≡ stored p.slot w.held p.machine
       → IsStored hash index' keys'.entries (places_of q') → AllByRecursion (λ e. e.0 ≡ hash e.1) h'.entries
-      → IsSized shares q' h'.limit (most_beside h') (length index') keys'.room room' → IsDone slot value p q' h' index' keys' free' room'
-  placed-done {key} {value} {p = p} absent placed w at is stored hashed sized = record {
-    holds = record { whole = subst (IsWhole eq) (sym is) (whole-stored eq m kept.whole laws key absent p placed w.held); stored = stored; hashed = hashed; sized = sized };
+      → length keys'.entries ≤ q'.made → IsSized shares q' h'.limit (most_beside h') (length index') keys'.room room' → IsDone slot value p q' h' index' keys' free' room'
+  placed-done {key} {value} {p = p} absent placed w at is stored hashed linked sized = record {
+    holds = record { whole = subst (IsWhole eq) (sym is) (whole-stored eq m kept.whole laws key absent p placed w.held); stored = stored; hashed = hashed; linked = linked; sized = sized };
     fills = record { held = w.held; is = subst (λ s. IsValueFor value s m.values w.held) at w.is; becomes = is };
     at = at;
   }
@@ -186,35 +191,36 @@ module _ {K V : Type 0} {eq : K → K → Bool} {hash : K → ℕ} {shares : Sha
     values : map (λ e. e.value) keys'.entries ≡ (stored slot w.held m).values
     values = rw w.becomes (values-written slot (entry hsh key w.held) keys.entries f.next)
 
-    done : {p : Placement K V} {room' : ℕ} (q' : QueueState) (free' : List ℕ) → IsPlaced key m p → slot ≡ p.slot → room' ≡ room → q'.slots ≡ q.slots → q'.window ≡ q.window
+    done : {p : Placement K V} {room' : ℕ} (q' : QueueState) (free' : List ℕ) → IsPlaced key m p → slot ≡ p.slot → room' ≡ room → q'.slots ≡ q.slots → q'.made ≡ made_below (slot + 1) q.made → q'.window ≡ q.window
         → machine_of shares q' keys'.entries h.entries free' ≡ stored p.slot w.held p.machine
         → ((t : ℕ) → times t (places_of q') ≡ times t (slot ∷ places_of q)) → length q'.small + length q'.main ≡ suc (length q.small + length q.main)
         → IsDone slot value p q' h index' keys' free' room'
-    done q' free' placed at free_room slots window e as_often as_many =
+    done q' free' placed at free_room slots made window e as_often as_many =
         placed-done absent placed w at e (stored-moved q' entered as_often (as_many ∙ ap suc (sym (length-places q)))) kept.hashed
+        (omega (arith, ap (λ (z : List (Entry K V)). length z) w.becomes, length-written slot (entry hsh key w.held) keys.entries f.next, kept.linked, made))
         (sized-same kept.sized slots window refl refl (ap (λ (z : List (List (ℕ × ℕ))). length z) indexed ∙ length-put index hsh slot) (ap (λ (z : KeyPlaces K V). z.room) renewed) free_room)
 
-    pub small-done : {q' : QueueState} {free' : List ℕ} {room' : ℕ} → length m.small < shares.small → q' ≡ record q { small = admitted q.window slot q.small; accesses = q'.accesses }
+    pub small-done : {q' : QueueState} {free' : List ℕ} {room' : ℕ} → length m.small < shares.small → q' ≡ record q { small = admitted q.window slot q.small; made = made_below (slot + 1) q.made; accesses = q'.accesses }
         → reverse free' ≡ drop 1 (reverse free) → room' ≡ room → IsDone slot value (into_small key m) q' h index' keys' free' room'
     small-done {q'} {free'} {room'} some queues others free_room =
-        let q1 : QueueState = record q { small = admitted q.window slot q.small; accesses = q'.accesses } in
+        let q1 : QueueState = record q { small = admitted q.window slot q.small; made = made_below (slot + 1) q.made; accesses = q'.accesses } in
         let s : with_keys_small (key_at keys'.entries) q1.small ≡ machine.small_admitted shares.window key slot m.small =
         small-admitted (key_at keys'.entries) q.window slot key q.small own ∙ ap (λ z. machine.small_admitted q.window key slot z) small_same
         ∙ ap (λ z. machine.small_admitted z key slot m.small) kept.sized.window in
         let e : machine_of shares q1 keys'.entries h.entries free' ≡ stored slot w.held (into_small_at key (Some slot) None m).machine = cc (main_same, values) in
         rw queues (subst (λ p. IsDone slot value p q1 h index' keys' free' room') (sym (into-small key f.taken))
-        (done q1 free' (placed-admitted eq m kept.whole key slot None f.taken some) refl free_room refl refl e
+        (done q1 free' (placed-admitted eq m kept.whole key slot None f.taken some) refl free_room refl refl refl e
         (λ t. omega (arith, times-both t q1, times-admitted t q.window slot q.small, times-cons t slot (places_of q), times-both t q))
         (omega (arith, length-admitted q.window slot q.small))))
 
-    pub main-done : {q' : QueueState} {free' : List ℕ} {room' : ℕ} → length m.main < main_share shares → q' ≡ record q { main = q.main ++ (slot, false) ∷ []; accesses = q'.accesses }
+    pub main-done : {q' : QueueState} {free' : List ℕ} {room' : ℕ} → length m.main < main_share shares → q' ≡ record q { main = q.main ++ (slot, false) ∷ []; made = made_below (slot + 1) q.made; accesses = q'.accesses }
         → reverse free' ≡ drop 1 (reverse free) → room' ≡ room → IsDone slot value (into_main key m) q' h index' keys' free' room'
     main-done {q'} {free'} {room'} some queues others free_room =
-        let q1 : QueueState = record q { main = q.main ++ (slot, false) ∷ []; accesses = q'.accesses } in
+        let q1 : QueueState = record q { main = q.main ++ (slot, false) ∷ []; made = made_below (slot + 1) q.made; accesses = q'.accesses } in
         let t : with_keys_main (key_at keys'.entries) q1.main ≡ machine.behind_hand key slot m.main =
         main-behind (key_at keys'.entries) slot key q.main own ∙ ap (λ z. machine.behind_hand key slot z) main_same in
         let e : machine_of shares q1 keys'.entries h.entries free' ≡ stored slot w.held (joining_main key (Some slot) m).machine = cc (small_same, values) in
         rw queues (subst (λ p. IsDone slot value p q1 h index' keys' free' room') (sym (into-main key f.taken some))
-        (done q1 free' (placed-joining eq m kept.whole key slot f.taken some) refl free_room refl refl e
+        (done q1 free' (placed-joining eq m kept.whole key slot f.taken some) refl free_room refl refl refl e
         (λ t. omega (arith, times-both t q1, times-pushed t q.main (slot, false), times-cons t slot (places_of q), times-both t q))
         (omega (arith, length-append q.main ((slot, false) ∷ [])))))

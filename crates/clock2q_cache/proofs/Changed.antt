@@ -76,6 +76,7 @@ module _ {K V : Type 0} {eq : K → K → Bool} {hash : K → ℕ} {shares : Sha
     whole = subst (λ z. IsWhole eq (machine_of shares q z h.entries free)) (sym entries) kept.whole;
     stored = subst (λ z. IsStored hash index z (places_of q)) (sym entries) kept.stored;
     hashed = kept.hashed;
+    linked = omega (arith, ap (λ (z : List (Entry K V)). length z) entries, kept.linked);
     sized = sized-same kept.sized refl refl refl refl refl keys_room refl;
   }
 
@@ -88,6 +89,7 @@ module _ {K V : Type 0} {eq : K → K → Bool} {hash : K → ℕ} {shares : Sha
         whole = subst (λ z. IsWhole eq (machine_of shares q z h'.entries free)) (sym entries) (subst (λ z. IsWhole eq (machine_of shares q keys.entries z free)) (sym remembered) kept.whole);
         stored = subst (λ z. IsStored hash index z (places_of q)) (sym entries) kept.stored;
         hashed = subst (λ z. AllByRecursion (λ e. e.0 ≡ hash e.1) z) (sym remembered) kept.hashed;
+        linked = omega (arith, ap (λ (z : List (Entry K V)). length z) entries, kept.linked);
         sized = sized-same kept.sized refl refl (ap (λ (z : Remembered K). z.limit) same) (ap (λ (z : Remembered K). most_beside z) same) refl keys_room refl;
       }
 
@@ -101,6 +103,7 @@ module _ {K V : Type 0} {eq : K → K → Bool} {hash : K → ℕ} {shares : Sha
       whole = subst (IsWhole eq) (sym forgotten-machine) (whole-forgotten eq m kept.whole (eq key));
       stored = kept.stored;
       hashed = subst (λ z. AllByRecursion (λ e. e.0 ≡ hash e.1) z) (sym entries) (all-filtered (eq key) (λ e. e.0 ≡ hash e.1) h.entries kept.hashed);
+      linked = kept.linked;
       sized = sized-same kept.sized refl refl limit beside refl refl refl;
     })
 
@@ -136,6 +139,14 @@ module _ {K V : Type 0} {eq : K → K → Bool} {hash : K → ℕ} {shares : Sha
             keys.entries kept.stored.hashed (all-at (λ e. e.hash ≡ hash e.key) keys.entries slot r.entry kept.stored.hashed r.at));
       });
       hashed = kept.hashed;
+      linked = omega (
+        arith,
+        ap (λ (z : List (Entry K V)). length z) is,
+        ap (λ (z : List (Entry K V)). length z) r.written,
+        length-written slot (record r.entry { value = value }) keys.entries (omega (arith, made)),
+        made,
+        kept.linked,
+      );
       sized = sized-same kept.sized refl refl refl refl refl keys_room refl;
     }
 
@@ -175,6 +186,7 @@ module _ {K V : Type 0} where
           subst (λ (z : List (Entry K V)). IsStored hash index z (places_of q)) (sym keyed)
           (subst (λ z. IsStored {K = K} {V = V} hash index [] z) (sym places) (record { made = tt; indexed = indexed; hashed = tt }));
       hashed = subst (λ z. AllByRecursion (λ e. e.0 ≡ hash e.1) z) (sym entries) tt;
+      linked = omega (arith, ap (λ (z : List (Entry K V)). length z) keyed);
       sized = sized;
     },
     is,

@@ -1,6 +1,6 @@
 -- Slots that were never made are made, and are free.
 use Rattle.std.proofs.Common.{◌≡◌, ℕ, suc, ◌+◌, ◌-◌, ◌<◌, Bool, true, Option, Some, None, slice_get, List, [], ◌∷◌, ◌++◌, map, length, reverse, refl, sym, ap, ◌∙◌, subst, arith, length-append, ◌||◌}
-use Rattle.clock2q_cache.proofs.Names.{length-values, IsEquivalence, Mut, Called, FoldsTo, AllByRecursion, range_with_len, append-nil, append_assoc, map-append, reverse-append, reverse-reverse, or_true, Entry, has, KeyPlaces, entry, key_at, QueueState, slots_of, Remembered, has-append, below_of, below-has, IsIndex-kept, FillsUp, Shares, Machine, prefilled, IsWhole, machine_of, places_of, with_keys_small, with_keys_main, IsStored, IsKept, lasting-prefilled, get-append}
+use Rattle.clock2q_cache.proofs.Names.{made_below, length-values, IsEquivalence, Mut, Called, FoldsTo, AllByRecursion, range_with_len, append-nil, append_assoc, map-append, reverse-append, reverse-reverse, or_true, Entry, has, KeyPlaces, entry, key_at, QueueState, slots_of, Remembered, has-append, below_of, below-has, IsIndex-kept, FillsUp, Shares, Machine, prefilled, IsWhole, machine_of, places_of, with_keys_small, with_keys_main, IsStored, IsKept, lasting-prefilled, get-append}
 use Rattle.clock2q_cache.proofs.WithKeys.{small_with, main_with, keys-agree}
 use Rattle.clock2q_cache.proofs.CacheInvariant.{sized-same}
 use Rattle.std.proofs.lemmas.Fn.{FoldsTo-push}
@@ -70,8 +70,9 @@ module _ {K V : Type 0} {eq : K → K → Bool} {hash : K → ℕ} {shares : Sha
       ∙ ap (λ z. range_with_len (length keys.entries) z ++ reverse free) n ∙ ap (λ z. range_with_len z (length made) ++ reverse free) (sym (length-values keys.entries)) in
       cc
 
-  pub kept-prefilled : AllByRecursion (λ e. e.hash ≡ hash e.key) added → keys'.room ≡ keys.room → room' ≡ room → IsKept eq hash shares q h index keys' free' room'
-  kept-prefilled hashed keys_room free_room = record {
+  pub kept-prefilled : {links : ℕ} {q' : QueueState} → q' ≡ record q { made = made_below shares.capacity q.made; accesses = links }
+      → AllByRecursion (λ e. e.hash ≡ hash e.key) added → keys'.room ≡ keys.room → room' ≡ room → IsKept eq hash shares q' h index keys' free' room'
+  kept-prefilled linked hashed keys_room free_room = rw linked (record {
     whole = subst (IsWhole eq) (sym machine-prefilled) (lasting-prefilled eq laws made m (omega (arith, made-count)) kept.whole);
     stored = subst (λ z. IsStored hash index z (places_of q)) (sym is) (record {
       made = below-has (length (keys.entries ++ added)) (places_of q) (λ t g. omega (arith, below_of (length keys.entries) (places_of q) kept.stored.made t g, length-append keys.entries added));
@@ -79,5 +80,6 @@ module _ {K V : Type 0} {eq : K → K → Bool} {hash : K → ℕ} {shares : Sha
       hashed = all-append (λ e. e.hash ≡ hash e.key) keys.entries added kept.stored.hashed hashed;
     });
     hashed = kept.hashed;
+    linked = omega (arith, ap (λ (z : List (Entry K V)). length z) is, length-append keys.entries added, as_many);
     sized = sized-same kept.sized refl refl refl refl refl keys_room free_room;
-  }
+  })

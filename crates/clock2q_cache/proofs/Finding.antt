@@ -234,11 +234,12 @@ module _ {K V : Type 0} {eq : K → K → Bool} {hash : K → ℕ} {shares : Sha
           cc
 
       pub kept-hit : (q' : QueueState) → q'.small ≡ small_hit_at slot q.small → q'.main ≡ main_hit_at slot q.main
-          → q'.slots ≡ q.slots → q'.window ≡ q.window → IsKept eq hash shares q' h index keys free room
-      kept-hit q' small main slots window = record {
+          → q'.slots ≡ q.slots → q'.made ≡ q.made → q'.window ≡ q.window → IsKept eq hash shares q' h index keys free room
+      kept-hit q' small main slots made window = record {
         whole = subst (IsWhole eq) (sym (hit-machine q' small main)) (whole-hit eq m kept.whole (eq key));
         stored = subst (λ z. IsStored hash index keys.entries z) (sym places) kept.stored;
         hashed = kept.hashed;
+        linked = omega (arith, made, kept.linked);
         sized = sized-same kept.sized slots window refl refl refl refl refl;
       }
         where

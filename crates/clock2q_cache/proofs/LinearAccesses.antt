@@ -33,7 +33,7 @@ module _ {K V : Type 0} (eq : K → K → Bool) where
   call_accesses (Retain bits) m some = cc
   call_accesses Clear m some = cc
   call_accesses Evict m some = omega arith
-  call_accesses (Prefill values) m some = omega arith
+  call_accesses (Prefill values) m some = cc
   call_accesses Len m some = omega arith
   call_accesses IsEmpty m some = omega arith
   call_accesses Capacity m some = omega arith

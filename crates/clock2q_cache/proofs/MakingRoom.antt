@@ -186,11 +186,12 @@ module _ {K V : Type 0} {eq : K → K → Bool} {hash : K → ℕ} {shares : Sha
 
   -- the same slots in the queues, in another order
   kept-moved : (q' : QueueState) → IsWhole eq (machine_of shares q' keys.entries h.entries free) → ((t : ℕ) → times t (places_of q') ≡ times t (places_of q))
-      → length q'.small + length q'.main ≡ length q.small + length q.main → q'.slots ≡ q.slots → q'.window ≡ q.window → IsKept eq hash shares q' h index keys free room
-  kept-moved q' whole as_often as_many slots window = record {
+      → length q'.small + length q'.main ≡ length q.small + length q.main → q'.slots ≡ q.slots → q'.made ≡ q.made → q'.window ≡ q.window → IsKept eq hash shares q' h index keys free room
+  kept-moved q' whole as_often as_many slots made window = record {
     whole = whole;
     stored = stored-moved q' kept.stored as_often (as_many ∙ sym (length-places q));
     hashed = kept.hashed;
+    linked = omega (arith, made, kept.linked);
     sized = sized-same kept.sized slots window refl refl refl refl refl;
   }
 
@@ -209,7 +210,7 @@ module _ {K V : Type 0} {eq : K → K → Bool} {hash : K → ℕ} {shares : Sha
         (sym (main-from_victim (key_at keys.entries) q.main (main_have laws kept))) in
         subst (λ z. IsKept eq hash shares z h index keys free room) (sym is)
         (kept-moved q1 (subst (IsWhole eq) (sym t) (whole-turned eq m kept.whole)) (λ s. omega (arith, times-both s q1, times-both s q, times-split s (set_front q.main) q.main))
-        (omega (arith, length-swept q.main)) refl refl)
+        (omega (arith, length-swept q.main)) refl refl refl)
 
   -- its slot is that of the machine's victim
   pub victim-slot : {victim : ℕ} → slice_get (from_victim q.main) 0 ≡ Some (victim, false) → option_map (λ r. r.1) (first_of (machine.from_victim m.main)) ≡ Some victim
@@ -246,7 +247,7 @@ module _ {K V : Type 0} {eq : K → K → Bool} {hash : K → ℕ} {shares : Sha
         subst (λ z. IsKept eq hash shares z h index keys free room) (sym is)
         (kept-moved q1 (subst (IsWhole eq) (sym promoted-is) (whole-promoted eq m kept.whole (tail_entry laws kept tail last) (last_entry laws kept tail last) some))
         (λ s. omega (arith, times-both s q1, times-both s q, times-pushed s q.main (tail, false), front_times laws kept tail last s))
-        (omega (arith, length-front laws kept tail last, length-append q.main ((tail, false) ∷ []))) refl refl)
+        (omega (arith, length-front laws kept tail last, length-append q.main ((tail, false) ∷ []))) refl refl refl)
 
   -- or there is none
   module _ (none : last_or None (slots_of q.small) ≡ None) where
@@ -279,7 +280,7 @@ module _ {K V : Type 0} {eq : K → K → Bool} {hash : K → ℕ} {shares : Sha
       kept-unmoved =
           let q1 : QueueState = record q { accesses = links } in
           subst (λ z. IsKept eq hash shares z h index keys free room) (sym (is ∙ ap (λ (z : List (ℕ × Age)). record q { small = z; accesses = links }) taken))
-          (kept-moved q1 kept.whole (λ s. refl) refl refl refl)
+          (kept-moved q1 kept.whole (λ s. refl) refl refl refl refl)
 
   -- there is room for the tail's slot among the free ones
   pub room-for-free : (tail : ℕ) → last_or None (slots_of q.small) ≡ Some tail → length free < room
@@ -362,6 +363,7 @@ module _ {K V : Type 0} {eq : K → K → Bool} {hash : K → ℕ} {shares : Sha
           hashed = subst (λ (z : Remembered K). AllByRecursion (λ e. e.0 ≡ hash e.1) z.entries) (sym pushed)
               (recursion_from_All (λ e. e.0 ≡ hash e.1) entries1 (All-take (λ e. e.0 ≡ hash e.1) h.limit ((old, key) ∷ h.entries)
               (All-from_recursion (λ e. e.0 ≡ hash e.1) ((old, key) ∷ h.entries) (hash-of-key hash keys.entries tail old key kept.stored.hashed at key_is, kept.hashed))));
+          linked = omega (arith, ap (λ (z : QueueState). z.made) is, kept.linked);
           sized = sized-same kept.sized (ap (λ (z : QueueState). z.slots) is) (ap (λ (z : QueueState). z.window) is) (ap (λ (z : Remembered K). z.limit) pushed) beside
               (ap (λ (z : List (List (ℕ × ℕ))). length z) out ∙ length-taken index old tail) refl free_room;
         }

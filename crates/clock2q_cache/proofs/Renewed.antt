@@ -1,6 +1,6 @@
 -- A key that takes the slot of another: of Main's victim, or of Small's tail.
 use Rattle.std.proofs.Common.{◌≡◌, ℕ, suc, ◌+◌, ◌-◌, ◌^◌, ◌<◌, ◌≤◌, ◌==◌, Bool, true, false, cond, eqb, Option, Some, None, List, [], ◌∷◌, ◌++◌, map, length, take, drop, refl, sym, ap, ◌∙◌, subst, arith, eq-eqb, length-append}
-use Rattle.clock2q_cache.proofs.Names.{Known, slots, key_at-own, key_at-others, values-written, length-values, if◌then◌else◌, slice_get, IfSome, IsEquivalence, last_or, AllByRecursion, take-map, length-map, take-append-drop, slots_of-append, slots_of-mapped, sum_by-append, total, capacity, with_handle, removed, Age, is_promoted, has, AllApart, KeyPlaces, entry, hash_at, key_at, IsIndex, admitted, set_front, from_victim, QueueState, slots_of, Remembered, is_remembered, most_beside, has-append, eqb_self, has_first, below_of, length-put, length-taken, Shares, main_share, history_share, SmallEntry, MainEntry, Machine, Placement, vacancy, into_main, into_small, into_small_at, joining_main, replacing_victim, evicting_tail, promoting_tail, stored, known_count, machine_of, places_of, with_keys_small, with_keys_main, IsStored, IsKept, Writes, IsPlaced, some_is, placed-replacing, placed-evicting, placed-promoting, weight-last, All-from_recursion, recursion_from_All, All-take, tail_promoted}
+use Rattle.clock2q_cache.proofs.Names.{length-written, Entry, Known, slots, key_at-own, key_at-others, values-written, length-values, if◌then◌else◌, slice_get, IfSome, IsEquivalence, last_or, AllByRecursion, take-map, length-map, take-append-drop, slots_of-append, slots_of-mapped, sum_by-append, total, capacity, with_handle, removed, Age, is_promoted, has, AllApart, KeyPlaces, entry, hash_at, key_at, IsIndex, admitted, set_front, from_victim, QueueState, slots_of, Remembered, is_remembered, most_beside, has-append, eqb_self, has_first, below_of, length-put, length-taken, Shares, main_share, history_share, SmallEntry, MainEntry, Machine, Placement, vacancy, into_main, into_small, into_small_at, joining_main, replacing_victim, evicting_tail, promoting_tail, stored, known_count, machine_of, places_of, with_keys_small, with_keys_main, IsStored, IsKept, Writes, IsPlaced, some_is, placed-replacing, placed-evicting, placed-promoting, weight-last, All-from_recursion, recursion_from_All, All-take, tail_promoted}
 use Rattle.clock2q_directory.specs.Directory.{IsResident, IsWithinRoom}
 use Rattle.clock2q_cache.proofs.Changed.{known-any}
 use Rattle.clock2q_cache.proofs.Finding.{none-has, counted-map}
@@ -243,12 +243,13 @@ module _ {K V : Type 0} {eq : K → K → Bool} {hash : K → ℕ} {shares : Sha
     values : map (λ e. e.value) keys'.entries ≡ (stored slot w.held m).values
     values = rw w.becomes (values-written slot (entry hsh key w.held) keys.entries next)
 
-    done : {p : Placement K V} {h' : Remembered K} (q' : QueueState) → IsPlaced key m p → slot ≡ p.slot → q'.slots ≡ q.slots → q'.window ≡ q.window
+    done : {p : Placement K V} {h' : Remembered K} (q' : QueueState) → IsPlaced key m p → slot ≡ p.slot → q'.slots ≡ q.slots → q'.made ≡ q.made → q'.window ≡ q.window
         → h'.limit ≡ h.limit → most_beside h' ≡ most_beside h → machine_of shares q' keys'.entries h'.entries free ≡ stored p.slot w.held p.machine → AllByRecursion (λ e. e.0 ≡ hash e.1) h'.entries
         → ((t : ℕ) → times t (places_of q') ≡ times t (places_of q)) → length q'.small + length q'.main ≡ length q.small + length q.main
         → IsDone laws kept slot value p q' h' index' keys' free room
-    done q' placed own_slot slots window limit beside e hashed as_often as_many =
+    done q' placed own_slot slots made window limit beside e hashed as_often as_many =
         placed-done laws kept absent placed w own_slot e (stored-moved q' same_places as_often (as_many ∙ sym (length-places q))) hashed
+        (omega (arith, ap (λ (z : List (Entry K V)). length z) w.becomes, length-written slot (entry hsh key w.held) keys.entries next, (slot-below slot there).0, kept.linked, made))
         (sized-same kept.sized slots window limit beside
         (ap (λ (z : List (List (ℕ × ℕ))). length z) indexed ∙ length-put (removed eqb index old slot) hsh slot ∙ length-taken index old slot)
         (ap (λ (z : KeyPlaces K V). z.room) renewed) refl)
@@ -274,7 +275,7 @@ module _ {K V : Type 0} {eq : K → K → Bool} {hash : K → ℕ} {shares : Sha
         ap (λ b. if b then replacing_victim key (machine.from_victim m.main) m else joining_main key (vacancy m) m) (eq-eqb (length m.main) (main_share shares) full)
         ∙ ap (λ z. replacing_victim key z m) (choice slot first) in
         rw queues (subst (λ z. IsDone laws kept slot value z q1 h index' keys' free room) (sym is_p)
-        (done q1 (placed-replacing eq m kept.whole key (victim_entry slot first) (others slot first) (choice slot first)) refl refl refl refl refl e kept.hashed
+        (done q1 (placed-replacing eq m kept.whole key (victim_entry slot first) (others slot first) (choice slot first)) refl refl refl refl refl refl e kept.hashed
         (λ u. omega (arith, times-both u q1, times-pushed u (rest slot first) (slot, false), rest_times slot first u, times-both u q))
         (omega (arith, length-append (rest slot first) ((slot, false) ∷ []), length-rest slot first))))
 
@@ -296,7 +297,7 @@ module _ {K V : Type 0} {eq : K → K → Bool} {hash : K → ℕ} {shares : Sha
         cc (small_joined slot last (tail-not_in_front slot last), main_other q.main (tail-not_in_main slot last), values) in
         let out' : is_promoted (tail_at slot last).0 ≡ false = subst (λ z. IfSome z (λ tail. is_promoted tail.age ≡ false)) (last_entry slot last) out in
         rw (queues, pushed) (subst (λ z. IsDone laws kept slot value z q1 h1 index' keys' free room) (sym (into-tail slot last key none ∙ ap (λ b. onto slot last key b) out'))
-        (done q1 (placed-evicting eq m kept.whole key (tail_entry slot last) (last_entry slot last) (small_some slot last)) refl refl refl refl beside e
+        (done q1 (placed-evicting eq m kept.whole key (tail_entry slot last) (last_entry slot last) (small_some slot last)) refl refl refl refl refl beside e
         (recursion_from_All (λ e. e.0 ≡ hash e.1) h1.entries (All-take (λ e. e.0 ≡ hash e.1) h.limit ((old, old_key) ∷ h.entries)
         (All-from_recursion (λ e. e.0 ≡ hash e.1) ((old, old_key) ∷ h.entries) (hash-of-key hash keys.entries slot old old_key kept.stored.hashed at key_is, kept.hashed))))
         (λ u. omega (arith, times-both u q1, times-admitted u q.window slot (front slot last), front_times slot last u, times-both u q))
@@ -320,7 +321,7 @@ module _ {K V : Type 0} {eq : K → K → Bool} {hash : K → ℕ} {shares : Sha
         let is_p = into-tail tail last key none ∙ ap (λ b. onto tail last key b) on' ∙ ap (λ z. promoting_tail key (tail_entry tail last) z m) (choice slot first) in
         rw queues (subst (λ z. IsDone laws kept slot value z q1 h index' keys' free room) (sym is_p)
         (done q1 (placed-promoting eq m kept.whole key (tail_entry tail last) (last_entry tail last) (small_some tail last) (victim_entry slot first) (others slot first) (choice slot first))
-        refl refl refl refl refl e kept.hashed
+        refl refl refl refl refl refl e kept.hashed
         (λ u. omega (
           arith,
           times-both u q1,

@@ -1,5 +1,5 @@
 -- What the parts of a call cost.
-use Rattle.std.proofs.Common.{◌≡◌, ℕ, ◌+◌, ◌*◌, ◌≤◌, Bool, true, false, List, length, Some, None, refl, ap, sym, ◌∙◌, subst, arith}
+use Rattle.std.proofs.Common.{◌-◌, ◌≡◌, ℕ, ◌+◌, ◌*◌, ◌≤◌, Bool, true, false, List, length, Some, None, refl, ap, sym, ◌∙◌, subst, arith}
 use Rattle.clock2q_cache.proofs.Names.{HashMembers, candidates, KeyPlaces, comparisons_of, Remembered, QueueState, comparisons-most, set_bits, inspections_for, inspections_of, accesses_for, alike, Call, Put, Get, GetAt, Set, Remove, Retain, Prefill, counts_of, Places, CacheState, Counts, residents_in, Spends, Reaches, Costs, Becomes, most_accesses, most_comparisons, most_slots, walked, hash_of, looked_for, slot_of, hit, put, stored, prefilled, vacated, removed_at, then_some, is_at, after, hit_at, retained, replaced, replaced_at, hit-absent}
 use Rattle.std.specs.declared.hash.Hasher as hasher
 use Rattle.std.specs.declared.hash.BuildHasher as builder
@@ -31,9 +31,11 @@ module _ {K V : Type 0} (q : QueueState) (h : Remembered K) (keys keys' : KeyPla
       let most = ap (λ (z : List ℕ). length z) same in
       record { inspections = omega arith; accesses = (omega arith, omega arith); comparisons = (omega (arith, asked), omega (arith, asked, most, comparisons-most test places)) }
 
-  -- new keys cost no comparison
-  pub made-spends : keys'.comparisons ≡ keys.comparisons → Spends 0 0 0 (counts_of q h keys) (counts_of q h keys')
-  made-spends same = record { inspections = omega arith; accesses = (omega arith, omega arith); comparisons = (omega (arith, same), omega (arith, same)) }
+  -- new keys cost no comparison, and an access for each link record that is made
+  pub made-spends : {q' : QueueState} {made more most : ℕ} → q' ≡ record q { made = made; accesses = q.accesses + more } → more ≤ most
+      → keys'.comparisons ≡ keys.comparisons → Spends 0 most 0 (counts_of q h keys) (counts_of q' h keys')
+  made-spends is few same =
+      rw is (record { inspections = omega arith; accesses = (omega arith, omega (arith, few)); comparisons = (omega (arith, same), omega (arith, same)) })
 
 none-some : (b : Bool) (slot : ℕ) → None ≡ then_some b slot → b ≡ false
 none-some true slot e = cc
@@ -78,7 +80,7 @@ module _ {K V S H : Type 0} {key : HashMembers K} {build : builder.Ghosts S H} {
 
   -- a call in which the hand inspects nothing, and no bit is set
   pub prefill-costs : {values : List V} (made : List V) {old new : CacheState K V S} → new.machine ≡ prefilled made old.machine
-      → new.known ≡ old.known → Spends 0 0 0 old.counts new.counts → Costs key build hash (Prefill values) old new
+      → new.known ≡ old.known → Spends 0 (old.machine.shares.capacity - length old.machine.values) 0 old.counts new.counts → Costs key build hash (Prefill values) old new
   prefill-costs made is kept spent = record { counts = spent; index = reaches-none kept; clock = omega (arith, spent.inspections, ap set_bits is) }
 
   pub retain-costs : {bits : List Bool} (asked : List Bool) {old new : CacheState K V S} → new.machine ≡ retained asked old.machine

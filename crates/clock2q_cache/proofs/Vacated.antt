@@ -87,12 +87,13 @@ module _ {K V : Type 0} {eq : K → K → Bool} {hash : K → ℕ} {shares : Sha
           cc
 
       pub kept-vacated : hash_at keys.entries slot ≡ Some old → index' ≡ removed eqb index old slot
-          → q'.slots ≡ q.slots → q'.window ≡ q.window → room' ≡ room → IsKept eq hash shares q' h index' keys free' room'
-      kept-vacated at out slots window free_room = record {
+          → q'.slots ≡ q.slots → q'.made ≡ q.made → q'.window ≡ q.window → room' ≡ room → IsKept eq hash shares q' h index' keys free' room'
+      kept-vacated at out slots made window free_room = record {
         whole = subst (IsWhole eq) (sym vacated-machine) (whole-vacated eq m kept.whole slot standing-counted);
         stored = subst (λ z. IsStored hash z keys.entries (places_of q')) (sym out) (subst (λ z. IsStored hash (removed eqb index old slot) keys.entries z) (sym places)
             (stored-left hash index keys.entries (places_of q) slot old kept.stored (index_some laws kept) (apart laws kept) at));
         hashed = kept.hashed;
+        linked = omega (arith, made, kept.linked);
         sized =
             sized-same kept.sized slots window refl refl
             (ap (λ (z : List (List (ℕ × ℕ))). length z) out ∙ length-taken index old slot) refl free_room;

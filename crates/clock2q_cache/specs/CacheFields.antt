@@ -60,12 +60,14 @@ pub record IsSized (shares : Shares) (q : QueueState) (limit beside homes keys_r
   pub short : shares.capacity < 2 ^ 24
   pub few : shares.capacity + beside < 2 ^ 24
 
--- the invariant of a cache's fields
+-- the invariant of a cache's fields. Each slot that has a value has a link record, so that no later call makes one for a
+-- slot below its own
 pub record IsKept {K V : Type 0} (eq : K → K → Bool) (hash : K → ℕ) (shares : Shares) (q : QueueState)
     (h : Remembered K) (index : List (List (ℕ × ℕ))) (keys : KeyPlaces K V) (free : List ℕ) (room : ℕ) : Type 0 where
   pub whole : IsWhole eq (machine_of shares q keys.entries h.entries free)
   pub stored : IsStored hash index keys.entries (places_of q)
   pub hashed : AllByRecursion (λ e. e.0 ≡ hash e.1) h.entries
+  pub linked : length keys.entries ≤ q.made
   pub sized : IsSized shares q h.limit (most_beside h) (length index) keys.room room
 
 -- what the layers below counted

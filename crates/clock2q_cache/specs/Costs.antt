@@ -1,5 +1,5 @@
 -- What a call costs a cache: inspections by the hand, accesses to links, comparisons of keys, slots of the index.
-use Rattle.std.specs.Prelude.{◌≡◌, ℕ, ◌+◌, ◌*◌, ◌≤◌, Bool, if◌then◌else◌, Option, Some, None, is_some, length, sum_by}
+use Rattle.std.specs.Prelude.{◌≡◌, ℕ, ◌+◌, ◌-◌, ◌*◌, ◌≤◌, Bool, if◌then◌else◌, Option, Some, None, is_some, length, sum_by}
 use Rattle.std.specs.List.{list_any, last_or}
 use Rattle.std.specs.Option.{option_map}
 use Rattle.std.specs.declared.hash.Hasher as hasher
@@ -31,7 +31,7 @@ abbrev pub accesses_for : {K V : Type 0} → (K → Bool) → Machine K V → �
 accesses_for is m = if is_some (slot_of is m) then 0 else inspections_for is m + 36
 
 -- the bound on a call's accesses to links: the above for a key that it may insert, 21 plus the hand's inspections to
--- evict a resident, or some for each slot if it visits all of them
+-- evict a resident, or some for each slot if it visits all of them: one for each slot that is made ahead
 abbrev pub most_accesses : {K V : Type 0} → (K → K → Bool) → Call K V → Machine K V → ℕ
 most_accesses eq (Put key value) m = accesses_for (eq key) m
 most_accesses eq (With key value) m = accesses_for (eq key) m
@@ -47,7 +47,7 @@ most_accesses eq (Peek key) m = 0
 most_accesses eq (Contains key) m = 0
 most_accesses eq (GetAt slot key) m = 0
 most_accesses eq (Set key value) m = 0
-most_accesses eq (Prefill values) m = 0
+most_accesses eq (Prefill values) m = m.shares.capacity - length m.values
 most_accesses eq Len m = 0
 most_accesses eq IsEmpty m = 0
 most_accesses eq Capacity m = 0

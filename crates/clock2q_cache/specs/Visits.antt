@@ -6,6 +6,7 @@ use Rattle.clock2q_machine.specs.Calls.{Call, Put, Get, Peek, Contains, GetAt, S
 abbrev pub visits_all : {K V : Type 0} → Call K V → Bool
 visits_all (Retain bits) = true
 visits_all Clear = true
+visits_all (Prefill values) = true
 visits_all (Put key value) = false
 visits_all (Get key) = false
 visits_all (Peek key) = false
@@ -17,7 +18,6 @@ visits_all (Try key value) = false
 visits_all (SlotFor key value) = false
 visits_all (Remove key) = false
 visits_all Evict = false
-visits_all (Prefill values) = false
 visits_all Len = false
 visits_all IsEmpty = false
 visits_all Capacity = false

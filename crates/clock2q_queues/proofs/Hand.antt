@@ -46,6 +46,7 @@ pub record Looks (hand : ℕ) (old new : LinkState) : Type 0 where
   pub bits : (t : ℕ) → bit_at new t ≡ cond (eqb t hand) false (bit_at old t)
   pub items : new.records.items ≡ old.records.items
   pub window : new.window ≡ old.window
+  pub made : new.made ≡ old.made
   pub inspections : new.bits.inspections ≡ old.bits.inspections + 1
 
 starts_next : (next previous : ℕ → ℕ) (hand : ℕ) (rest : List ℕ) → IsRing next previous (hand ∷ rest) → Some (next hand) ≡ slice_get (rest ++ hand ∷ []) 0
@@ -155,9 +156,10 @@ pub record Swept (old : LinkState) (main : MainRing) (now : LinkState) (hand : �
   pub members : (t : ℕ) → has t (main_slots old main) ≡ false → has t (main_slots now (with_hand hand main)) ≡ false
   pub same : IsSameBut (main_slots old main) old now
   pub window : now.window ≡ old.window
+  pub made : now.made ≡ old.made
 
 pub Swept-start : (old : LinkState) (hand len : ℕ) → IsMainRing old (record { hand = Some hand; len = len }) → Swept old (record { hand = Some hand; len = len }) old hand
-Swept-start old hand len m = record { whole = m; choice = refl; looks = refl; accesses = omega arith; members = λ t h. h; same = record { others = λ t h. refl; as_many = refl }; window = refl }
+Swept-start old hand len m = record { whole = m; choice = refl; looks = refl; accesses = omega arith; members = λ t h. h; same = record { others = λ t h. refl; as_many = refl }; window = refl; made = refl }
 
 module _ (old : LinkState) (main : MainRing) (now : LinkState) (hand : ℕ) (s : Swept old main now hand) where
   rest_of : (rest : List ℕ) × (main_slots now (with_hand hand main) ≡ hand ∷ rest)
@@ -208,6 +210,7 @@ module _ (old : LinkState) (main : MainRing) (now : LinkState) (hand : ℕ) (s :
           as_many = as_many now l main hand rest k.items at_hand ∙ s.same.as_many;
         };
         window = k.window ∙ s.window;
+        made = k.made ∙ s.made;
       }
 
 -- the hand's choice
@@ -217,6 +220,7 @@ pub record Selects (old : LinkState) (main : MainRing) (new : LinkState) (main' 
   pub chosen : slice_get (main_entries new main') 0 ≡ Some (victim, false)
   pub others : IsSameBut (main_slots old main) old new
   pub window : new.window ≡ old.window
+  pub made : new.made ≡ old.made
   pub looks : new.bits.inspections ≡ old.bits.inspections + inspections (main_entries old main)
   pub accesses : new.records.accesses + 1 ≡ old.records.accesses + inspections (main_entries old main)
 
@@ -244,6 +248,7 @@ module _ (old : LinkState) (main : MainRing) (now : LinkState) (hand : ℕ) (s :
           as_many = as_many now l main hand r k.items m ∙ s.same.as_many;
         };
         window = k.window ∙ s.window;
+        made = k.made ∙ s.made;
         looks = let e = s.looks in let n = k.inspections in omega arith;
         accesses = let e = s.looks in let f = s.accesses in let n = k.inspections in omega arith;
       }
@@ -257,7 +262,7 @@ module _ (old : LinkState) (main : MainRing) (now : LinkState) (hand : ℕ) (s :
       (ap is_linked ((at_hand old main now hand s).location hand (has_first hand (rest old main now hand s))))
 
   Looks-only : Looks hand now mid
-  Looks-only = record { bits = bits; items = ap (λ (z : LinkState). z.records.items) looked; window = ap (λ (z : LinkState). z.window) looked; inspections = counted }
+  Looks-only = record { bits = bits; items = ap (λ (z : LinkState). z.records.items) looked; window = ap (λ (z : LinkState). z.window) looked; made = ap (λ (z : LinkState). z.made) looked; inspections = counted }
 
   pub Selects-at : false ≡ bit_at now hand → Selects old main mid (with_hand hand main) hand
   Selects-at b = Selects-from old main now hand s mid Looks-only (sym b) (ap (λ (z : LinkState). z.records.accesses) looked)
@@ -268,6 +273,7 @@ module _ (old : LinkState) (main : MainRing) (now : LinkState) (hand : ℕ) (s :
       bits = λ t. ap (λ (z : LinkState). bit_at z t) e ∙ bits t;
       items = ap (λ (z : LinkState). z.records.items) e ∙ Looks-only.items;
       window = ap (λ (z : LinkState). z.window) e ∙ Looks-only.window;
+      made = ap (λ (z : LinkState). z.made) e ∙ Looks-only.made;
       inspections = ap (λ (z : LinkState). z.bits.inspections) e ∙ counted;
     }
 

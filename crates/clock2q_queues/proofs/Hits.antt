@@ -62,13 +62,13 @@ module _ (l : LinkState) (small : Small) (main : MainRing) (q : AreQueues l smal
         is = queues_equal (queues_shown new small main) (record (queues_shown l small main) { small = small_hit_at slot (small_entries l small); main = main_hit_at slot (main_entries l main) })
             (entries-at (λ t. age_at new small.cursor t) (λ t. age_at l small.cursor t) touched slot (small_slots l small) ages)
             (entries-at (λ t. bit_at new t) (λ t. bit_at l t) (λ z. true) slot (main_slots l main) h)
-            refl refl refl i;
+            refl refl refl refl i;
       }
 
   pub after_hit : (new : LinkState) → SetsBit slot true l new
       → Becomes new small main (record (queues_shown l small main) { small = small_hit_at slot (small_entries l small); main = main_hit_at slot (main_entries l main) })
   after_hit new s =
-      let e : new ≡ record l { bits = new.bits } = ap (λ (r : CellsState Record). record new { records = r }) s.records ∙ ap (λ w. record l { window = w; bits = new.bits }) s.window in
+      let e : new ≡ record l { bits = new.bits } = ap (λ (r : CellsState Record). record new { records = r }) s.records ∙ ap (λ n. record new { records = l.records; made = n }) s.made ∙ ap (λ w. record l { window = w; bits = new.bits }) s.window in
       subst (λ z. Becomes z small main (record (queues_shown l small main) { small = small_hit_at slot (small_entries l small); main = main_hit_at slot (main_entries l main) })) (sym e)
       (hit_bits new.bits s.bits s.inspections)
 

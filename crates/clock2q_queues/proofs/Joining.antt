@@ -12,7 +12,7 @@ use Rattle.clock2q_machine.proofs.Whole.{last_some}
 use Rattle.clock2q_queues.specs.declared.links.Record.{Record}
 use Rattle.clock2q_queues.specs.declared.links.Location.{Location}
 use Rattle.clock2q_queues.specs.Rings.{has, without, AllApart, AllBelow, Joins, IsRing}
-use Rattle.clock2q_queues.specs.Cells.{CellsState, written}
+use Rattle.clock2q_queues.specs.Cells.{CellsState}
 use Rattle.clock2q_queues.specs.Links.{IsLinked, IsQueue, Attaches, Detaches, slots_from, record_at, next_at, previous_at, location_at, vacant}
 use Rattle.clock2q_queues.proofs.Rings.{eqb_self, eqb_swap, has-append, has_first, has_later, differs, AllApart-append, AllApart-left, AllApart-right, apart_from, AllApart-turned, AllBelow-append}
 use Rattle.clock2q_queues.proofs.Rings.{AllBelow-left, AllBelow-right, below_of, parted, IsRing-kept, IsRing-put, IsRing-taken, IsRing-turned, before_end, Joins_parts, around-ring, without-parted}
@@ -136,8 +136,8 @@ pub record Inserts (slot : ℕ) (location : Location) (ss : List ℕ) (old new :
   pub as_many : length new ≡ length old
 
 -- into a queue with slots, just before its first one
-Inserts-attached : (old new : CellsState Record) (first : ℕ) (ss : List ℕ) (slot : ℕ) (location : Location)
-    → IsLinked old.items (first ∷ ss) → has slot (first ∷ ss) ≡ false → slot < length old.items → Attaches slot first location old new
+Inserts-attached : {cost : ℕ} (old new : CellsState Record) (first : ℕ) (ss : List ℕ) (slot : ℕ) (location : Location)
+    → IsLinked old.items (first ∷ ss) → has slot (first ∷ ss) ≡ false → slot < length old.items → Attaches slot first location cost old new
     → Inserts slot location (first ∷ ss) old.items new.items
 Inserts-attached old new first ss slot location k absent b a =
     let rs = old.items in
@@ -177,18 +177,18 @@ Inserts-alone rs slot location b =
     }
 
 -- a slot is put in before the first slot of a queue, as its owner holds it
-pub Inserts-before : (old new : CellsState Record) (ss : List ℕ) (slot : ℕ) (location : Location) (first : ℕ)
-    → IsLinked old.items ss → Some first ≡ slice_get ss 0 → has slot ss ≡ false → slot < length old.items → Attaches slot first location old new
+pub Inserts-before : {cost : ℕ} (old new : CellsState Record) (ss : List ℕ) (slot : ℕ) (location : Location) (first : ℕ)
+    → IsLinked old.items ss → Some first ≡ slice_get ss 0 → has slot ss ≡ false → slot < length old.items → Attaches slot first location cost old new
     → Inserts slot location ss old.items new.items
 Inserts-before old new [] slot location first k e absent b a = absurd (cc)
-Inserts-before old new (s ∷ ss) slot location first k e absent b a =
+Inserts-before {cost} old new (s ∷ ss) slot location first k e absent b a =
     let q : first ≡ s = cc in
-    Inserts-attached old new s ss slot location k absent b (subst (λ z. Attaches slot z location old new) q a)
+    Inserts-attached old new s ss slot location k absent b (subst (λ z. Attaches slot z location cost old new) q a)
 
-pub Inserts-first : (old new : CellsState Record) (ss : List ℕ) (slot : ℕ) (location : Location)
-    → None ≡ slice_get ss 0 → slot < length old.items → new ≡ written slot (record { previous = slot; next = slot; location = location }) old
-    → Inserts slot location ss old.items new.items
-Inserts-first old new [] slot location e b n = subst (λ (z : CellsState Record). Inserts slot location [] old.items z.items) (sym n) (Inserts-alone old.items slot location b)
+pub Inserts-first : (old new : List Record) (ss : List ℕ) (slot : ℕ) (location : Location)
+    → None ≡ slice_get ss 0 → slot < length old → new ≡ set old slot (record { previous = slot; next = slot; location = location })
+    → Inserts slot location ss old new
+Inserts-first old new [] slot location e b n = subst (λ z. Inserts slot location [] old z) (sym n) (Inserts-alone old slot location b)
 Inserts-first old new (s ∷ ss) slot location e b n = absurd (cc)
 
 -- Taking a slot out

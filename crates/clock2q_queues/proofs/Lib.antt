@@ -1,4 +1,5 @@
 pub mod AllRecords
+pub mod Attaching
 pub mod Booleans
 pub mod Flagged
 pub mod Hand

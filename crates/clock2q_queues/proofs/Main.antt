@@ -1,11 +1,12 @@
 -- Main: how its list changes when a slot is put in or removed.
-use Rattle.std.proofs.Common.{◌≡◌, ℕ, ◌+◌, ◌-◌, ◌^◌, ◌<◌, Bool, true, false, not, cond, eqb, Some, None, slice_get, List, [], ◌∷◌, ◌++◌, length, map, inl, inr, refl, sym, ap, ◌∙◌, subst, arith}
+use Rattle.std.proofs.Common.{◌≡◌, ℕ, ◌+◌, ◌-◌, ◌^◌, ◌<◌, Bool, true, false, not, cond, eqb, Some, None, slice_get, List, [], ◌∷◌, ◌++◌, length, map, set, inl, inr, refl, sym, ap, ◌∙◌, subst, arith}
 use Rattle.std.specs.List.{filter}
 use Rattle.std.proofs.lemmas.Bool.{both_ways, or_cases}
 use Rattle.std.proofs.lemmas.List.{map-append, length_push}
 use Rattle.clock2q_queues.specs.declared.main_ring.MainRing.{MainRing}
 use Rattle.clock2q_queues.specs.declared.links.Location.TheVariants.{Free, Main}
-use Rattle.clock2q_queues.specs.Cells.{written}
+use Rattle.clock2q_queues.specs.Cells.{CellsState}
+use Rattle.clock2q_queues.specs.declared.links.Record.{Record}
 use Rattle.clock2q_queues.specs.Rings.{has, without}
 use Rattle.clock2q_queues.specs.Links.{LinkState, IsSameBut, SetsBit, Attaches, Detaches, record_at, location_at, bit_at}
 use Rattle.clock2q_queues.specs.MainRing.{IsMain, IsMainRing, main_slots, main_entries}
@@ -45,7 +46,7 @@ pub record PushesMain (slot : ℕ) (old : LinkState) (main : MainRing) (new : Li
 
 module _ (slot : ℕ) (old : LinkState) (main : MainRing) (mid new : LinkState) (main' : MainRing)
     (m : IsMainRing old main) (b : slot < length old.records.items) (absent : has slot (main_slots old main) ≡ false)
-    (cleared : SetsBit slot false old mid) (rest : new ≡ record mid { records = new.records }) (n : main'.len ≡ main.len + 1) where
+    (cleared : SetsBit slot false old mid) (rest : new ≡ record mid { records = new.records; made = new.made }) (n : main'.len ≡ main.len + 1) where
   bit_new : (t : ℕ) → bit_at new t ≡ cond (eqb t slot) false (bit_at old t)
   bit_new t = ap (λ (l : LinkState). bit_at l t) rest ∙ cleared.bits t
 
@@ -73,17 +74,18 @@ module _ (slot : ℕ) (old : LinkState) (main : MainRing) (mid new : LinkState) 
         };
       }
 
-  pub PushesMain-attached : (hand : ℕ) → main.hand ≡ Some hand → Attaches slot hand Main mid.records new.records → main'.hand ≡ Some hand → PushesMain slot old main new main'
-  PushesMain-attached hand e a h =
-      let a' : Attaches slot hand Main old.records new.records = subst (λ z. Attaches slot hand Main z new.records) cleared.records a in
+  pub PushesMain-attached : (cost hand : ℕ) → main.hand ≡ Some hand → Attaches slot hand Main cost mid.records new.records → main'.hand ≡ Some hand → PushesMain slot old main new main'
+  PushesMain-attached cost hand e a h =
+      let a' : Attaches slot hand Main cost old.records new.records = subst (λ z. Attaches slot hand Main cost z new.records) cleared.records a in
       let starts = sym e ∙ m.queue.starts in
       pushed (Inserts-before old.records new.records (main_slots old main) slot Main hand m.queue.linked starts absent b a') (h ∙ slice_get-push (main_slots old main) slot hand starts)
 
-  pub PushesMain-alone : main.hand ≡ None → new.records ≡ written slot (record { previous = slot; next = slot; location = Main }) mid.records
+  pub PushesMain-alone : main.hand ≡ None → new.records.items ≡ set mid.records.items slot (record { previous = slot; next = slot; location = Main })
       → main'.hand ≡ Some slot → PushesMain slot old main new main'
   PushesMain-alone e w h =
       let starts = sym e ∙ m.queue.starts in
-      pushed (Inserts-first old.records new.records (main_slots old main) slot Main starts b (w ∙ ap (λ z. written slot (record { previous = slot; next = slot; location = Main }) z) cleared.records))
+      pushed (Inserts-first old.records.items new.records.items (main_slots old main) slot Main starts b
+      (w ∙ ap (λ (z : CellsState Record). set z.items slot (record { previous = slot; next = slot; location = Main })) cleared.records))
       (h ∙ slice_get-first (main_slots old main) slot starts)
 
 -- the hand's slot and its neighbours are in Main

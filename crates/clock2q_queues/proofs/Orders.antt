@@ -205,7 +205,7 @@ module _ (l : CellsState Record) (newest : Option ℕ) (len : ℕ) (chain : Chai
         }
 
     pub Pushes-attached : (new : CellsState Record) (place first : ℕ) → place ≡ place_for (length places_now) free_now
-        → length places_now < length l.items → newest ≡ Some first → Attaches place first Free mid new
+        → length places_now < length l.items → newest ≡ Some first → Attaches place first Free 6 mid new
         → IsOrderOf new.items (Some place) (len + 1) chain' (place ∷ places_now) (drop 1 free_now)
     Pushes-attached new place first e h is a =
         let n : FitsNext (length l.items) place places_now free_now = subst (λ z. FitsNext (length l.items) z places_now free_now) (sym e) (next_fits h) in
@@ -216,7 +216,7 @@ module _ (l : CellsState Record) (newest : Option ℕ) (len : ℕ) (chain : Chai
         → IsOrderOf new.items (Some place) (len + 1) chain' (place ∷ places_now) (drop 1 free_now)
     Pushes-alone new place e h is w =
         let n : FitsNext (length l.items) place places_now free_now = subst (λ z. FitsNext (length l.items) z places_now free_now) (sym e) (next_fits h) in
-        Pushes new place e h (Inserts-first mid new places_now place Free (sym is ∙ o.queue.starts) (rw slots n.fits) w)
+        Pushes new place e h (Inserts-first mid.items new.items places_now place Free (sym is ∙ o.queue.starts) (rw slots n.fits) (ap (λ (z : CellsState Record). z.items) w))
 
   -- The last place moved to the front
 

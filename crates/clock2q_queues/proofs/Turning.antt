@@ -167,7 +167,7 @@ module _ (slot : ℕ) (old : LinkState) (small : Small) (m : IsSmallQueue old sm
 
       admits : Admits slot left small.cursor rest new small'
       admits = Admits-from stay (gone slot (small_slots old small)) (rw window_left w) o a inserted
-          (n ∙ ap (λ z. record aged { records = z }) (sym (ap (λ (l : LinkState). l.records) n)))
+          (n ∙ ap (λ (l : LinkState). record aged { records = l.records; made = l.made }) (sym n))
           newest (oldest ∙ last_is) (omega (arith, len, m.queue.counted, length-without slot (small_slots old small) m.queue.linked.apart there))
           (cursor ∙ ap (λ z. next_cursor z small.cursor) window_new)
 

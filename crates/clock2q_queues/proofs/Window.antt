@@ -142,7 +142,7 @@ pub record Admits (slot : ℕ) (old : LinkState) (cursor : ℕ) (ss : List ℕ) 
 module _ {slot : ℕ} {old : LinkState} {cursor : ℕ} {ss : List ℕ} {mid aged new : LinkState} {small' : Small}
     (m : AreStaying old cursor ss) (absent : has slot ss ≡ false) (w : 0 < length old.window.items)
     (o : GrowsOld cursor old mid) (e : aged ≡ record mid { window = written cursor (Some slot) mid.window })
-    (i : Inserts slot (SmallYoung cursor) ss mid.records.items new.records.items) (rest : new ≡ record aged { records = new.records })
+    (i : Inserts slot (SmallYoung cursor) ss mid.records.items new.records.items) (rest : new ≡ record aged { records = new.records; made = new.made })
     (newest : small'.newest ≡ Some slot) (oldest : small'.oldest ≡ last_or None (slot ∷ ss))
     (count : small'.len ≡ length ss + 1) (moved : small'.cursor ≡ next_cursor (length old.window.items) cursor) where
   within : cursor < length old.window.items
@@ -333,27 +333,27 @@ module _ (slot : ℕ) (old : LinkState) (small : Small) (mid aged : LinkState) (
       (still_in newest there, rw p (still_in (previous_at old.records.items newest) (previous_in old.records.items (small_slots old small) newest m.queue.linked there)))
 
   module _ (new : LinkState) (small' : Small) (b : slot < length old.records.items) (absent : has slot (small_slots old small) ≡ false) (w : 0 < length old.window.items)
-      (rest : new ≡ record aged { records = new.records }) (n : small'.newest ≡ Some slot)
+      (rest : new ≡ record aged { records = new.records; made = new.made }) (n : small'.newest ≡ Some slot)
       (c : small'.len ≡ small.len + 1) (r : small'.cursor ≡ next_cursor (length old.window.items) small.cursor) where
     counted : small'.len ≡ length (small_slots old small) + 1
     counted = omega (arith, c, m.queue.counted)
 
-    pub Admits-attached : (newest : ℕ) → small.newest ≡ Some newest
-        → Attaches slot newest (SmallYoung small.cursor) aged.records new.records → small'.oldest ≡ small.oldest → Admits slot old small.cursor (small_slots old small) new small'
-    Admits-attached newest h a d =
+    pub Admits-attached : (cost newest : ℕ) → small.newest ≡ Some newest
+        → Attaches slot newest (SmallYoung small.cursor) cost aged.records new.records → small'.oldest ≡ small.oldest → Admits slot old small.cursor (small_slots old small) new small'
+    Admits-attached cost newest h a d =
         let k = linked_still old mid (small_slots old small) small.cursor m.queue.linked o in
         let s = sym h ∙ m.queue.starts in
-        let a' : Attaches slot newest (SmallYoung small.cursor) mid.records new.records =
-        subst (λ (z : CellsState Record). Attaches slot newest (SmallYoung small.cursor) z new.records) records_aged a in
+        let a' : Attaches slot newest (SmallYoung small.cursor) cost mid.records new.records =
+        subst (λ (z : CellsState Record). Attaches slot newest (SmallYoung small.cursor) cost z new.records) records_aged a in
         Admits-from (all_stay m) absent w o e
         (Inserts-before mid.records new.records (small_slots old small) slot (SmallYoung small.cursor) newest k s absent (rw o.as_many b) a') rest
         n (d ∙ m.ends ∙ last_behind (small_slots old small) slot newest s) counted r
 
-    pub Admits-alone : small.newest ≡ None → new.records ≡ written slot (record { previous = slot; next = slot; location = SmallYoung small.cursor }) aged.records
+    pub Admits-alone : small.newest ≡ None → new.records.items ≡ set aged.records.items slot (record { previous = slot; next = slot; location = SmallYoung small.cursor })
         → small'.oldest ≡ Some slot → Admits slot old small.cursor (small_slots old small) new small'
     Admits-alone h a d =
         let s = sym h ∙ m.queue.starts in
         Admits-from (all_stay m) absent w o e
-        (Inserts-first mid.records new.records (small_slots old small) slot (SmallYoung small.cursor) s (rw o.as_many b)
-        (a ∙ ap (λ z. written slot (record { previous = slot; next = slot; location = SmallYoung small.cursor }) z) records_aged)) rest
+        (Inserts-first mid.records.items new.records.items (small_slots old small) slot (SmallYoung small.cursor) s (rw o.as_many b)
+        (a ∙ ap (λ (z : CellsState Record). set z.items slot (record { previous = slot; next = slot; location = SmallYoung small.cursor })) records_aged)) rest
         n (d ∙ last_alone (small_slots old small) slot s) counted r

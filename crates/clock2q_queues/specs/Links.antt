@@ -55,13 +55,26 @@ abbrev pub slots_from : List Record → Option ℕ → ℕ → List ℕ
 slots_from rs None count = []
 slots_from rs (Some first) count = around (next_at rs) first count
 
--- a slot was put just before another
-pub record Attaches (slot before : ℕ) (location : Location) (old new : CellsState Record) : Type 0 where
+-- the records by slot, and the number of slots, from 0 on, whose records were made: a slot gets its record when it is
+-- first in a queue
+pub record RecordsState : Type 0 where
+  pub cells : CellsState Record
+  pub made : ℕ
+
+abbrev pub records_state : CellsState Record → ℕ → RecordsState
+records_state cells made = record { cells = cells; made = made }
+
+-- the number of records made after those below a bound were, of which none is made twice
+abbrev pub made_below : ℕ → ℕ → ℕ
+made_below bound made = made + (bound - made)
+
+-- a slot was put just before another, with this number of accesses
+pub record Attaches (slot before : ℕ) (location : Location) (cost : ℕ) (old new : CellsState Record) : Type 0 where
   pub nexts : (t : ℕ) → next_at new.items t ≡ (if t == previous_at old.items before then slot else (if t == slot then before else next_at old.items t))
   pub previouses : (t : ℕ) → previous_at new.items t ≡ (if t == before then slot else (if t == slot then previous_at old.items before else previous_at old.items t))
   pub locations : (t : ℕ) → location_at new.items t ≡ (if t == slot then location else location_at old.items t)
   pub as_many : length new.items ≡ length old.items
-  pub accesses : new.accesses ≡ old.accesses + 6
+  pub accesses : new.accesses ≡ old.accesses + cost
 
 -- a slot was taken from between its neighbours, and is in no queue now
 pub record Detaches (slot : ℕ) (old new : CellsState Record) : Type 0 where
@@ -74,9 +87,10 @@ pub record Detaches (slot : ℕ) (old new : CellsState Record) : Type 0 where
 
 -- What Small and Main share
 
--- the records by slot, the window's positions, and the hit bits by slot
+-- the records by slot, the number of those that were made, the window's positions, and the hit bits by slot
 pub record LinkState : Type 0 where
   pub records : CellsState Record
+  pub made : ℕ
   pub window : CellsState (Option ℕ)
   pub bits : HitBits
 
@@ -96,12 +110,13 @@ slot_at l slot = (record_at l.records.items slot, bit_at l slot)
 
 -- the initial state: no slot is in a queue, no bit is set, and no position is taken
 abbrev pub fresh : ℕ → ℕ → LinkState
-fresh slots window = record { records = cells_state (replicate slots vacant) 0; window = cells_state (replicate window None) 0; bits = hit_bits (replicate slots false) 0 }
+fresh slots window = record { records = cells_state (replicate slots vacant) 0; made = 0; window = cells_state (replicate window None) 0; bits = hit_bits (replicate slots false) 0 }
 
 -- a slot's bit is this one, and nothing else changed
 pub record SetsBit (slot : ℕ) (bit : Bool) (old new : LinkState) : Type 0 where
   pub bits : (t : ℕ) → bit_at new t ≡ (if t == slot then bit else bit_at old t)
   pub records : new.records ≡ old.records
+  pub made : new.made ≡ old.made
   pub window : new.window ≡ old.window
   pub inspections : new.bits.inspections ≡ old.bits.inspections
 

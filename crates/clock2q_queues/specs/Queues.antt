@@ -11,12 +11,13 @@ use Rattle.clock2q_queues.specs.declared.links.Location.TheVariants as at
 use Rattle.clock2q_queues.specs.declared.main_ring.MainRing.{MainRing}
 use Rattle.clock2q_queues.specs.declared.small.Small.{Small}
 
--- Small newest first and Main from the hand, each slot with its age or its bit; the numbers of slots, of window
--- positions, of accesses to links, and of inspections by the hand
+-- Small newest first and Main from the hand, each slot with its age or its bit; the numbers of slots, of those from 0 on
+-- whose records were made, of window positions, of accesses to links, and of inspections by the hand
 pub record QueueState : Type 0 where
   pub small : List (ℕ × Age)
   pub main : List (ℕ × Bool)
   pub slots : ℕ
+  pub made : ℕ
   pub window : ℕ
   pub accesses : ℕ
   pub inspections : ℕ
@@ -27,6 +28,7 @@ queues_shown l small main = record {
   small = small_entries l small;
   main = main_entries l main;
   slots = length l.records.items;
+  made = l.made;
   window = length l.window.items;
   accesses = accesses_of l;
   inspections = l.bits.inspections;
@@ -48,7 +50,7 @@ without_slot slot entries = filter (λ e. not (e.0 == slot)) entries
 
 -- no slot is in either queue, and nothing was counted
 abbrev pub empty_queues : ℕ → ℕ → QueueState
-empty_queues slots window = record { small = []; main = []; slots = slots; window = window; accesses = 0; inspections = 0 }
+empty_queues slots window = record { small = []; main = []; slots = slots; made = 0; window = window; accesses = 0; inspections = 0 }
 
 -- a slot is there: in one of the queues, or in neither
 abbrev pub IsAt : Location → ℕ → QueueState → Type 0

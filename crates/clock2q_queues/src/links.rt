@@ -1,9 +1,9 @@
 //! What the queues are built on: the link records and the hit bits by slot number, and the
 //! positions of Small's window.
-ghost use Rattle.std.specs.Prelude.{◌≡◌, ℕ, ◌+◌, ◌^◌, ◌<◌, ◌&&◌, length, IfOk, replicate, None, true, false, if◌then◌else◌, ◌==◌};
+ghost use Rattle.std.specs.Prelude.{◌≡◌, ℕ, ◌+◌, ◌-◌, ◌^◌, ◌<◌, ◌≤◌, ◌&&◌, length, slice_set, IfOk, replicate, None, true, false, if◌then◌else◌, ◌==◌};
 ghost use Rattle.clock2q_queues.specs.Cells.{CellsState, cells_state, accessed, written};
 ghost use Rattle.clock2q_queues.specs.Flags.{is_linked};
-ghost use Rattle.clock2q_queues.specs.Links.{LinkState, vacant, is_old, Attaches, Detaches, SetsBit, fresh, record_at, next_at, previous_at, with_location, location_at, bit_at, young_at};
+ghost use Rattle.clock2q_queues.specs.Links.{LinkState, vacant, is_old, Attaches, Detaches, SetsBit, fresh, made_below, record_at, next_at, previous_at, with_location, location_at, bit_at, young_at};
 
 mod cells;
 mod flags;
@@ -72,9 +72,14 @@ impl<A: Allocator> Model for Links<A> {
 
     ghost Value = { LinkState };
 
-    ghost view = { λ a. record { records = a.records; window = a.window; bits = a.bits.bits } };
+    ghost view = { λ a. record {
+      records = a.records.cells;
+      made = a.records.made;
+      window = a.window;
+      bits = a.bits.bits;
+    } };
 
-    ghost invariant = { λ a. AreLinks a.records.items a.bits a.window.items };
+    ghost invariant = { λ a. AreLinks a.records.cells.items a.bits a.window.items };
 }
 
 impl<A: Allocator> Links<A> {
@@ -129,13 +134,30 @@ impl<A: Allocator> Links<A> {
         self.records.read_any(slot).location
     }
 
-    /// Writes the record of a slot.
+    /// Writes the record of a slot, and makes those of the slots below it that have none yet.
     pub(crate) fn write(&mut self, slot: u32, content: Record)
         requires { slot < length self.old.records.items }
-        ensures { self.new ≡ record self.old { records = written slot content self.old.records } }
+        ensures items { self.new.records.items ≡ slice_set self.old.records.items slot content }
+        ensures accesses { self.new.records.accesses
+            ≡ self.old.records.accesses + (slot - self.old.made) + 1 }
+        ensures made { self.new.made ≡ made_below (slot + 1) self.old.made }
+        ensures rest { self.new
+            ≡ record self.old { records = self.new.records; made = self.new.made } }
     {
         self.bits.set_linked(slot, content.location.is_linked());
         self.records.write(slot, content);
+    }
+
+    /// Makes the records of the slots below a bound that have none yet.
+    pub(crate) fn make_below(&mut self, bound: u32)
+        requires { bound ≤ length self.old.records.items }
+        ensures made { self.new ≡ record self.old {
+          records = cells_state self.old.records.items
+              (self.old.records.accesses + (bound - self.old.made));
+          made = made_below bound self.old.made;
+        } }
+    {
+        self.records.make_below(bound);
     }
 
     /// Writes the location of a slot that stays in a queue. It doesn't touch the slot's flags.
@@ -156,8 +178,11 @@ impl<A: Allocator> Links<A> {
         requires before_in { is_linked (location_at self.old.records.items before) ≡ true }
         requires previous_in { is_linked (location_at self.old.records.items
             (previous_at self.old.records.items before)) ≡ true }
-        ensures attached { Attaches slot before location self.old.records self.new.records }
-        ensures rest { self.new ≡ record self.old { records = self.new.records } }
+        ensures attached { Attaches slot before location (slot - self.old.made + 6)
+            self.old.records self.new.records }
+        ensures made { self.new.made ≡ made_below (slot + 1) self.old.made }
+        ensures rest { self.new
+            ≡ record self.old { records = self.new.records; made = self.new.made } }
     {
         self.bits.set_linked(slot, location.is_linked());
         self.records.attach(slot, before, location);
@@ -169,9 +194,11 @@ impl<A: Allocator> Links<A> {
         requires before_in { is_linked (location_at self.old.records.items before) ≡ true }
         requires previous_in { is_linked (location_at self.old.records.items
             (previous_at self.old.records.items before)) ≡ true }
-        ensures attached { Attaches slot before location self.old.records self.new.records }
+        ensures attached { Attaches slot before location (slot - self.old.made + 6)
+            self.old.records self.new.records }
+        ensures made { self.new.made ≡ made_below (slot + 1) self.old.made }
         ensures cleared { SetsBit slot false self.old
-            (record self.new { records = self.old.records }) }
+            (record self.new { records = self.old.records; made = self.old.made }) }
     {
         self.bits.renew(slot, location.is_linked());
         self.records.attach(slot, before, location);
@@ -294,6 +321,7 @@ impl<A: Allocator> Links<A> {
         ensures records { self.new.records.items
             ≡ replicate (length self.old.records.items) vacant }
         ensures positions { self.new.window.items ≡ replicate (length self.old.window.items) None }
+        ensures made { self.new.made ≡ 0 }
         ensures inspections { self.new.bits.inspections ≡ self.old.bits.inspections }
         ensures records_counted { self.new.records.accesses ≡ self.old.records.accesses }
         ensures positions_counted { self.new.window.accesses

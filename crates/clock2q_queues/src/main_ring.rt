@@ -1,10 +1,10 @@
 //! Main: a ring of slots with a hand, which looks for the slot to evict.
-ghost use Rattle.std.specs.Prelude.{◌≡◌, ℕ, ◌+◌, ◌^◌, ◌<◌, ◌≤◌, ◌==◌, true, false, not, [], ◌∷◌, ◌++◌, length, drop, Some, slice_get};
+ghost use Rattle.std.specs.Prelude.{◌≡◌, ℕ, ◌+◌, ◌-◌, ◌^◌, ◌<◌, ◌≤◌, ◌==◌, true, false, not, [], ◌∷◌, ◌++◌, length, drop, Some, slice_get};
 ghost use Rattle.std.specs.List.{filter};
 ghost use Rattle.std.specs.Option.{option_map};
 ghost use Rattle.clock2q_queues.specs.Cells.{Rises, accessed};
 ghost use Rattle.clock2q_queues.specs.Rings.{has};
-ghost use Rattle.clock2q_queues.specs.Links.{LinkState, IsSameBut, location_at};
+ghost use Rattle.clock2q_queues.specs.Links.{LinkState, IsSameBut, location_at, made_below};
 
 use crate::links::{Links, Location, Record};
 use std::alloc::Allocator;
@@ -48,7 +48,9 @@ impl MainRing {
         ensures others { IsSameBut (slot ∷ main_slots links.old self.old) links.old links.new }
         ensures window { links.new.window ≡ links.old.window }
         ensures inspections { links.new.bits.inspections ≡ links.old.bits.inspections }
-        ensures accesses { Rises 1 6 links.old.records.accesses links.new.records.accesses }
+        ensures made { links.new.made ≡ made_below (slot + 1) links.old.made }
+        ensures accesses { Rises 1 (slot - links.old.made + 6)
+            links.old.records.accesses links.new.records.accesses }
     {
         match self.hand {
             None => {
@@ -96,6 +98,7 @@ impl MainRing {
         ensures victim { slice_get (main_entries links.new self.new) 0 ≡ Some (result, false) }
         ensures others { IsSameBut (main_slots links.old self.old) links.old links.new }
         ensures window { links.new.window ≡ links.old.window }
+        ensures made { links.new.made ≡ links.old.made }
         ensures inspections { links.new.bits.inspections
             ≡ links.old.bits.inspections + inspections (main_entries links.old self.old) }
         ensures accesses { links.new.records.accesses + 1

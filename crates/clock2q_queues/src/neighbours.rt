@@ -58,7 +58,7 @@ impl<A: Allocator> Cells<Neighbours, A> {
         requires place_in { place < length self.old.items }
         requires before_in { before < length self.old.items }
         requires previous_in { previous_at self.old.items before < length self.old.items }
-        ensures { Attaches place before Location.Free self.old self.new }
+        ensures { Attaches place before Location.Free 6 self.old self.new }
     {
         let previous = self.read(before).previous();
         self.write(place, Neighbours::of(previous, before));

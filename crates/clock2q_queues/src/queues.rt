@@ -1,8 +1,9 @@
 //! The two queues of a cache's residents, Small and Main, over the links that they share.
-ghost use Rattle.std.specs.Prelude.{◌≡◌, ℕ, ◌+◌, ◌-◌, ◌<◌, ◌⊎◌, false, true, [], ◌∷◌, ◌++◌, length, take, drop, slice_get, None, Some, IfOk};
+ghost use Rattle.std.specs.Prelude.{◌≡◌, ℕ, ◌+◌, ◌-◌, ◌<◌, ◌≤◌, ◌⊎◌, false, true, [], ◌∷◌, ◌++◌, length, take, drop, slice_get, None, Some, IfOk};
 ghost use Rattle.std.specs.List.{last_or};
 ghost use Rattle.std.specs.Option.{option_map};
 ghost use Rattle.clock2q_queues.specs.Cells.{Rises};
+ghost use Rattle.clock2q_queues.specs.Links.{made_below};
 ghost use Rattle.clock2q_queues.specs.Rings.{has};
 ghost use Rattle.clock2q_queues.specs.Small.{admitted, small_hit_at};
 ghost use Rattle.clock2q_queues.specs.MainRing.{inspections, from_victim, main_hit_at};
@@ -74,6 +75,22 @@ impl<A: Allocator> Queues<A> {
         })
     }
 
+    /// Makes the link records of the slots below a bound that have none yet. Otherwise a slot's record
+    /// is made when the slot is first in a queue.
+    ///
+    /// # Cost
+    ///
+    /// One access to a link for each record made.
+    pub fn make_below(&mut self, bound: u32)
+        requires bound_in { bound ≤ self.old.slots }
+        ensures queues { self.new ≡ record self.old {
+          made = made_below bound self.old.made;
+          accesses = self.old.accesses + (bound - self.old.made);
+        } }
+    {
+        self.links.make_below(bound);
+    }
+
     /// Returns the number of slots in Small.
     pub fn small_len(&self) -> usize
         ensures len { result ≡ length self.now.small }
@@ -102,6 +119,11 @@ impl<A: Allocator> Queues<A> {
     }
 
     /// Admits a slot to Small, as its newest. All young slots grow older, and one may become old.
+    ///
+    /// # Cost
+    ///
+    /// At most ten accesses to links, and one for each link record that is made below this slot's:
+    /// none if the slots are used in order from 0.
     #[inline(always)]
     pub fn admit(&mut self, slot: u32)
         requires slot_in { slot < self.old.slots }
@@ -111,14 +133,20 @@ impl<A: Allocator> Queues<A> {
         ensures queues { self.new
             ≡ record self.old {
               small = admitted self.old.window slot self.old.small;
+              made = made_below (slot + 1) self.old.made;
               accesses = self.new.accesses;
             } }
-        ensures accesses { Rises 3 10 self.old.accesses self.new.accesses }
+        ensures accesses { Rises 3 (slot - self.old.made + 10)
+            self.old.accesses self.new.accesses }
     {
         self.small.push(&mut self.links, slot);
     }
 
     /// Puts a slot at the end of Main, with a clear bit.
+    ///
+    /// # Cost
+    ///
+    /// At most six accesses to links, and those of [`admit`](Queues::admit) for records.
     #[inline(always)]
     pub fn append(&mut self, slot: u32)
         requires slot_in { slot < self.old.slots }
@@ -127,9 +155,11 @@ impl<A: Allocator> Queues<A> {
         ensures queues { self.new
             ≡ record self.old {
               main = self.old.main ++ (slot, false) ∷ [];
+              made = made_below (slot + 1) self.old.made;
               accesses = self.new.accesses;
             } }
-        ensures accesses { Rises 1 6 self.old.accesses self.new.accesses }
+        ensures accesses { Rises 1 (slot - self.old.made + 6)
+            self.old.accesses self.new.accesses }
     {
         self.main.push(&mut self.links, slot);
     }
@@ -334,6 +364,7 @@ impl<A: Allocator> Queues<A> {
             ≡ record self.old {
               small = [];
               main = [];
+              made = 0;
               accesses = self.old.accesses + self.old.window;
             } }
     {

@@ -6,7 +6,7 @@ ghost use Rattle.clock2q_queues.specs.Flags.{is_linked};
 ghost use Rattle.clock2q_queues.specs.Small.{GrowsOld, next_cursor};
 ghost use Rattle.clock2q_queues.specs.Rings.{has};
 ghost use Rattle.clock2q_queues.specs.Ends.{end_after, position_freed};
-ghost use Rattle.clock2q_queues.specs.Links.{LinkState, IsBlank, IsSameBut, accesses_of, location_at, young_at};
+ghost use Rattle.clock2q_queues.specs.Links.{LinkState, IsBlank, IsSameBut, accesses_of, location_at, made_below, young_at};
 
 use crate::link::Link;
 use crate::links::{Links, Location, Record};
@@ -77,7 +77,9 @@ impl Small {
         ensures others { IsSameBut (slot ∷ small_slots links.old self.old) links.old links.new }
         ensures window { length links.new.window.items ≡ length links.old.window.items }
         ensures inspections { links.new.bits.inspections ≡ links.old.bits.inspections }
-        ensures accesses { Rises 3 10 (accesses_of links.old) (accesses_of links.new) }
+        ensures made { links.new.made ≡ made_below (slot + 1) links.old.made }
+        ensures accesses { Rises 3 (slot - links.old.made + 10)
+            (accesses_of links.old) (accesses_of links.new) }
     {
         let cursor = self.cursor;
         take_position(links, cursor, slot);
@@ -114,6 +116,7 @@ impl Small {
         ensures others { IsSameBut (small_slots links.old self.old) links.old links.new }
         ensures window { length links.new.window.items ≡ length links.old.window.items }
         ensures inspections { links.new.bits.inspections ≡ links.old.bits.inspections }
+        ensures made { links.new.made ≡ links.old.made }
         ensures accesses { Rises 5 8 (accesses_of links.old) (accesses_of links.new) }
     {
         let slot = self.oldest.target();
@@ -139,6 +142,7 @@ impl Small {
         ensures others { IsSameBut (small_slots links.old self.old) links.old links.new }
         ensures window { length links.new.window.items ≡ length links.old.window.items }
         ensures inspections { links.new.bits.inspections ≡ links.old.bits.inspections }
+        ensures made { links.new.made ≡ links.old.made }
         ensures accesses { Rises 6 7 (accesses_of links.old) (accesses_of links.new) }
     {
         let was = links.detach(slot);
@@ -167,6 +171,7 @@ fn take_position<A: Allocator>(links: &mut Links<A>, cursor: u32, slot: u32)
     ensures taken { links.new.window ≡ written cursor (Some slot) (accessed links.old.window) }
     ensures older { GrowsOld cursor links.old
         (record links.new { window = accessed links.old.window }) }
+    ensures made { links.new.made ≡ links.old.made }
     ensures accesses { Rises 2 4 (accesses_of links.old) (accesses_of links.new) }
 {
     let there = links.young_at(cursor);

@@ -18,7 +18,8 @@ impl<K: Hash + Eq + Default, V, S: BuildHasher, A: Allocator> Cache<K, V, S, A> 
     ///
     /// # Cost
     ///
-    /// One call of `make` and one hash of the default key for each such slot.
+    /// One call of `make`, one hash of the default key and at most one access to a link for each such
+    /// slot.
     pub fn prefill<F: FnMut() -> V>(&mut self, make: F)
         requires callable { MayMake F.FnMut make self.old.machine }
         ensures made { Prefills F.FnMut make self.old.machine self.new.machine }
@@ -30,5 +31,6 @@ impl<K: Hash + Eq + Default, V, S: BuildHasher, A: Allocator> Cache<K, V, S, A> 
         let capacity = self.shares.capacity();
         fill(&mut self.directory, &self.hasher, capacity, make);
         free_down(&mut self.free, made, capacity);
+        self.queues.make_below(capacity as u32);
     }
 }

@@ -1,19 +1,16 @@
-//! The records of the slots. Memory is written for a record when its slot is first in a queue.
-ghost use Rattle.std.specs.Prelude.{◌≡◌, ℕ, ◌+◌, ◌<◌, ◌≤◌, true, IfOk, length, replicate, vec_capacity};
+//! The records of the slots. A record is made when its slot is first in a queue.
+ghost use Rattle.std.specs.Prelude.{◌≡◌, ℕ, ◌+◌, ◌-◌, ◌<◌, ◌≤◌, true, IfOk, length, replicate, slice_set};
 ghost use Rattle.clock2q_queues.specs.Cells.{cells_state, accessed, written};
 ghost use Rattle.clock2q_queues.specs.Flags.{is_linked};
-ghost use Rattle.clock2q_queues.specs.Links.{Attaches, Detaches, all_records, location_at, next_at, previous_at, record_at, vacant, with_location, with_next, with_previous};
+ghost use Rattle.clock2q_queues.specs.Links.{Attaches, Detaches, location_at, made_below, next_at, previous_at, record_at, records_state, vacant, with_location, with_next, with_previous};
 
 use crate::links::{Location, Record, VACANT};
 use clock2q_count::Count;
 use std::alloc::{AllocError, Allocator, Global};
 use std::marker::Model;
 
-/// The number of records that are made at once, so that few insertions into a new cache make any.
-const MADE_AT_ONCE: usize = 32;
-
-/// The record of each slot, with the number of reads and writes. Only the first ones are in memory:
-/// the record of any other slot is vacant. Making records isn't counted.
+/// The record of each slot, with the number of reads and writes. Only the first ones are made, which
+/// takes one write each: the record of any other slot is vacant.
 #[derive(Drop)]
 pub(crate) struct Records<A: Allocator = Global> {
     items: Vec<Record, A>,
@@ -23,13 +20,14 @@ pub(crate) struct Records<A: Allocator = Global> {
 
 impl<A: Allocator> Model for Records<A> {
     ghost use Rattle.std.specs.Prelude.{◌≤◌, length, vec_capacity};
-    ghost use Rattle.clock2q_queues.specs.Cells.{CellsState, cells_state};
-    ghost use Rattle.clock2q_queues.specs.Links.{all_records};
-    ghost use Rattle.clock2q_queues.specs.declared.links.Record.{Record};
+    ghost use Rattle.clock2q_queues.specs.Cells.{cells_state};
+    ghost use Rattle.clock2q_queues.specs.Links.{RecordsState, all_records, records_state};
 
-    ghost Value = { CellsState Record };
+    ghost Value = { RecordsState };
 
-    ghost view = { λ r. cells_state (all_records r.items.items r.slots) r.accesses.total };
+    ghost view = { λ r. records_state
+        (cells_state (all_records r.items.items r.slots) r.accesses.total)
+        (length r.items.items) };
 
     ghost invariant = { λ r. (length r.items.items ≤ r.slots) × (r.slots ≤ vec_capacity r.items) };
 }
@@ -38,7 +36,8 @@ impl<A: Allocator> Records<A> {
     /// Returns vacant records for `slots` slots, with no read or write counted yet. It takes all the
     /// memory that they will ever need.
     pub(super) fn new(alloc: A, slots: u32) -> Result<Self, AllocError>
-        ensures made { IfOk result (λ r. r ≡ cells_state (replicate slots vacant) 0) }
+        ensures vacant { IfOk result (λ r. r.cells ≡ cells_state (replicate slots vacant) 0) }
+        ensures made { IfOk result (λ r. r.made ≡ 0) }
     {
         Ok(Records {
             items: Vec::with_capacity(alloc, slots as usize)?,
@@ -49,9 +48,10 @@ impl<A: Allocator> Records<A> {
 
     /// Returns the record of a slot that is in a queue.
     pub(super) fn read(&mut self, slot: u32) -> Record
-        requires { is_linked (location_at self.old.items slot) ≡ true }
-        ensures value { result ≡ record_at self.old.items slot }
-        ensures counted { self.new ≡ accessed self.old }
+        requires { is_linked (location_at self.old.cells.items slot) ≡ true }
+        ensures value { result ≡ record_at self.old.cells.items slot }
+        ensures counted { self.new.cells ≡ accessed self.old.cells }
+        ensures made { self.new.made ≡ self.old.made }
     {
         self.accesses.tick();
         self.items[slot as usize]
@@ -59,8 +59,9 @@ impl<A: Allocator> Records<A> {
 
     /// Returns the record of any slot.
     pub(super) fn read_any(&mut self, slot: u32) -> Record
-        ensures value { result ≡ record_at self.old.items slot }
-        ensures counted { self.new ≡ accessed self.old }
+        ensures value { result ≡ record_at self.old.cells.items slot }
+        ensures counted { self.new.cells ≡ accessed self.old.cells }
+        ensures made { self.new.made ≡ self.old.made }
     {
         self.accesses.tick();
         match self.items.get(slot as usize) {
@@ -72,27 +73,64 @@ impl<A: Allocator> Records<A> {
     /// Returns the record of a slot that is in a queue, to a walk that changes nothing, and so isn't
     /// counted.
     pub(super) fn peek(&self, slot: u32) -> Record
-        requires { is_linked (location_at self.now.items slot) ≡ true }
-        ensures value { result ≡ record_at self.now.items slot }
+        requires { is_linked (location_at self.now.cells.items slot) ≡ true }
+        ensures value { result ≡ record_at self.now.cells.items slot }
     {
         self.items[slot as usize]
     }
 
-    /// Writes the record of a slot.
+    /// Writes the record of a slot. If the slot has none yet, its record is made, after those of the
+    /// slots below it.
+    #[inline(always)]
     pub(super) fn write(&mut self, slot: u32, content: Record)
-        requires { slot < length self.old.items }
-        ensures written { self.new ≡ written slot content self.old }
+        requires { slot < length self.old.cells.items }
+        ensures written { self.new.cells
+            ≡ cells_state (slice_set self.old.cells.items slot content)
+            (self.old.cells.accesses + (slot - self.old.made) + 1) }
+        ensures made { self.new.made ≡ made_below (slot + 1) self.old.made }
     {
-        make_up_to(&mut self.items, self.slots, slot);
+        if (slot as usize) < self.items.len() {
+            self.overwrite(slot, content);
+            return;
+        }
+        if self.items.len() < slot as usize {
+            self.make_below(slot);
+        }
+        self.accesses.tick();
+        self.items.push_reserved(content);
+    }
+
+    /// Writes a record that was made.
+    fn overwrite(&mut self, slot: u32, content: Record)
+        requires { slot < self.old.made }
+        ensures written { self.new.cells ≡ written slot content self.old.cells }
+        ensures made { self.new.made ≡ self.old.made }
+    {
         self.accesses.tick();
         self.items[slot as usize] = content;
+    }
+
+    /// Makes the records of the slots below a bound that have none yet.
+    #[inline(never)]
+    pub(super) fn make_below(&mut self, bound: u32)
+        requires { bound ≤ length self.old.cells.items }
+        ensures counted { self.new.cells ≡ cells_state self.old.cells.items
+            (self.old.cells.accesses + (bound - self.old.made)) }
+        ensures made { self.new.made ≡ made_below bound self.old.made }
+    {
+        while self.items.len() < bound as usize {
+            self.accesses.tick();
+            self.items.push_reserved(VACANT);
+        }
     }
 
     /// Writes the location of a slot that is in a queue. Changing one field counts as a read and a
     /// write of the record.
     pub(super) fn set_location(&mut self, slot: u32, location: Location)
-        requires { is_linked (location_at self.old.items slot) ≡ true }
-        ensures written { self.new ≡ accessed (with_location slot location self.old) }
+        requires { is_linked (location_at self.old.cells.items slot) ≡ true }
+        ensures written { self.new.cells
+            ≡ accessed (with_location slot location self.old.cells) }
+        ensures made { self.new.made ≡ self.old.made }
     {
         self.accesses.tick();
         self.accesses.tick();
@@ -100,137 +138,86 @@ impl<A: Allocator> Records<A> {
     }
 
     /// Puts a slot just before another.
+    #[inline(always)]
     pub(super) fn attach(&mut self, slot: u32, before: u32, location: Location)
-        requires slot_in { slot < length self.old.items }
-        requires before_in { is_linked (location_at self.old.items before) ≡ true }
-        requires previous_in { is_linked (location_at self.old.items
-            (previous_at self.old.items before)) ≡ true }
-        ensures attached { Attaches slot before location self.old self.new }
+        requires slot_in { slot < length self.old.cells.items }
+        requires before_in { is_linked (location_at self.old.cells.items before) ≡ true }
+        requires previous_in { is_linked (location_at self.old.cells.items
+            (previous_at self.old.cells.items before)) ≡ true }
+        ensures attached { Attaches slot before location (slot - self.old.made + 6)
+            self.old.cells self.new.cells }
+        ensures made { self.new.made ≡ made_below (slot + 1) self.old.made }
     {
-        make_up_to(&mut self.items, self.slots, slot);
-        attach_in(
-            self.items.as_mut_slice(),
-            &mut self.accesses,
-            slot,
-            before,
+        self.accesses.tick();
+        let previous = self.items[before as usize].previous;
+        let record = Record {
+            previous,
+            next: before,
             location,
-        );
+        };
+        self.write(slot, record);
+        self.set_next(previous, slot);
+        self.set_previous(before, slot);
     }
 
     /// Removes a slot from between its neighbours, and returns the record that it had.
     pub(super) fn detach(&mut self, slot: u32) -> Record
-        requires slot_in { is_linked (location_at self.old.items slot) ≡ true }
-        requires next_in { is_linked (location_at self.old.items (next_at self.old.items slot)) ≡ true }
-        requires previous_in { is_linked (location_at self.old.items
-            (previous_at self.old.items slot)) ≡ true }
-        ensures detached { Detaches slot self.old self.new }
-        ensures value { result ≡ record_at self.old.items slot }
+        requires slot_in { is_linked (location_at self.old.cells.items slot) ≡ true }
+        requires next_in { is_linked (location_at self.old.cells.items
+            (next_at self.old.cells.items slot)) ≡ true }
+        requires previous_in { is_linked (location_at self.old.cells.items
+            (previous_at self.old.cells.items slot)) ≡ true }
+        ensures detached { Detaches slot self.old.cells self.new.cells }
+        ensures value { result ≡ record_at self.old.cells.items slot }
+        ensures made { self.new.made ≡ self.old.made }
     {
-        detach_in(self.items.as_mut_slice(), &mut self.accesses, slot)
+        self.accesses.tick();
+        let was = self.items[slot as usize];
+        self.set_next(was.previous, was.next);
+        self.set_previous(was.next, was.previous);
+        self.overwrite(slot, VACANT);
+        was
+    }
+
+    /// Writes the slot after another. Changing one field counts as a read and a write of the record.
+    fn set_next(&mut self, slot: u32, next: u32)
+        requires { slot < self.old.made }
+        ensures written { self.new.cells ≡ accessed (with_next slot next self.old.cells) }
+        ensures made { self.new.made ≡ self.old.made }
+    {
+        self.accesses.tick();
+        self.accesses.tick();
+        self.items[slot as usize].next = next;
+    }
+
+    /// Writes the slot before another.
+    fn set_previous(&mut self, slot: u32, previous: u32)
+        requires { slot < self.old.made }
+        ensures written { self.new.cells
+            ≡ accessed (with_previous slot previous self.old.cells) }
+        ensures made { self.new.made ≡ self.old.made }
+    {
+        self.accesses.tick();
+        self.accesses.tick();
+        self.items[slot as usize].previous = previous;
     }
 
     /// Raises the count of accesses by an amount that the proof of the call picks.
     pub(super) fn charge(&mut self)
         ghost more: { ℕ }
-        ensures charged { self.new ≡ cells_state self.old.items (self.old.accesses + more) }
+        ensures charged { self.new.cells
+            ≡ cells_state self.old.cells.items (self.old.cells.accesses + more) }
+        ensures made { self.new.made ≡ self.old.made }
     {
         self.accesses.raise(&());
     }
 
     /// Makes every record vacant. No record is read or written.
     pub(super) fn clear(&mut self)
-        ensures cleared { self.new ≡ cells_state
-            (replicate (length self.old.items) vacant) self.old.accesses }
+        ensures cleared { self.new.cells
+            ≡ cells_state (replicate (length self.old.cells.items) vacant) self.old.cells.accesses }
+        ensures made { self.new.made ≡ 0 }
     {
         self.items.clear();
     }
-}
-
-/// Makes the record of a slot in memory if it isn't there, and some of those after it.
-#[inline(always)]
-fn make_up_to<A: Allocator>(items: &mut Vec<Record, A>, slots: u32, slot: u32)
-    requires within { slot < slots }
-    requires fit { length items.old.items ≤ slots }
-    requires room { slots ≤ vec_capacity items.old }
-    ensures same { all_records items.new.items slots ≡ all_records items.old.items slots }
-    ensures there { slot < length items.new.items }
-    ensures more { length items.old.items ≤ length items.new.items }
-    ensures fit { length items.new.items ≤ slots }
-    ensures room { slots ≤ vec_capacity items.new }
-{
-    if items.len() > slot as usize {
-        return;
-    }
-    let len = (slot as usize + MADE_AT_ONCE).min(slots as usize);
-    while items.len() < len {
-        items.push_reserved(VACANT);
-    }
-}
-
-/// Puts a slot just before another, in a slice of the records.
-#[inline(always)]
-fn attach_in(
-    records: &mut [Record],
-    accesses: &mut Count,
-    slot: u32,
-    before: u32,
-    location: Location,
-)
-    requires slot_in { slot < length records.old }
-    requires before_in { before < length records.old }
-    requires previous_in { previous_at records.old before < length records.old }
-    ensures { Attaches slot before location (cells_state records.old accesses.old.total)
-        (cells_state records.new accesses.new.total) }
-{
-    accesses.tick();
-    let previous = records[before as usize].previous;
-    accesses.tick();
-    records[slot as usize] = Record {
-        previous,
-        next: before,
-        location,
-    };
-    set_next(records, accesses, previous, slot);
-    set_previous(records, accesses, before, slot);
-}
-
-/// Removes a slot from between its neighbours, in a slice of the records.
-#[inline(always)]
-fn detach_in(records: &mut [Record], accesses: &mut Count, slot: u32) -> Record
-    requires slot_in { slot < length records.old }
-    requires next_in { next_at records.old slot < length records.old }
-    requires previous_in { previous_at records.old slot < length records.old }
-    ensures detached { Detaches slot (cells_state records.old accesses.old.total)
-        (cells_state records.new accesses.new.total) }
-    ensures value { result ≡ record_at records.old slot }
-{
-    accesses.tick();
-    let was = records[slot as usize];
-    set_next(records, accesses, was.previous, was.next);
-    set_previous(records, accesses, was.next, was.previous);
-    accesses.tick();
-    records[slot as usize] = VACANT;
-    was
-}
-
-/// Writes the slot after another. Changing one field counts as a read and a write of the record.
-fn set_next(records: &mut [Record], accesses: &mut Count, slot: u32, next: u32)
-    requires { slot < length records.old }
-    ensures { cells_state records.new accesses.new.total
-        ≡ accessed (with_next slot next (cells_state records.old accesses.old.total)) }
-{
-    accesses.tick();
-    accesses.tick();
-    records[slot as usize].next = next;
-}
-
-/// Writes the slot before another.
-fn set_previous(records: &mut [Record], accesses: &mut Count, slot: u32, previous: u32)
-    requires { slot < length records.old }
-    ensures { cells_state records.new accesses.new.total
-        ≡ accessed (with_previous slot previous (cells_state records.old accesses.old.total)) }
-{
-    accesses.tick();
-    accesses.tick();
-    records[slot as usize].previous = previous;
 }

@@ -29,7 +29,7 @@ invariant_of-self g c =
     kept-hit g.met.K.Eq.laws c.self.invariant c.args.key.now c.in_ok-slot.slot
     (there g (goal.at.invariant_of-self g c).After-value-value) c.hit.new.self
     (ap (λ (z : QueueState). z.small) c.hit.ensures.queues)
-    (ap (λ (z : QueueState). z.main) c.hit.ensures.queues) (ap (λ (z : QueueState). z.slots) c.hit.ensures.queues) (ap (λ (z : QueueState). z.window) c.hit.ensures.queues)
+    (ap (λ (z : QueueState). z.main) c.hit.ensures.queues) (ap (λ (z : QueueState). z.slots) c.hit.ensures.queues) (ap (λ (z : QueueState). z.made) c.hit.ensures.queues) (ap (λ (z : QueueState). z.window) c.hit.ensures.queues)
 
 pub returns-in_err-slot : goal.returns-in_err-slot
 returns-in_err-slot g c =

@@ -15,7 +15,7 @@ invariant_of-self g c =
     let laws = g.met.K.Eq.laws in
     kept-hit laws c.self.invariant (own-key laws c.self.invariant c.args.slot there).0 c.args.slot
     (own-slot laws c.self.invariant c.args.slot there) c.hit.new.self (ap (λ (z : QueueState). z.small) c.hit.ensures.queues)
-    (ap (λ (z : QueueState). z.main) c.hit.ensures.queues) (ap (λ (z : QueueState). z.slots) c.hit.ensures.queues) (ap (λ (z : QueueState). z.window) c.hit.ensures.queues)
+    (ap (λ (z : QueueState). z.main) c.hit.ensures.queues) (ap (λ (z : QueueState). z.slots) c.hit.ensures.queues) (ap (λ (z : QueueState). z.made) c.hit.ensures.queues) (ap (λ (z : QueueState). z.window) c.hit.ensures.queues)
 
 pub returns-clause-machine : goal.returns-clause-machine
 returns-clause-machine g c =

@@ -61,6 +61,6 @@ returns g c =
             (rw (← c.self.view_is) at c.requires.unknown.hashed) f.absent (ap (λ (z : Remembered _). z.places) c.enter.ensures.index);
         hasher = refl;
         counts = joined-spends c.self.inside.queues c.self.inside.directory.history c.self.inside.directory.residents 1 6 c.append.ensures.queues c.append.ensures.accesses
-            (omega arith) c.enter.ensures.index c.enter.ensures.kept;
+            (omega (arith, f.next, c.self.invariant.linked)) (omega arith) c.enter.ensures.index c.enter.ensures.kept;
       };
     })

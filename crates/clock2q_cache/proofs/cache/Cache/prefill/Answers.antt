@@ -1,5 +1,5 @@
 -- The slots that were never made are made, and are free.
-use Rattle.std.proofs.Common.{◌≡◌, ◌-◌, ◌++◌, length, map, refl, reverse, ◌∙◌}
+use Rattle.std.proofs.Common.{arith, ◌≡◌, ◌-◌, ◌≤◌, ◌++◌, length, map, refl, reverse, ◌∙◌}
 use Rattle.clock2q_cache.proofs.Names.{length-values, range_with_len}
 use Rattle.clock2q_cache.proofs.Filled.{made-count, machine-prefilled, kept-prefilled}
 use Rattle.clock2q_cache.proofs.Spent.{made-spends, prefill-costs}
@@ -21,13 +21,13 @@ invariant_of-self g c =
     rw c.fill.ensures.history
     (kept-prefilled g.met.K.Eq.laws c.self.invariant filled.added c.fill.new.directory.residents c.free_down.new.free.items _
     filled.is (filled.as_many ∙ c.capacity-capacity.ensures)
-    (freed g (goal.at.invariant_of-self g c).After-free_down) filled.hashed c.fill.ensures.kept_room c.free_down.ensures.capacity)
+    (freed g (goal.at.invariant_of-self g c).After-free_down) (rw c.capacity-capacity.ensures at c.make_below.ensures.queues) filled.hashed c.fill.ensures.kept_room c.free_down.ensures.capacity)
 
 pub returns-clause-made : goal.returns-clause-made
 returns-clause-made g c =
     let as_many = c.fill.ensures.filled.1.as_many ∙ c.capacity-capacity.ensures in
     let down = freed g (goal.at.returns-clause-made g c).After-free_down in
-    rw (← c.self.view_is, c.fill.ensures.history) (record {
+    rw (← c.self.view_is, c.fill.ensures.history, c.make_below.ensures.queues) (record {
       made = map (λ e. e.value) c.fill.ensures.filled.1.added;
       last = c.fill.ensures.filled.0;
       as_many = made-count g.met.K.Eq.laws c.self.invariant c.fill.ensures.filled.1.added c.fill.new.directory.residents c.free_down.new.free.items 0 c.fill.ensures.filled.1.is as_many down;
@@ -40,7 +40,9 @@ returns-clause-costs g c values =
     let filled = c.fill.ensures.filled.1 in
     let machine = machine-prefilled g.met.K.Eq.laws c.self.invariant filled.added c.fill.new.directory.residents c.free_down.new.free.items 0 filled.is (filled.as_many ∙ c.capacity-capacity.ensures)
     (freed g (goal.at.returns-clause-costs g c).After-free_down) in
+    let few : c.capacity-capacity.result - c.self.inside.queues.made ≤ c.self.inside.shares.capacity - length (map (λ e. e.value) c.self.inside.directory.residents.entries) =
+    omega (arith, c.capacity-capacity.ensures, c.self.invariant.linked, length-values c.self.inside.directory.residents.entries) in
     rw (← c.self.view_is, c.fill.ensures.history)
-    (prefill-costs _ machine refl
+    (prefill-costs (map (λ e. e.value) filled.added) (rw c.make_below.ensures.queues machine) refl
     (made-spends c.self.inside.queues c.self.inside.directory.history c.self.inside.directory.residents
-    c.fill.new.directory.residents c.fill.ensures.comparisons))
+    c.fill.new.directory.residents c.make_below.ensures.queues few c.fill.ensures.comparisons))

@@ -1,7 +1,7 @@
 -- The tail moves on to Main, and the new key takes the slot of Main's victim.
-use Rattle.std.proofs.Common.{◌≡◌, Some, None, refl, sym, arith, vec_capacity, ap, ◌∙◌}
-use Rattle.clock2q_cache.proofs.Names.{last_or, slots_of, slots, Remembered, into_small}
-use Rattle.clock2q_cache.proofs.CacheInvariant.{m, IsDone, done-reindexed, reindexed, slots-renewed, length_in_small}
+use Rattle.std.proofs.Common.{◌≡◌, ◌+◌, Some, None, refl, sym, arith, vec_capacity, ap, ◌∙◌}
+use Rattle.clock2q_cache.proofs.Names.{made_below, QueueState, last_or, slots_of, slots, Remembered, into_small}
+use Rattle.clock2q_cache.proofs.CacheInvariant.{made-still, m, IsDone, done-reindexed, reindexed, slots-renewed, length_in_small}
 use Rattle.clock2q_cache.proofs.Renewed.{is-resident, within-room, slot-below, no-tail, victim-in, victim-leaves, tail-goes_on, victim-not_in_front, victim-not_behind, tail-in, tail-not_in_front, tail-not_in_rest, promoted-done}
 use Rattle.clock2q_cache.proofs.Insertions.{victim-spends}
 use Rattle.clock2q_cache.proofs.Evicting.{noted}
@@ -51,6 +51,15 @@ admit-requires g c =
       window = omega (arith, c.self.invariant.sized.window, c.self.invariant.sized.windowed (omega (arith, some, c.self.invariant.whole.small_within)));
     })
 
+-- no record is made for the two slots
+still : (g : Over) (c : After-admit g) → last_or None (slots_of c.self.inside.queues.small) ≡ Some c.in-Some.tail
+    → (made_below (c.in-Some.tail + 1) c.self.inside.queues.made ≡ c.self.inside.queues.made) × (made_below (c.take_victim-slot.result + 1) c.self.inside.queues.made ≡ c.self.inside.queues.made)
+still g c tail =
+    let k = c.self.invariant in
+    let laws = g.met.K.Eq.laws in
+    let victim = victim-in laws k c.take_victim-slot.result c.take_victim-slot.ensures.victim in
+    (made-still laws k (slot-below laws k c.in-Some.tail (tail-in laws k c.in-Some.tail tail)).0, made-still laws k (slot-below laws k c.take_victim-slot.result victim).0)
+
 -- the key has the slot
 done : (g : Over) (c : After-admit g) → last_or None (slots_of c.self.inside.queues.small) ≡ Some c.in-Some.tail
     → IsDone g.met.K.Eq.laws c.self.invariant c.take_victim-slot.result c.args.value (into_small c.args.key (m g.met.K.Eq.laws c.self.invariant))
@@ -64,7 +73,7 @@ done g c tail =
     (victim-in g.met.K.Eq.laws c.self.invariant c.take_victim-slot.result victim) r.hash
     (slots-renewed c.self.inside.directory.history c.renew-old.result.0 c.args.hash r.index below) r.entries r.kept tail victim
     (rw (← c.self.view_is) at c.requires.full) (rw (← c.self.view_is) at c.requires.on)
-    (rw (c.append.ensures.queues, c.in-Some.ensures.queues, c.take_victim-slot.ensures.queues) at c.admit.ensures.queues))
+    (rw (c.append.ensures.queues, c.in-Some.ensures.queues, c.take_victim-slot.ensures.queues, (still g c tail).0, (still g c tail).1) at c.admit.ensures.queues))
 
 pub invariant_of-self : goal.invariant_of-self
 invariant_of-self g c = let at = goal.at.invariant_of-self g c in (done g at.After-admit (last g at.In-Some)).holds
@@ -73,6 +82,9 @@ pub returns : goal.returns
 returns g c =
     let at = goal.at.returns g c in
     let d = done g at.After-admit (last g at.In-Some) in
+    let still = still g at.After-admit (last g at.In-Some) in
+    let from_tail = ap (λ (z : QueueState). z.made) c.in-Some.ensures.queues ∙ ap (λ (z : QueueState). z.made) c.take_victim-slot.ensures.queues in
+    let from_victim = ap (λ (z : QueueState). z.made) c.append.ensures.queues in
     let r = c.renew-old.ensures in
     let taken = c.take_victim-slot.ensures.accesses in
     let appended = c.append.ensures.accesses in
@@ -87,8 +99,8 @@ returns g c =
             (victim-in g.met.K.Eq.laws c.self.invariant c.take_victim-slot.result c.take_victim-slot.ensures.victim) r.hash (ap (λ (z : Remembered _). z.places) r.index);
         hasher = refl;
         counts = victim-spends g.met.K.Eq.laws c.self.invariant c.take_victim-slot.ensures.inspections
-            (omega (arith, taken, c.in-Some.ensures.accesses.0, appended.0, admitted.0), omega (arith, taken, c.in-Some.ensures.accesses.1, appended.1, admitted.1))
-            (rw (c.append.ensures.queues, c.in-Some.ensures.queues, c.take_victim-slot.ensures.queues) at c.admit.ensures.queues) r.index r.kept;
+            (omega (arith, taken, c.in-Some.ensures.accesses.0, appended.0, admitted.0), omega (arith, taken, c.in-Some.ensures.accesses.1, appended.1, admitted.1, from_tail, from_victim, still.0, still.1))
+            (rw (c.append.ensures.queues, c.in-Some.ensures.queues, c.take_victim-slot.ensures.queues, still.0, still.1) at c.admit.ensures.queues) r.index r.kept;
       };
       left = noted g.F.FnOnce (moves ∙ leaver) c.leaves.ensures;
     })

@@ -11,7 +11,7 @@ hit-requires g c =
 pub invariant_of-self : goal.invariant_of-self
 invariant_of-self g c =
     kept-hit g.met.K.Eq.laws c.self.invariant c.args.key.now c.args.slot (rw (← c.self.view_is) at c.requires) c.hit.new.self (ap (λ (z : QueueState). z.small) c.hit.ensures.queues)
-    (ap (λ (z : QueueState). z.main) c.hit.ensures.queues) (ap (λ (z : QueueState). z.slots) c.hit.ensures.queues) (ap (λ (z : QueueState). z.window) c.hit.ensures.queues)
+    (ap (λ (z : QueueState). z.main) c.hit.ensures.queues) (ap (λ (z : QueueState). z.slots) c.hit.ensures.queues) (ap (λ (z : QueueState). z.made) c.hit.ensures.queues) (ap (λ (z : QueueState). z.window) c.hit.ensures.queues)
 
 pub returns-clause-machine : goal.returns-clause-machine
 returns-clause-machine g c =

@@ -27,7 +27,7 @@ invariant_of-self g c =
     c.leave.ensures.left.had
     (now-slots c.self.inside.directory.history c.leave.ensures.left.becomes
     (slots-left c.self.inside.directory.history.places.index c.leave.ensures.left.hash c.args.slot (omega (arith, below))))
-    (ap (λ (z : QueueState). z.slots) c.leave-2.ensures.queues) (ap (λ (z : QueueState). z.window) c.leave-2.ensures.queues) c.free_slot.ensures.capacity))
+    (ap (λ (z : QueueState). z.slots) c.leave-2.ensures.queues) (ap (λ (z : QueueState). z.made) c.leave-2.ensures.queues) (ap (λ (z : QueueState). z.window) c.leave-2.ensures.queues) c.free_slot.ensures.capacity))
 
 pub returns-clause-machine : goal.returns-clause-machine
 returns-clause-machine g c =

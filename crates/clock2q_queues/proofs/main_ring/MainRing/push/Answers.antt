@@ -1,4 +1,4 @@
-use Rattle.std.proofs.Common.{◌+◌, sym, ap, ◌∙◌, rules, arith}
+use Rattle.std.proofs.Common.{◌+◌, ◌-◌, sym, ap, ◌∙◌, rules, arith}
 use Rattle.clock2q_queues.specs.Links.{LinkState}
 use Rattle.clock2q_queues.specs.MainRing.{main_slots}
 use Rattle.clock2q_queues.specs.declared.main_ring.MainRing.{MainRing}
@@ -32,17 +32,15 @@ returns g c =
     elim c.match-self.branch [
       | in-None w ↦
           let mid = w.set_bit.new.self in
-          let e = w.links-is ∙ w.write.ensures in
-          let records = ap (λ (z : LinkState). z.records) e in
           PushesMain-alone c.args.slot l main mid c.match-self.links main' c.requires.whole c.requires.slot_in c.requires.absent w.set_bit.ensures
-          (e ∙ ap (λ r. record mid { records = r }) (sym records)) (ap (λ (m : MainRing). m.len + 1) w.self-is)
-          w.in-None.is records (ap (λ (m : MainRing). m.hand) w.self-is)
+          (rw w.links-is w.write.ensures.rest) (ap (λ (m : MainRing). m.len + 1) w.self-is)
+          w.in-None.is (rw w.links-is w.write.ensures.items) (ap (λ (m : MainRing). m.hand) w.self-is)
       | in-Some w ↦
           let new = w.attach_clear.new.self in
-          let mid : LinkState = record new { records = l.records } in
+          let mid : LinkState = record new { records = l.records; made = l.made } in
           PushesMain-attached c.args.slot l main mid c.match-self.links main' c.requires.whole c.requires.slot_in c.requires.absent w.attach_clear.ensures.cleared
-          (w.links-is ∙ ap (λ (z : LinkState). record mid { records = z.records }) (sym w.links-is)) (ap (λ (m : MainRing). m.len + 1) w.self-is)
-          w.in-Some.hand w.in-Some.is (rw w.links-is w.attach_clear.ensures.attached) (ap (λ (m : MainRing). m.hand) w.self-is ∙ w.in-Some.is)
+          (w.links-is ∙ ap (λ (z : LinkState). record mid { records = z.records; made = z.made }) (sym w.links-is)) (ap (λ (m : MainRing). m.len + 1) w.self-is)
+          (c.args.slot - l.made + 6) w.in-Some.hand w.in-Some.is (rw w.links-is w.attach_clear.ensures.attached) (ap (λ (m : MainRing). m.hand) w.self-is ∙ w.in-Some.is)
     ] in
     record {
       whole = pushed.whole;
@@ -50,5 +48,6 @@ returns g c =
       others = pushed.others;
       window = search rules;
       inspections = search rules;
+      made = search rules;
       accesses = search rules;
     }

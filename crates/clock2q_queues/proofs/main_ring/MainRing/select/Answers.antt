@@ -35,4 +35,4 @@ returns g c =
     let i = c.inspect.ensures in
     let s =
     Selects-at c.args.links.now c.args.self.now c.loop-links.links c.loop-links.hand c.loop-links.invariant c.inspect.new.self i.bits i.rest i.counted (sym c.loop-links-test.false ∙ i.value) in
-    record { whole = s.whole; entries = s.entries; victim = s.chosen; others = s.others; window = s.window; inspections = s.looks; accesses = s.accesses }
+    record { whole = s.whole; entries = s.entries; victim = s.chosen; others = s.others; window = s.window; made = s.made; inspections = s.looks; accesses = s.accesses }

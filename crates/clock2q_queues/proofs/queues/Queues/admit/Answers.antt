@@ -9,11 +9,11 @@ pub invariant_of-self : goal.invariant_of-self
 invariant_of-self g c =
     (after_admission c.self.inside.links c.self.inside.small c.self.inside.main c.self.invariant c.push.new.links c.push.new.self c.args.slot (length c.self.inside.links.window.items)
     (in_main c.self.inside.links c.self.inside.small c.self.inside.main c.args.self.now c.args.slot false c.self.view_is c.requires.not_in_main)
-    c.push.ensures.whole c.push.ensures.entries c.push.ensures.others c.push.ensures.window c.push.ensures.inspections).queues
+    c.push.ensures.whole c.push.ensures.entries c.push.ensures.others c.push.ensures.made c.push.ensures.window c.push.ensures.inspections).queues
 
 pub returns-clause-queues : goal.returns-clause-queues
 returns-clause-queues g c =
     rw (← c.self.view_is)
     (after_admission c.self.inside.links c.self.inside.small c.self.inside.main c.self.invariant c.push.new.links c.push.new.self c.args.slot (length c.self.inside.links.window.items)
     (in_main c.self.inside.links c.self.inside.small c.self.inside.main c.args.self.now c.args.slot false c.self.view_is c.requires.not_in_main)
-    c.push.ensures.whole c.push.ensures.entries c.push.ensures.others c.push.ensures.window c.push.ensures.inspections).is
+    c.push.ensures.whole c.push.ensures.entries c.push.ensures.others c.push.ensures.made c.push.ensures.window c.push.ensures.inspections).is

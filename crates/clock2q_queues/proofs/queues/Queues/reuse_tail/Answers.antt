@@ -24,7 +24,7 @@ invariant_of-self g c =
     let i = c.self.inside in
     let e = c.reuse_oldest.ensures in
     (after_reuse i.links i.small i.main c.self.invariant c.reuse_oldest.new.links c.reuse_oldest.new.self c.reuse_oldest.result (length i.links.window.items)
-    e.whole e.entries e.others e.window e.inspections).queues
+    e.whole e.entries e.others e.made e.window e.inspections).queues
 
 pub returns-clause-tail : goal.returns-clause-tail
 returns-clause-tail g c =
@@ -37,7 +37,7 @@ returns-clause-queues g c =
     let e = c.reuse_oldest.ensures in
     let after =
     after_reuse i.links i.small i.main c.self.invariant c.reuse_oldest.new.links c.reuse_oldest.new.self c.reuse_oldest.result (length i.links.window.items)
-    e.whole e.entries e.others e.window e.inspections in
+    e.whole e.entries e.others e.made e.window e.inspections in
     let oldest = c.reuse_oldest in
     rw (← c.self.view_is) (after.is ∙ ap (λ z. record (queues_shown i.links i.small i.main) { small = admitted (length i.links.window.items) oldest.result z; accesses = accesses_of oldest.new.links })
     (tail_out i.links i.small i.main c.self.invariant c.reuse_oldest.result e.oldest))

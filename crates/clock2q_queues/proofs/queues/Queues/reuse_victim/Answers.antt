@@ -11,7 +11,7 @@ invariant_of-self g c =
     let i = c.self.inside in
     let s = c.select-victim in
     let p = c.advance in
-    let chosen = after_choice i.links i.small i.main c.self.invariant s.new.links s.new.self s.ensures.whole s.ensures.entries s.ensures.others s.ensures.window in
+    let chosen = after_choice i.links i.small i.main c.self.invariant s.new.links s.new.self s.ensures.whole s.ensures.entries s.ensures.others s.ensures.made s.ensures.window in
     let out = (first_there s.new.links i.small s.new.self chosen.queues s.result false s.ensures.victim).1 in
     (after_pass s.new.links i.small s.new.self chosen.queues p.new.links p.new.self s.result out p.ensures.whole p.ensures.entries p.ensures.links).queues
 
@@ -20,7 +20,7 @@ returns-clause-queues g c =
     let i = c.self.inside in
     let s = c.select-victim in
     let p = c.advance in
-    let chosen = after_choice i.links i.small i.main c.self.invariant s.new.links s.new.self s.ensures.whole s.ensures.entries s.ensures.others s.ensures.window in
+    let chosen = after_choice i.links i.small i.main c.self.invariant s.new.links s.new.self s.ensures.whole s.ensures.entries s.ensures.others s.ensures.made s.ensures.window in
     let out = (first_there s.new.links i.small s.new.self chosen.queues s.result false s.ensures.victim).1 in
     let passed = after_pass s.new.links i.small s.new.self chosen.queues p.new.links p.new.self s.result out p.ensures.whole p.ensures.entries p.ensures.links in
     let l = p.new.links in

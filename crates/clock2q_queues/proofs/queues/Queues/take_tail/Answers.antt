@@ -14,7 +14,7 @@ unlink-requires-clause-present g c =
 pub invariant_of-self : goal.invariant_of-self
 invariant_of-self g c =
     (after_small_left c.self.inside.links c.self.inside.small c.self.inside.main c.self.invariant c.unlink.new.links c.unlink.new.self c.in_ok-tail.tail
-    c.unlink.ensures.whole c.unlink.ensures.freed c.unlink.ensures.entries c.unlink.ensures.others c.unlink.ensures.window c.unlink.ensures.inspections).queues
+    c.unlink.ensures.whole c.unlink.ensures.freed c.unlink.ensures.entries c.unlink.ensures.others c.unlink.ensures.made c.unlink.ensures.window c.unlink.ensures.inspections).queues
 
 pub returns-in_err-tail-clause-tail : goal.returns-in_err-tail-clause-tail
 returns-in_err-tail-clause-tail g c =
@@ -38,6 +38,6 @@ returns-clause-queues g c =
     let i = c.self.inside in
     let left =
     after_small_left i.links i.small i.main c.self.invariant c.unlink.new.links c.unlink.new.self c.in_ok-tail.tail
-    c.unlink.ensures.whole c.unlink.ensures.freed c.unlink.ensures.entries c.unlink.ensures.others c.unlink.ensures.window c.unlink.ensures.inspections in
+    c.unlink.ensures.whole c.unlink.ensures.freed c.unlink.ensures.entries c.unlink.ensures.others c.unlink.ensures.made c.unlink.ensures.window c.unlink.ensures.inspections in
     rw (← c.self.view_is) (left.is ∙ ap (λ z. record (queues_shown i.links i.small i.main) { small = z; accesses = accesses_of c.unlink.new.links })
     (tail_out i.links i.small i.main c.self.invariant c.in_ok-tail.tail (sym (c.in_ok-tail.ensures i.links c.self.invariant.small))))

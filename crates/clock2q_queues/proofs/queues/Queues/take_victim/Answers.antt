@@ -10,7 +10,7 @@ pub unlink-requires-clause-present : goal.unlink-requires-clause-present
 unlink-requires-clause-present g c =
     let i = c.self.inside in
     let s = c.select-victim in
-    let chosen = after_choice i.links i.small i.main c.self.invariant s.new.links s.new.self s.ensures.whole s.ensures.entries s.ensures.others s.ensures.window in
+    let chosen = after_choice i.links i.small i.main c.self.invariant s.new.links s.new.self s.ensures.whole s.ensures.entries s.ensures.others s.ensures.made s.ensures.window in
     (first_there s.new.links i.small s.new.self chosen.queues s.result false s.ensures.victim).0
 
 pub invariant_of-self : goal.invariant_of-self
@@ -18,19 +18,19 @@ invariant_of-self g c =
     let i = c.self.inside in
     let s = c.select-victim in
     let u = c.unlink in
-    let chosen = after_choice i.links i.small i.main c.self.invariant s.new.links s.new.self s.ensures.whole s.ensures.entries s.ensures.others s.ensures.window in
+    let chosen = after_choice i.links i.small i.main c.self.invariant s.new.links s.new.self s.ensures.whole s.ensures.entries s.ensures.others s.ensures.made s.ensures.window in
     (after_main_left s.new.links i.small s.new.self chosen.queues u.new.links u.new.self s.result
-    u.ensures.whole u.ensures.freed u.ensures.entries u.ensures.others (ap (λ (z : LinkState). z.window) u.ensures.rest)).queues
+    u.ensures.whole u.ensures.freed u.ensures.entries u.ensures.others (ap (λ (z : LinkState). z.made) u.ensures.rest) (ap (λ (z : LinkState). z.window) u.ensures.rest)).queues
 
 pub returns-clause-queues : goal.returns-clause-queues
 returns-clause-queues g c =
     let i = c.self.inside in
     let s = c.select-victim in
     let u = c.unlink in
-    let chosen = after_choice i.links i.small i.main c.self.invariant s.new.links s.new.self s.ensures.whole s.ensures.entries s.ensures.others s.ensures.window in
+    let chosen = after_choice i.links i.small i.main c.self.invariant s.new.links s.new.self s.ensures.whole s.ensures.entries s.ensures.others s.ensures.made s.ensures.window in
     let left =
     after_main_left s.new.links i.small s.new.self chosen.queues u.new.links u.new.self s.result
-    u.ensures.whole u.ensures.freed u.ensures.entries u.ensures.others (ap (λ (z : LinkState). z.window) u.ensures.rest) in
+    u.ensures.whole u.ensures.freed u.ensures.entries u.ensures.others (ap (λ (z : LinkState). z.made) u.ensures.rest) (ap (λ (z : LinkState). z.window) u.ensures.rest) in
     let first = (first_there s.new.links i.small s.new.self chosen.queues s.result false s.ensures.victim).1 in
     let now = (λ (q : QueueState) (main : List (ℕ × Bool)). record q { main = main; accesses = accesses_of u.new.links; inspections = u.new.links.bits.inspections }) in
     rw (← c.self.view_is) (left.is

@@ -1,4 +1,4 @@
-use Rattle.std.proofs.Common.{◌≡◌, ◌+◌, Some, length, sym, ap, ◌∙◌, rules, arith}
+use Rattle.std.proofs.Common.{◌≡◌, ◌+◌, ◌-◌, Some, length, sym, ap, ◌∙◌, rules, arith}
 use Rattle.clock2q_queues.specs.declared.small.Small.{Small}
 use Rattle.clock2q_queues.specs.Links.{LinkState}
 use Rattle.clock2q_queues.specs.Cells.{written}
@@ -57,19 +57,18 @@ returns g c =
     let pushed : Admits c.args.slot old small.cursor (small_slots old small) c.match-slot.links small' =
     elim c.match-slot.branch [
       | in-None w ↦
-          let e = w.links-is ∙ w.write.ensures in
-          let records = ap (λ (z : LinkState). z.records) e in
+          let rest = w.write.ensures.rest in
           Admits-alone c.args.slot old small mid aged c.requires.whole c.take_position.ensures.older taken
-          c.match-slot.links small' c.requires.slot_in c.requires.absent c.requires.window (e ∙ ap (λ r. record aged { records = r }) (sym records))
-          c.to-self-2.ensures (ap (λ (m : Small). m.len + 1) w.self-is) (moved (ap (λ (l : LinkState). length l.window.items) e ∙ window))
-          (sym c.slot.ensures ∙ w.in-None.is) records (ap (λ (m : Small). m.oldest) w.self-is ∙ w.to-self.ensures)
+          c.match-slot.links small' c.requires.slot_in c.requires.absent c.requires.window (rw w.links-is rest)
+          c.to-self-2.ensures (ap (λ (m : Small). m.len + 1) w.self-is) (moved (ap (λ (l : LinkState). length l.window.items) w.links-is ∙ ap (λ (l : LinkState). length l.window.items) rest ∙ window))
+          (sym c.slot.ensures ∙ w.in-None.is) (rw w.links-is w.write.ensures.items) (ap (λ (m : Small). m.oldest) w.self-is ∙ w.to-self.ensures)
       | in-Some w ↦
           let rest = w.attach.ensures.rest in
           Admits-attached c.args.slot old small mid aged c.requires.whole c.take_position.ensures.older taken
           c.match-slot.links small' c.requires.slot_in c.requires.absent c.requires.window (rw w.links-is rest)
           c.to-self-2.ensures (ap (λ (m : Small). m.len + 1) w.self-is)
           (moved (ap (λ (l : LinkState). length l.window.items) w.links-is ∙ ap (λ (l : LinkState). length l.window.items) rest ∙ window))
-          w.in-Some.newest (sym c.slot.ensures ∙ w.in-Some.is) (rw w.links-is w.attach.ensures.attached) (ap (λ (m : Small). m.oldest) w.self-is)
+          (c.args.slot - aged.made + 6) w.in-Some.newest (sym c.slot.ensures ∙ w.in-Some.is) (rw w.links-is w.attach.ensures.attached) (ap (λ (m : Small). m.oldest) w.self-is)
     ] in
     record {
       whole = pushed.whole;
@@ -77,5 +76,6 @@ returns g c =
       others = pushed.others;
       window = search rules;
       inspections = search rules;
+      made = search rules;
       accesses = search rules;
     }

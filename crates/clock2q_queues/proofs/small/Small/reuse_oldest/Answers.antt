@@ -74,5 +74,6 @@ returns g c =
       others = turned.others;
       window = turned.window;
       inspections = search rules;
+      made = search rules;
       accesses = search rules;
     }

@@ -43,4 +43,4 @@ returns g c =
     small' refl refl
     (c.end_after-self.ensures ∙ ap (λ (r : Record). end_after small.newest c.args.slot (small.len - 1) r.next) was)
     (c.end_after-self-2.ensures ∙ ap (λ (r : Record). end_after small.oldest c.args.slot (small.len - 1) r.previous) was) in
-    record { whole = u.whole; entries = u.entries; freed = u.freed; others = u.others; window = u.window; inspections = search rules; accesses = search rules }
+    record { whole = u.whole; entries = u.entries; freed = u.freed; others = u.others; window = u.window; inspections = search rules; made = search rules; accesses = search rules }

@@ -1,34 +1,41 @@
-use Rattle.std.proofs.Common.{◌≡◌, ◌<◌, length, ap, ◌∙◌, arith}
-use Rattle.std.specs.Vec.{with_items}
-use Rattle.std.proofs.lemmas.List.{with_items_is}
+use Rattle.std.proofs.Common.{◌≡◌, ◌+◌, ◌-◌, set, ap, ◌∙◌, rules, arith}
 use Rattle.clock2q_queues.specs.declared.links.Record.{Record}
-use Rattle.clock2q_queues.specs.Cells.{CellsState}
-use Rattle.clock2q_queues.specs.Flags.{is_linked}
-use Rattle.clock2q_queues.specs.Links.{all_records, location_at}
-use Rattle.clock2q_queues.proofs.AllRecords.{all-attached, length-all, linked-in}
+use Rattle.clock2q_queues.specs.Cells.{CellsState, accessed, cells_state}
+use Rattle.clock2q_queues.specs.Links.{RecordsState, previous_at, record_at, with_next, with_previous}
+use Rattle.clock2q_queues.proofs.AllRecords.{linked-made, linked-value, linked_within}
+use Rattle.clock2q_queues.proofs.Attaching.{attaches}
+use Rattle.clock2q_queues.proofs.links.records.Records.attach.Given.{Over}
+use Rattle.clock2q_queues.proofs.links.records.Records.attach.Goals.{After-index}
 use Rattle.clock2q_queues.proofs.links.records.Records.attach.Goals as goal
 
-pub make_up_to-requires-clause-within : goal.make_up_to-requires-clause-within
-make_up_to-requires-clause-within g c =
-    let i = c.self.inside in
-    let below : c.args.slot < length (all_records i.items.items i.slots) = rw (ap (λ (z : CellsState Record). z.items) c.self.view_is) c.requires.slot_in in
-    omega (arith, below, length-all i.items.items i.slots c.self.invariant.0)
+-- the record before which the slot is put
+was : (g : Over) (c : After-index g) → c.index.result.now ≡ record_at c.args.self.now.cells.items c.args.before
+was g c = linked-value c.self.inside.items.items c.self.inside.slots c.self.inside.accesses.total c.args.before c.args.self.now c.self.view_is c.requires.before_in c.index.result.now c.index.ensures
 
-pub attach_in-requires-clause-before_in : goal.attach_in-requires-clause-before_in
-attach_in-requires-clause-before_in g c =
+pub set_next-requires : goal.set_next-requires
+set_next-requires g c =
     let i = c.self.inside in
-    let within = linked-in i.items.items i.slots c.args.before (ap (λ (z : CellsState Record). is_linked (location_at z.items c.args.before)) c.self.view_is ∙ c.requires.before_in) in
-    rw c.as_mut_slice.ensures.value (omega (arith, within, c.make_up_to.ensures.more))
+    let there = linked-made i.items.items i.slots i.accesses.total (previous_at c.args.self.now.cells.items c.args.before) c.args.self.now c.self.view_is c.requires.previous_in in
+    rw (ap (λ (r : Record). r.previous) (was g (goal.at.set_next-requires g c).After-index)) (omega (arith, there, c.write.ensures.made, ap (λ (z : RecordsState). z.made) c.self.view_is))
 
-pub returns : goal.returns
-returns g c =
+pub set_previous-requires : goal.set_previous-requires
+set_previous-requires g c =
     let i = c.self.inside in
-    let ys = c.make_up_to.new.items.items in
-    let new = c.attach_in.new.records in
-    let made = c.make_up_to.ensures in
-    let e = rw c.as_mut_slice.ensures.value at c.attach_in.ensures in
-    let now : (with_items c.make_up_to.new.items new).items ≡ new = with_items_is c.make_up_to.new.items new (omega (arith, e.as_many, c.make_up_to.new.items.ok.0)) in
-    record {
-      attached = rw (← c.self.view_is, now, ← made.same)
-          (all-attached ys new i.slots made.fit i.accesses.total c.attach_in.new.accesses.total c.args.slot c.args.before c.args.location e);
-    }
+    let there = linked-made i.items.items i.slots i.accesses.total c.args.before c.args.self.now c.self.view_is c.requires.before_in in
+    omega (arith, there, c.write.ensures.made, c.set_next.ensures.made, ap (λ (z : RecordsState). z.made) c.self.view_is)
+
+pub returns-clause-attached : goal.returns-clause-attached
+returns-clause-attached g c =
+    let now = c.args.self.now in
+    let rs = now.cells.items in
+    let slot = c.args.slot in
+    let p = previous_at rs c.args.before in
+    let r : Record = record { previous = p; next = c.args.before; location = c.args.location } in
+    let is = ap (λ (r : Record). r.previous) (was g (goal.at.returns-clause-attached g c).After-index) in
+    let written : c.write.new.self.cells ≡ cells_state (set rs slot r) (now.cells.accesses + 1 + (slot - now.made) + 1) = search rules in
+    let linked : c.set_previous.new.self.cells ≡ accessed (with_previous c.args.before slot (accessed (with_next p slot (cells_state (set rs slot r) (now.cells.accesses + 1 + (slot - now.made) + 1))))) =
+    c.set_previous.ensures.written ∙ ap (λ (z : CellsState Record). accessed (with_previous c.args.before slot z)) c.set_next.ensures.written
+    ∙ ap (λ n. accessed (with_previous c.args.before slot (accessed (with_next n slot c.write.new.self.cells)))) is
+    ∙ ap (λ (z : CellsState Record). accessed (with_previous c.args.before slot (accessed (with_next p slot z)))) written in
+    rw linked (attaches rs now.cells.accesses _ slot c.args.before (slot - now.made + 6) c.args.location c.requires.slot_in
+    (linked_within rs c.args.before c.requires.before_in) (linked_within rs p c.requires.previous_in) (omega arith))
