@@ -1,5 +1,5 @@
 //! The two queues on runs worked out by hand.
-ghost use Rattle.std.specs.Prelude.{◌≡◌, ◌+◌, ◌<◌, true, false, [], ◌∷◌, map};
+ghost use Rattle.std.specs.Prelude.{◌≡◌, ◌+◌, ◌<◌, ◌≤◌, true, false, [], ◌∷◌, map};
 ghost use Rattle.std.specs.List.{range_with_len};
 ghost use Rattle.clock2q_machine.specs.Ages.{Young, Old};
 
@@ -251,4 +251,30 @@ fn a_single_slot_gets_one_more_look(rt: HostRuntime) -> Result<(), Fail> {
     let mut queues = Queues::new(rt.alloc(), 1, 0)?;
     same(look_twice(&mut queues), 0)?;
     comes_back(&mut queues)
+}
+
+/// Slot 3 comes first, so the link records of the three below it are made too, and that of slot 5 is
+/// made ahead. Each is an access to a link.
+fn come_in_any_order(queues: &mut Queues)
+    requires slots { queues.old.slots ≡ 6 }
+    requires none { queues.old.made ≡ 0 }
+    requires small { queues.old.small ≡ [] }
+    requires main { queues.old.main ≡ [] }
+    ensures main { queues.new.main ≡ (3, false) ∷ (1, false) ∷ (5, false) ∷ [] }
+    ensures made { queues.new.made ≡ 6 }
+    ensures accesses { queues.new.accesses ≤ queues.old.accesses + 23 }
+{
+    queues.append(3);
+    queues.append(1);
+    queues.make_below(6);
+    queues.append(5);
+}
+
+#[test]
+fn records_are_made_in_any_order(rt: HostRuntime) -> Result<(), Fail> {
+    let mut queues = Queues::new(rt.alloc(), 6, 0)?;
+    come_in_any_order(&mut queues);
+    give_up(&mut queues, 3)?;
+    give_up(&mut queues, 1)?;
+    give_up(&mut queues, 5)
 }
