@@ -47,10 +47,6 @@ module _ {K V : Type 0} (m : Machine K V) where
           ap (option_and_then {U = K × ℕ × V} (λ (z : K × ℕ). option_map (λ value. (z.0, z.1, value)) (slice_get m.values slot))) is ∙ ap (option_map (λ value. (r.0, r.1, value))) v.1 in
           omega (arith, ap (length {A = K × ℕ × V}) (one_more slot made (Some (r.0, r.1, v.0)) at))
 
-  -- nothing is left past the last slot
-  pub entries-end : (slot : ℕ) → length m.values ≤ slot → entries_from m slot ≡ []
-  entries-end slot past = let e : length m.values - slot ≡ 0 = omega (arith, past) in ap (λ n. filter_map (entry_at m) (range_with_len slot n)) e
-
   -- the keys and slots are those of the residents at these slots
   keys_and_slots : (from n : ℕ) → from + n ≤ length m.values → map key_and_slot (filter_map (entry_at m) (range_with_len from n)) ≡ filter_map (resident_at m) (range_with_len from n)
   keys_and_slots from zero within = refl

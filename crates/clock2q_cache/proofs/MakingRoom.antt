@@ -20,9 +20,6 @@ use Rattle.clock2q_cache.proofs.Renewed.{times-split, front_times, length-front,
 -- Who leaves next.
 
 module _ {K V : Type 0} (m : Machine K V) where
-  pub leaves-none : length m.main ≡ 0 → false ≡ victim_leaves m
-  leaves-none none = sym (ap (λ n. nat_lt 0 n && keeps_tail (last_or None m.small)) none)
-
   main-some : 0 < length m.main → victim_leaves m ≡ keeps_tail (last_or None m.small)
   main-some some = ap (λ b. b && keeps_tail (last_or None m.small)) (lt-ltb 0 (length m.main) some)
 

@@ -4,7 +4,7 @@ use Rattle.std.proofs.lemmas.List.{append_assoc, get_or_default, length-append, 
 use Rattle.clock2q_queues.specs.declared.links.Record.{Record}
 use Rattle.clock2q_queues.specs.Cells.{cells_state}
 use Rattle.clock2q_queues.specs.Flags.{is_linked}
-use Rattle.clock2q_queues.specs.Links.{Detaches, RecordsState, all_records, records_state, location_at, next_at, previous_at, record_at, vacant}
+use Rattle.clock2q_queues.specs.Links.{RecordsState, all_records, records_state, location_at, next_at, previous_at, record_at, vacant}
 use Rattle.clock2q_queues.proofs.Records.{get_or-same}
 
 padded-at : (rs : List Record) (n t : ℕ) → record_at (rs ++ replicate n vacant) t ≡ record_at rs t
@@ -93,16 +93,3 @@ module _ (rs : List Record) (slots : ℕ) where
       let rest = slots - length (rs ++ replicate k vacant) in
       append_assoc rs (replicate k vacant) (replicate rest vacant) ∙ ap (λ z. rs ++ z) (replicate-append-replicate k rest vacant)
       ∙ ap (λ n. rs ++ replicate n vacant) (omega (arith, fit, length-append rs (replicate k vacant), length-replicate k vacant))
-
--- a slot is put before another, or taken out, among the records in memory
-module _ (old new : List Record) (slots : ℕ) (fit : length old ≤ slots) (a b : ℕ) where
-  pub all-detached : (slot : ℕ) → Detaches slot (cells_state old a) (cells_state new b)
-      → Detaches slot (cells_state (all_records old slots) a) (cells_state (all_records new slots) b)
-  all-detached slot e = record {
-    nexts = λ t other. rw (next-all new slots t, previous-all old slots slot, next-all old slots slot, next-all old slots t) (e.nexts t other);
-    previouses = λ t other. rw (previous-all new slots t, next-all old slots slot, previous-all old slots slot, previous-all old slots t) (e.previouses t other);
-    locations = λ t other. rw (location-all new slots t, location-all old slots t) (e.locations t other);
-    freed = all-at new slots slot ∙ e.freed;
-    as_many = omega (arith, length-all old slots fit, length-all new slots (omega (arith, fit, e.as_many)));
-    accesses = e.accesses;
-  }

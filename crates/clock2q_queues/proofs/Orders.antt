@@ -156,9 +156,6 @@ module _ (l : CellsState Record) (newest : Option ℕ) (len : ℕ) (chain : Chai
   abbrev pub free_now : List ℕ
   free_now = free_places l.items chain
 
-  room_used : length places_now + length free_now ≤ length l.items
-  room_used = o.within
-
   chain_counted : length free_now ≡ chain.len
   chain_counted = length-around (next_at l.items) chain.head chain.len
 

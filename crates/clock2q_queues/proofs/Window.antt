@@ -310,9 +310,6 @@ module _ (slot : ℕ) (old : LinkState) (small : Small) (mid aged : LinkState) (
   records_aged : aged.records ≡ mid.records
   records_aged = ap (λ (l : LinkState). l.records) e
 
-  pub slots_aged : length aged.records.items ≡ length old.records.items
-  slots_aged = ap (λ (r : CellsState Record). length r.items) records_aged ∙ o.as_many
-
   pub window_aged : length aged.window.items ≡ length old.window.items
   window_aged = ap (λ (l : LinkState). length l.window.items) e ∙ length-set mid.window.items small.cursor (Some slot) ∙ ap (λ (z : List (Option ℕ)). length z) o.positions
 
