@@ -1,5 +1,5 @@
 -- The group of a hash: a field of its bits.
-use Rattle.std.proofs.Common.{◌≡◌, ℕ, ◌+◌, ◌-◌, ◌/◌, ◌%◌, ◌^◌, ◌<◌, ◌≤◌, inl, inr, sym, ap, ◌∙◌, subst, arith}
+use Rattle.std.proofs.Common.{◌≡◌, ℕ, ◌+◌, ◌-◌, ◌/◌, ◌%◌, ◌^◌, ◌<◌, ◌≤◌, inl, inr, sym, ap, ◌∙◌, arith}
 use Rattle.std.proofs.lemmas.Bool.{cases_lt}
 use Rattle.std.proofs.lemmas.Nat.{field_of, and_mask, pow_below, shr-shr, pow_pos}
 use Rattle.std.proofs.lemmas.Nat.Bits.{bit_at-trailing_zeros, bit_at-pow_other}
@@ -14,13 +14,11 @@ exponent_le j h =
 
 -- a number is neither below nor above its equal
 same_from_order : (i j : ℕ) → (i < j → ⊥) → (j < i → ⊥) → i ≡ j
-same_from_order i j f g =
-    elim (cases_lt i j) [ inl a ↦ absurd (f a) | inr b ↦ elim (cases_lt j i) [ inl c ↦ absurd (g c) | inr d ↦ omega arith ] ]
+same_from_order i j f g = grind arith
 
 -- a power of two has one exponent
 pub exponent_same : (i j : ℕ) → 2 ^ i ≡ 2 ^ j → i ≡ j
-exponent_same i j e =
-    same_from_order i j (λ h. let p : 2 ^ i < 2 ^ j = pow_below i j h in omega (arith, p, e)) (λ h. let p : 2 ^ j < 2 ^ i = pow_below j i h in omega (arith, p, e))
+exponent_same i j e = grind (arith, same_from_order, pow_below)
 
 -- 2^k ends in k zeros
 trailing_zeros-pow : (k : ℕ) → k ≤ 16 → trailing_zeros w64 (2 ^ k) ≡ k
@@ -39,24 +37,12 @@ middle_field x k h =
 
 -- the group is computed by a shift and a mask
 pub group_of : (x p t r : ℕ) → IsPartitionCount p → t ≡ trailing_zeros w64 p → r ≡ bit_and (x / 2 ^ (56 - t)) (p - 1) → IsGroupOf x p r
-group_of x p t r is_count et er k ek =
-    let small : k ≤ 16 = exponent_le k (subst (λ q. q ≤ 2 ^ 16) ek is_count.most) in
-    let tk : t ≡ k = et ∙ ap (trailing_zeros w64) ek ∙ trailing_zeros-pow k small in
-    er ∙ ap (λ n. bit_and (x / 2 ^ (56 - n)) (p - 1)) tk
+group_of x p t r is_count et er k ek = grind (arith, exponent_le, trailing_zeros-pow)
 
 -- hashes with the same middle have the same group
 pub group_from_middle : (x y p r : ℕ) → IsPartitionCount p → IsGroupOf x p r → SameMiddle x y → IsGroupOf y p r
-group_from_middle x y p r is_count is_group same k ek =
-    let small : k ≤ 16 = exponent_le k (subst (λ q. q ≤ 2 ^ 16) ek is_count.most) in
-    let masked : (z : ℕ) → bit_and (z / 2 ^ (56 - k)) (p - 1) ≡ z / 2 ^ 40 % 2 ^ 16 / 2 ^ (16 - k) =
-    λ z. ap (λ q. bit_and (z / 2 ^ (56 - k)) (q - 1)) ek ∙ and_mask (z / 2 ^ (56 - k)) k ∙ middle_field z k small in
-    is_group k ek ∙ masked x ∙ ap (λ n. n / 2 ^ (16 - k)) same ∙ sym (masked y)
+group_from_middle x y p r is_count is_group same k ek = grind (arith, exponent_le, and_mask, middle_field)
 
 -- 2^k ends in fewer zeros than there are bits below the top byte
 pub trailing_zeros_le : (p : ℕ) → IsPartitionCount p → trailing_zeros w64 p ≤ 16
-trailing_zeros_le p is_count =
-    let k : ℕ = is_count.power.0 in
-    let ek : p ≡ 2 ^ k = is_count.power.1 in
-    let small : k ≤ 16 = exponent_le k (subst (λ q. q ≤ 2 ^ 16) ek is_count.most) in
-    let e : trailing_zeros w64 p ≡ k = ap (trailing_zeros w64) ek ∙ trailing_zeros-pow k small in
-    omega (arith, e, small)
+trailing_zeros_le p is_count = grind (arith, exponent_le, trailing_zeros-pow)

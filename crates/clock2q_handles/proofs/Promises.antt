@@ -1,8 +1,8 @@
 -- What users of a table rely on over single insertions: few entries are never refused, and removing an entry again restores the slots.
-use Rattle.std.proofs.Common.{◌≡◌, ℕ, suc, ◌+◌, ◌^◌, ◌<◌, sym, ap, ◌∙◌, subst, arith, Bool, true, false, List, length, Option}
+use Rattle.std.proofs.Common.{◌≡◌, ℕ, ◌+◌, ◌^◌, ◌<◌, subst, arith, Bool, true, false, List, length, Option}
 use Rattle.std.specs.Bool.{OnTrue, OnFalse}
 use Rattle.std.specs.Prelude.{Result, Ok, Err, IsOk, OnOk, OnErr, IfOk, IfErr}
-use Rattle.clock2q_handles.specs.Homes.{total, capacity, with_handle, top, removed, IsNew}
+use Rattle.clock2q_handles.specs.Homes.{total, capacity, with_handle, removed, IsNew}
 use Rattle.clock2q_handles.specs.Layout.{Placed, layout, homes_of, IsTidy, IsTooLong}
 use Rattle.clock2q_handles.specs.TableStep.{TableValue}
 use Rattle.clock2q_handles.specs.Table.{IsWhole}
@@ -64,19 +64,10 @@ module _ {H : Type 0} where
 
   -- a table below capacity with fewer than 2^24 - 1 entries takes one more
   pub few_fit : (homes : List (List (ℕ × H))) (x : ℕ) (v : H) → total homes < capacity (length homes) → total homes + 1 < 2 ^ 24 → IsTooLong (with_handle homes x v) → ⊥
-  few_fit homes x v room few long =
-      let some : 0 < length homes = omega (arith, room) in
-      let more : total (with_handle homes x v) ≡ suc (total homes) = total-put_last (λ _. 0) homes x (top x, v) some in
-      let as_long : length (with_handle homes x v) ≡ length homes = length-with_list homes x _ in
-      omega (arith, few, more, too-long-total (with_handle homes x v) (omega (arith, room, more, ap capacity as_long)) long)
+  few_fit homes x v room few long = grind (arith, total-put_last, length-with_list, too-long-total)
 
   -- with the lists that an insertion results in, removing the entry again restores the slots
   pub restored_by : (eq : H → H → Bool) (slots : List (Option (Placed (ℕ × H)))) (homes new : List (List (ℕ × H))) (x : ℕ) (v : H)
       → homes_of slots ≡ homes → IsTidy slots → total homes < capacity (length homes)
       → eq v v ≡ true → new ≡ with_handle homes x v → IsNew eq homes x v → layout (removed eq new x v) ≡ slots
-  restored_by eq slots homes new x v are tidy room same is fresh =
-      let some : 0 < length slots = omega (arith, room, length-homes_of slots, ap length are) in
-      let first = subst (λ hs. IsNew eq hs x v) (sym are) fresh in
-      let restored : layout (removed eq (with_handle (homes_of slots) x v) x v) ≡ slots = restored-slots eq slots x v tidy some same first in
-      let lists : new ≡ with_handle (homes_of slots) x v = is ∙ ap (λ hs. with_handle hs x v) (sym are) in
-      ap (λ hs. layout (removed eq hs x v)) lists ∙ restored
+  restored_by eq slots homes new x v are tidy room same is fresh = grind (arith, length-homes_of, restored-slots)

@@ -1,7 +1,7 @@
 -- Fewer entries push less, in as many homes or in a multiple: what that means for a removal and a rebuild. And what a rebuild does to the lists.
-use Rattle.std.proofs.Common.{◌≡◌, ℕ, zero, suc, ◌+◌, ◌-◌, ◌*◌, ◌%◌, ◌<◌, ◌≤◌, inl, inr, refl, ap, sym, ◌∙◌, arith, Bool, true, false, cond, eqb, eq-eqb, ne_eqb, List, [], ◌∷◌, ◌++◌, length}
-use Rattle.std.proofs.Common.{take, drop, take-append-drop, get_or, sum_by, length-append, Option, Some, slice_get}
-use Rattle.std.proofs.lemmas.Bool.{cases_lt, cases_eq}
+use Rattle.std.proofs.Common.{◌≡◌, ℕ, zero, suc, ◌+◌, ◌-◌, ◌*◌, ◌%◌, ◌<◌, ◌≤◌, inl, inr, refl, ap, sym, ◌∙◌, arith, cond, eqb, eq-eqb, ne_eqb, List, [], ◌∷◌, ◌++◌, length}
+use Rattle.std.proofs.Common.{take, drop, take-append-drop, sum_by, length-append, Option, Some, slice_get}
+use Rattle.std.proofs.lemmas.Bool.{cases_lt}
 use Rattle.std.proofs.lemmas.List.{get_or_past, length-replicate}
 use Rattle.std.proofs.lemmas.List.Elements.{filter_map-append}
 use Rattle.std.proofs.lemmas.List.Sums.{fold_push, sum_by-cons, sum_by-append}
@@ -43,10 +43,7 @@ module _ {E : Type 0} where
   walk-is (es ∷ homes) x some = refl
 
   pub count-with_list : (homes : List (List E)) (x n : ℕ) (es : List E) → 0 < length homes → length es ≤ count homes x → count (with_list homes x es) n ≤ count homes n
-  count-with_list homes x n es some l = elim (cases_eq (n % length homes) (x % length homes)) [
-    | inl same ↦ omega (arith, ap length (listed-with_same homes x n es some same), ap (λ y. length (get_or homes y [])) same)
-    | inr other ↦ omega (arith, ap length (listed-with_other homes x n es other))
-  ]
+  count-with_list homes x n es some l = grind (arith, listed-with_same, listed-with_other)
 
   -- a list that is no longer than before lengthens no walk
   pub shorter-walk : (homes : List (List E)) (x y : ℕ) (es : List E) → total homes ≤ capacity (length homes) → length es ≤ count homes x → walk (with_list homes x es) y ≤ walk homes y
@@ -77,19 +74,12 @@ module _ {E : Type 0} where
 
 window_none : (f : ℕ → ℕ) (k : ℕ) → ((j : ℕ) → j < k → f j ≡ 0) → window f 0 k ≡ 0
 window_none f zero none = refl
-window_none f (suc k) none =
-    let e : 0 + k ≡ k = omega arith in
-    omega (arith, window_none f k (λ j l. none j (omega arith)), none k (omega arith), ap f e)
+window_none f (suc k) none = grind (arith, window_none f k (λ j l. none j (omega arith)))
 
 -- a sum with at most one nonzero term
 window_one : (f : ℕ → ℕ) (g k : ℕ) → ((j : ℕ) → j < k → (j ≡ g → ⊥) → f j ≡ 0) → window f 0 k ≤ f g
 window_one f g zero none = omega arith
-window_one f g (suc k) none =
-    let e : 0 + k ≡ k = omega arith in
-    elim (cases_eq k g) [
-      | inl same ↦ omega (arith, window_none f k (λ j l. none j (omega arith) (λ q. omega arith)), ap f e, ap f same)
-      | inr other ↦ omega (arith, window_one f g k (λ j l. none j (omega arith)), none k (omega arith) other, ap f e)
-    ]
+window_one f g (suc k) none = grind (arith, window_none, window_one f g k (λ j l. none j (omega arith)))
 
 sum_by_none : {X : Type 0} (w : X → ℕ) (xs : List X) → ((i : ℕ) (x : X) → slice_get xs i ≡ Some x → w x ≡ 0) → sum_by w xs ≡ 0
 sum_by_none w [] none = refl
@@ -105,28 +95,10 @@ module _ {H : Type 0} (key : H → ℕ) where
   shares m n e = cond (eqb (n % m) (key e.1 % m)) 1 0
 
   shares_one : (m n : ℕ) (e : ℕ × H) → shares m n e ≤ 1
-  shares_one m n e = by_test (eqb (n % m) (key e.1 % m))
-    where
-      by_test : (b : Bool) → cond b 1 0 ≤ 1
-      by_test true = omega arith
-      by_test false = omega arith
+  shares_one m n e = grind arith
 
   count-put_last : (homes : List (List (ℕ × H))) (m n : ℕ) (e : ℕ × H) → length homes ≡ m → 0 < m → count (put_last homes (key e.1) e) n ≡ count homes n + shares m n e
-  count-put_last homes m n e len some = elim (cases_eq (n % m) (key e.1 % m)) [
-    | inl same ↦
-        let q : n % length homes ≡ key e.1 % length homes = ap (λ x. n % x) len ∙ same ∙ ap (λ x. key e.1 % x) (sym len) in
-        let one : shares m n e ≡ 1 = ap (λ b. cond b 1 0) (eq-eqb (n % m) (key e.1 % m) same) in
-        omega (
-          arith,
-          ap length (listed-with_same homes (key e.1) n (listed homes (key e.1) ++ e ∷ []) (omega arith) q),
-          length-append (listed homes (key e.1)) (e ∷ []),
-          ap (λ y. length (get_or homes y [])) q,
-          one,
-        )
-    | inr other ↦
-        let none : shares m n e ≡ 0 = ap (λ b. cond b 1 0) (ne_eqb (n % m) (key e.1 % m) other) in
-        omega (arith, ap length (listed-with_other homes (key e.1) n (listed homes (key e.1) ++ e ∷ []) (λ q. other (ap (λ x. n % x) (sym len) ∙ q ∙ ap (λ x. key e.1 % x) len))), none)
-  ]
+  count-put_last homes m n e len some = grind (arith, eq-eqb, listed-with_same, length-append, ne_eqb, listed-with_other)
 
   pub length-put_all : (homes : List (List (ℕ × H))) (es : List (Placed (ℕ × H))) → length (put_all key homes es) ≡ length homes
   length-put_all homes [] = refl
@@ -137,12 +109,7 @@ module _ {H : Type 0} (key : H → ℕ) where
 
   pub total-put_all : (homes : List (List (ℕ × H))) (es : List (Placed (ℕ × H))) → 0 < length homes → total (put_all key homes es) ≡ total homes + length es
   total-put_all homes [] some = omega arith
-  total-put_all homes (s ∷ es) some =
-      omega (
-        arith,
-        total-put_all (put_last homes (key s.entry.1) s.entry) es (omega (arith, length-with_list homes (key s.entry.1) (listed homes (key s.entry.1) ++ s.entry ∷ []))),
-        total-put_last homes (key s.entry.1) s.entry some,
-      )
+  total-put_all homes (s ∷ es) some = grind (arith, length-with_list, total-put_last, total-put_all (put_last homes (key s.entry.1) s.entry) es (omega (arith, length-with_list homes (key s.entry.1) (listed homes (key s.entry.1) ++ s.entry ∷ []))))
 
   pub put_all-push : (homes : List (List (ℕ × H))) (es : List (Placed (ℕ × H))) (s : Placed (ℕ × H)) → put_all key homes (es ++ s ∷ []) ≡ put_last (put_all key homes es) (key s.entry.1) s.entry
   put_all-push homes es s = fold_push (λ hs s. put_last hs (key s.entry.1) s.entry) homes es s
@@ -158,10 +125,7 @@ module _ {H : Type 0} (key : H → ℕ) where
       )
 
   count-no_entries : (m n : ℕ) → count (no_entries {E = ℕ × H} m) n ≡ 0
-  count-no_entries m n = elim (cases_lt (n % length (no_entries {E = ℕ × H} m)) m) [
-    | inl l ↦ ap length (get_or-replicate m (n % length (no_entries {E = ℕ × H} m)) [] [] l)
-    | inr past ↦ ap length (get_or_past (no_entries {E = ℕ × H} m) (n % length (no_entries {E = ℕ × H} m)) [] (omega (arith, length-replicate {A = List (ℕ × H)} m [])))
-  ]
+  count-no_entries m n = grind (arith, get_or-replicate, get_or_past, length-replicate)
 
   pub total-no_entries : (m : ℕ) → total (no_entries {E = ℕ × H} m) ≡ 0
   total-no_entries zero = refl
@@ -205,13 +169,4 @@ module _ {H : Type 0} (key : H → ℕ) where
   pub rebuilding-reach : (homes : List (List (ℕ × H))) (k i n : ℕ) → total homes < length homes → 0 < k * length homes → IsHashOf key homes
       → spill_of (put_all key (no_entries (k * length homes)) (entries (take i (layout homes)))) n
       + count (put_all key (no_entries (k * length homes)) (entries (take i (layout homes)))) n ≤ spill_of homes n + count homes n
-  rebuilding-reach homes k i n room some hashes =
-      let m : ℕ = k * length homes in
-      let part : List (List (ℕ × H)) = put_all key (no_entries m) (entries (take i (layout homes))) in
-      let len : length part ≡ m = length-put_all (no_entries m) (entries (take i (layout homes))) ∙ length-replicate m [] in
-      omega (
-        arith,
-        rebuilding-count homes k i n room some hashes,
-        ap (λ x. spill (count part) x n) len,
-        spill-fewer (count homes) (count part) (length homes) k (roomy-of homes room) some (λ x. rebuilding-count homes k i x room some hashes) n,
-      )
+  rebuilding-reach homes k i n room some hashes = grind (arith, length-put_all, length-replicate, rebuilding-count, spill-fewer, roomy-of)

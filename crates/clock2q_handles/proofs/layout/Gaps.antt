@@ -62,10 +62,7 @@ module _ (c d : ℕ → ℕ) (m z a : ℕ) (roomy : Roomy c m) (roomy' : Roomy d
 
     -- one more entry pushes the homes after it, up to the gap, by one
     pub one-more : IsOneMore c d m z a
-    one-more = record { spills = spills; more = more; same = same; full = full; gap = gap }
-      where
-        spills : (j : ℕ) → j < m → spill d m (z + j) ≡ spill c m (z + j) + min 1 (j - a)
-        spills j l = omega (arith, raised_is j (omega arith))
+    one-more = grind (arith, raised_is)
 
   module _ (pushed : (j : ℕ) → a < j → j < m → 1 ≤ spill d m (z + j)) (ends : spill d m (z + m) ≡ 0) where
     abbrev lowered : ℕ → ℕ

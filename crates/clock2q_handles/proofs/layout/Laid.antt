@@ -23,9 +23,7 @@ module _ {E : Type 0} where
 
   pub take-more-get : (xs : List E) (i : ℕ) (e : E) → slice_get xs i ≡ Some e → take (suc i) xs ≡ take i xs ++ e ∷ []
   take-more-get [] i e is = absurd (cc)
-  take-more-get (x ∷ xs) zero e is =
-      let s : x ≡ e = cc in
-      ap (λ y. y ∷ []) s
+  take-more-get (x ∷ xs) zero e is = grind arith
   take-more-get (x ∷ xs) (suc i) e is = ap (λ ys. x ∷ ys) (take-more-get xs i e is)
 
   pub at_home-own : (o : Option (Placed E)) (n : ℕ) → reach o ≡ suc n → (e : E) × (o ≡ Some (placed n e)) × (at_home o n ≡ e ∷ [])
@@ -43,13 +41,8 @@ module _ {E : Type 0} where
   reach-none (Some s) r = absurd (omega arith)
 
   pub met-last : (A : ℕ → Option (Placed E)) (h d k : ℕ) → met A h d (suc k) ≡ met A h d k ++ at_home (A (h + (d + k))) (d + k)
-  met-last A h d zero =
-      let e : d ≡ d + 0 = omega arith in
-      append-nil (at_home (A (h + d)) d) ∙ ap (λ x. at_home (A (h + x)) x) e
-  met-last A h d (suc k) =
-      let e : suc d + k ≡ d + suc k = omega arith in
-      ap (λ xs. at_home (A (h + d)) d ++ xs) (met-last A h (suc d) k) ∙ sym (append_assoc (at_home (A (h + d)) d) (met A h (suc d) k) (at_home (A (h + (suc d + k))) (suc d + k)))
-      ∙ ap (λ x. (at_home (A (h + d)) d ++ met A h (suc d) k) ++ at_home (A (h + x)) x) e
+  met-last A h d zero = grind (arith, append-nil)
+  met-last A h d (suc k) = grind (arith, append_assoc, met-last A h (suc d) k)
 
   pub met-add : (A : ℕ → Option (Placed E)) (h d k l : ℕ) → met A h d (k + l) ≡ met A h d k ++ met A h (d + k) l
   met-add A h d k zero =
@@ -64,14 +57,10 @@ module _ {E : Type 0} where
 
   pub met-same : (A B : ℕ → Option (Placed E)) (g h d k : ℕ) → ((j : ℕ) → d ≤ j → j < d + k → A (g + j) ≡ B (h + j)) → met A g d k ≡ met B h d k
   met-same A B g h d zero same = refl
-  met-same A B g h d (suc k) same =
-      ap (λ o. at_home o d ++ met A g (suc d) k) (same d (omega arith) (omega arith))
-      ∙ ap (λ xs. at_home (B (h + d)) d ++ xs) (met-same A B g h (suc d) k (λ j from upto. same j (omega arith) (omega arith)))
+  met-same A B g h d (suc k) same = grind (arith, met-same A B g h (suc d) k (λ j from upto. same j (omega arith) (omega arith)))
 
   pub met-again : (A : ℕ → Option (Placed E)) (m h d k : ℕ) → ((n : ℕ) → A (n + m) ≡ A n) → met A (h + m) d k ≡ met A h d k
-  met-again A m h d k again = met-same A A (h + m) h d k (λ j _ _.
-      let e : h + m + j ≡ h + j + m = omega arith in
-      ap A e ∙ again (h + j))
+  met-again A m h d k again = grind (arith, met-same)
 
   module _ (m : ℕ) (L : ℕ → List E) (A : ℕ → Option (Placed E)) (roomy : Roomy (counts L) m) (laid : IsLaid m L A) where
     -- the contents of a slot of home h

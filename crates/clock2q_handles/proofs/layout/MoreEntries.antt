@@ -1,6 +1,6 @@
 -- One entry more makes no walk more than one slot longer.
-use Rattle.std.proofs.Common.{◌≡◌, ℕ, zero, suc, ◌+◌, ◌-◌, ◌/◌, ◌%◌, ◌<◌, ◌≤◌, inl, inr, sym, ap, ◌∙◌, arith, List, [], ◌∷◌, ◌++◌, length, length-append, get_or, div-add-mod', mul-le-mul_right}
-use Rattle.std.proofs.lemmas.Bool.{cases_lt, cases_eq}
+use Rattle.std.proofs.Common.{◌≡◌, ℕ, zero, suc, ◌+◌, ◌-◌, ◌%◌, ◌<◌, ◌≤◌, inl, inr, sym, ap, ◌∙◌, arith, List, [], ◌∷◌, ◌++◌, length, length-append, get_or, div-add-mod', mul-le-mul_right}
+use Rattle.std.proofs.lemmas.Bool.{cases_eq}
 use Rattle.clock2q_handles.specs.Homes.{listed, count, put_last}
 use Rattle.clock2q_handles.specs.Layout.{window, spill, walk}
 use Rattle.clock2q_handles.proofs.layout.FewerEntries.{walk-is}
@@ -9,22 +9,13 @@ use Rattle.clock2q_handles.proofs.shifts.Changes.{length-with_list, listed-with_
 
 -- two slots within a lap aren't the same
 apart : (m a j k : ℕ) → j < k → k < j + m → (a + j) % m ≡ (a + k) % m → ⊥
-apart m a j k below within same =
-    let p : ℕ = (a + j) / m in
-    let q : ℕ = (a + k) / m in
-    elim (cases_lt p q) [
-      | inl less ↦ omega (arith, div-add-mod' (a + j) m, div-add-mod' (a + k) m, same, mul-le-mul_right {m = p + 1} {n = q} m (omega (arith, less)))
-      | inr more ↦ omega (arith, div-add-mod' (a + j) m, div-add-mod' (a + k) m, same, mul-le-mul_right {m = q} {n = p} m more)
-    ]
+apart m a j k below within same = grind (arith, div-add-mod', mul-le-mul_right)
 
 -- counts that differ at one home, by one at most
 module _ (c d : ℕ → ℕ) (m x : ℕ) (some : 0 < m) (other : (n : ℕ) → (n % m ≡ x % m → ⊥) → d n ≡ c n) (one : (n : ℕ) → d n ≤ c n + 1) where
   window_more : (a k : ℕ) → k ≤ m → window d a k ≤ window c a k + 1
   window_more a zero l = omega arith
-  window_more a (suc k) l = elim (cases_eq ((a + k) % m) (x % m)) [
-    | inl at ↦ omega (arith, window-same d c a k (λ j below. other (a + j) (λ q. apart m a j k below (omega (arith, l)) (q ∙ sym at))), one (a + k))
-    | inr away ↦ omega (arith, window_more a k (omega (arith, l)), other (a + k) away)
-  ]
+  window_more a (suc k) l = grind (arith, window-same, apart, window_more a k (omega (arith, l)))
 
   -- push no home's entries more than one slot further
   spill_more : (h : ℕ) → spill d m h ≤ spill c m h + 1

@@ -8,12 +8,8 @@ pub again-at : {X : Type 0} (f : ℕ → X) (m : ℕ) → ((n : ℕ) → f (n + 
 again-at f m again n k e = ap f e ∙ again k
 
 pub again-times : {X : Type 0} (f : ℕ → X) (m : ℕ) → ((n : ℕ) → f (n + m) ≡ f n) → (n k : ℕ) → f (n + k * m) ≡ f n
-again-times f m again n zero =
-    let e : n + 0 * m ≡ n = omega arith in
-    ap f e
-again-times f m again n (suc k) =
-    let e : n + suc k * m ≡ n + k * m + m = omega arith in
-    ap f e ∙ again (n + k * m) ∙ again-times f m again n k
+again-times f m again n zero = grind arith
+again-times f m again n (suc k) = grind (arith, again-times f m again n k)
 
 -- how far past h, by less than a lap, the slot with the contents of n is
 pub lap : ℕ → ℕ → ℕ → ℕ
@@ -37,25 +33,14 @@ rem-same f m again n =
 
 -- slots less than a lap apart are not the same
 pub rems-differ : (m a b : ℕ) → a < b → b < a + m → a % m ≡ b % m → ⊥
-rems-differ m a b l u e = elim (cases_lt (a / m) (b / m)) [
-  | inl below ↦ omega (arith, div-add-mod' a m, div-add-mod' b m, mul-le-mul_right m below)
-  | inr from ↦ omega (arith, div-add-mod' a m, div-add-mod' b m, mul-le-mul_right m from)
-]
+rems-differ m a b l u e = grind (arith, div-add-mod', mul-le-mul_right)
 
 -- the home a lap on, and no other of that lap, is the home of h
 pub same_home : (m h v : ℕ) → v < m → (h + suc v + (m - suc v)) % m ≡ h % m
-same_home m h v l =
-    let q : h + suc v + (m - suc v) ≡ h + m = omega arith in
-    ap (λ x. x % m) q ∙ add-mod_right h m
+same_home m h v l = grind (arith, add-mod_right)
 
 pub other_home : (m h v j : ℕ) → v < m → j < m → (j ≡ m - suc v → ⊥) → (h + suc v + j) % m ≡ h % m → ⊥
-other_home m h v j l u other e = elim (cases_lt j (m - suc v)) [
-  | inl before ↦ rems-differ m (h + suc v + j) (h + suc v + (m - suc v)) (omega arith) (omega arith) (e ∙ sym (same_home m h v l))
-  | inr from ↦ elim (cases_lt (m - suc v) j) [
-    | inl past ↦ rems-differ m (h + suc v + (m - suc v)) (h + suc v + j) (omega arith) (omega arith) (same_home m h v l ∙ sym e)
-    | inr at ↦ other (omega arith)
-  ]
-]
+other_home m h v j l u other e = grind (arith, rems-differ, same_home)
 
 -- a power of two is a multiple of each smaller one
 pub powers-divide : (a b : ℕ) → 2 ^ a ≤ 2 ^ b → (k : ℕ) × (2 ^ b ≡ k * 2 ^ a)

@@ -1,5 +1,5 @@
 -- No placement of the same entries does better than the layout: the homes of a window that is overfull have too many entries for nearer slots.
-use Rattle.std.proofs.Common.{◌≡◌, ℕ, zero, suc, ◌+◌, ◌-◌, ◌%◌, ◌<◌, ◌≤◌, ◌⊎◌, inl, inr, refl, ap, sym, ◌∙◌, arith, Bool, true, false, ◌||◌, eqb, eqb-true, eq-eqb, ne_eqb, List, [], ◌∷◌, length}
+use Rattle.std.proofs.Common.{◌≡◌, ℕ, zero, suc, ◌+◌, ◌-◌, ◌%◌, ◌<◌, ◌≤◌, ◌⊎◌, inl, inr, refl, ap, sym, ◌∙◌, arith, true, eqb, eqb-true, eq-eqb, ne_eqb, List, [], ◌∷◌, length}
 use Rattle.std.proofs.Common.{mod-eq_of_lt}
 use Rattle.std.specs.List.{IsDistinct, AllByRecursion, list_any}
 use Rattle.std.proofs.lemmas.Bool.{cases_lt}
@@ -28,23 +28,13 @@ length-row_onto g (suc n) rest = omega (arith, length-row_onto g n rest)
 
 length-rows : (f : ℕ → ℕ → ℕ) (c : ℕ → ℕ) (n : ℕ) → length (rows f c n) ≡ window c 0 n
 length-rows f c zero = refl
-length-rows f c (suc n) =
-    let z : 0 + n ≡ n = omega arith in
-    omega (arith, length-row_onto (f n) (c n) (rows f c n), length-rows f c n, ap c z)
+length-rows f c (suc n) = grind (arith, length-row_onto, length-rows f c n)
 
 among : (q x : ℕ) (xs : List ℕ) → list_any (eqb q) (x ∷ xs) ≡ true → (q ≡ x) ⊎ (list_any (eqb q) xs ≡ true)
-among q x xs h = by_test (eqb q x) refl h
-  where
-    by_test : (b : Bool) → eqb q x ≡ b → (b || list_any (eqb q) xs) ≡ true → (q ≡ x) ⊎ (list_any (eqb q) xs ≡ true)
-    by_test true e h = inl (eqb-true q x e)
-    by_test false e h = inr h
+among q x xs h = grind (arith, eqb-true)
 
 among_rest : (q x : ℕ) (xs : List ℕ) → list_any (eqb q) xs ≡ true → list_any (eqb q) (x ∷ xs) ≡ true
-among_rest q x xs h = by_test (eqb q x)
-  where
-    by_test : (b : Bool) → (b || list_any (eqb q) xs) ≡ true
-    by_test true = refl
-    by_test false = h
+among_rest q x xs h = grind arith
 
 all_among : (P : ℕ → Type 0) (xs : List ℕ) → ((y : ℕ) → list_any (eqb y) xs ≡ true → P y) → AllByRecursion P xs
 all_among P [] h = tt
@@ -70,22 +60,12 @@ distinct-row_onto : (g : ℕ → ℕ) (n : ℕ) (rest : List ℕ) → IsDistinct
     → ((j : ℕ) → j < n → list_any (eqb (g j)) rest ≡ true → ⊥) → IsDistinct eqb (row_onto g n rest)
 unfolding IsDistinct
 distinct-row_onto g zero rest d inj other = d
-distinct-row_onto g (suc n) rest d inj other = (
-  all_among (λ y. eqb (g n) y ≡ false) (row_onto g n rest) (λ y l. ne_eqb (g n) y (λ e. elim (among-row_onto y g n rest l) [
-    | inl r ↦ inj r.0 n r.1 (omega arith) (r.2 ∙ sym e)
-    | inr later ↦ other n (omega arith) (ap (λ x. list_any (eqb x) rest) e ∙ later)
-  ])),
-  distinct-row_onto g n rest d (λ i j l u. inj i j l (omega arith)) (λ j l. other j (omega arith)),
-)
+distinct-row_onto g (suc n) rest d inj other = grind (arith, all_among, ne_eqb, among-row_onto, distinct-row_onto g n rest d (λ i j l u. inj i j l (omega arith)) (λ j l. other j (omega arith)))
 
 distinct-rows : (f : ℕ → ℕ → ℕ) (c : ℕ → ℕ) (n : ℕ) → ((t j u k : ℕ) → t < n → j < c t → u < n → k < c u → f t j ≡ f u k → (t ≡ u) × (j ≡ k)) → IsDistinct eqb (rows f c n)
 unfolding IsDistinct
 distinct-rows f c zero inj = tt
-distinct-rows f c (suc n) inj =
-    distinct-row_onto (f n) (c n) (rows f c n) (distinct-rows f c n (λ t j u k lt lj lu lk. inj t j u k (omega arith) lj (omega arith) lk))
-    (λ i j l u e. omega (arith, (inj n i n j (omega arith) (omega arith) (omega arith) u e).1)) (λ j l h.
-    let r = among-rows (f n j) f c n h in
-    omega (arith, (inj r.0 r.1 n j (omega arith) r.3 (omega arith) l r.4).0, r.2))
+distinct-rows f c (suc n) inj = grind (arith, distinct-row_onto, among-rows, distinct-rows f c n (λ t j u k lt lj lu lk. inj t j u k (omega arith) lj (omega arith) lk))
 
 -- there are at most b distinct numbers below b
 pub pairs-fit : (f : ℕ → ℕ → ℕ) (c : ℕ → ℕ) (n b : ℕ) → ((t j u k : ℕ) → t < n → j < c t → u < n → k < c u → f t j ≡ f u k → (t ≡ u) × (j ≡ k))
@@ -131,23 +111,11 @@ some_in_rows f c (suc n) b = elim (some_in_rows f c n b) [
 
 window-from : (c : ℕ → ℕ) (a k : ℕ) → window (λ t. c (a + t)) 0 k ≡ window c a k
 window-from c a zero = refl
-window-from c a (suc k) =
-    let e : a + (0 + k) ≡ a + k = omega arith in
-    omega (arith, window-from c a k, ap c e)
+window-from c a (suc k) = grind (arith, window-from c a k)
 
 -- slot p, reached from home g circularly
 round_trip : (m g p : ℕ) → g < m → p < m → (g + (p + m - g) % m) % m ≡ p
-round_trip m g p lg lp = elim (cases_lt p g) [
-  | inl below ↦
-      let r : (p + m - g) % m ≡ p + m - g = mod-eq_of_lt (omega arith) in
-      let e : g + (p + m - g) ≡ p + m = omega arith in
-      ap (λ x. (g + x) % m) r ∙ ap (λ x. x % m) e ∙ add-mod_right p m ∙ mod-eq_of_lt lp
-  | inr from ↦
-      let e : p + m - g ≡ p - g + m = omega arith in
-      let r : (p + m - g) % m ≡ p - g = ap (λ x. x % m) e ∙ add-mod_right (p - g) m ∙ mod-eq_of_lt (omega arith) in
-      let s : g + (p - g) ≡ p = omega arith in
-      ap (λ x. (g + x) % m) r ∙ ap (λ x. x % m) s ∙ mod-eq_of_lt lp
-]
+round_trip m g p lg lp = grind (arith, mod-eq_of_lt, add-mod_right)
 
 module _ {E : Type 0} (homes : List (List E)) (room : total homes < length homes) (place : ℕ → ℕ → ℕ)
     (placement : IsPlacement homes place) (h : ℕ) (within : h < length homes) (has : 0 < count homes h) where

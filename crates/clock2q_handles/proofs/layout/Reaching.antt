@@ -1,5 +1,5 @@
 -- How far the occupied slots from a home go.
-use Rattle.std.proofs.Common.{◌≡◌, ℕ, zero, suc, ◌+◌, ◌<◌, ◌≤◌, refl, ap, ◌∙◌, arith, List, length, Option, Some, None}
+use Rattle.std.proofs.Common.{◌≡◌, ℕ, zero, suc, ◌+◌, ◌<◌, ◌≤◌, ap, ◌∙◌, arith, List, length, Option, Some, None}
 use Rattle.clock2q_handles.specs.Layout.{Placed, reach, slot_at, occupied, run}
 
 module _ {E : Type 0} where
@@ -7,11 +7,7 @@ module _ {E : Type 0} where
   occupied-none A n k e = ap (λ o. elim o [ None ↦ 0 | Some _ ↦ suc (occupied A (suc n) k) ]) e
 
   occupied-some : (A : ℕ → Option (Placed E)) (n k : ℕ) → 1 ≤ reach (A n) → occupied A n (suc k) ≡ suc (occupied A (suc n) k)
-  occupied-some A n k l = by_slot (A n) l
-    where
-      by_slot : (o : Option (Placed E)) → 1 ≤ reach o → ◌≡◌ {A = ℕ} (elim o [ None ↦ 0 | Some _ ↦ suc (occupied A (suc n) k) ]) (suc (occupied A (suc n) k))
-      by_slot None l = absurd (omega arith)
-      by_slot (Some s) l = refl
+  occupied-some A n k l = grind arith
 
   pub occupied-is : (A : ℕ → Option (Placed E)) (h v k : ℕ) → v < k → A (h + v) ≡ None → ((j : ℕ) → j < v → 1 ≤ reach (A (h + j))) → occupied A h k ≡ v
   occupied-is A h zero zero l hole full = absurd (omega arith)

@@ -1,5 +1,5 @@
 -- The layout as a list of slots, and the lists read off one.
-use Rattle.std.proofs.Common.{◌≡◌, ℕ, zero, suc, ◌+◌, ◌%◌, ◌<◌, ◌≤◌, inl, inr, refl, ap, sym, ◌∙◌, arith, List, [], ◌∷◌, length, set, replicate, get_or, get_or-set_same, get_or-set_other}
+use Rattle.std.proofs.Common.{◌≡◌, ℕ, zero, suc, ◌+◌, ◌%◌, ◌<◌, ◌≤◌, inl, inr, refl, ap, sym, ◌∙◌, arith, List, [], ◌∷◌, length, set, get_or, get_or-set_same, get_or-set_other}
 use Rattle.std.proofs.Common.{length-set, Option, Some, None, mod-eq_of_lt, slice_get}
 use Rattle.std.proofs.lemmas.Bool.{cases_lt}
 use Rattle.std.proofs.lemmas.List.{get_or_past, length-replicate}
@@ -42,21 +42,8 @@ module _ {E : Type 0} where
   put_from_at : (m : ℕ) (slots : List (Option (Placed E))) (n d : ℕ) (es : List E) (i : ℕ) (e : E) → length slots ≡ m → 0 < m
       → length es ≤ m → slice_get es i ≡ Some e → get_or (put_from slots n d es) ((n + i) % m) None ≡ Some (placed (d + i) e)
   put_from_at m slots n d [] i e len some fits is = absurd (cc)
-  put_from_at m slots n d (x ∷ es) zero e len some fits is =
-      let z : n + 0 ≡ n = omega arith in
-      let o : d ≡ d + 0 = omega arith in
-      let s : x ≡ e = cc in
-      let l : n % length slots < length slots = omega arith in
-      ap (λ y. get_or (put_from slots n d (x ∷ es)) (y % m) None) z
-      ∙ put_from_other m (set slots (n % length slots) (Some (placed d x))) (suc n) (suc d) es (n % m) (length-set slots (n % length slots) (Some (placed d x))
-      ∙ len) (λ i u q. rems-differ m n (suc n + i) (omega arith) (omega arith) q) ∙ ap (λ y. get_or (set slots (n % length slots) (Some (placed d x))) (n % y) None) (sym len)
-      ∙ get_or-set_same slots (n % length slots) (Some (placed d x)) None l ∙ ap (λ y. Some (placed d y)) s ∙ ap (λ y. Some (placed y e)) o
-  put_from_at m slots n d (x ∷ es) (suc i) e len some fits is =
-      let s : n + suc i ≡ suc n + i = omega arith in
-      let o : suc d + i ≡ d + suc i = omega arith in
-      ap (λ y. get_or (put_from slots n d (x ∷ es)) (y % m) None) s
-      ∙ put_from_at m (set slots (n % length slots) (Some (placed d x))) (suc n) (suc d) es i e (length-set slots (n % length slots) (Some (placed d x)) ∙ len) some (omega arith) is
-      ∙ ap (λ y. Some (placed y e)) o
+  put_from_at m slots n d (x ∷ es) zero e len some fits is = grind (arith, put_from_other, length-set, rems-differ, get_or-set_same)
+  put_from_at m slots n d (x ∷ es) (suc i) e len some fits is = grind (arith, length-set, put_from_at m (set slots (n % length slots) (Some (placed d x))) (suc n) (suc d) es i e (length-set slots (n % length slots) (Some (placed d x)) ∙ len) some (omega arith) is)
 
   pub length-layout_upto : (homes : List (List E)) (k : ℕ) → length (layout_upto homes k) ≡ length homes
   length-layout_upto homes zero = length-replicate (length homes) None
@@ -67,13 +54,8 @@ module _ {E : Type 0} where
   length-layout homes = length-layout_upto homes (length homes)
 
   upto_other : (homes : List (List E)) (p k : ℕ) → ((h i : ℕ) → h < k → i < count homes h → p ≡ (h + spill_of homes h + i) % length homes → ⊥) → get_or (layout_upto homes k) p None ≡ None
-  upto_other homes p zero other = elim (cases_lt p (length homes)) [
-    | inl l ↦ get_or-replicate (length homes) p None None l
-    | inr past ↦ get_or_past (replicate (length homes) None) p None (omega (arith, length-replicate {A = Option (Placed E)} (length homes) None))
-  ]
-  upto_other homes p (suc k) other =
-      put_from_other (length homes) (layout_upto homes k) (k + spill_of homes k) (spill_of homes k) (listed homes k) p (length-layout_upto homes k) (λ i l. other k i (omega arith) l)
-      ∙ upto_other homes p k (λ h i l. other h i (omega arith))
+  upto_other homes p zero other = grind (arith, get_or-replicate, get_or_past, length-replicate)
+  upto_other homes p (suc k) other = grind (arith, put_from_other, length-layout_upto, upto_other homes p k (λ h i l. other h i (omega arith)))
 
   module _ (homes : List (List E)) (roomy : Roomy (count homes) (length homes)) where
     upto_at : (k : ℕ) → k ≤ length homes → (h i : ℕ) (e : E) → h < k → slice_get (listed homes h) i ≡ Some e

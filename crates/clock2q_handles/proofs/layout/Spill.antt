@@ -14,9 +14,7 @@ window-add c a k (suc l) = rw add-suc (omega (arith, window-add c a k l, ap c (a
 
 pub window-again : (c : ℕ → ℕ) (m : ℕ) → ((n : ℕ) → c (n + m) ≡ c n) → (a k : ℕ) → window c (a + m) k ≡ window c a k
 window-again c m again a zero = refl
-window-again c m again a (suc k) =
-    let e : a + m + k ≡ a + k + m = omega arith in
-    omega (arith, window-again c m again a k, ap c e, again (a + k))
+window-again c m again a (suc k) = grind (arith, window-again c m again a k)
 
 pub window-same : (c d : ℕ → ℕ) (a k : ℕ) → ((j : ℕ) → j < k → c (a + j) ≡ d (a + j)) → window c a k ≡ window d a k
 window-same c d a zero same = refl
@@ -82,9 +80,7 @@ spill-found c (suc m) h some =
 
 pub spill-again : (c : ℕ → ℕ) (m : ℕ) → ((n : ℕ) → c (n + m) ≡ c n) → (h : ℕ) → spill c m (h + m) ≡ spill c m h
 unfolding spill
-spill-again c m again h = largest-same (λ j. window c (h + m + m - j) j - j) (λ j. window c (h + m - j) j - j) m (λ k l.
-    let e : h + m + m - k ≡ h + m - k + m = omega arith in
-    omega (arith, ap (λ x. window c x k) e, window-again c m again (h + m - k) k))
+spill-again c m again h = grind (arith, largest-same, window-again)
 
 module _ (c : ℕ → ℕ) (m : ℕ) (roomy : Roomy c m) where
   -- a window of a lap or less holds no more than a lap

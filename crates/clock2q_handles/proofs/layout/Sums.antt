@@ -8,18 +8,12 @@ use Rattle.clock2q_handles.proofs.layout.Tiles.{gap}
 use Rattle.clock2q_handles.proofs.layout.Laid.{counts, IsLaid, take-more-get, get_some}
 
 pub window-front : (f : ℕ → ℕ) (a k : ℕ) → window f a (suc k) ≡ f a + window f (suc a) k
-window-front f a zero =
-    let e : a + 0 ≡ a = omega arith in
-    omega (arith, ap f e)
-window-front f a (suc k) =
-    let e : a + suc k ≡ suc a + k = omega arith in
-    omega (arith, window-front f a k, ap f e)
+window-front f a zero = grind arith
+window-front f a (suc k) = grind (arith, window-front f a k)
 
 pub window-shift : (f : ℕ → ℕ) (a k : ℕ) → window f (suc a) k ≡ window (λ n. f (suc n)) a k
 window-shift f a zero = refl
-window-shift f a (suc k) =
-    let e : suc a + k ≡ suc (a + k) = omega arith in
-    omega (arith, window-shift f a k, ap f e)
+window-shift f a (suc k) = grind (arith, window-shift f a k)
 
 module _ {E : Type 0} where
   -- what a slot adds

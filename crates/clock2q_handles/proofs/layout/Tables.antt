@@ -5,7 +5,7 @@ use Rattle.std.proofs.lemmas.List.{length-replicate}
 use Rattle.std.proofs.lemmas.Nat.{pow-add}
 use Rattle.std.proofs.Math.Pow.{pow_mono}
 use Rattle.clock2q_handles.specs.Homes.{capacity, listed, count, total, no_entries}
-use Rattle.clock2q_handles.specs.Layout.{Placed, put_from, reach, layout, layout_upto, homes_of, spill_of, IsTidy, IsTooLong}
+use Rattle.clock2q_handles.specs.Layout.{Placed, reach, layout, layout_upto, homes_of, spill_of, IsTidy, IsTooLong}
 use Rattle.clock2q_handles.specs.TableStep.{table_value, made_for, fit}
 use Rattle.clock2q_handles.specs.Slots.{IsSlotCount}
 use Rattle.clock2q_handles.specs.Table.{IsTable, IsWhole}
@@ -40,8 +40,7 @@ module _ (E : Type 0) where
 
   empty_upto : (m k : ℕ) → layout_upto (nothing m) k ≡ empty m
   empty_upto m zero = ap empty (length-nothing m)
-  empty_upto m (suc k) =
-      ap (λ es. put_from (layout_upto (nothing m) k) (k + spill_of (nothing m) k) (spill_of (nothing m) k) es) (get_or-nothing m (k % length (nothing m))) ∙ empty_upto m k
+  empty_upto m (suc k) = grind (arith, get_or-nothing, empty_upto m k)
 
   -- without entries every slot is empty
   pub layout-nothing : (m : ℕ) → layout (nothing m) ≡ empty m
@@ -66,8 +65,7 @@ module _ (H : Type 0) where
 
   -- and the table has no entries
   pub view-empty : (m : ℕ) → table_value (homes_of (empty (ℕ × H) m)) (empty (ℕ × H) m) 0 0 ≡ table_value (nothing (ℕ × H) m) (layout (nothing (ℕ × H) m)) 0 0
-  view-empty m =
-      ap (λ hs. table_value hs (empty (ℕ × H) m) 0 0) (homes_of-empty (ℕ × H) m) ∙ ap (λ s. table_value (nothing (ℕ × H) m) s 0 0) (sym (layout-nothing (ℕ × H) m))
+  view-empty m = grind (arith, homes_of-empty, layout-nothing)
 
   pub made_for-some : (n : ℕ) → 0 < n → made_for {H = H} n ≡ nothing (ℕ × H) (fit n)
   made_for-some zero some = absurd (omega (arith, some))
@@ -89,12 +87,7 @@ module _ {H : Type 0} (slots : List (Option (Placed (ℕ × H)))) (len : ℕ) (t
 
   -- so callers may rely on all of it
   pub table-whole : (writes reads : ℕ) → IsWhole (table_value (homes_of slots) slots writes reads)
-  table-whole writes reads = record {
-    laid = tidy-layout slots table.tidy;
-    slot_count = subst IsSlotCount (sym (length-homes_of slots)) table.slot_count;
-    room = tidy-room slots table.tidy;
-    short = table-short;
-  }
+  table-whole writes reads = grind (arith, tidy-layout, length-homes_of, tidy-room, table-short)
 
 -- 0 is a slot count
 pub no_slots : IsSlotCount 0

@@ -98,10 +98,7 @@ module _ {E : Type 0} where
 
   -- a table with fewer entries than slots has an empty slot
   pub vacant-slot : (slots : List (Option (Placed E))) → length (entries slots) < length slots → (v : ℕ) × (slot_at slots v ≡ None)
-  vacant-slot slots l =
-      let r = vacant_in slots l in
-      let e : r.0 % length slots ≡ r.0 = mod-eq_of_lt r.1 in
-      (r.0, ap (λ x. get_or slots x None) e ∙ r.2)
+  vacant-slot slots l = grind (arith, vacant_in, mod-eq_of_lt)
 
   pub tidy-vacant : (slots : List (Option (Placed E))) → IsTidy slots → 0 < length slots → (v : ℕ) × (slot_at slots v ≡ None)
   tidy-vacant slots tidy some = vacant-slot slots (omega (arith, tidy.room, capacity-lt (length slots) some))

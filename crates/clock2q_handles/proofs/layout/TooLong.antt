@@ -1,5 +1,5 @@
 -- When a table's entries are too far past their homes: what that takes, where it shows in the slots, and when an insertion makes it so.
-use Rattle.std.proofs.Common.{◌≡◌, ℕ, zero, suc, ◌+◌, ◌-◌, ◌*◌, ◌%◌, ◌^◌, ◌<◌, ◌≤◌, ◌⊎◌, inl, inr, refl, ap, sym, ◌∙◌, subst, arith, List, [], ◌∷◌, ◌++◌, length, take, length-append, Option, None}
+use Rattle.std.proofs.Common.{◌≡◌, ℕ, zero, suc, ◌+◌, ◌-◌, ◌*◌, ◌%◌, ◌^◌, ◌<◌, ◌≤◌, ◌⊎◌, inl, inr, ap, sym, ◌∙◌, subst, arith, List, [], ◌∷◌, ◌++◌, length, take, length-append, Option, None}
 use Rattle.std.proofs.lemmas.Bool.{cases_lt}
 use Rattle.clock2q_handles.specs.Homes.{capacity, listed, count, total, no_entries, put_last}
 use Rattle.clock2q_handles.specs.Layout.{Placed, spill, spill_of, slot_at, layout, entries, reach, homes_of, IsTidy, IsTooLong}
@@ -40,9 +40,7 @@ module _ {E : Type 0} where
 
   module _ (slots : List (Option (Placed E))) (tidy : IsTidy slots) where
     read_laid : 0 < length slots → IsLaid (length slots) (listed (homes_of slots)) (slot_at slots)
-    read_laid some =
-        let w = tidy-vacant slots tidy some in
-        subst (λ x. IsLaid x (listed (homes_of slots)) (slot_at slots)) (length-homes_of slots) (read-laid-homes slots tidy.ordered w.0 w.1 some)
+    read_laid some = grind (arith, tidy-vacant, length-homes_of, read-laid-homes)
 
     read_room : 0 < length slots → total (homes_of slots) < length slots
     read_room some = omega (arith, tidy.room, tidy-total slots tidy, capacity-lt (length slots) some)
@@ -91,12 +89,7 @@ module _ {E : Type 0} where
       more_room = omega (arith, more_total, capacity-lt (length slots) some_slots)
 
       more_here : count more h ≡ suc (count (homes_of slots) h)
-      more_here =
-          omega (
-            arith,
-            ap length (listed-with_same (homes_of slots) h h (listed (homes_of slots) h ++ e ∷ []) (omega (arith, length-homes_of slots)) refl),
-            length-append (listed (homes_of slots) h) (e ∷ []),
-          )
+      more_here = grind (arith, listed-with_same, length-homes_of, length-append)
 
       stop_sum : d ≡ spill (count (homes_of slots)) (length slots) h + count (homes_of slots) h
       stop_sum = read-stop slots tidy some_slots h d stops ∙ ap (λ x. spill (count (homes_of slots)) x h + count (homes_of slots) h) (length-homes_of slots)
@@ -166,9 +159,7 @@ module _ {E : Type 0} where
 -- a rebuild to k times the slots never makes the table too long on its way
 pub rebuilding-short : {H : Type 0} (key : H → ℕ) (homes : List (List (ℕ × H))) (k i : ℕ) → total homes < length homes → 0 < k * length homes
     → IsHashOf key homes → (IsTooLong homes → ⊥) → IsTooLong (put_all key (no_entries (k * length homes)) (entries (take i (layout homes)))) → ⊥
-rebuilding-short key homes k i room some hashes short long =
-    short (too-long-at homes room long.0 (omega (arith, long.2, rebuilding-count key homes k i long.0 room some hashes))
-    (omega (arith, long.3, rebuilding-reach key homes k i long.0 room some hashes)))
+rebuilding-short key homes k i room some hashes short long = grind (arith, too-long-at, rebuilding-count, rebuilding-reach)
 
 module _ {H : Type 0} (key : H → ℕ) (homes : List (List (ℕ × H))) (m : ℕ) (room : total homes ≤ capacity (length homes))
     (fits : total homes < m) (multiple : 0 < length homes → (k : ℕ) × (m ≡ k * length homes)) (hashes : IsHashOf key homes) where

@@ -15,25 +15,14 @@ pub record Stops {E : Type 0} (A : ℕ → Option (Placed E)) (h t n : ℕ) : Ty
   pub stop : reach (A (h + n)) ≤ n + t
 
 pub slice_get-append : {E : Type 0} (xs ys : List E) (i : ℕ) (e : E) → slice_get (xs ++ ys) i ≡ Some e → (slice_get xs i ≡ Some e) ⊎ ((length xs ≤ i) × (slice_get ys (i - length xs) ≡ Some e))
-slice_get-append [] ys i e is =
-    let z : i ≡ i - 0 = omega arith in
-    inr (omega arith, ap (slice_get ys) (sym z) ∙ is)
+slice_get-append [] ys i e is = grind arith
 slice_get-append (x ∷ xs) ys zero e is = inl is
-slice_get-append (x ∷ xs) ys (suc i) e is = elim (slice_get-append xs ys i e is) [
-  | inl l ↦ inl l
-  | inr r ↦
-      let s : i - length xs ≡ suc i - suc (length xs) = omega arith in
-      inr (omega arith, ap (slice_get ys) (sym s) ∙ r.1)
-]
+slice_get-append (x ∷ xs) ys (suc i) e is = grind (arith, slice_get-append xs ys i e is)
 
 module _ {E : Type 0} (A : ℕ → Option (Placed E)) (ordered : IsOrdered A) where
   later : (h t n : ℕ) → reach (A (h + n)) ≤ n + t → (k : ℕ) → reach (A (h + (n + k))) ≤ n + k + t
-  later h t n stop zero =
-      let e : n + 0 ≡ n = omega arith in
-      omega (arith, ap (λ x. reach (A (h + x))) e)
-  later h t n stop (suc k) =
-      let e : h + (n + suc k) ≡ suc (h + (n + k)) = omega arith in
-      omega (arith, later h t n stop k, ordered.next (h + (n + k)), ap (λ x. reach (A x)) e)
+  later h t n stop zero = grind arith
+  later h t n stop (suc k) = grind (arith, later h t n stop k)
 
   -- past the stop no entry is further from its home either
   pub after : (h t n : ℕ) → reach (A (h + n)) ≤ n + t → (j : ℕ) → n ≤ j → reach (A (h + j)) ≤ j + t
@@ -49,10 +38,7 @@ module _ {E : Type 0} (A : ℕ → Option (Placed E)) (ordered : IsOrdered A) wh
   ]
 
   pub stops-unique : (h t n k : ℕ) → Stops A h t n → Stops A h t k → n ≡ k
-  stops-unique h t n k p q = elim (cases_lt n k) [
-    | inl below ↦ absurd (omega (arith, q.before n below, p.stop))
-    | inr from ↦ elim (cases_lt k n) [ inl below ↦ absurd (omega (arith, p.before k below, q.stop)) | inr upto ↦ omega arith ]
-  ]
+  stops-unique h t n k p q = grind arith
 
   -- past its stop a walk meets no entry of its home
   pub met-late : (h n k : ℕ) → reach (A (h + n)) ≤ n → met A h n k ≡ []
@@ -136,9 +122,7 @@ module _ {E : Type 0} (A : ℕ → Option (Placed E)) (ordered : IsOrdered A) wh
     pushed-again h = stops-unique (h + m) 1 (pushed (h + m)) (pushed h) (pushed-stops (h + m)) (stops-again h 1 (pushed h) (pushed-stops h))
 
     met_next : (h k : ℕ) → met A h 0 (suc k) ≡ met A h 0 k ++ at_home (A (h + k)) k
-    met_next h k =
-        let z : 0 + k ≡ k = omega arith in
-        met-last A h 0 k ∙ ap (λ x. met A h 0 k ++ at_home (A (h + x)) x) z
+    met_next h k = grind (arith, met-last)
 
     at_home_there : (h k : ℕ) → pushed h ≤ k → k < ending h → reach (A (h + k)) ≡ suc k
     at_home_there h k from upto = omega (arith, after h 1 (pushed h) (pushed-stops h).stop k from, (ending-stops h).before k upto)

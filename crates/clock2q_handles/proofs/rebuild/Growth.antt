@@ -1,5 +1,5 @@
 -- The slot counts that a table grows to, and what a rebuild at one results in.
-use Rattle.std.proofs.Common.{◌≡◌, ℕ, suc, ◌+◌, ◌*◌, ◌<◌, ◌≤◌, ◌==◌, inl, inr, max, refl, ap, sym, ◌∙◌, subst, arith, Bool, true, false, cond, List, length}
+use Rattle.std.proofs.Common.{◌≡◌, ℕ, suc, ◌+◌, ◌*◌, ◌<◌, ◌≤◌, ◌==◌, inl, inr, max, refl, ap, sym, subst, arith, Bool, true, false, cond, List, length}
 use lib.Dec.{T, eqb→eq}
 use Rattle.std.proofs.lemmas.Bool.{cases_lt}
 use Rattle.std.proofs.Math.Nat.{two-pow-succ}
@@ -31,21 +31,14 @@ module _ {E : Type 0} (homes : List (List E)) (n : ℕ) (len : length homes ≡ 
   doubled_is = omega (arith, len)
 
   pub doubled_more : capacity (length homes) < capacity (max (n * 2) 16)
-  doubled_more = elim (cases_lt 0 n) [
-    | inl some ↦ omega (arith, len, is_count.least some)
-    | inr none ↦ omega (arith, len, none)
-  ]
+  doubled_more = grind arith
 
   pub doubled_multiple : 0 < length homes → (k : ℕ) × (max (n * 2) 16 ≡ k * length homes)
   doubled_multiple some = (2, omega (arith, len, some, is_count.least (omega (arith, len, some))))
 
   -- a slot count of greater capacity is a multiple of the number of homes
   pub larger_multiple : (m : ℕ) → IsSlotCount m → capacity (length homes) < capacity m → 0 < length homes → (k : ℕ) × (m ≡ k * length homes)
-  larger_multiple m is_count' more some =
-      let a = is_count.power (omega (arith, len, some)) in
-      let b = is_count'.power (omega (arith, more)) in
-      let k = powers-divide a.0 b.0 (omega (arith, more, len, a.1, b.1)) in
-      (k.0, b.1 ∙ k.1 ∙ ap (λ x. k.0 * x) (sym a.1 ∙ sym len))
+  larger_multiple m is_count' more some = grind (arith, powers-divide)
 
 module _ {H : Type 0} (key : H → ℕ) (homes : List (List (ℕ × H))) (m : ℕ) (room : total homes ≤ capacity (length homes)) (some : 0 < m) where
   -- a rebuild leaves as much room as the slots have

@@ -77,10 +77,7 @@ module _ {H : Type 0} (key : H → ℕ) where
 
   -- homes without entries need no hashes
   pub hashes-none : (m : ℕ) → IsHashOf key (no_entries m)
-  hashes-none m h i e l is =
-      let none : listed (no_entries {E = ℕ × H} m) h ≡ [] =
-      get_or-replicate m (h % length (no_entries {E = ℕ × H} m)) [] [] (omega (arith, l, length-replicate {A = List (ℕ × H)} m [], mod-eq_of_lt l)) in
-      absurd (omega (arith, slice_get_within (listed (no_entries {E = ℕ × H} m) h) i e is, ap length none))
+  hashes-none m h i e l is = grind (arith, get_or-replicate, length-replicate, mod-eq_of_lt, slice_get_within)
 
   -- a list in place of a home's, each entry of which has a hash of that home
   pub hashes-with_list : (homes : List (List (ℕ × H))) (x : ℕ) (es : List (ℕ × H)) → IsHashOf key homes
@@ -121,9 +118,7 @@ module _ {H : Type 0} (key : H → ℕ) where
   pub hashes-put_all : (homes : List (List (ℕ × H))) (es : List (Placed (ℕ × H))) → 0 < length homes → IsHashOf key homes
       → ((i : ℕ) (s : Placed (ℕ × H)) → slice_get es i ≡ Some s → top (key s.entry.1) ≡ s.entry.0) → IsHashOf key (put_all key homes es)
   hashes-put_all homes [] some hashes all = hashes
-  hashes-put_all homes (s ∷ es) some hashes all =
-      hashes-put_all (put_last homes (key s.entry.1) s.entry) es (omega (arith, some, length-with_list homes (key s.entry.1) (listed homes (key s.entry.1) ++ s.entry ∷ [])))
-      (hashes-put_last homes (key s.entry.1) s.entry some hashes refl (all 0 s refl)) (λ i t is. all (suc i) t is)
+  hashes-put_all homes (s ∷ es) some hashes all = grind (arith, length-with_list, hashes-put_last, hashes-put_all (put_last homes (key s.entry.1) s.entry) es (omega (arith, some, length-with_list homes (key s.entry.1) (listed homes (key s.entry.1) ++ s.entry ∷ []))) (hashes-put_last homes (key s.entry.1) s.entry some hashes refl (all 0 s refl)) (λ i t is. all (suc i) t is))
 
   -- the entries keep their fingerprints and homes through a rebuild
   pub hashes-rebuilt : (homes : List (List (ℕ × H))) (m : ℕ) → total homes ≤ capacity (length homes) → 0 < m → IsHashOf key homes → IsHashOf key (rebuilt key m homes)
@@ -137,5 +132,4 @@ module _ {H : Type 0} (key : H → ℕ) where
 
   -- as many entries as before
   pub rebuilt-total : (homes : List (List (ℕ × H))) (m : ℕ) → total homes ≤ capacity (length homes) → 0 < m → total (rebuilt key m homes) ≡ total homes
-  rebuilt-total homes m room some =
-      omega (arith, total-put_all key (no_entries m) (entries (layout homes)) (omega (arith, some, length-replicate {A = List (ℕ × H)} m [])), total-no_entries key m, layout-total homes room)
+  rebuilt-total homes m room some = grind (arith, total-put_all, length-replicate, total-no_entries, layout-total)

@@ -1,9 +1,9 @@
 -- Held handles stay held: through growth and insertions, and as what a lookup yields.
-use Rattle.std.proofs.Common.{◌≡◌, ℕ, zero, suc, ◌+◌, ◌-◌, ◌%◌, ◌<◌, ◌≤◌, ◌⊎◌, inl, inr, ◌==◌, refl, ap, sym, ◌∙◌, subst, arith, Bool, true, false, cond, List, [], ◌∷◌, ◌++◌, length, get_or, map}
+use Rattle.std.proofs.Common.{◌≡◌, ℕ, zero, suc, ◌+◌, ◌%◌, ◌<◌, ◌≤◌, ◌⊎◌, inl, inr, ◌==◌, refl, ap, sym, ◌∙◌, subst, arith, Bool, true, false, cond, List, [], ◌∷◌, ◌++◌, length, get_or, map}
 use Rattle.std.proofs.Common.{Option, Some, None, slice_get, mod-eq_of_lt}
 use lib.Dec.{T, eqb→eq}
 use Rattle.std.specs.List.{filter}
-use Rattle.std.proofs.lemmas.Bool.{cases_lt, cases_eq, eq-eqb}
+use Rattle.std.proofs.lemmas.Bool.{cases_lt, eq-eqb}
 use Rattle.std.proofs.lemmas.Option.{slice_get_within}
 use Rattle.std.proofs.Math.ListN.{get_or-replicate}
 use Rattle.std.proofs.lemmas.List.{length-replicate}
@@ -60,14 +60,7 @@ module _ {H : Type 0} where
 
     -- an entry stays when one is put in
     pub entry_kept : IsEntry homes f → IsEntry (put_last homes x e) f
-    entry_kept at = (
-      at.0,
-      at.1,
-      elim (cases_eq (at.0 % length homes) (x % length homes)) [
-        | inl same ↦ ap (λ es. slice_get es at.1) (put_same at.0 same) ∙ slice_get-left (listed homes at.0) (e ∷ []) at.1 f at.2
-        | inr other ↦ ap (λ es. slice_get es at.1) (listed-with_other homes x at.0 (listed homes x ++ e ∷ []) other) ∙ at.2
-      ],
-    )
+    entry_kept at = grind (arith, put_same, slice_get-left, listed-with_other)
 
     -- the new one is there
     pub entry_new : IsEntry (put_last homes x e) e
@@ -75,13 +68,7 @@ module _ {H : Type 0} where
 
     -- and no other
     pub entry_from : IsEntry (put_last homes x e) f → IsEntry homes f ⊎ (f ≡ e)
-    entry_from at = elim (cases_eq (at.0 % length homes) (x % length homes)) [
-      | inl same ↦ elim (slice_get-append (listed homes at.0) (e ∷ []) at.1 f (ap (λ es. slice_get es at.1) (sym (put_same at.0 same)) ∙ at.2)) [
-        | inl old ↦ inl (at.0, at.1, old)
-        | inr new ↦ inr (slice_get-only e f (at.1 - length (listed homes at.0)) new.1)
-      ]
-      | inr other ↦ inl (at.0, at.1, ap (λ es. slice_get es at.1) (sym (listed-with_other homes x at.0 (listed homes x ++ e ∷ []) other)) ∙ at.2)
-    ]
+    entry_from at = grind (arith, slice_get-append, put_same, slice_get-only, listed-with_other)
 
 module _ {H : Type 0} (key : H → ℕ) where
   put_some : (homes : List (List (ℕ × H))) (s : Placed (ℕ × H)) → 0 < length homes → 0 < length (put_last homes (key s.entry.1) s.entry)
@@ -111,9 +98,7 @@ module _ {H : Type 0} (key : H → ℕ) where
   ]
 
   none_there : (m : ℕ) (e : ℕ × H) → 0 < m → IsEntry (no_entries m) e → ⊥
-  none_there m e some at =
-      let none : listed (no_entries {E = ℕ × H} m) at.0 ≡ [] = get_or-replicate m (at.0 % length (no_entries {E = ℕ × H} m)) [] [] (omega (arith, some, length-replicate {A = List (ℕ × H)} m [])) in
-      omega (arith, slice_get_within (listed (no_entries {E = ℕ × H} m) at.0) at.1 e at.2, ap length none)
+  none_there m e some at = grind (arith, get_or-replicate, length-replicate, slice_get_within)
 
   module _ (homes : List (List (ℕ × H))) (m : ℕ) (room : total homes ≤ capacity (length homes)) (some : 0 < m) where
     fresh : 0 < length (no_entries {E = ℕ × H} m)

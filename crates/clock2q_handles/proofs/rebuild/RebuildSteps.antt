@@ -28,10 +28,7 @@ module _ {F H : Type 0} (g : Mut F (H × Unit {0}) ℕ) (key : H → ℕ) where
 
   -- what f became by its calls on the first handles may be called on the next
   pub answers_next : (f : F) (hs : List H) (h : H) (rest : List H) (f' : F) → AnswersInTurn g key f (hs ++ h ∷ rest) → Asks g key f hs f' → AnswersAt f' h
-  answers_next f [] h rest f' turn so_far = record {
-    takes = subst (λ s. Takes g s (h, tt)) (sym so_far) turn.0;
-    answers = λ r next called. (turn.1 r next (subst (λ s. Called g s (h, tt) r next) so_far called)).0;
-  }
+  answers_next f [] h rest f' turn so_far = grind arith
   answers_next f (x ∷ hs) h rest f' turn so_far = answers_next so_far.0 hs h rest f' (turn.1 (key x) so_far.0 so_far.1).1 so_far.2
 
 module _ {H : Type 0} (slots : List (Option (Placed (ℕ × H)))) (len : ℕ) (table : IsTable slots len) (key : H → ℕ) (m i : ℕ) (within : i < length slots) where
@@ -43,9 +40,7 @@ module _ {H : Type 0} (slots : List (Option (Placed (ℕ × H)))) (len : ℕ) (t
 
   -- an empty slot adds nothing
   pub passed_empty : slot_at slots i ≡ None → made (i + 1) ≡ made i
-  passed_empty empty =
-      let e : i + 1 ≡ suc i = omega arith in
-      ap made e ∙ ap (put_all key (no_entries m)) (entries-none slots i within (sym here ∙ empty))
+  passed_empty empty = grind (arith, entries-none, here)
 
   module _ (s : Placed (ℕ × H)) (is : slot_at slots i ≡ Some s) where
     more : entries (take (suc i) slots) ≡ entries (take i slots) ++ s ∷ []
@@ -64,11 +59,7 @@ module _ {H : Type 0} (slots : List (Option (Placed (ℕ × H)))) (len : ℕ) (t
 
     -- there is room for it
     pub room_for : len ≤ capacity m → total (made i) < capacity (length (made i))
-    room_for fits =
-        let some : 0 < m = omega (arith, few, fits) in
-        let whole : length (made i) ≡ m = length-put_all key (no_entries m) (entries (take i slots)) ∙ length-nothing (ℕ × H) m in
-        let sum = total-put_all key (no_entries m) (entries (take i slots)) (omega (arith, some, length-nothing (ℕ × H) m)) in
-        omega (arith, sum, total-no_entries {H = H} key m, few, fits, ap capacity whole)
+    room_for fits = grind (arith, few, length-put_all, length-nothing, total-put_all, total-no_entries)
 
     -- and no run becomes too long
     pub no_refusal : (k : ℕ) → m ≡ k * length (homes_of slots) → len ≤ capacity m → IsHashOf key (homes_of slots) → IsTooLong (with_handle (made i) (key s.entry.1) s.entry.1) → ⊥
@@ -148,8 +139,7 @@ module _ {H : Type 0} {homes : List (List (ℕ × H))} {slots : List (Option (Pl
       hashes_read = subst (IsHashOf key) come.lists hashes
 
       as_put : with_handle made_so r v ≡ with_handle (put_all key (no_entries m) (entries (take i slots))) (key found.0.entry.1) found.0.entry.1
-      as_put = ap (λ hs. with_handle hs r v) so_far ∙ ap (λ x. with_handle (put_all key (no_entries m) (entries (take i slots))) x v) answered
-          ∙ ap (λ w. with_handle (put_all key (no_entries m) (entries (take i slots))) (key w) w) same
+      as_put = grind (arith, same)
 
       pub step_made : with_handle made_so r v ≡ put_all key (no_entries m) (entries (take (i + 1) slots))
       step_made = as_put ∙ put_next slots len come.table key m i come.within found.0 found.1 hashes_read

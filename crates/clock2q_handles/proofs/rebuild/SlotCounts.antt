@@ -35,12 +35,7 @@ below_pow (suc n) = omega (arith, below_pow n, two-pow-succ n, pow_pos n)
 -- the slot count is 16 doubled that often, if the entries fit then and not before
 pub fit_is : (e i : ℕ) → ((j : ℕ) → j < i → 12 * 2 ^ j < e) → e ≤ 12 * 2 ^ i → fit e ≡ 2 ^ i * 16
 unfolding fit
-fit_is e i before fits =
-    let enough : i ≤ e = elim (cases_lt 0 i) [
-      | inl some ↦ omega (arith, before (i - 1) (omega arith), below_pow (i - 1))
-      | inr none ↦ omega arith
-    ] in
-    doubled_found e i 16 e enough (λ j l. omega (arith, before j l)) (omega (arith, fits))
+fit_is e i before fits = grind (arith, below_pow, doubled_found)
 
 -- the slot count from the power of two that is computed
 pub fit_from_power : (e p : ℕ) → IsNextPowerOfTwo (div_ceil e 3) p → fit e ≡ max (p * 4) 16

@@ -36,9 +36,7 @@ slot_on m s k t t' at on =
     on ∙ ap (λ y. (y + 1) % m) at ∙ rem-plus m (s + k) 1 ∙ ap (λ y. y % m) e
 
 pub slot_begins : (m s : ℕ) → s < m → s ≡ (s + 0) % m
-slot_begins m s within =
-    let e : s ≡ s + 0 = omega arith in
-    sym (mod-eq_of_lt within) ∙ ap (λ y. y % m) e
+slot_begins m s within = grind (arith, mod-eq_of_lt)
 
 module _ {E : Type 0} (slots : List (Option (Placed E))) where
   -- the contents of a slot, seen from another
@@ -98,17 +96,7 @@ module _ {E : Type 0} (A : ℕ → Option (Placed E)) (first : Option (Placed E)
   pub carrying_more : (slots slots' : List (Option (Placed E))) (x : Option (Placed E)) (k t : ℕ) → k < length slots
       → t ≡ (s + k) % length slots → Carrying A (slot_at slots) first (length slots) s k → x ≡ carried A first s k → slots' ≡ set slots t x
       → Carrying A (slot_at slots') first (length slots) s (suc k)
-  carrying_more slots slots' x k t within at so_far is e =
-      let e' : slots' ≡ set slots ((s + k) % length slots) x = e ∙ ap (λ i. set slots i x) at in
-      record {
-        moved = λ j l. elim (cases_lt j k) [
-          | inl before ↦ at_other A slots slots' x s k j within (omega (arith, before, within)) (λ q. omega (arith, before, q)) e' ∙ so_far.moved j before
-          | inr from ↦
-              let q : j ≡ k = omega (arith, l, from) in
-              ap (λ i. slot_at slots' (s + i)) q ∙ at_written A slots slots' x s k within e' ∙ is ∙ ap (carried A first s) (sym q)
-        ];
-        rest = λ j l u. at_other A slots slots' x s k j within u (λ q. omega (arith, l, q)) e' ∙ so_far.rest j (omega (arith, l)) u;
-      }
+  carrying_more slots slots' x k t within at so_far is e = grind (arith, at_other, at_written)
 
 -- once the last entry is in the empty slot, the run has been opened
 pub carried_opens : {E : Type 0} (slots slots' : List (Option (Placed E))) (first : Option (Placed E)) (h n s k : ℕ) (e : E)
@@ -230,10 +218,7 @@ module _ {H : Type 0} (old now : List (Option (Placed (ℕ × H)))) where
         omega (arith, room.others state.steps (λ j l. occupied j (omega (arith, l))), reach_of_meaning there (slot_at old (s + state.steps)) state.there_is)
 
     written : (now' : List (Option (Placed (ℕ × H)))) → now' ≡ set now t next → Carrying (slot_at old) (slot_at now') first (length old) s (suc state.steps)
-    written now' is =
-        let so_far = subst (λ m. Carrying (slot_at old) (slot_at now) first m s state.steps) (sym state.len) state.carrying in
-        subst (λ m. Carrying (slot_at old) (slot_at now') first m s (suc state.steps)) state.len
-        (carrying_more (slot_at old) first s now now' next state.steps t (omega (arith, state.within, state.len)) at_now so_far state.next_is is)
+    written now' is = grind (arith, carrying_more, at_now)
 
     -- the entry that was there is carried on
     pub carry_goes : (now' : List (Option (Placed (ℕ × H)))) (t' : ℕ) (held : H) (there' mark' : Mark)
@@ -352,31 +337,10 @@ module _ {H : Type 0} (old now : List (Option (Placed (ℕ × H)))) where
 
 module _ {H : Type 0} (old : List (Option (Placed (ℕ × H)))) where
   pub carry_begins : (first : Option (Placed (ℕ × H))) (there : Mark) (s w : ℕ) → s < length old → there ≡ mark_of (slot_at old s) → CarryState old old first first there s s w w
-  carry_begins first there s w within meaning =
-      let z : s ≡ s + 0 = omega arith in
-      record {
-        steps = 0;
-        slot = slot_begins (length old) s within;
-        within = omega (arith, within);
-        len = refl;
-        occupied = λ j l. absurd (omega (arith, l));
-        carrying = record { moved = λ j l. absurd (omega (arith, l)); rest = λ j l u. refl };
-        next_is = refl;
-        there_is = meaning ∙ ap (λ i. mark_of (slot_at old i)) z;
-        writes = omega arith;
-      }
+  carry_begins first there s w within meaning = grind (arith, slot_begins)
 
   pub close_begins : (s w : ℕ) → s < length old → 0 < reach (slot_at old s) → CloseState old old s s w w
-  close_begins s w within occ =
-      record {
-        steps = 0;
-        slot = slot_begins (length old) s within;
-        within = omega (arith, within);
-        len = refl;
-        occupied = λ j l. let q : s + j ≡ s = omega (arith, l) in omega (arith, occ, ap (λ i. reach (slot_at old i)) q);
-        back = record { moved = λ j l u. absurd (omega (arith, u)); before = λ j l. refl; after = λ j l u. refl };
-        writes = omega arith;
-      }
+  close_begins s w within occ = grind (arith, slot_begins)
 
 module _ {H : Type 0} (slots : List (Option (Placed (ℕ × H)))) (tidy : IsTidy slots) (g f : ℕ) where
   -- a walk at its home
@@ -424,13 +388,7 @@ pub record IsPassing {E : Type 0} (slots : List (Option (Placed E))) (s t : ℕ)
 
 module _ {E : Type 0} (slots : List (Option (Placed E))) (s : ℕ) where
   pub pass_begins : s < length slots → IsPassing slots s s
-  pass_begins within = record {
-    steps = 0;
-    slot = slot_begins (length slots) s within;
-    within = omega (arith, within);
-    occupied = λ j l. absurd (omega (arith, l));
-    near = λ j l. absurd (omega (arith, l));
-  }
+  pass_begins within = grind (arith, slot_begins)
 
   module _ {t : ℕ} (so_far : IsPassing slots s t) where
     pub pass_slot : t < length slots
@@ -463,17 +421,8 @@ module _ {E : Type 0} (slots : List (Option (Placed E))) (s : ℕ) where
 
     -- at an empty slot there is room
     pub pass_room : {mark : Mark} → mark_reach mark ≤ longest_reach → slot_at slots t ≡ None → HasRoomAt slots mark s
-    pass_room own empty = record {
-      own = own;
-      others = λ k occupied. elim (cases_lt k so_far.steps) [
-        | inl before ↦ so_far.near k before
-        | inr from ↦ absurd (omega (arith, occupied so_far.steps from, ap reach (sym here ∙ empty)))
-      ];
-    }
+    pass_room own empty = grind (arith, here)
 
     -- and at an entry that may not move on there is none
     pub pass_far : (mark : Mark) → longest_reach ≤ reach (slot_at slots t) → LacksRoomAt slots mark s
-    pass_far mark far =
-        let at : longest_reach ≤ reach (slot_at slots (s + so_far.steps)) = omega (arith, far, ap reach here) in
-        let full = below_more (λ j. 0 < reach (slot_at slots (s + j))) so_far.steps so_far.occupied (omega (arith, at)) in
-        inr (so_far.steps, λ j l. full j (omega (arith, l)), at)
+    pass_far mark far = grind (arith, here, below_more)

@@ -12,9 +12,7 @@ use Rattle.clock2q_handles.specs.declared.metadata.Metadata.{Metadata}
 
 -- masking by a slot count minus one is a remainder
 pub slot_mask : (n m : ℕ) → IsSlotCount m → 0 < m → bit_and n (m - 1) ≡ n % m
-slot_mask n m is_count some =
-    let p = is_count.power some in
-    ap (λ q. bit_and n (q - 1)) p.1 ∙ and_mask n p.0 ∙ ap (λ q. n % q) (sym p.1)
+slot_mask n m is_count some = grind (arith, and_mask)
 
 -- an empty vector that is filled up
 filled : {X : Type 0} (n k : ℕ) (xs : List X) (x : X) → xs ≡ [] → k ≡ 0 → take n xs ++ replicate (n - k) x ≡ replicate n x
@@ -82,8 +80,7 @@ module _ {H : Type 0} where
   -- vectors that are filled up with empty marks make empty slots
   pub filled_cells : (n i j : ℕ) (ms ms' : List Metadata) (vs vs' : List H) (m : Metadata) (v : H) → meaning m ≡ None → ms ≡ [] → vs ≡ []
       → i ≡ 0 → j ≡ 0 → ms' ≡ take n ms ++ replicate (n - i) m → vs' ≡ take n vs ++ replicate (n - j) v → cells ms' vs' ≡ replicate n None
-  filled_cells n i j ms ms' vs vs' m v e none-ms none-vs ei ej er es =
-      ap (λ x. cells x vs') (er ∙ filled n i ms m none-ms ei) ∙ ap (λ x. cells (replicate n m) x) (es ∙ filled n j vs v none-vs ej) ∙ cells-replicate n m v e
+  filled_cells n i j ms ms' vs vs' m v e none-ms none-vs ei ej er es = grind (arith, filled, cells-replicate)
 
   -- the mark of a slot that is read
   pub mark_read : (ms : List Metadata) (vs : List H) (n k : ℕ) (m : Metadata) → length vs ≡ length ms

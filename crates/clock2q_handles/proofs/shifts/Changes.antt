@@ -1,5 +1,5 @@
 -- What an insertion and a removal do to a table's slots, and to the lists that are read off them.
-use Rattle.std.proofs.Common.{◌≡◌, ℕ, suc, ◌+◌, ◌-◌, ◌%◌, ◌<◌, ◌≤◌, inl, inr, refl, ap, sym, ◌∙◌, subst, arith, eq-eqb, List, [], ◌∷◌, ◌++◌, length, get_or, get_or-set_same, get_or-set_other}
+use Rattle.std.proofs.Common.{◌≡◌, ℕ, suc, ◌+◌, ◌-◌, ◌%◌, ◌<◌, ◌≤◌, inl, inr, refl, ap, sym, ◌∙◌, subst, arith, eq-eqb, List, [], ◌∷◌, ◌++◌, length, get_or-set_same, get_or-set_other}
 use Rattle.std.proofs.Common.{length-set, length-append, append-nil, Option, Some, None}
 use Rattle.std.proofs.lemmas.Bool.{cases_lt}
 use Rattle.std.proofs.lemmas.List.{get_or_past}
@@ -22,18 +22,13 @@ module _ {E : Type 0} where
   length-with_list homes x es = length-set homes (home homes x) es
 
   pub listed-with_same : (homes : List (List E)) (x n : ℕ) (es : List E) → 0 < length homes → n % length homes ≡ x % length homes → listed (with_list homes x es) n ≡ es
-  listed-with_same homes x n es some same =
-      let l : x % length homes < length homes = omega arith in
-      ap (λ y. get_or (with_list homes x es) (n % y) []) (length-with_list homes x es) ∙ ap (λ y. get_or (with_list homes x es) y []) same ∙ get_or-set_same homes (x % length homes) es [] l
+  listed-with_same homes x n es some same = grind (arith, length-with_list, get_or-set_same)
 
   pub listed-with_other : (homes : List (List E)) (x n : ℕ) (es : List E) → (n % length homes ≡ x % length homes → ⊥) → listed (with_list homes x es) n ≡ listed homes n
-  listed-with_other homes x n es other =
-      ap (λ y. get_or (with_list homes x es) (n % y) []) (length-with_list homes x es) ∙ get_or-set_other homes (x % length homes) (n % length homes) es [] other
+  listed-with_other homes x n es other = grind (arith, length-with_list, get_or-set_other)
 
   pub total-with_list : (homes : List (List E)) (x : ℕ) (es : List E) → 0 < length homes → total (with_list homes x es) + count homes x ≡ total homes + length es
-  total-with_list homes x es some =
-      let l : x % length homes < length homes = omega arith in
-      sum_by-set length homes (x % length homes) es [] l
+  total-with_list homes x es some = grind (arith, sum_by-set)
 
   -- B is A with the slots from d to v past h moved on by one, and e put d past h
   pub record IsMovedOn (A B : ℕ → Option (Placed E)) (m h d v : ℕ) (e : E) : Type 0 where
@@ -250,8 +245,7 @@ module _ {E : Type 0} where
 
       -- one more entry
       pub inserted-total : total (put_last (homes_of slots) h e) ≡ suc (total (homes_of slots))
-      inserted-total =
-          omega (arith, total-with_list (homes_of slots) h (listed (homes_of slots) h ++ e ∷ []) (omega (arith, length-homes_of slots)), length-append (listed (homes_of slots) h) (e ∷ []))
+      inserted-total = grind (arith, total-with_list, length-homes_of, length-append)
 
       put_length : length (put_last (homes_of slots) h e) ≡ length slots
       put_length = length-with_list (homes_of slots) h (listed (homes_of slots) h ++ e ∷ []) ∙ length-homes_of slots
@@ -305,10 +299,7 @@ module _ {E : Type 0} where
       ]
 
       some_others : 0 < length others
-      some_others = elim (cases_lt 0 (length others)) [
-        | inl some ↦ some
-        | inr none ↦ absurd (omega (arith, ap reach moved.here, ap reach (get_or_past others ((h + d) % length others) None (omega arith))))
-      ]
+      some_others = grind (arith, get_or_past)
 
       taken_within : suc v < length others
       taken_within =
@@ -324,15 +315,7 @@ module _ {E : Type 0} where
 
       -- one entry less
       pub removed-total : suc (total (with_list (homes_of others) h (list_without others h d))) ≡ total (homes_of others)
-      removed-total =
-          omega (
-            arith,
-            total-with_list (homes_of others) h (list_without others h d) (omega (arith, some_others, length-homes_of others)),
-            ap length taken_split,
-            length-append
-                (met (slot_at others) h 0 d) (met (slot_at others) h (suc d) (length others - suc d)),
-            length-append (met (slot_at others) h 0 d) (e ∷ met (slot_at others) h (suc d) (length others - suc d)),
-          )
+      removed-total = grind (arith, total-with_list, some_others, length-homes_of, taken_split, length-append)
 
       taken_length : length (with_list (homes_of others) h (list_without others h d)) ≡ length others
       taken_length = length-with_list (homes_of others) h (list_without others h d) ∙ length-homes_of others

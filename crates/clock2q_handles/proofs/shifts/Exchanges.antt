@@ -29,9 +29,7 @@ module _ {E : Type 0} where
 module _ {E : Type 0} (A B : ℕ → Option (Placed E)) (m : ℕ) (again : (k : ℕ) → A (k + m) ≡ A k) (again' : (k : ℕ) → B (k + m) ≡ B k) (some : 0 < m)
     (ordered : IsOrdered A) (g n w : ℕ) (e : E) (passed : (j : ℕ) → j < n → j < reach (A (g + j))) (opens : Opens A B m g n w e) where
   next : (j : ℕ) → reach (A (g + suc j)) ≤ suc (reach (A (g + j)))
-  next j =
-      let q : g + suc j ≡ suc (g + j) = omega arith in
-      omega (arith, ordered.next (g + j), ap (λ k. reach (A k)) q)
+  next j = grind arith
 
   wrapped : (j : ℕ) → suc j ≡ m → reach (B (g + suc j)) ≤ suc (reach (A (g + j)))
   wrapped j last =
@@ -47,24 +45,10 @@ module _ {E : Type 0} (A B : ℕ → Option (Placed E)) (m : ℕ) (again : (k : 
       ]
 
   inside : (j : ℕ) → suc j < m → reach (B (g + suc j)) ≤ suc (reach (A (g + j)))
-  inside j within = elim (cases_lt (suc j) n) [
-    | inl early ↦ omega (arith, ap reach (opens.before (suc j) early), next j)
-    | inr late ↦ elim (cases_lt j n) [
-      | inl at ↦
-          let q : g + suc j ≡ g + n = omega (arith, at, late) in
-          omega (arith, ap (λ k. reach (B k)) q, ap reach opens.put, passed j at, at, late)
-      | inr from ↦ elim (cases_lt j w) [
-        | inl upto ↦ omega (arith, ap reach (opens.moved j from upto), moved_reach (A (g + j)))
-        | inr beyond ↦ omega (arith, ap reach (opens.after (suc j) (omega (arith, beyond)) within), next j)
-      ]
-    ]
-  ]
+  inside j within = grind (arith, next, moved_reach)
 
   step : (j : ℕ) → j < m → reach (B (g + suc j)) ≤ suc (reach (A (g + j)))
-  step j below = elim (cases_lt (suc j) m) [
-    | inl within ↦ inside j within
-    | inr last ↦ wrapped j (omega (arith, below, last))
-  ]
+  step j below = grind (arith, inside, wrapped)
 
   -- no entry reaches more than one slot further than the slot before it allowed
   pub one_on : (k : ℕ) → reach (B (suc k)) ≤ suc (reach (A k))
@@ -83,9 +67,7 @@ module _ {E : Type 0} (A B : ℕ → Option (Placed E)) (m : ℕ) (again : (k : 
 module _ {E : Type 0} (slots more : List (Option (Placed E))) (tidy : IsTidy slots) (tidy' : IsTidy more) (same : length more ≡ length slots) (some : 0 < length slots)
     (on : (k : ℕ) → reach (slot_at more (suc k)) ≤ suc (reach (slot_at slots k))) where
   further : (h j : ℕ) → reach (slot_at more (h + suc j)) ≤ suc (reach (slot_at slots (h + j)))
-  further h j =
-      let q : h + suc j ≡ suc (h + j) = omega arith in
-      omega (arith, on (h + j), ap (λ k. reach (slot_at more k)) q)
+  further h j = grind arith
 
   -- have walks that are at most one slot longer
   pub walk_on : (x : ℕ) → walk (homes_of more) x ≤ walk (homes_of slots) x + 1

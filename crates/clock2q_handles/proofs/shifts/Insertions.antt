@@ -111,12 +111,7 @@ module _ {H : Type 0} (x : ℕ) (v : H) {slots : List (Option (Placed (ℕ × H)
   n = ends.walk.distance
 
   ended : HasEnded slots x g n
-  ended = record {
-    fits = fits;
-    home = refl;
-    passed = ends.walk.come.passed;
-    stop = omega (arith, ends.stop, ap mark_reach ends.walk.mark, ap reach (come_here slots g n s ends.walk.come));
-  }
+  ended = grind (arith, come_here)
 
   -- the contents of the slots further on in the run
   further : (k : ℕ) → slot_at slots (s + k) ≡ slot_at slots (x + (n + k))
@@ -132,13 +127,7 @@ module _ {H : Type 0} (x : ℕ) (v : H) {slots : List (Option (Placed (ℕ × H)
 
   -- so if none would, there is room
   pub short_room : (IsTooLong (with_handle (homes_of slots) x v) → ⊥) → HasRoomAt slots mark s
-  short_room short = record {
-    own = elim (cases_lt longest_reach (mark_reach mark)) [ inl far ↦ absurd (short (refusal (inl far))) | inr near ↦ near ];
-    others = λ k occupied. elim (cases_lt (reach (slot_at slots (s + k))) longest_reach) [
-      | inl near ↦ near
-      | inr far ↦ absurd (short (refusal (inr (k, occupied, far))))
-    ];
-  }
+  short_room short = grind (arith, refusal)
 
   -- and there is among few entries
   pub few_room : len ≤ 16777214 → HasRoomAt slots mark s

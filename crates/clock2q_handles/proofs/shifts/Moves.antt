@@ -1,5 +1,5 @@
 -- What each slot contains after a write, what the tests of a slot's mark mean, and the loops that walk and move a run's entries.
-use Rattle.std.proofs.Common.{◌≡◌, ◌≢◌, ℕ, suc, pred, ◌+◌, ◌%◌, ◌<◌, ◌≤◌, ◌↔◌, inl, inr, refl, ap, sym, ◌∙◌, arith, Bool, true, false, IsTrue, List, length, set, get_or, get_or-set_same}
+use Rattle.std.proofs.Common.{◌≡◌, ◌≢◌, ℕ, suc, ◌+◌, ◌%◌, ◌<◌, ◌≤◌, ◌↔◌, inl, inr, refl, ap, ◌∙◌, arith, Bool, true, false, IsTrue, List, length, set, get_or-set_same}
 use Rattle.std.proofs.Common.{get_or-set_other, length-set, Option, Some, None, IfSome}
 use Rattle.std.proofs.lemmas.Bool.{cases_lt}
 use Rattle.std.proofs.lemmas.Nat.{mod_below}
@@ -13,23 +13,15 @@ use Rattle.clock2q_handles.proofs.layout.TidyLayout.{tidy-vacant}
 module _ {E : Type 0} (slots : List (Option (Placed E))) (x : Option (Placed E)) where
   -- the slot that was written
   pub slot_at-set_same : (n : ℕ) → 0 < length slots → slot_at (set slots (n % length slots) x) n ≡ x
-  slot_at-set_same n some = ap (λ m. get_or (set slots (n % length slots) x) (n % m) None) (length-set slots (n % length slots) x)
-      ∙ get_or-set_same slots (n % length slots) x None (mod_below n (length slots) some)
+  slot_at-set_same n some = grind (arith, length-set, get_or-set_same, mod_below)
 
   -- a slot that was not
   pub slot_at-set_other : (n k : ℕ) → k % length slots ≢ n % length slots → slot_at (set slots (n % length slots) x) k ≡ slot_at slots k
-  slot_at-set_other n k other = ap (λ m. get_or (set slots (n % length slots) x) (k % m) None) (length-set slots (n % length slots) x)
-      ∙ get_or-set_other slots (n % length slots) (k % length slots) x None other
+  slot_at-set_other n k other = grind (arith, length-set, get_or-set_other)
 
 -- slots that are different distances past a home, less than a lap, are different slots
 pub apart_on_lap : (m h i j : ℕ) → i < m → j < m → i ≢ j → (h + i) % m ≢ (h + j) % m
-apart_on_lap m h i j li lj ne e = elim (cases_lt i j) [
-  | inl below ↦ rems-differ m (h + i) (h + j) (omega arith) (omega arith) e
-  | inr from ↦ elim (cases_lt j i) [
-    | inl above ↦ rems-differ m (h + j) (h + i) (omega arith) (omega arith) (sym e)
-    | inr upto ↦ ne (omega arith)
-  ]
-]
+apart_on_lap m h i j li lj ne e = grind (arith, rems-differ)
 
 -- a test that failed
 pub refused : {P : Type 0} (b : Bool) → IsTrue b ↔ P → b ≡ false → P → ⊥
@@ -56,23 +48,17 @@ module _ {H : Type 0} where
 
   -- a slot whose entry can't move back
   pub near_of_meaning : (b : Bool) (s : Mark) (o : Option (Placed (ℕ × H))) → IsTrue b ↔ (1 < mark_reach s) → b ≡ false → s ≡ mark_of o → reach o ≤ 1
-  near_of_meaning b s o test off is = elim (cases_lt 1 (reach o)) [
-    | inl far ↦ absurd (refused b test off (omega (arith, reach_of_meaning s o is, far)))
-    | inr near ↦ near
-  ]
+  near_of_meaning b s o test off is = grind (arith, refused, reach_of_meaning)
 
   -- an entry that moves on by one slot
   pub cell-mark_on : (s s' : Mark) (o : Option (Placed (ℕ × H))) (v : H) → s ≡ mark_of o → s' ≡ mark_on s → IfSome o (λ p. v ≡ p.entry.1) → cell s' v ≡ moved_on o
   cell-mark_on s s' None v is more handle = ap (λ m. cell m v) (more ∙ ap mark_on is)
-  cell-mark_on s s' (Some p) v is more handle =
-      ap (λ m. cell m v) (more ∙ ap mark_on is) ∙ ap (λ w. Some (placed (suc p.displacement) (p.entry.0, w))) handle
+  cell-mark_on s s' (Some p) v is more handle = grind arith
 
   -- an entry that moves back by one slot
   pub cell-mark_back : (s s' : Mark) (o : Option (Placed (ℕ × H))) (v : H) → 1 < reach o → s ≡ mark_of o → s' ≡ mark_back s → IfSome o (λ p. v ≡ p.entry.1) → o ≡ moved_on (cell s' v)
   cell-mark_back s s' None v far is less handle = absurd (omega (arith, far))
-  cell-mark_back s s' (Some p) v far is less handle =
-      let e : suc (pred p.displacement) ≡ p.displacement = omega (arith, far) in
-      sym (ap (λ m. moved_on (cell m v)) (less ∙ ap mark_back is) ∙ ap (λ w. Some (placed (suc (pred p.displacement)) (p.entry.0, w))) handle ∙ ap (λ d. Some (placed d p.entry)) e)
+  cell-mark_back s s' (Some p) v far is less handle = grind arith
 
 -- a walk that has met no empty slot has gone less than once round
 pub less_than_lap : {E : Type 0} (slots : List (Option (Placed E))) (h n : ℕ) → IsTidy slots → 0 < length slots → ((j : ℕ) → j < n → 0 < reach (slot_at slots (h + j))) → n < length slots
@@ -105,35 +91,14 @@ module _ {E : Type 0} (A : ℕ → Option (Placed E)) (slots slots' : List (Opti
   pub moving_back_more : (n d k : ℕ) → k ≡ suc d → n ≤ d → k < length slots → MovingBack A (slot_at slots) (length slots) h n d
       → slot_at slots (h + k) ≡ moved_on x → slots' ≡ set slots ((h + d) % length slots) x
       → MovingBack A (slot_at slots') (length slots) h n k
-  moving_back_more n d k next from within so_far is e = record {
-    moved = λ j l below. elim (cases_lt j d) [
-      | inl earlier ↦ so_far.moved j l earlier ∙ ap moved_on (sym (at_other d j (omega arith) (omega arith) (λ q. omega arith) e))
-      | inr here ↦
-          let same : j ≡ d = omega arith in
-          let s : suc j ≡ k = omega arith in
-          ap (λ i. A (h + i)) s ∙ sym (so_far.after k (omega arith) within) ∙ is ∙ ap moved_on (sym (at_written d (omega arith) e)) ∙ ap (λ i. moved_on (slot_at slots' (h + i))) (sym same)
-    ];
-    before = λ j l. at_other d j (omega arith) (omega arith) (λ q. omega arith) e ∙ so_far.before j l;
-    after = λ j l u. at_other d j (omega arith) u (λ q. omega arith) e ∙ so_far.after j (omega arith) u;
-  }
+  moving_back_more n d k next from within so_far is e = grind (arith, at_other, at_written)
 
   -- once they have moved back, the last slot is emptied
   pub closed : (n v : ℕ) (entry : E) → n ≤ v → v < length slots → A (h + n) ≡ Some (placed n entry)
       → MovingBack A (slot_at slots) (length slots) h n v → x ≡ None → slots' ≡ set slots ((h + v) % length slots) x
       → Opens (slot_at slots') A (length slots) h n v entry
-  closed n v entry from within was done is e = record {
-    from = from;
-    upto = within;
-    vacant = at_written v within e ∙ is;
-    put = was;
-    moved = λ j l u. done.moved j l u ∙ ap moved_on (sym (at_other v j within (omega arith) (λ q. omega arith) e));
-    before = λ j l. sym (at_other v j within (omega arith) (λ q. omega arith) e ∙ done.before j l);
-    after = λ j l u. sym (at_other v j within u (λ q. omega arith) e ∙ done.after j l u);
-  }
+  closed n v entry from within was done is e = grind (arith, at_written, at_other)
 
 -- the first empty slot is one
 pub vacancy_same : {E : Type 0} (A : ℕ → Option (Placed E)) (h v w : ℕ) → IsVacancy A h v → IsVacancy A h w → v ≡ w
-vacancy_same A h v w p q = elim (cases_lt v w) [
-  | inl below ↦ absurd (omega (arith, q.occupied v below, ap reach p.vacant))
-  | inr from ↦ elim (cases_lt w v) [ inl above ↦ absurd (omega (arith, p.occupied w above, ap reach q.vacant)) | inr upto ↦ omega arith ]
-]
+vacancy_same A h v w p q = grind arith

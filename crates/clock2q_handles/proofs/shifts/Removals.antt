@@ -1,6 +1,5 @@
 -- What removing an entry from its home's list results in: the list that a removal specifies, the table as it was before an insertion, and walks that are no longer.
-use Rattle.std.proofs.Common.{◌≡◌, ℕ, suc, ◌+◌, ◌%◌, ◌<◌, ◌≤◌, inl, inr, refl, ap, sym, ◌∙◌, arith, Bool, true, false, cond, ◌||◌, ◌&&◌, eq-eqb, List, [], ◌∷◌, ◌++◌, length, get_or, set, set-set, append-nil}
-use Rattle.std.proofs.lemmas.Bool.{cases_eq}
+use Rattle.std.proofs.Common.{◌≡◌, ℕ, suc, ◌+◌, ◌<◌, ◌≤◌, refl, ap, sym, ◌∙◌, arith, Bool, true, false, cond, ◌||◌, eq-eqb, List, [], ◌∷◌, ◌++◌, length, set, set-set, append-nil}
 use Rattle.std.proofs.lemmas.List.{set_comm}
 use Rattle.std.proofs.Common.{Option, Some, ◌-◌}
 use Rattle.std.specs.List.{list_any}
@@ -63,28 +62,7 @@ module _ {E : Type 0} (test : E → Bool) (new : E) where
 -- a change of the list of y that leaves what is put last may be made after e is put in under x
 changed-after : {E : Type 0} (f : List E → List E) (homes : List (List E)) (x y : ℕ) (e : E) → 0 < length homes → f (listed homes y ++ e ∷ []) ≡ f (listed homes y) ++ e ∷ []
     → with_list (put_last homes x e) y (f (listed (put_last homes x e) y)) ≡ put_last (with_list homes y (f (listed homes y))) x e
-changed-after {E} f homes x y e some kept =
-    let es : List E = listed homes x ++ e ∷ [] in
-    let fs : List E = f (listed homes y) in
-    let more : List (List E) = put_last homes x e in
-    let other : List (List E) = with_list homes y fs in
-    let len : length more ≡ length homes = length-with_list homes x es in
-    let len' : length other ≡ length homes = length-with_list homes y fs in
-    elim (cases_eq (y % length homes) (x % length homes)) [
-      | inl same ↦
-          let alike : listed homes y ≡ listed homes x = ap (λ k. get_or homes k []) same in
-          let left : f (listed more y) ≡ fs ++ e ∷ [] = ap f (listed-with_same homes x y es some same ∙ ap (λ xs. xs ++ e ∷ []) (sym alike)) ∙ kept in
-          let right : listed other x ++ e ∷ [] ≡ fs ++ e ∷ [] = ap (λ xs. xs ++ e ∷ []) (listed-with_same homes y x fs some (sym same)) in
-          ap (set more (home more y)) left ∙ ap (λ k. set more (y % k) (fs ++ e ∷ [])) len ∙ ap (λ k. set more k (fs ++ e ∷ [])) same
-          ∙ set-set homes (home homes x) es (fs ++ e ∷ [])
-          ∙ sym (ap (set other (home other x)) right ∙ ap (λ k. set other (x % k) (fs ++ e ∷ [])) len'
-          ∙ ap (λ k. set (set homes k fs) (home homes x) (fs ++ e ∷ [])) same ∙ set-set homes (home homes x) fs (fs ++ e ∷ []))
-      | inr apart ↦
-          let left : f (listed more y) ≡ fs = ap f (listed-with_other homes x y es apart) in
-          let right : listed other x ++ e ∷ [] ≡ es = ap (λ xs. xs ++ e ∷ []) (listed-with_other homes y x fs (λ q. apart (sym q))) in
-          ap (set more (home more y)) left ∙ ap (λ k. set more (y % k) fs) len ∙ set_comm homes (home homes x) (home homes y) es fs (λ q. apart (sym q))
-          ∙ sym (ap (set other (home other x)) right ∙ ap (λ k. set other (x % k) es) len')
-    ]
+changed-after {E} f homes x y e some kept = grind (arith, length-with_list, listed-with_same, set-set, listed-with_other, set_comm)
 
 module _ {H : Type 0} (eq : H → H → Bool) where
   -- if there is no such entry, nothing changes
@@ -109,12 +87,7 @@ module _ {H : Type 0} (eq : H → H → Bool) where
   -- an entry that is held is held once another is put in
   pub held-still : (homes : List (List (ℕ × H))) (x y : ℕ) (v w : H) → 0 < length homes → list_any (is_entry_of eq y w) (listed homes y) ≡ true
       → list_any (is_entry_of eq y w) (listed (with_handle homes x v) y) ≡ true
-  held-still homes x y v w some held = elim (cases_eq (y % length homes) (x % length homes)) [
-    | inl same ↦
-        ap (list_any (is_entry_of eq y w)) (listed-with_same homes x y (listed homes x ++ (top x, v) ∷ []) some same ∙ ap (λ k. get_or homes k [] ++ (top x, v) ∷ []) (sym same))
-        ∙ any_at (is_entry_of eq y w) (listed homes y) ((top x, v) ∷ []) held
-    | inr other ↦ ap (list_any (is_entry_of eq y w)) (listed-with_other homes x y (listed homes x ++ (top x, v) ∷ []) other) ∙ held
-  ]
+  held-still homes x y v w some held = grind (arith, listed-with_same, any_at, listed-with_other)
 
   -- an entry may be removed after another is put in
   pub exchanged-homes : (homes : List (List (ℕ × H))) (x y : ℕ) (v w : H) → 0 < length homes → list_any (is_entry_of eq y w) (listed homes y) ≡ true
@@ -134,15 +107,7 @@ module _ {H : Type 0} (eq : H → H → Bool) where
 
   -- removing an entry that was put in restores the lists
   pub restored-homes : (homes : List (List (ℕ × H))) (x : ℕ) (v : H) → 0 < length homes → eq v v ≡ true → IsNew eq homes x v → removed eq (with_handle homes x v) x v ≡ homes
-  restored-homes homes x v some same new =
-      let more : List (List (ℕ × H)) = with_handle homes x v in
-      let len : length more ≡ length homes = length-with_list homes x (listed homes x ++ (top x, v) ∷ []) in
-      let lists : listed more x ≡ listed homes x ++ (top x, v) ∷ [] = listed-with_same homes x x (listed homes x ++ (top x, v) ∷ []) some refl in
-      let passes : is_entry_of eq x v (top x, v) ≡ true = ap (λ b. b && eq v v) (eq-eqb (top x) (top x) refl) ∙ same in
-      let less : without_first (is_entry_of eq x v) (listed more x) ≡ listed homes x =
-      ap (without_first (is_entry_of eq x v)) lists ∙ without_first-at (is_entry_of eq x v) (listed homes x) [] (top x, v) new passes ∙ append-nil (listed homes x) in
-      ap (set more (home more x)) less ∙ ap (λ m. set more (x % m) (listed homes x)) len
-      ∙ set-set homes (home homes x) (listed homes x ++ (top x, v) ∷ []) (listed homes x) ∙ set-get_or homes (home homes x) []
+  restored-homes homes x v some same new = grind (arith, length-with_list, listed-with_same, eq-eqb, without_first-at, append-nil, set-set, set-get_or)
 
   -- and so the slots
   pub restored-slots : (slots : List (Option (Placed (ℕ × H)))) (x : ℕ) (v : H) → IsTidy slots → 0 < length slots

@@ -3,10 +3,10 @@ use Rattle.std.proofs.Common.{◌≡◌, ℕ, zero, suc, ◌+◌, ◌-◌, ◌%�
 use Rattle.std.proofs.Common.{get_or, set, get_or-set_same, get_or-set_other, length-set, ext_get_or, mod-eq_of_lt, Option, Some, None}
 use Rattle.std.specs.List.{list_any}
 use lib.Dec.{T, eqb→eq}
-use Rattle.std.proofs.lemmas.Bool.{cases_lt, cases_eq}
+use Rattle.std.proofs.lemmas.Bool.{cases_lt}
 use Rattle.std.proofs.lemmas.Nat.{mod_below}
-use Rattle.clock2q_handles.specs.Homes.{top, capacity, listed, count, total, with_list, is_entry_of}
-use Rattle.clock2q_handles.specs.Layout.{Placed, placed, slot_at, reach, at_home, met, entries, homes_of, spill, spill_of, IsTidy}
+use Rattle.clock2q_handles.specs.Homes.{top, listed, count, total, with_list, is_entry_of}
+use Rattle.clock2q_handles.specs.Layout.{Placed, placed, slot_at, reach, at_home, met, entries, homes_of, spill_of, IsTidy}
 use Rattle.clock2q_handles.specs.Slots.{cell, mark_of, IsSlotCount}
 use Rattle.clock2q_handles.specs.Table.{IsTable}
 use Rattle.clock2q_handles.specs.Found.{FindsAt}
@@ -36,9 +36,7 @@ home_same m h x d some e =
 module _ {E : Type 0} where
   met-alike : (A B : ℕ → Option (Placed E)) (g h d k : ℕ) → ((j : ℕ) → d ≤ j → j < d + k → at_home (A (g + j)) j ≡ at_home (B (h + j)) j) → met A g d k ≡ met B h d k
   met-alike A B g h d zero alike = refl
-  met-alike A B g h d (suc k) alike =
-      ap (λ xs. xs ++ met A g (suc d) k) (alike d (omega arith) (omega arith))
-      ∙ ap (λ xs. at_home (B (h + d)) d ++ xs) (met-alike A B g h (suc d) k (λ j from upto. alike j (omega arith) (omega arith)))
+  met-alike A B g h d (suc k) alike = grind (arith, met-alike A B g h (suc d) k (λ j from upto. alike j (omega arith) (omega arith)))
 
   entries-set : (slots : List (Option (Placed E))) (n : ℕ) (p q : Placed E) → get_or slots n None ≡ Some p → length (entries (set slots n (Some q))) ≡ length (entries slots)
   entries-set [] n p q is = absurd (cc)
@@ -82,27 +80,17 @@ module _ {E : Type 0} where
 
     -- each slot reaches as far as before
     pub same-reach : (k : ℕ) → reach (slot_at others k) ≡ reach (slot_at slots k)
-    same-reach k = elim (cases_eq (k % length slots) n) [
-      | inl is ↦ ap reach (now_at k is) ∙ sym (ap reach (was_at k is))
-      | inr other ↦ ap reach (away k other)
-    ]
+    same-reach k = grind (arith, now_at, was_at, away)
 
     -- and shows the same of every home but that of x
     same-home : (h j : ℕ) → ((h + j) % length slots ≡ n → j ≡ d → ⊥) → at_home (slot_at others (h + j)) j ≡ at_home (slot_at slots (h + j)) j
-    same-home h j other = elim (cases_eq ((h + j) % length slots) n) [
-      | inl is ↦ at_home-other (slot_at others (h + j)) j (λ r. other is (omega (arith, r, ap reach (now_at (h + j) is))))
-          ∙ sym (at_home-other (slot_at slots (h + j)) j (λ r. other is (omega (arith, r, ap reach (was_at (h + j) is)))))
-      | inr off ↦ ap (λ o. at_home o j) (away (h + j) off)
-    ]
+    same-home h j other = grind (arith, at_home-other, now_at, was_at, away)
 
     as_many : length (entries others) ≡ length (entries slots)
     as_many = entries-set slots n (placed d e) (placed d e') was
 
     pub handle_replaced-tidy : IsTidy others
-    handle_replaced-tidy = record {
-      ordered = record { next = λ k. omega (arith, tidy.ordered.next k, same-reach k, same-reach (suc k)) };
-      room = omega (arith, tidy.room, as_many, ap capacity len);
-    }
+    handle_replaced-tidy = grind (arith, same-reach, as_many, len)
 
     pub handle_replaced-total : total (homes_of others) ≡ total (homes_of slots)
     handle_replaced-total = tidy-total others handle_replaced-tidy ∙ as_many ∙ sym (tidy-total slots tidy)
@@ -140,16 +128,7 @@ module _ {E : Type 0} where
     lists_len = length-homes_of others ∙ len ∙ sym (length-homes_of slots)
 
     same_list : (h : ℕ) → listed (homes_of others) h ≡ listed listed_so h
-    same_list h = elim (cases_eq (h % length slots) (x % length slots)) [
-      | inl is ↦
-          let m = length-homes_of slots in
-          let own : h % length (homes_of others) ≡ x % length (homes_of others) = ap (λ k. h % k) (length-homes_of others ∙ len) ∙ is ∙ ap (λ k. x % k) (sym (length-homes_of others ∙ len)) in
-          ap (λ k. get_or (homes_of others) k []) own ∙ own_list
-          ∙ sym (listed-with_same (homes_of slots) x h (before ++ e' ∷ after) (omega (arith, some, m)) (ap (λ k. h % k) m ∙ is ∙ ap (λ k. x % k) (sym m)))
-      | inr other ↦
-          let m = length-homes_of slots in
-          other_list h other ∙ sym (listed-with_other (homes_of slots) x h (before ++ e' ∷ after) (λ q. other (ap (λ k. h % k) (sym m) ∙ q ∙ ap (λ k. x % k) m)))
-    ]
+    same_list h = grind (arith, length-homes_of, len, own_list, listed-with_same, other_list, listed-with_other)
 
     pub handle_replaced-homes : homes_of others ≡ listed_so
     handle_replaced-homes =
@@ -162,10 +141,7 @@ module _ {E : Type 0} where
   -- replacing an entry by another changes no count
   module _ (homes : List (List E)) (x i : ℕ) (e' : E) (some : 0 < length homes) where
     with_entry-count : (h : ℕ) → count (with_entry homes x i e') h ≡ count homes h
-    with_entry-count h = elim (cases_eq (h % length homes) (x % length homes)) [
-      | inl is ↦ ap length (listed-with_same homes x h (set (listed homes x) i e') some is) ∙ length-set (listed homes x) i e' ∙ ap (λ k. length (get_or homes k [])) (sym is)
-      | inr other ↦ ap length (listed-with_other homes x h (set (listed homes x) i e') other)
-    ]
+    with_entry-count h = grind (arith, listed-with_same, length-set, listed-with_other)
 
 abbrev gap_at : ℕ → ℕ → ℕ → ℕ → GapValue
 gap_at y s c m = gap_value ((y + s + c) % m) (Some (s + c, top y))
@@ -173,12 +149,7 @@ gap_at y s c m = gap_value ((y + s + c) % m) (Some (s + c, top y))
 module _ {H : Type 0} (homes : List (List (ℕ × H))) (x i : ℕ) (e' : ℕ × H) (some : 0 < length homes) where
   -- so each hash's gap stays where it was
   pub with_entry-gap : (y : ℕ) → gap_of (with_entry homes x i e') y ≡ gap_of homes y
-  with_entry-gap y =
-      let new = with_entry homes x i e' in
-      let len : length new ≡ length homes = length-with_list homes x (set (listed homes x) i e') in
-      let spills : spill_of new y ≡ spill_of homes y = ap (λ c. spill c (length new) y) (λ k n. with_entry-count homes x i e' some n k) ∙ ap (λ m. spill (count homes) m y) len in
-      let counts : count new y ≡ count homes y = with_entry-count homes x i e' some y in
-      ap (λ s. gap_at y s (count new y) (length new)) spills ∙ ap (λ c. gap_at y (spill_of homes y) c (length new)) counts ∙ ap (gap_at y (spill_of homes y) (count homes y)) len
+  with_entry-gap y = grind (arith, length-with_list, with_entry-count)
 
 and_parts : (a b : Bool) → (a && b) ≡ true → a ≡ true
 and_parts true b both = refl

@@ -12,31 +12,16 @@ use Rattle.clock2q_handles.proofs.layout.Gaps.{IsOneMore}
 module _ {E : Type 0} where
   inserted_get : (xs ys : List E) (e f : E) (k : ℕ) → slice_get (xs ++ e ∷ ys) k ≡ Some f
       → ((k < length xs) × (slice_get (xs ++ ys) k ≡ Some f)) ⊎ (((k ≡ length xs) × (e ≡ f)) ⊎ ((length xs < k) × (slice_get (xs ++ ys) (k - 1) ≡ Some f)))
-  inserted_get [] ys e f zero is =
-      let s : e ≡ f = cc in
-      inr (inl (refl, s))
-  inserted_get [] ys e f (suc k) is =
-      let o : k ≡ suc k - 1 = omega arith in
-      inr (inr (omega arith, ap (slice_get ys) (sym o) ∙ is))
+  inserted_get [] ys e f zero is = grind arith
+  inserted_get [] ys e f (suc k) is = grind arith
   inserted_get (x ∷ xs) ys e f zero is = inl (omega arith, is)
-  inserted_get (x ∷ xs) ys e f (suc k) is = elim (inserted_get xs ys e f k is) [
-    | inl l ↦ inl (omega arith, l.1)
-    | inr r ↦ elim r [
-      | inl m ↦ inr (inl (omega arith, m.1))
-      | inr u ↦
-          let o : suc (k - 1) ≡ suc k - 1 = omega arith in
-          inr (inr (omega arith, ap (slice_get (x ∷ xs ++ ys)) (sym o) ∙ u.1))
-    ]
-  ]
+  inserted_get (x ∷ xs) ys e f (suc k) is = grind (arith, inserted_get xs ys e f k is)
 
   get_inserted : (xs ys : List E) (e f : E) (k : ℕ) → slice_get (xs ++ ys) k ≡ Some f
       → ((k < length xs) × (slice_get (xs ++ e ∷ ys) k ≡ Some f)) ⊎ ((length xs ≤ k) × (slice_get (xs ++ e ∷ ys) (suc k) ≡ Some f))
   get_inserted [] ys e f k is = inr (omega arith, is)
   get_inserted (x ∷ xs) ys e f zero is = inl (omega arith, is)
-  get_inserted (x ∷ xs) ys e f (suc k) is = elim (get_inserted xs ys e f k is) [
-    | inl l ↦ inl (omega arith, l.1)
-    | inr r ↦ inr (omega arith, r.1)
-  ]
+  get_inserted (x ∷ xs) ys e f (suc k) is = grind (arith, get_inserted xs ys e f k is)
 
   get_here : (xs ys : List E) (e : E) → slice_get (xs ++ e ∷ ys) (length xs) ≡ Some e
   get_here [] ys e = refl
@@ -161,16 +146,7 @@ module _ {E : Type 0} where
       ]
 
       open_rest : (j : ℕ) → j < m → IsGap (counts M) m (z + j) → B (z + j) ≡ None
-      open_rest j l g = elim (cases_lt j a) [
-        | inl before ↦ opened.kept (z + j) (omega arith) (omega arith)
-            ∙ laid.rest (z + j) (record { spilled = omega (arith, one.spills j l, g.spilled); counted = omega (arith, one.same j l (λ q. omega arith), g.counted) })
-        | inr from ↦ elim (cases_lt a j) [
-          | inl past ↦ absurd (omega (arith, one.spills j l, g.spilled))
-          | inr upto ↦
-              let q : j ≡ a = omega arith in
-              absurd (omega (arith, ap (λ x. counts M (z + x)) q, one.more, g.counted))
-        ]
-      ]
+      open_rest j l g = grind arith
 
       -- the slots moved on lay out the lists with the entry
       pub opened-laid : IsLaid m M B
@@ -211,16 +187,7 @@ module _ {E : Type 0} where
       ]
 
       close_rest : (j : ℕ) → j < m → IsGap (counts L) m (z + j) → A (z + j) ≡ None
-      close_rest j l g = elim (cases_lt j a) [
-        | inl before ↦ sym (opened.kept (z + j) (omega arith) (omega arith))
-            ∙ laid.rest (z + j) (record { spilled = omega (arith, one.spills j l, g.spilled); counted = omega (arith, one.same j l (λ q. omega arith), g.counted) })
-        | inr from ↦ elim (cases_lt (suc j) m) [
-          | inl inner ↦ absurd (omega (arith, one.full j from inner, g.spilled, g.counted))
-          | inr last ↦
-              let p : z + j ≡ v = omega arith in
-              ap A p ∙ opened.hole
-        ]
-      ]
+      close_rest j l g = grind arith
 
       -- the slots moved back lay out the lists without it
       pub closed-laid : IsLaid m L A

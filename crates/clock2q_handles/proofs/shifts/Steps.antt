@@ -1,5 +1,5 @@
 -- What putting an entry in and removing one do to a table.
-use Rattle.std.proofs.Common.{◌≡◌, ℕ, suc, ◌+◌, ◌-◌, ◌%◌, ◌<◌, ◌≤◌, inl, inr, refl, ap, sym, ◌∙◌, subst, arith, Bool, true, false, ◌||◌, List, [], ◌∷◌, ◌++◌, length, get_or, Option, Some, None}
+use Rattle.std.proofs.Common.{◌≡◌, ℕ, suc, ◌+◌, ◌-◌, ◌%◌, ◌<◌, ◌≤◌, inl, inr, refl, ap, sym, ◌∙◌, subst, arith, Bool, true, false, ◌||◌, List, [], ◌∷◌, ◌++◌, length, Option, Some, None}
 use Rattle.std.proofs.lemmas.List.{get_or_past}
 use Rattle.std.proofs.Math.Nat.{mod-mod}
 use Rattle.std.proofs.lemmas.Bool.{cases_lt}
@@ -90,17 +90,7 @@ module _ {E : Type 0} where
 module _ {E : Type 0} where
   -- a home's list, by any hash of it
   pub listed-home : (slots : List (Option (Placed E))) (g x : ℕ) → (0 < length slots → g ≡ x % length slots) → listed (homes_of slots) g ≡ listed (homes_of slots) x
-  listed-home slots g x at = elim (cases_lt 0 (length slots)) [
-    | inl some ↦
-        let homes = homes_of slots in
-        let len = length-homes_of slots in
-        let e : g % length homes ≡ x % length homes = ap (λ m. g % m) len ∙ ap (λ k. k % length slots) (at some) ∙ mod-mod x (length slots) ∙ ap (λ m. x % m) (sym len) in
-        ap (λ k. get_or homes k []) e
-    | inr none ↦
-        let homes = homes_of slots in
-        let past : (k : ℕ) → get_or homes k [] ≡ [] = λ k. get_or_past homes k [] (omega (arith, none, length-homes_of slots)) in
-        past (g % length homes) ∙ sym (past (x % length homes))
-  ]
+  listed-home slots g x at = grind (arith, length-homes_of, mod-mod, get_or_past)
 
   -- a list with an element that passes
   pub list_any-at : (test : E → Bool) (xs : List E) (e : E) (ys : List E) → test e ≡ true → list_any test (xs ++ e ∷ ys) ≡ true
@@ -131,8 +121,7 @@ module _ {H : Type 0} (eq : H → H → Bool) (x : ℕ) (v : H) (others slots : 
   near = closed-end x others slots g n w found.entry at closes same
 
   lists : removed eq (homes_of others) x v ≡ with_list (homes_of others) x (list_without others x n)
-  lists = removed-found eq others x n v found.entry within (sym (past n) ∙ found.here)
-      (ap (list_any (is_entry_of eq x v)) (sym (met-same (slot_at others) (slot_at others) g x 0 n (λ j _ _. past j))) ∙ found.none_before) found.passes
+  lists = grind (arith, removed-found, past, met-same)
 
   -- there was such an entry
   pub taken-found : list_any (is_entry_of eq x v) (listed (homes_of others) x) ≡ true

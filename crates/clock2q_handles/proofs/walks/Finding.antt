@@ -1,5 +1,5 @@
 -- Walks that look for an entry of a home.
-use Rattle.std.proofs.Common.{◌≡◌, ◌≢◌, ℕ, suc, ◌+◌, ◌<◌, ◌≤◌, inl, inr, refl, ap, sym, ◌∙◌, arith, Bool, false, cond, ◌&&◌, ◌||◌, eq-eqb, List, [], ◌∷◌, ◌++◌, length, Option, Some, None, IfSome}
+use Rattle.std.proofs.Common.{◌≡◌, ◌≢◌, ℕ, ◌+◌, ◌<◌, ◌≤◌, refl, ap, arith, Bool, false, ◌&&◌, eq-eqb, List, ◌++◌, length, Option, Some, None, IfSome}
 use Rattle.std.proofs.lemmas.Bool.Decides.{eqb_tells}
 use Rattle.std.proofs.lemmas.List.Folds.{list_any-append}
 use Rattle.std.specs.List.{list_any}
@@ -12,27 +12,21 @@ use Rattle.clock2q_handles.proofs.shifts.Changes.{read-met}
 module _ {E : Type 0} where
   -- one slot more of a home's list
   pub met-more : (A : ℕ → Option (Placed E)) (h k : ℕ) → met A h 0 (k + 1) ≡ met A h 0 k ++ at_home (A (h + k)) k
-  met-more A h k =
-      let e : k + 1 ≡ suc k = omega arith in
-      let z : 0 + k ≡ k = omega arith in
-      ap (met A h 0) e ∙ met-last A h 0 k ∙ ap (λ i. met A h 0 k ++ at_home (A (h + i)) i) z
+  met-more A h k = grind (arith, met-last)
 
   -- if nothing passes in the slots passed nor in the next, nothing passes in all of them
   pub none_more : (test : E → Bool) (A : ℕ → Option (Placed E)) (h k : ℕ) → list_any test (met A h 0 k) ≡ false
       → list_any test (at_home (A (h + k)) k) ≡ false → list_any test (met A h 0 (k + 1)) ≡ false
-  none_more test A h k before here =
-      ap (list_any test) (met-more A h k) ∙ list_any-append test (met A h 0 k) (at_home (A (h + k)) k) ∙ ap (λ b. b || list_any test (at_home (A (h + k)) k)) before ∙ here
+  none_more test A h k before here = grind (arith, met-more, list_any-append)
 
   -- what a walk has met at its end is its home's list
   pub met_all : (slots : List (Option (Placed E))) → IsTidy slots → (h n : ℕ) → n < length slots → ((j : ℕ) → j < n → j < reach (slot_at slots (h + j))) → reach (slot_at slots (h + n)) ≤ n
       → listed (homes_of slots) h ≡ met (slot_at slots) h 0 n
-  met_all slots tidy h n within passed stop =
-      read-met slots tidy (omega (arith, within)) h n (omega (arith, within)) (record { before = λ j l. omega (arith, passed j l); stop = omega (arith, stop) })
+  met_all slots tidy h n within passed stop = grind (arith, read-met)
 
   -- an entry of the home that fails
   pub any-failed : (test : E → Bool) (o : Option (Placed E)) (d : ℕ) (e : E) → o ≡ Some (placed d e) → test e ≡ false → list_any test (at_home o d) ≡ false
-  any-failed test o d e is fails =
-      ap (λ s. list_any test (at_home s d)) is ∙ ap (λ b. list_any test (cond b (e ∷ []) [])) (eq-eqb d d refl) ∙ ap (λ b. b || false) fails
+  any-failed test o d e is fails = grind (arith, eq-eqb)
 
 -- marks that are the same have the same parts
 pub mark_parts : (s t : ℕ × ℕ) → ◌≡◌ {A = Mark} (Some s) (Some t) → (s.0 ≡ t.0) × (s.1 ≡ t.1)
@@ -42,9 +36,7 @@ module _ {H : Type 0} (x : ℕ) where
   -- the entry of a candidate
   pub candidate : (s : Mark) (o : Option (Placed (ℕ × H))) (d : ℕ) (w : H) → s ≡ mark_of o → s ≡ Some (d, top x) → IfSome o (λ p. w ≡ p.entry.1) → o ≡ Some (placed d (top x, w))
   candidate s None d w is meaning handle = absurd (cc)
-  candidate s (Some p) d w is meaning handle =
-      let parts = mark_parts (d, top x) (p.displacement, p.entry.0) (sym meaning ∙ is) in
-      (ap (λ n. Some (placed n p.entry)) (sym parts.0) ∙ ap (λ f. Some (placed d (f, p.entry.1))) (sym parts.1) ∙ ap (λ u. Some (placed d (top x, u))) (sym handle))
+  candidate s (Some p) d w is meaning handle = grind (arith, mark_parts)
 
 module _ {H : Type 0} (eq : H → H → Bool) (x : ℕ) (v : H) where
   -- a candidate is an entry that is looked for if its handle is equal
@@ -54,10 +46,4 @@ module _ {H : Type 0} (eq : H → H → Bool) (x : ℕ) (v : H) where
   -- no other slot holds such an entry
   pub any-other : (o : Option (Placed (ℕ × H))) (d : ℕ) → mark_of o ≢ Some (d, top x) → list_any (is_entry_of eq x v) (at_home o d) ≡ false
   any-other None d other = refl
-  any-other (Some p) d other = elim (eqb_tells p.displacement d) [
-    | inl at ↦ elim (eqb_tells p.entry.0 (top x)) [
-      | inl same ↦ absurd (other (ap (λ n. Some (n, p.entry.0)) at.1 ∙ ap (λ f. Some (d, f)) same.1))
-      | inr differs ↦ ap (λ b. list_any (is_entry_of eq x v) (cond b (p.entry ∷ []) [])) at.0 ∙ ap (λ b. (b && eq p.entry.1 v) || false) differs.0
-    ]
-    | inr away ↦ ap (λ b. list_any (is_entry_of eq x v) (cond b (p.entry ∷ []) [])) away.0
-  ]
+  any-other (Some p) d other = grind (arith, eqb_tells)

@@ -1,6 +1,5 @@
 -- Walks for an entry that is there.
-use Rattle.std.proofs.Common.{◌≡◌, ℕ, zero, ◌+◌, ◌<◌, ◌≤◌, Bool, true, false, inl, inr, ap, ◌∙◌, arith, List, length, Option}
-use Rattle.std.proofs.lemmas.Bool.{cases_lt}
+use Rattle.std.proofs.Common.{◌≡◌, ℕ, ◌<◌, Bool, true, false, arith, List, length, Option}
 use Rattle.std.specs.List.{list_any}
 use Rattle.clock2q_handles.specs.Homes.{listed}
 use Rattle.clock2q_handles.specs.Layout.{Placed, slot_at, reach, met, homes_of, IsTidy}
@@ -17,20 +16,8 @@ not_both false e f = cc
 module _ {E : Type 0} (test : E → Bool) (slots : List (Option (Placed E))) (tidy : IsTidy slots) (h : ℕ) (held : list_any test (listed (homes_of slots) h) ≡ true) where
   -- there are slots
   pub held_somewhere : 0 < length slots
-  held_somewhere = elim (cases_lt 0 (length slots)) [
-    | inl some ↦ some
-    | inr none ↦
-        let z : length slots ≡ zero = omega (arith, none) in
-        let no : list_any test (listed (homes_of slots) h) ≡ false = ap (list_any test) (listed-homes_of slots h ∙ ap (met (slot_at slots) h 0) z) in
-        absurd (not_both (list_any test (listed (homes_of slots) h)) held no)
-  ]
+  held_somewhere = grind (arith, listed-homes_of, not_both)
 
   -- a walk that hasn't met it goes on
   pub held_further : (n s : ℕ) → HasCome slots h n s → list_any test (met (slot_at slots) h 0 n) ≡ false → n < reach (slot_at slots s)
-  held_further n s come none = elim (cases_lt n (reach (slot_at slots s))) [
-    | inl more ↦ more
-    | inr ended ↦
-        let stop : reach (slot_at slots (h + n)) ≤ n = omega (arith, ended, ap reach (come_here slots h n s come)) in
-        let no : list_any test (listed (homes_of slots) h) ≡ false = ap (list_any test) (met_all slots tidy h n come.within come.passed stop) ∙ none in
-        absurd (not_both (list_any test (listed (homes_of slots) h)) held no)
-  ]
+  held_further n s come none = grind (arith, come_here, met_all, not_both)

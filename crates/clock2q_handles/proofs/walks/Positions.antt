@@ -33,9 +33,7 @@ module _ {E : Type 0} where
 
   -- the slot of an entry, by its displacement
   pub position_at : (slots : List (Option (Placed E))) (x i n : ℕ) (e : E) → IsEntryAt (homes_of slots) x i e n → n ≡ (x + (spill_of (homes_of slots) x + i)) % length slots
-  position_at slots x i n e entry_at =
-      let q : x + spill_of (homes_of slots) x + i ≡ x + (spill_of (homes_of slots) x + i) = omega arith in
-      entry_at.slot ∙ ap (λ m. (x + spill_of (homes_of slots) x + i) % m) (length-homes_of slots) ∙ ap (λ k. k % length slots) q
+  position_at slots x i n e entry_at = grind (arith, length-homes_of)
 
   -- the contents of a slot that is counted past the last
   pub slot_near : (slots : List (Option (Placed E))) (k n : ℕ) → n ≡ k % length slots → slot_at slots n ≡ slot_at slots k

@@ -1,6 +1,5 @@
 -- Runs of occupied slots: fewer entries in the homes lengthen none, and as many in each home change none. The same of walks.
-use Rattle.std.proofs.Common.{◌≡◌, ℕ, zero, suc, ◌+◌, ◌*◌, ◌%◌, ◌<◌, ◌≤◌, inl, inr, refl, ap, sym, ◌∙◌, arith, Bool, true, false, cond, List, [], ◌∷◌, length, get_or, Option, Some, None}
-use Rattle.std.proofs.lemmas.Bool.{cases_lt, cases_eq}
+use Rattle.std.proofs.Common.{◌≡◌, ℕ, zero, suc, ◌+◌, ◌*◌, ◌<◌, ◌≤◌, refl, ap, sym, ◌∙◌, arith, Bool, true, false, cond, List, [], ◌∷◌, length, Option, Some, None}
 use Rattle.clock2q_handles.specs.Homes.{top, capacity, listed, count, total, with_list, without_first, is_entry_of, removed}
 use Rattle.clock2q_handles.specs.Layout.{Placed, window, spill, spill_of, slot_at, layout, walk, occupied, run}
 use Rattle.clock2q_handles.specs.Positions.{with_first, handle_replaced}
@@ -17,10 +16,7 @@ module _ {E : Type 0} where
   at_slot : (a b : Option (Placed E)) (m n : ℕ) → (a ≡ None → b ≡ None) → n ≤ m
       → elim b [ None ↦ 0 | Some _ ↦ suc n ] ≤ elim a [ None ↦ 0 | Some _ ↦ suc m ]
   at_slot None None m n still l = omega arith
-  at_slot None (Some t) m n still l = absurd (some_none t (still refl))
-    where
-      some_none : (t : Placed E) → Some t ≡ None → ⊥
-      some_none t e = cc
+  at_slot None (Some t) m n still l = grind arith
   at_slot (Some s) None m n still l = omega arith
   at_slot (Some s) (Some t) m n still l = omega (arith, l)
 
@@ -79,30 +75,14 @@ module _ {E : Type 0} where
 
     -- no run is longer
     pub run-fewer : (y : ℕ) → run (layout fewer) y ≤ run (layout homes) y
-    run-fewer y = elim (cases_lt 0 (length homes)) [
-      | inl some ↦ omega (
-        arith,
-        ap (occupied (slot_at (layout fewer)) y) (length-layout fewer ∙ as_many),
-        ap (occupied (slot_at (layout homes)) y) (length-layout homes),
-        occupied-fewer (slot_at (layout homes)) (slot_at (layout fewer)) (still_empty some) y (length homes),
-      )
-      | inr none ↦
-          let z : length (layout fewer) ≡ 0 = omega (arith, none, length-layout fewer, as_many) in
-          omega (arith, ap (occupied (slot_at (layout fewer)) y) z)
-    ]
+    run-fewer y = grind (arith, length-layout, occupied-fewer, still_empty)
 
     -- nor any walk
     pub walk-fewer : (y : ℕ) → walk fewer y ≤ walk homes y
-    walk-fewer y = elim (cases_lt 0 (length homes)) [
-      | inl some ↦ omega (arith, walk-is homes y some, walk-is fewer y (omega (arith, some, as_many)), spills some y, below some y)
-      | inr none ↦ omega (arith, no_walk fewer y (omega (arith, none, as_many)))
-    ]
+    walk-fewer y = grind (arith, walk-is, spills, no_walk)
 
   count-with_same : (homes : List (List E)) (x n : ℕ) (es : List E) → 0 < length homes → length es ≡ count homes x → count (with_list homes x es) n ≡ count homes n
-  count-with_same homes x n es some l = elim (cases_eq (n % length homes) (x % length homes)) [
-    | inl same ↦ ap length (listed-with_same homes x n es some same) ∙ l ∙ ap (λ y. length (get_or homes y [])) (sym same)
-    | inr other ↦ ap length (listed-with_other homes x n es other)
-  ]
+  count-with_same homes x n es some l = grind (arith, listed-with_same, listed-with_other)
 
   as_long_at : (test : E → Bool) (e y : E) (ys : List E) (b : Bool) → length (with_first test e ys) ≡ length ys → length (cond b (e ∷ ys) (y ∷ with_first test e ys)) ≡ suc (length ys)
   as_long_at test e y ys true l = refl

@@ -1,5 +1,5 @@
 -- Lookups: the candidates that a walk has passed, those that are left, and the slots that it reads.
-use Rattle.std.proofs.Common.{◌≡◌, ◌≢◌, ℕ, zero, suc, ◌+◌, ◌-◌, ◌%◌, ◌<◌, ◌≤◌, inl, inr, refl, ap, sym, ◌∙◌, subst, arith, cond, ◌==◌, eq-eqb, List, [], ◌∷◌, ◌++◌, map, drop, length, slice_get}
+use Rattle.std.proofs.Common.{◌≡◌, ◌≢◌, ℕ, zero, suc, ◌+◌, ◌-◌, ◌%◌, ◌<◌, ◌≤◌, inl, inr, refl, ap, sym, ◌∙◌, subst, arith, ◌==◌, eq-eqb, List, [], ◌∷◌, ◌++◌, map, drop, length, slice_get}
 use Rattle.std.proofs.Common.{Option, Some, None, IfSome}
 use Rattle.std.proofs.lemmas.Bool.{cases_lt}
 use Rattle.std.proofs.lemmas.Bool.Decides.{eqb_tells}
@@ -31,9 +31,7 @@ module _ {E : Type 0} where
   -- past its end a walk meets no entry of its home
   pub met-past : (A : ℕ → Option (Placed E)) → IsOrdered A → (h d k : ℕ) → reach (A (h + d)) ≤ d → met A h d k ≡ []
   met-past A ordered h d zero near = refl
-  met-past A ordered h d (suc k) near =
-      ap (λ xs. xs ++ met A h (suc d) k) (at_home-other (A (h + d)) d (λ e. omega (arith, near, e)))
-      ∙ met-past A ordered h (suc d) k (omega (arith, after A ordered h 0 d (omega (arith, near)) (suc d) (omega arith)))
+  met-past A ordered h d (suc k) near = grind (arith, at_home-other, after, met-past A ordered h (suc d) k (omega (arith, after A ordered h 0 d (omega (arith, near)) (suc d) (omega arith))))
 
   -- the slots from a to b and on to c
   pub met-split : (A : ℕ → Option (Placed E)) (h a b c : ℕ) → a ≤ b → b ≤ c → met A h a (c - a) ≡ met A h a (b - a) ++ met A h b (c - b)
@@ -44,10 +42,7 @@ module _ {E : Type 0} where
 
   -- one more slot
   pub met-next : (A : ℕ → Option (Placed E)) (h a b : ℕ) → a ≤ b → met A h a (b + 1 - a) ≡ met A h a (b - a) ++ at_home (A (h + b)) b
-  met-next A h a b l =
-      let s : b + 1 - a ≡ suc (b - a) = omega arith in
-      let t : a + (b - a) ≡ b = omega arith in
-      ap (met A h a) s ∙ met-last A h a (b - a) ∙ ap (λ n. met A h a (b - a) ++ at_home (A (h + n)) n) t
+  met-next A h a b l = grind (arith, met-last)
 
   -- an unallocated table has no walk
   walk-none : (homes : List (List E)) (x : ℕ) → length homes ≡ 0 → walk homes x ≡ 0
@@ -95,23 +90,15 @@ module _ {H : Type 0} (x : ℕ) where
   -- no other slot holds a candidate
   pub matching-other : (o : Option (Placed (ℕ × H))) (d : ℕ) → mark_of o ≢ Some (d, top x) → matching x (at_home o d) ≡ []
   matching-other None d other = refl
-  matching-other (Some p) d other = elim (eqb_tells p.displacement d) [
-    | inl at ↦ elim (eqb_tells p.entry.0 (top x)) [
-      | inl same ↦ absurd (other (ap (λ n. Some (n, p.entry.0)) at.1 ∙ ap (λ f. Some (d, f)) same.1))
-      | inr differs ↦ ap (λ b. matching x (cond b (p.entry ∷ []) [])) at.0 ∙ ap (λ b. cond b (p.entry ∷ []) []) differs.0
-    ]
-    | inr away ↦ ap (λ b. matching x (cond b (p.entry ∷ []) [])) away.0
-  ]
+  matching-other (Some p) d other = grind (arith, eqb_tells)
 
   -- a candidate's entry is the match in its slot
   pub matching-here : (o : Option (Placed (ℕ × H))) (d : ℕ) (w : H) → o ≡ Some (placed d (top x, w)) → matching x (at_home o d) ≡ (top x, w) ∷ []
-  matching-here o d w is =
-      ap (λ s. matching x (at_home s d)) is ∙ ap (λ b. matching x (cond b ((top x, w) ∷ []) [])) (eq-eqb d d refl) ∙ ap (λ b. cond b ((top x, w) ∷ []) []) (eq-eqb (top x) (top x) refl)
+  matching-here o d w is = grind (arith, eq-eqb)
 
   -- if none has been passed and the next slot has none, none has been passed after it
   pub matching-more : (A : ℕ → Option (Placed (ℕ × H))) (h a b : ℕ) → a ≤ b → matching x (met A h a (b - a)) ≡ [] → matching x (at_home (A (h + b)) b) ≡ [] → matching x (met A h a (b + 1 - a)) ≡ []
-  matching-more A h a b l before here =
-      ap (matching x) (met-next A h a b l) ∙ filter-append (λ e. e.0 == top x) (met A h a (b - a)) (at_home (A (h + b)) b) ∙ ap (λ xs. xs ++ matching x (at_home (A (h + b)) b)) before ∙ here
+  matching-more A h a b l before here = grind (arith, met-next, filter-append)
 
   -- at the end of the walk none is left
   pub matching-end : (A : ℕ → Option (Placed (ℕ × H))) → IsOrdered A → (h a b c : ℕ) → a ≤ b → b ≤ c → reach (A (h + b)) ≤ b → matching x (met A h a (b - a)) ≡ [] → matching x (met A h a (c - a)) ≡ []
@@ -147,17 +134,12 @@ module _ {H : Type 0} (slots : List (Option (Placed (ℕ × H)))) (x : ℕ) wher
 
   -- past all slots nothing is left
   pub left_past : left_from slots x (length slots) ≡ []
-  left_past =
-      let none : length slots - length slots ≡ 0 = omega arith in
-      ap (λ k. map (λ e. e.1) (matching x (met (slot_at slots) (x % length slots) (length slots) k))) none
+  left_past = grind arith
 
 module _ {H : Type 0} (slots : List (Option (Placed (ℕ × H)))) (tidy : IsTidy slots) (x g : ℕ) (at : 0 < length slots → g ≡ x % length slots) where
   -- nothing left from the home is nothing left
   pub left_none : (d : ℕ) → matching x (met (slot_at slots) g d (length slots - d)) ≡ [] → left_from slots x d ≡ []
-  left_none d none = elim (cases_lt 0 (length slots)) [
-    | inl some ↦ ap (λ es. map (λ e. e.1) es) (ap (λ h. matching x (met (slot_at slots) h d (length slots - d))) (sym (at some)) ∙ none)
-    | inr empty ↦ let z : length slots - d ≡ 0 = omega (arith, empty) in ap (λ k. map (λ e. e.1) (matching x (met (slot_at slots) (x % length slots) d k))) z
-  ]
+  left_none d none = grind arith
 
   -- a walk from the home is one for the hash
   pub walk-home : walk (homes_of slots) g ≡ walk (homes_of slots) x
@@ -181,9 +163,7 @@ module _ {H : Type 0} (slots : List (Option (Placed (ℕ × H)))) (tidy : IsTidy
 
   -- at the end of the walk nothing is left
   pub left_end : (d : ℕ) → d < length slots → reach (slot_at slots (g + d)) ≤ d → left_from slots x d ≡ []
-  left_end d within near =
-      let z : d - d ≡ 0 = omega arith in
-      left_none d (matching-end x (slot_at slots) tidy.ordered g d d (length slots) (omega arith) (omega (arith, within)) near (ap (λ k. matching x (met (slot_at slots) g d k)) z))
+  left_end d within near = grind (arith, left_none, matching-end)
 
   -- a slot that holds no candidate is passed
   pub left_skip : (d : ℕ) → d < length slots → mark_of (slot_at slots (g + d)) ≢ Some (d, top x) → left_from slots x d ≡ left_from slots x (d + 1)
@@ -208,8 +188,4 @@ module _ {H : Type 0} (slots : List (Option (Placed (ℕ × H)))) (tidy : IsTidy
 
 -- a call that yields a handle gets closer to the end
 pub yields_progress : {S A : Type 0} (rest : S → List A) (can : S → Type 0) (s t : S) (a : A) → rest s ≡ a ∷ rest t → can t → MakesProgress can (item_count rest) s (Some a) t
-yields_progress rest can s t a is may = record {
-  on = λ _. (may, tt, omega (arith, ap length is));
-  keeps = may;
-  rests = λ _. tt;
-}
+yields_progress rest can s t a is may = grind arith
