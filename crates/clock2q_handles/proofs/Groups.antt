@@ -1,5 +1,5 @@
 -- The group of a hash: a field of its bits.
-use Rattle.std.proofs.Common.{◌≡◌, ℕ, ◌+◌, ◌-◌, ◌/◌, ◌%◌, ◌^◌, ◌<◌, ◌≤◌, inl, inr, sym, ap, ◌∙◌, arith}
+use Rattle.std.proofs.Common.{◌≡◌, ℕ, ◌-◌, ◌/◌, ◌%◌, ◌^◌, ◌<◌, ◌≤◌, inl, inr, arith}
 use Rattle.std.proofs.lemmas.Bool.{cases_lt}
 use Rattle.std.proofs.lemmas.Nat.{field_of, and_mask, pow_below, shr-shr, pow_pos}
 use Rattle.std.proofs.lemmas.Nat.Bits.{bit_at-trailing_zeros, bit_at-pow_other}
@@ -30,10 +30,7 @@ trailing_zeros-pow k h =
 
 -- a field of a hash, of the bits below the top byte, read off its middle
 middle_field : (x k : ℕ) → k ≤ 16 → x / 2 ^ (56 - k) % 2 ^ k ≡ x / 2 ^ 40 % 2 ^ 16 / 2 ^ (16 - k)
-middle_field x k h =
-    let low : 40 + (16 - k) ≡ 56 - k = omega arith in
-    let all : k + (16 - k) ≡ 16 = omega arith in
-    sym (ap (λ n. x / 2 ^ 40 % 2 ^ n / 2 ^ (16 - k)) (sym all) ∙ field_of (x / 2 ^ 40) k (16 - k) ∙ ap (λ n. n % 2 ^ k) (shr-shr x 40 (16 - k)) ∙ ap (λ n. x / 2 ^ n % 2 ^ k) low)
+middle_field x k h = grind (arith, field_of (x / 2 ^ 40) k (16 - k), shr-shr x 40 (16 - k))
 
 -- the group is computed by a shift and a mask
 pub group_of : (x p t r : ℕ) → IsPartitionCount p → t ≡ trailing_zeros w64 p → r ≡ bit_and (x / 2 ^ (56 - t)) (p - 1) → IsGroupOf x p r

@@ -19,22 +19,19 @@ use Rattle.clock2q_handles.proofs.shifts.Changes.{length-with_list, listed-with_
 -- a window of any length holds no more than its slots and what is spilled after it
 pub spill-any : (c : ℕ → ℕ) (m : ℕ) → Roomy c m → (a k : ℕ) → window c a k ≤ spill c m (a + k) + k
 spill-any c m roomy a zero = omega arith
-spill-any c m roomy a (suc k) =
-    let e : a + suc k ≡ suc (a + k) = omega arith in
-    omega (arith, spill-any c m roomy a k, spill-step c m roomy (a + k), ap (spill c m) e)
+spill-any c m roomy a (suc k) = grind (arith, spill-any c m roomy a k, spill-step c m roomy (a + k))
 
 -- fewer entries, in homes that are a multiple of those before, push no home further than it was pushed before
 pub spill-fewer : (c d : ℕ → ℕ) (m k : ℕ) → Roomy c m → 0 < k * m → ((n : ℕ) → d n ≤ c n) → (h : ℕ) → spill d (k * m) h ≤ spill c m h
 spill-fewer c d m k roomy some fewer h =
     let r = spill-found d (k * m) h some in
-    let e : h + k * m - r.0 + r.0 ≡ h + k * m = omega arith in
-    omega (
+    grind (
       arith,
-      r.2,
+      spill-found d (k * m) h some,
       window-le d c (h + k * m - r.0) r.0 (λ j _. fewer (h + k * m - r.0 + j)),
       spill-any c m roomy (h + k * m - r.0) r.0,
-      ap (spill c m) e,
       again-times (spill c m) m (spill-again c m roomy.again) h k,
+      spill-again c m roomy.again,
     )
 
 module _ {E : Type 0} where

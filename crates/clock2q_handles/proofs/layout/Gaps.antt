@@ -21,33 +21,10 @@ module _ (c d : ℕ → ℕ) (m z a : ℕ) (roomy : Roomy c m) (roomy' : Roomy d
     start_zero : spill c m z ≡ 0
     start_zero =
         let j : ℕ = m - 1 in
-        let e : suc (z + j) ≡ z + m = omega arith in
-        let g : IsGap c m (z + j) = gap j (omega arith) in
-        omega (arith, g.spilled, g.counted, spill-step c m roomy (z + j), ap (spill c m) e, spill-again c m roomy.again z)
+        grind (arith, spill-step c m roomy (z + j), spill-again c m roomy.again z)
 
     raised_step : (j : ℕ) → j < m → raised (suc j) ≡ raised j + d (z + j) - 1
-    raised_step j l =
-        let e : z + suc j ≡ suc (z + j) = omega arith in
-        let s : spill c m (z + suc j) ≡ spill c m (z + j) + c (z + j) - 1 = ap (spill c m) e ∙ spill-step c m roomy (z + j) in
-        elim (cases_lt (suc j) m) [
-          | inl inner ↦ elim (cases_lt j a) [
-            | inl before ↦ omega (arith, s, same j l (λ q. omega arith))
-            | inr from ↦ elim (cases_lt a j) [
-              | inl past ↦ omega (arith, s, same j l (λ q. omega arith), full j from inner)
-              | inr at ↦
-                  let q : j ≡ a = omega arith in
-                  omega (arith, s, more, full j from inner, ap (λ x. d (z + x)) q, ap (λ x. c (z + x)) q)
-            ]
-          ]
-          | inr last ↦
-              let g : IsGap c m (z + j) = gap j (omega arith) in
-              elim (cases_lt a j) [
-                | inl past ↦ omega (arith, s, same j l (λ q. omega arith), g.spilled, g.counted)
-                | inr at ↦
-                    let q : j ≡ a = omega arith in
-                    omega (arith, s, more, g.spilled, g.counted, ap (λ x. d (z + x)) q, ap (λ x. c (z + x)) q)
-              ]
-        ]
+    raised_step j l = grind (arith, spill-step c m roomy (z + j), cases_lt (suc j) m, cases_lt j a, cases_lt a j)
 
     raised_is : (j : ℕ) → j ≤ m → spill d m (z + j) ≡ raised j
     raised_is = unique d m roomy' z raised first last raised_step
@@ -69,28 +46,7 @@ module _ (c d : ℕ → ℕ) (m z a : ℕ) (roomy : Roomy c m) (roomy' : Roomy d
     lowered j = spill d m (z + j) - (min 1 (j - a) - min 1 (suc j - m))
 
     lowered_step : (j : ℕ) → j < m → lowered (suc j) ≡ lowered j + c (z + j) - 1
-    lowered_step j l =
-        let e : z + suc j ≡ suc (z + j) = omega arith in
-        let s : spill d m (z + suc j) ≡ spill d m (z + j) + d (z + j) - 1 = ap (spill d m) e ∙ spill-step d m roomy' (z + j) in
-        elim (cases_lt j a) [
-          | inl before ↦ omega (arith, s, same j l (λ q. omega arith))
-          | inr from ↦ elim (cases_lt a j) [
-            | inl past ↦ elim (cases_lt (suc j) m) [
-              | inl inner ↦ omega (arith, s, same j l (λ q. omega arith), pushed j past l)
-              | inr last ↦
-                  let q : suc j ≡ m = omega arith in
-                  omega (arith, s, same j l (λ q. omega arith), pushed j past l, ends, ap (λ x. spill d m (z + x)) q)
-            ]
-            | inr at ↦
-                let p : j ≡ a = omega arith in
-                elim (cases_lt (suc j) m) [
-                  | inl inner ↦ omega (arith, s, more, ap (λ x. d (z + x)) p, ap (λ x. c (z + x)) p)
-                  | inr last ↦
-                      let q : suc j ≡ m = omega arith in
-                      omega (arith, s, more, ends, ap (λ x. spill d m (z + x)) q, ap (λ x. d (z + x)) p, ap (λ x. c (z + x)) p)
-                ]
-          ]
-        ]
+    lowered_step j l = grind (arith, spill-step d m roomy' (z + j), cases_lt j a, cases_lt a j, cases_lt (suc j) m)
 
     lowered_is : (j : ℕ) → j ≤ m → spill c m (z + j) ≡ lowered j
     lowered_is = unique c m roomy z lowered first last lowered_step

@@ -45,9 +45,7 @@ module _ {E : Type 0} where
   met-last A h d (suc k) = grind (arith, append_assoc, met-last A h (suc d) k)
 
   pub met-add : (A : ℕ → Option (Placed E)) (h d k l : ℕ) → met A h d (k + l) ≡ met A h d k ++ met A h (d + k) l
-  met-add A h d k zero =
-      let e : k + 0 ≡ k = omega arith in
-      ap (met A h d) e ∙ sym (append-nil (met A h d k))
+  met-add A h d k zero = grind (arith, append-nil (met A h d k))
   met-add A h d k (suc l) =
       let e : k + suc l ≡ suc (k + l) = omega arith in
       let s : d + (k + l) ≡ d + k + l = omega arith in
@@ -67,10 +65,7 @@ module _ {E : Type 0} where
     pub shows : (n h : ℕ) → IsPartOf (counts L) m h n → (e : E) × (A n ≡ Some (placed (n - h) e)) × (slice_get (L h) (n - (h + spill (counts L) m h)) ≡ Some e)
     shows n h p =
         let i : ℕ = n - (h + spill (counts L) m h) in
-        let r = get_some (L h) i (omega arith) in
-        let s : h + spill (counts L) m h + i ≡ n = omega arith in
-        let d : spill (counts L) m h + i ≡ n - h = omega arith in
-        (r.0, ap A (sym s) ∙ laid.standing h i r.0 r.1 ∙ ap (λ x. Some (placed x r.0)) d, r.1)
+        grind (arith, get_some (L h) i (omega arith))
 
     pub part-reach : (n h : ℕ) → IsPartOf (counts L) m h n → reach (A n) ≡ suc (n - h)
     part-reach n h p = ap reach (shows n h p).1
@@ -137,11 +132,7 @@ module _ {E : Type 0} where
     ])
 
     own : (h k : ℕ) → IsPartOf (counts L) m h (h + k) → (e : E) × (at_home (A (h + k)) k ≡ e ∷ []) × (slice_get (L h) (k - spill (counts L) m h) ≡ Some e)
-    own h k p =
-        let r = shows (h + k) h p in
-        let d : h + k - h ≡ k = omega arith in
-        let i : h + k - (h + spill (counts L) m h) ≡ k - spill (counts L) m h = omega arith in
-        (r.0, ap (λ o. at_home o k) (r.1 ∙ ap (λ x. Some (placed x r.0)) d) ∙ rw (eq-eqb k k refl), ap (slice_get (L h)) (sym i) ∙ r.2)
+    own h k p = grind (arith, shows (h + k) h p, eq-eqb k k refl)
 
     met_take : (h : ℕ) → spill (counts L) m 0 ≤ h → (k : ℕ) → met A h 0 k ≡ take (k - spill (counts L) m h) (L h)
     met_take h l zero =

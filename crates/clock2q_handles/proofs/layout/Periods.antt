@@ -1,5 +1,5 @@
 -- What repeats every m slots is determined by any lap of it.
-use Rattle.std.proofs.Common.{◌≡◌, ℕ, zero, suc, ◌+◌, ◌-◌, ◌*◌, ◌/◌, ◌%◌, ◌^◌, ◌<◌, ◌≤◌, inl, inr, ap, sym, ◌∙◌, arith, div-add-mod', le-mul_of_pos_right, mul-le-mul_right}
+use Rattle.std.proofs.Common.{◌≡◌, ℕ, zero, suc, ◌+◌, ◌-◌, ◌*◌, ◌/◌, ◌%◌, ◌^◌, ◌<◌, ◌≤◌, ap, sym, ◌∙◌, arith, div-add-mod', le-mul_of_pos_right, mul-le-mul_right}
 use Rattle.std.proofs.lemmas.Bool.{cases_lt}
 use Rattle.std.proofs.lemmas.Nat.{pow-add, pow_below}
 use Rattle.std.proofs.Math.Nat.{add-mod_right}
@@ -27,9 +27,7 @@ pub lap-same : {X : Type 0} (f : ℕ → X) (m : ℕ) → ((n : ℕ) → f (n + 
 lap-same f m again some h n = sym (again-times f m again (h + lap m h n) ((n + h * m - h) / m)) ∙ ap f (lap-sum m h n some) ∙ again-times f m again n h
 
 pub rem-same : {X : Type 0} (f : ℕ → X) (m : ℕ) → ((n : ℕ) → f (n + m) ≡ f n) → (n : ℕ) → f (n % m) ≡ f n
-rem-same f m again n =
-    let e : n % m + n / m * m ≡ n = omega (arith, div-add-mod' n m) in
-    sym (again-times f m again (n % m) (n / m)) ∙ ap f e
+rem-same f m again n = grind (arith, div-add-mod' n m, again-times f m again (n % m) (n / m))
 
 -- slots less than a lap apart are not the same
 pub rems-differ : (m a b : ℕ) → a < b → b < a + m → a % m ≡ b % m → ⊥
@@ -44,9 +42,4 @@ other_home m h v j l u other e = grind (arith, rems-differ, same_home)
 
 -- a power of two is a multiple of each smaller one
 pub powers-divide : (a b : ℕ) → 2 ^ a ≤ 2 ^ b → (k : ℕ) × (2 ^ b ≡ k * 2 ^ a)
-powers-divide a b l = elim (cases_lt b a) [
-  | inl below ↦ absurd (omega (arith, pow_below b a below))
-  | inr from ↦
-      let e : b ≡ b - a + a = omega arith in
-      (2 ^ (b - a), ap (λ x. 2 ^ x) e ∙ pow-add 2 (b - a) a)
-]
+powers-divide a b l = grind (arith, cases_lt b a, pow_below, pow-add 2 (b - a) a)

@@ -70,29 +70,12 @@ distinct-rows f c (suc n) inj = grind (arith, distinct-row_onto, among-rows, dis
 -- there are at most b distinct numbers below b
 pub pairs-fit : (f : ℕ → ℕ → ℕ) (c : ℕ → ℕ) (n b : ℕ) → ((t j u k : ℕ) → t < n → j < c t → u < n → k < c u → f t j ≡ f u k → (t ≡ u) × (j ≡ k))
     → ((t j : ℕ) → t < n → j < c t → f t j < b) → window c 0 n ≤ b
-pairs-fit f c n b inj below = omega (
-  arith,
-  length-rows f c n,
-  length-le_from_distinct_below (rows f c n) b (distinct-rows f c n inj) (λ q l.
-      let r = among-rows q f c n l in
-      omega (arith, below r.0 r.1 r.2 r.3, r.4)),
-)
+pairs-fit f c n b inj below = grind (arith, length-rows f c n, length-le_from_distinct_below, distinct-rows f c n inj, among-rows)
 
 -- one of them is at least b, or all are below
 some_in_row : (g : ℕ → ℕ) (n b : ℕ) → ((j : ℕ) × (j < n) × (b ≤ g j)) ⊎ ((j : ℕ) → j < n → g j < b)
 some_in_row g zero b = inr (λ j l. absurd (omega arith))
-some_in_row g (suc n) b = elim (some_in_row g n b) [
-  | inl r ↦ inl (r.0, omega arith, r.2)
-  | inr all ↦ elim (cases_lt (g n) b) [
-    | inl below ↦ inr (λ j l. elim (cases_lt j n) [
-      | inl u ↦ all j u
-      | inr v ↦
-          let e : j ≡ n = omega arith in
-          omega (arith, ap g e)
-    ])
-    | inr from ↦ inl (n, omega arith, from)
-  ]
-]
+some_in_row g (suc n) b = grind (arith, some_in_row g n b, cases_lt (g n) b)
 
 some_in_rows : (f : ℕ → ℕ → ℕ) (c : ℕ → ℕ) (n b : ℕ) → ((t : ℕ) × (j : ℕ) × (t < n) × (j < c t) × (b ≤ f t j)) ⊎ ((t j : ℕ) → t < n → j < c t → f t j < b)
 some_in_rows f c zero b = inr (λ t j l. absurd (omega arith))
@@ -168,9 +151,7 @@ module _ {E : Type 0} (homes : List (List E)) (room : total homes < length homes
 
   -- too many for nearer slots
   overfull : window (λ t. count homes (h + length homes - wide + t)) 0 (suc wide) ≡ suc (spill_of homes h + count homes h - 1 + wide)
-  overfull =
-      let e : h + length homes - wide + wide ≡ h + length homes = omega (arith, wide_lt) in
-      omega (arith, window-from (count homes) (h + length homes - wide) (suc wide), wide_sum, ap (count homes) e, count-again homes h)
+  overfull = grind (arith, wide_lt, window-from (count homes) (h + length homes - wide) (suc wide), wide_sum, count-again homes h)
 
   some_past : ReachesPast homes place (spill_of homes h + count homes h - 1)
   some_past =

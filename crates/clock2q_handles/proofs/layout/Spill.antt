@@ -27,11 +27,7 @@ window-le c d a (suc k) below = omega (arith, window-le c d a k (λ j l. below j
 -- the sum over a lap is the same wherever the lap begins
 pub window-lap : (c : ℕ → ℕ) (m : ℕ) → ((n : ℕ) → c (n + m) ≡ c n) → (a : ℕ) → window c a m ≡ window c 0 m
 window-lap c m again zero = refl
-window-lap c m again (suc a) =
-    let e : 1 + m ≡ suc m = omega arith in
-    let s : a + 1 ≡ suc a = omega arith in
-    let z : a + 0 ≡ a = omega arith in
-    omega (arith, window-lap c m again a, window-add c a 1 m, ap (window c a) e, ap (λ x. window c x m) s, ap c z, again a)
+window-lap c m again (suc a) = grind (arith, window-lap c m again a, window-add c a 1 m)
 
 pub largest-above : (f : ℕ → ℕ) (n k : ℕ) → k < n → f k ≤ largest f n
 largest-above f zero k l = absurd (omega arith)
@@ -71,12 +67,7 @@ found_at c m h = largest-found (λ j. window c (h + suc m - j) j - j) m
 
 pub spill-found : (c : ℕ → ℕ) (m h : ℕ) → 0 < m → (k : ℕ) × (k < m) × (window c (h + m - k) k ≡ spill c m h + k)
 spill-found c zero h some = absurd (omega arith)
-spill-found c (suc m) h some =
-    let r = found_at c m h in
-    elim (cases_lt 0 (spill c (suc m) h)) [
-      | inl more ↦ (r.0, omega arith, omega arith)
-      | inr none ↦ (0, omega arith, omega arith)
-    ]
+spill-found c (suc m) h some = grind (arith, found_at c m h, cases_lt 0 (spill c (suc m) h))
 
 pub spill-again : (c : ℕ → ℕ) (m : ℕ) → ((n : ℕ) → c (n + m) ≡ c n) → (h : ℕ) → spill c m (h + m) ≡ spill c m h
 unfolding spill
@@ -85,9 +76,7 @@ spill-again c m again h = grind (arith, largest-same, window-again)
 module _ (c : ℕ → ℕ) (m : ℕ) (roomy : Roomy c m) where
   -- a window of a lap or less holds no more than a lap
   pub within_lap : (a k : ℕ) → k ≤ m → window c a k ≤ window c 0 m
-  within_lap a k l =
-      let e : k + (m - k) ≡ m = omega arith in
-      omega (arith, window-add c a k (m - k), ap (window c a) e, window-lap c m roomy.again a)
+  within_lap a k l = grind (arith, window-add c a k (m - k), window-lap c m roomy.again a)
 
   pub spill-lt : (h : ℕ) → spill c m h < m
   spill-lt h =

@@ -2,7 +2,7 @@
 use Rattle.std.proofs.Common.{◌≡◌, ℕ, zero, suc, ◌+◌, ◌-◌, ◌≤◌, inl, inr, refl, ap, ◌∙◌, arith, List, [], ◌∷◌, length, take, take_all, get_or, sum_by, Option, Some, None}
 use Rattle.std.proofs.lemmas.Bool.{cases_lt}
 use Rattle.std.proofs.lemmas.List.Sums.{sum_by-cons, sum_by_push}
-use Rattle.clock2q_handles.specs.Layout.{Placed, placed, window, spill, entries}
+use Rattle.clock2q_handles.specs.Layout.{Placed, window, spill, entries}
 use Rattle.clock2q_handles.proofs.layout.Spill.{Roomy, spill-again, spill-step, window-add, window-lap}
 use Rattle.clock2q_handles.proofs.layout.Tiles.{gap}
 use Rattle.clock2q_handles.proofs.layout.Laid.{counts, IsLaid, take-more-get, get_some}
@@ -26,14 +26,7 @@ module _ {E : Type 0} where
   entries-sum w [] = refl
   entries-sum w (None ∷ slots) =
       omega (arith, entries-sum w slots, window-front (λ n. weight w (get_or (None ∷ slots) n None)) 0 (length slots), window-shift (λ n. weight w (get_or (None ∷ slots) n None)) 0 (length slots))
-  entries-sum w (Some s ∷ slots) =
-      omega (
-        arith,
-        entries-sum w slots,
-        sum_by-cons (λ s. w s.entry) s (entries slots),
-        window-front (λ n. weight w (get_or (Some s ∷ slots) n None)) 0 (length slots),
-        window-shift (λ n. weight w (get_or (Some s ∷ slots) n None)) 0 (length slots),
-      )
+  entries-sum w (Some s ∷ slots) = grind (arith, entries-sum w slots, sum_by-cons (λ s. w s.entry) s (entries slots), window-front, window-shift)
 
   module _ (m : ℕ) (L : ℕ → List E) (A : ℕ → Option (Placed E)) (roomy : Roomy (counts L) m) (laid : IsLaid m L A) (w : E → ℕ) where
     -- the slots of home h have the same sum as its list
@@ -41,8 +34,7 @@ module _ {E : Type 0} where
     part_sum h zero l = refl
     part_sum h (suc k) l =
         let r = get_some (L h) k l in
-        let s : A (h + spill (counts L) m h + k) ≡ Some (placed (spill (counts L) m h + k) r.0) = laid.standing h k r.0 r.1 in
-        omega (arith, part_sum h k (omega arith), ap (weight w) s, ap (sum_by w) (take-more-get (L h) k r.0 r.1), sum_by_push w (take k (L h)) r.0)
+        grind (arith, get_some (L h) k l, part_sum h k (omega arith), take-more-get (L h) k r.0 r.1, sum_by_push w (take k (L h)) r.0)
 
     -- the slots of the k homes from z on
     homes_sum : (z : ℕ) → spill (counts L) m z ≡ 0 → (k : ℕ) → window (λ n. weight w (A n)) z (k + spill (counts L) m (z + k)) ≡ window (λ h. sum_by w (L h)) z k

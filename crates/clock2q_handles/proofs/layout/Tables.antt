@@ -5,7 +5,7 @@ use Rattle.std.proofs.lemmas.List.{length-replicate}
 use Rattle.std.proofs.lemmas.Nat.{pow-add}
 use Rattle.std.proofs.Math.Pow.{pow_mono}
 use Rattle.clock2q_handles.specs.Homes.{capacity, listed, count, total, no_entries}
-use Rattle.clock2q_handles.specs.Layout.{Placed, reach, layout, layout_upto, homes_of, spill_of, IsTidy, IsTooLong}
+use Rattle.clock2q_handles.specs.Layout.{Placed, reach, layout, layout_upto, homes_of, IsTidy, IsTooLong}
 use Rattle.clock2q_handles.specs.TableStep.{table_value, made_for, fit}
 use Rattle.clock2q_handles.specs.Slots.{IsSlotCount}
 use Rattle.clock2q_handles.specs.Table.{IsTable, IsWhole}
@@ -77,13 +77,8 @@ module _ {H : Type 0} (slots : List (Option (Placed (ℕ × H)))) (len : ℕ) (t
   table-short long =
       let homes = homes_of slots in
       let h : ℕ = long.0 in
-      let some : 0 < length slots = omega (arith, long.1, length-homes_of slots) in
-      let w = tidy-vacant slots table.tidy some in
-      let laid = read-laid-homes slots table.tidy.ordered w.0 w.1 some in
       let i : ℕ = count homes h - 1 in
-      let entry = get_some (listed homes h) i (omega (arith, long.2)) in
-      let in_slot = laid.standing h i entry.0 entry.1 in
-      omega (arith, long.2, long.3, ap reach in_slot, table.near (h + spill_of homes h + i))
+      grind (arith, length-homes_of slots, tidy-vacant, read-laid-homes, get_some (listed homes h) i (omega (arith, long.2)))
 
   -- so callers may rely on all of it
   pub table-whole : (writes reads : ℕ) → IsWhole (table_value (homes_of slots) slots writes reads)

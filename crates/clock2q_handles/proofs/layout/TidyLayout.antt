@@ -169,10 +169,7 @@ module _ {E : Type 0} where
       ]
 
   pub layout-ordered : (homes : List (List E)) → total homes < length homes → IsOrdered (slot_at (layout homes))
-  layout-ordered homes l =
-      let again : (n : ℕ) → slot_at (layout homes) (n + length homes) ≡ slot_at (layout homes) n =
-      λ n. ap (λ x. slot_at (layout homes) (n + x)) (sym (length-layout homes)) ∙ slot-again (layout homes) n in
-      laid-ordered (length homes) (listed homes) (slot_at (layout homes)) (roomy-of homes l) (layout-laid homes (roomy-of homes l)) again
+  layout-ordered homes l = grind (arith, length-layout homes, slot-again, laid-ordered, roomy-of homes l, layout-laid homes (roomy-of homes l))
 
   read_back : (homes : List (List E)) → total homes < length homes → homes_of (layout homes) ≡ homes
   read_back homes l =

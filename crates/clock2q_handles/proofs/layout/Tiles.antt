@@ -16,42 +16,22 @@ pub record IsPartOf (c : ℕ → ℕ) (m h n : ℕ) : Type 0 where
 
 module _ (c : ℕ → ℕ) (m : ℕ) (roomy : Roomy c m) where
   gap_upto : (z n : ℕ) → ((a : ℕ) × (a < n) × IsGap c m (z + a)) ⊎ (spill c m (z + n) + n ≡ spill c m z + window c z n)
-  gap_upto z zero =
-      let e : z + 0 ≡ z = omega arith in
-      inr (omega (arith, ap (spill c m) e))
-  gap_upto z (suc n) = elim (gap_upto z n) [
-    | inl found ↦ inl (found.0, omega arith, found.2)
-    | inr sum ↦
-        let e : z + suc n ≡ suc (z + n) = omega arith in
-        elim (cases_lt 0 (spill c m (z + n) + c (z + n))) [
-          | inl more ↦ inr (omega (arith, ap (spill c m) e, spill-step c m roomy (z + n)))
-          | inr none ↦ inl (n, omega arith, record { spilled = omega arith; counted = omega arith })
-        ]
-  ]
+  gap_upto z zero = grind arith
+  gap_upto z (suc n) = grind (arith, gap_upto z n, cases_lt 0 (spill c m (z + n) + c (z + n)), spill-step c m roomy (z + n))
 
   -- each lap has a gap
   pub gap : (z : ℕ) → (a : ℕ) × (a < m) × IsGap c m (z + a)
-  gap z = elim (gap_upto z m) [
-    | inl found ↦ found
-    | inr sum ↦ absurd (omega (arith, roomy.room, spill-again c m roomy.again z, window-lap c m roomy.again z))
-  ]
+  gap z = grind (arith, gap_upto z m, spill-again c m roomy.again z, window-lap c m roomy.again z)
 
   -- what follows the law of spill from one zero to the next, a lap on, is spill
   module _ (z : ℕ) (f : ℕ → ℕ) (first : f 0 ≡ 0) (last : f m ≡ 0) (steps : (j : ℕ) → j < m → f (suc j) ≡ f j + c (z + j) - 1) where
     not_above : (j : ℕ) → j ≤ m → f j ≤ spill c m (z + j)
     not_above zero l = omega arith
-    not_above (suc j) l =
-        let e : z + suc j ≡ suc (z + j) = omega arith in
-        omega (arith, not_above j (omega arith), steps j (omega arith), spill-step c m roomy (z + j), ap (spill c m) e)
+    not_above (suc j) l = grind (arith, not_above j (omega arith), spill-step c m roomy (z + j))
 
     same_from : (a : ℕ) → spill c m (z + a) ≡ f a → (k : ℕ) → a + k ≤ m → spill c m (z + (a + k)) ≡ f (a + k)
-    same_from a here zero l =
-        let e : a + 0 ≡ a = omega arith in
-        omega (arith, ap f e, ap (λ x. spill c m (z + x)) e)
-    same_from a here (suc k) l =
-        let e : a + suc k ≡ suc (a + k) = omega arith in
-        let s : z + (a + suc k) ≡ suc (z + (a + k)) = omega arith in
-        omega (arith, ap f e, ap (spill c m) s, same_from a here k (omega arith), steps (a + k) (omega arith), spill-step c m roomy (z + (a + k)))
+    same_from a here zero l = grind arith
+    same_from a here (suc k) l = grind (arith, same_from a here k (omega arith), spill-step c m roomy (z + (a + k)))
 
     zero_at_first : spill c m z ≡ 0
     zero_at_first =
@@ -69,17 +49,11 @@ module _ (c : ℕ → ℕ) (m : ℕ) (roomy : Roomy c m) where
 
   -- the parts come in the order of their homes
   starts_up : (h k : ℕ) → h + spill c m h ≤ h + k + spill c m (h + k)
-  starts_up h zero =
-      let e : h + 0 ≡ h = omega arith in
-      omega (arith, ap (spill c m) e)
-  starts_up h (suc k) =
-      let e : h + suc k ≡ suc (h + k) = omega arith in
-      omega (arith, ap (spill c m) e, starts_up h k, spill-step c m roomy (h + k))
+  starts_up h zero = grind arith
+  starts_up h (suc k) = grind (arith, starts_up h k, spill-step c m roomy (h + k))
 
   pub starts : (g h : ℕ) → g ≤ h → g + spill c m g ≤ h + spill c m h
-  starts g h l =
-      let e : g + (h - g) ≡ h = omega arith in
-      omega (arith, starts_up g (h - g), ap (spill c m) e)
+  starts g h l = grind (arith, starts_up g (h - g))
 
   -- and do not overlap
   pub apart : (g h : ℕ) → g < h → g + spill c m g + c g ≤ h + spill c m h

@@ -165,20 +165,17 @@ module _ {H : Type 0} (key : H → ℕ) (homes : List (List (ℕ × H))) (m : �
     (fits : total homes < m) (multiple : 0 < length homes → (k : ℕ) × (m ≡ k * length homes)) (hashes : IsHashOf key homes) where
   -- a rebuild gives no home a longer reach than the home that its entries came from had
   pub rebuilt-reach : (n : ℕ) → spill_of (rebuilt key m homes) n + count (rebuilt key m homes) n ≤ spill_of homes n + count homes n
-  rebuilt-reach n = elim (cases_lt 0 (length homes)) [
-    | inl some ↦
-        let k = multiple some in
-        let below : total homes < length homes = omega (arith, room, capacity-lt (length homes) some) in
-        let all : put_all key (no_entries (k.0 * length homes)) (entries (take (length (layout homes)) (layout homes))) ≡ rebuilt key m homes =
-        ap (λ es. put_all key (no_entries (k.0 * length homes)) es) (entries-all (layout homes)) ∙ ap (λ x. rebuilt key x homes) (sym k.1) in
-        subst (λ hs. spill_of hs n + count hs n ≤ spill_of homes n + count homes n) all (rebuilding-reach key homes k.0 (length (layout homes)) n below (omega (arith, k.1, fits)) hashes)
-    | inr none ↦ omega (
-      arith,
-      reach-total (rebuilt key m homes) (omega (arith, rebuilt-length key homes m, rebuilt-total key homes m room (omega arith))) n,
-      rebuilt-total key homes m room (omega arith),
-      room,
-    )
-  ]
+  rebuilt-reach n =
+      grind (
+        arith,
+        cases_lt 0 (length homes),
+        capacity-lt,
+        entries-all (layout homes),
+        rebuilding-reach,
+        reach-total (rebuilt key m homes) (omega (arith, rebuilt-length key homes m, rebuilt-total key homes m room (omega arith))) n,
+        rebuilt-length key homes m,
+        rebuilt-total key homes m room (omega arith),
+      )
 
   -- so it is never refused for a run
   pub rebuilt-short : (IsTooLong homes → ⊥) → IsTooLong (rebuilt key m homes) → ⊥

@@ -26,9 +26,7 @@ module _ {E : Type 0} (A : ℕ → Option (Placed E)) (ordered : IsOrdered A) wh
 
   -- past the stop no entry is further from its home either
   pub after : (h t n : ℕ) → reach (A (h + n)) ≤ n + t → (j : ℕ) → n ≤ j → reach (A (h + j)) ≤ j + t
-  after h t n stop j l =
-      let e : n + (j - n) ≡ j = omega arith in
-      omega (arith, later h t n stop (j - n), ap (λ x. reach (A (h + x))) e)
+  after h t n stop j l = grind (arith, later h t n stop (j - n))
 
   -- so every slot before another with such an entry has one
   pub passed : (h t n : ℕ) → n + t < reach (A (h + n)) → (j : ℕ) → j ≤ n → j + t < reach (A (h + j))
@@ -50,23 +48,12 @@ module _ {E : Type 0} (A : ℕ → Option (Placed E)) (ordered : IsOrdered A) wh
 
   stop_upto : (h t k : ℕ) → ((n : ℕ) × (n < k) × Stops A h t n) ⊎ ((j : ℕ) → j < k → j + t < reach (A (h + j)))
   stop_upto h t zero = inr (λ j l. absurd (omega arith))
-  stop_upto h t (suc k) = elim (stop_upto h t k) [
-    | inl found ↦ inl (found.0, omega arith, found.2)
-    | inr all ↦ elim (cases_lt (k + t) (reach (A (h + k)))) [
-      | inl far ↦ inr (λ j l. passed h t k far j (omega arith))
-      | inr near ↦ inl (k, omega arith, record { before = all; stop = near })
-    ]
-  ]
+  stop_upto h t (suc k) = grind (arith, stop_upto h t k, cases_lt (k + t) (reach (A (h + k))), passed)
 
   module _ (m : ℕ) (again : (n : ℕ) → A (n + m) ≡ A n) (some : 0 < m) (v : ℕ) (vacant : A v ≡ None) where
     -- where a walk from h stops
     pub stop : (h t : ℕ) → (n : ℕ) × (n < m) × Stops A h t n
-    stop h t =
-        let l : lap m h v < m = lap-lt m h v some in
-        elim (stop_upto h t (suc (lap m h v))) [
-          | inl found ↦ (found.0, omega arith, found.2)
-          | inr all ↦ absurd (omega (arith, all (lap m h v) (omega arith), ap reach (lap-same A m again some h v ∙ vacant)))
-        ]
+    stop h t = grind (arith, lap m h v, lap-lt m h v some, stop_upto h t (suc (lap m h v)), lap-same A m again some h v)
 
     -- the number of entries of earlier homes from h on
     pub pushed : ℕ → ℕ
@@ -89,10 +76,7 @@ module _ {E : Type 0} (A : ℕ → Option (Placed E)) (ordered : IsOrdered A) wh
     ending-lt h = (stop h 0).1
 
     pushed-le : (h : ℕ) → pushed h ≤ ending h
-    pushed-le h = elim (cases_lt (ending h) (pushed h)) [
-      | inl below ↦ absurd (omega (arith, (pushed-stops h).before (ending h) below, (ending-stops h).stop))
-      | inr upto ↦ upto
-    ]
+    pushed-le h = grind (arith, cases_lt (ending h) (pushed h), ending h, pushed h, pushed-stops h, ending-stops h)
 
     one_on : (h : ℕ) → Stops A (suc h) 1 (ending h - 1)
     one_on h = record {
@@ -178,20 +162,11 @@ module _ {E : Type 0} (A : ℕ → Option (Placed E)) (ordered : IsOrdered A) wh
     lists-again h = met-again A m h 0 m again
 
     lap_sum : (z k : ℕ) → window (counts lists) z k + pushed z ≤ pushed (z + k) + k
-    lap_sum z zero =
-        let e : z + 0 ≡ z = omega arith in
-        omega (arith, ap pushed e)
-    lap_sum z (suc k) =
-        let e : z + suc k ≡ suc (z + k) = omega arith in
-        omega (arith, ap pushed e, lap_sum z k, lists-length (z + k), pushed-step (z + k), pushed-le (z + k))
+    lap_sum z zero = grind (arith, pushed)
+    lap_sum z (suc k) = grind (arith, pushed, lap_sum z k, lists-length (z + k), pushed-step (z + k), pushed-le (z + k))
 
     ending_at_vacant : ending v ≡ 0
-    ending_at_vacant = elim (cases_lt 0 (ending v)) [
-      | inl more ↦
-          let e : v + 0 ≡ v = omega arith in
-          absurd (omega (arith, (ending-stops v).before 0 more, ap (λ x. reach (A x)) e, ap reach vacant))
-      | inr none ↦ omega arith
-    ]
+    ending_at_vacant = grind (arith, cases_lt 0 (ending v), ending v, ending-stops v)
 
     pub lists-roomy : Roomy (counts lists) m
     lists-roomy = record {
@@ -259,8 +234,4 @@ module _ {E : Type 0} (A : ℕ → Option (Placed E)) (ordered : IsOrdered A) wh
 
     -- a home's list is what its walk meets up to the stop
     pub met-stop : (h n : ℕ) → n ≤ m → Stops A h 0 n → lists h ≡ met A h 0 n
-    met-stop h n l s =
-        let e : m ≡ n + (m - n) = omega arith in
-        let z : 0 + n ≡ n = omega arith in
-        let stop : reach (A (h + n)) ≤ n = omega (arith, s.stop) in
-        ap (met A h 0) e ∙ met-add A h 0 n (m - n) ∙ ap (λ x. met A h 0 n ++ met A h x (m - n)) z ∙ ap (λ xs. met A h 0 n ++ xs) (met-late h n (m - n) stop) ∙ append-nil (met A h 0 n)
+    met-stop h n l s = grind (arith, met-add A h 0 n (m - n), met-late, append-nil (met A h 0 n))

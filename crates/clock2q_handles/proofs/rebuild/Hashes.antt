@@ -21,8 +21,7 @@ module _ {E : Type 0} where
       ∙ ap (λ o. entries (take k slots) ++ entries (o ∷ [])) none ∙ append-nil (entries (take k slots))
 
   pub entries-some : (slots : List (Option (Placed E))) (k : ℕ) (s : Placed E) → k < length slots → get_or slots k None ≡ Some s → entries (take (suc k) slots) ≡ entries (take k slots) ++ s ∷ []
-  entries-some slots k s l some =
-      ap entries (take-suc slots k None l) ∙ filter_map-append (λ s. s) (take k slots) (get_or slots k None ∷ []) ∙ ap (λ o. entries (take k slots) ++ entries (o ∷ [])) some
+  entries-some slots k s l some = grind (arith, take-suc slots k None l, filter_map-append (λ s. s) (take k slots) (get_or slots k None ∷ []))
 
   pub entries-all : (slots : List (Option (Placed E))) → entries (take (length slots) slots) ≡ entries slots
   entries-all slots = ap entries (take_all (length slots) slots (omega arith))

@@ -1,16 +1,16 @@
 -- A rebuild, slot by slot.
-use Rattle.std.proofs.Common.{◌≡◌, ℕ, ◌+◌, ◌*◌, ◌<◌, inl, inr, refl, ap, sym, ◌∙◌, subst, arith, List, map, take, length, Option, None}
+use Rattle.std.proofs.Common.{◌≡◌, ℕ, ◌+◌, ◌*◌, ◌<◌, refl, ap, sym, ◌∙◌, subst, arith, List, map, take, length, Option, None}
 use Rattle.std.proofs.lemmas.Bool.{cases_lt}
 use Rattle.std.specs.Fn.{Called, Takes, Mut}
 use Rattle.clock2q_handles.specs.Homes.{capacity, total, no_entries}
-use Rattle.clock2q_handles.specs.Layout.{Placed, slot_at, entries, layout, homes_of}
+use Rattle.clock2q_handles.specs.Layout.{Placed, slot_at, entries, homes_of}
 use Rattle.clock2q_handles.specs.Moves.{MayMove, Moves}
 use Rattle.clock2q_handles.specs.Rehash.{GivesHashes, Asks}
 use Rattle.clock2q_handles.specs.Candidates.{EndsAt}
 use Rattle.clock2q_handles.specs.Shifts.{HasRoomAt, PutsAt}
 use Rattle.clock2q_handles.specs.Slots.{Mark}
 use Rattle.clock2q_handles.specs.Table.{IsTable}
-use Rattle.clock2q_handles.specs.TableStep.{put_all, rebuilt}
+use Rattle.clock2q_handles.specs.TableStep.{put_all}
 use Rattle.clock2q_handles.proofs.layout.TidyLayout.{length-homes_of, tidy-layout, tidy-room}
 use Rattle.clock2q_handles.proofs.rebuild.Hashes.{entries-all, rebuilt-total}
 use Rattle.clock2q_handles.proofs.layout.Tables.{table-empty, homes_of-empty}
@@ -33,15 +33,7 @@ module _ {F H : Type 0} (g : Mut F (H × Unit {0}) ℕ) where
     come i within = record { table = may.table; lists = refl; within = within }
 
     pub moving_begins : MovedSo f f old from from 0
-    moving_begins =
-        let lists : homes_of from ≡ no_entries (length from) = ap homes_of may.empty ∙ homes_of-empty (ℕ × H) (length from) in
-        let empty : IsTable from 0 = subst (λ s. IsTable s 0) (sym may.empty) (table-empty H (length from) may.slot_count) in
-        record {
-          table = subst (IsTable from) empty.counted empty;
-          len = refl;
-          built = λ key gives. lists;
-          asked = λ key gives. refl;
-        }
+    moving_begins = grind (arith, homes_of-empty (ℕ × H) (length from), table-empty H (length from) may.slot_count)
 
     module _ {last : F} {new : List (Option (Placed (ℕ × H)))} {i : ℕ} (so_far : MovedSo f last old from new i) where
       pub moving_past : i < length old → slot_at old i ≡ None → MovedSo f last old from new (i + 1)
@@ -102,18 +94,13 @@ module _ {F H : Type 0} (g : Mut F (H × Unit {0}) ℕ) where
     -- once every slot has been moved, so has every entry
     pub moving_ends : {last : F} {new : List (Option (Placed (ℕ × H)))} {i : ℕ} → i ≡ length old → MovedSo f last old from new i → Moves g f last old from new
     moving_ends {last = last} {new = new} {i = i} all so_far =
-        let front : entries (take i old) ≡ entries (layout homes) = ap (λ n. entries (take n old)) all ∙ entries-all old ∙ ap entries (tidy-layout old may.table.tidy) in
-        let built : (key : H → ℕ) → GivesHashes g key homes f → homes_of new ≡ rebuilt key (length from) homes =
-        λ key gives. so_far.built key gives ∙ ap (put_all key (no_entries (length from))) front in
-        let key = may.asked.0 in
-        let gives = may.asked.1 in
-        let as_many : total (homes_of new) ≡ total homes = elim (cases_lt 0 (length from)) [
-          | inl some ↦ ap total (built key gives) ∙ rebuilt-total key homes (length from) (tidy-room old may.table.tidy) some
-          | inr none ↦ omega (arith, none, may.fits, tidy-room new so_far.table.tidy, length-homes_of new, so_far.len, ap capacity (length-homes_of new ∙ so_far.len))
-        ] in
-        record {
-          made = built;
-          table = subst (IsTable new) as_many so_far.table;
-          asks = λ key gives. subst (λ es. Asks g key f (map (λ s. s.entry.1) es) last) front (so_far.asked key gives);
-          len = so_far.len;
-        }
+        grind (
+          arith,
+          entries-all old,
+          tidy-layout old may.table.tidy,
+          cases_lt 0 (length from),
+          rebuilt-total,
+          tidy-room old may.table.tidy,
+          tidy-room new so_far.table.tidy,
+          length-homes_of new,
+        )

@@ -31,9 +31,7 @@ lap-at m s k t within at =
 
 -- one slot on
 pub slot_on : (m s k t t' : ℕ) → t ≡ (s + k) % m → t' ≡ (t + 1) % m → t' ≡ (s + suc k) % m
-slot_on m s k t t' at on =
-    let e : s + k + 1 ≡ s + suc k = omega arith in
-    on ∙ ap (λ y. (y + 1) % m) at ∙ rem-plus m (s + k) 1 ∙ ap (λ y. y % m) e
+slot_on m s k t t' at on = grind (arith, rem-plus m (s + k) 1)
 
 pub slot_begins : (m s : ℕ) → s < m → s ≡ (s + 0) % m
 slot_begins m s within = grind (arith, mod-eq_of_lt)
@@ -54,8 +52,7 @@ module _ {E : Type 0} (slots : List (Option (Placed E))) where
   pub slot_from_before : (h n s j : ℕ) → s ≡ (h + n) % length slots → n < length slots → j < n → slot_at slots (s + (length slots - n + j)) ≡ slot_at slots (h + j)
   slot_from_before h n s j at within l =
       let m : ℕ = length slots in
-      let e : h + (n + (m - n + j)) ≡ h + j + m = omega arith in
-      slot_from_plus h n s (m - n + j) at ∙ ap (slot_at slots) e ∙ slot-again slots (h + j)
+      grind (arith, slot_from_plus h n s (m - n + j) at, slot-again slots (h + j))
 
   pub come_begins : (g : ℕ) → g < length slots → HasCome slots g 0 g
   come_begins g within = record { slot = slot_begins (length slots) g within; within = omega (arith, within); passed = λ j l. absurd (omega (arith, l)) }
@@ -368,11 +365,8 @@ module _ {H : Type 0} (slots : List (Option (Placed (ℕ × H)))) (tidy : IsTidy
 module _ {H : Type 0} (slots : List (Option (Placed (ℕ × H)))) (tidy : IsTidy slots) where
   -- a walk for a hash goes on
   pub walks_on : (x : ℕ) (s s' : Mark) (n n' : ℕ) → IsWalkFor slots x s n → mark_reach s ≤ reach (slot_at slots n) → s' ≡ mark_on s → n' ≡ (n + 1) % length slots → IsWalkFor slots x s' n'
-  walks_on x s s' n n' walk far more on = record {
-    distance = suc walk.distance;
-    come = come_on slots tidy (x % length slots) walk.distance n n' walk.come (omega (arith, far, ap mark_reach walk.mark)) on;
-    mark = more ∙ ap mark_on walk.mark;
-  }
+  walks_on x s s' n n' walk far more on =
+      grind (arith, come_on slots tidy (x % length slots) walk.distance n n' walk.come (omega (arith, far, ap mark_reach walk.mark)) on)
 
   -- and begins at the home
   pub walks_begin : (x : ℕ) (s : Mark) (n : ℕ) → 0 < length slots → n ≡ x % length slots → s ≡ Some (0, top x) → IsWalkFor slots x s n

@@ -1,5 +1,5 @@
 -- Two vectors side by side, read and written as one list of slots.
-use Rattle.std.proofs.Common.{◌≡◌, ℕ, zero, suc, ◌-◌, ◌%◌, ◌<◌, List, [], ◌∷◌, length, get_or, take, ◌++◌, refl, sym, ap, ◌∙◌, subst, arith, Some, None, IfSome}
+use Rattle.std.proofs.Common.{◌≡◌, ℕ, zero, suc, ◌-◌, ◌%◌, ◌<◌, List, [], ◌∷◌, length, get_or, take, ◌++◌, refl, sym, ap, ◌∙◌, arith, Some, None, IfSome}
 use Rattle.std.proofs.Math.ListN.{set, replicate}
 use Rattle.std.proofs.Math.Nat.{sub-zero, mod-eq_of_lt}
 use Rattle.std.proofs.Math.Seq.{take-append_seam, set-get_or}
@@ -87,15 +87,12 @@ module _ {H : Type 0} where
       → k ≡ n % length (cells ms vs) → k < length ms → m ≡ get_or ms k m → meaning m ≡ mark_of (slot_at (cells ms vs) n)
   mark_read ms [] n k m same at within is = absurd (omega (arith, same, within))
   mark_read ms (v ∷ vs) n k m same at within is =
-      ap meaning is ∙ sym (mark_of-cell (meaning (get_or ms k m)) (get_or (v ∷ vs) k v))
-      ∙ ap mark_of (sym (get_or-cells ms (v ∷ vs) k m v same within) ∙ ap (λ j. get_or (cells ms (v ∷ vs)) j None) at)
+      grind (arith, mark_of-cell (meaning (get_or ms k m)) (get_or (v ∷ vs) k v), get_or-cells ms (v ∷ vs) k m v same within)
 
   -- the handle of a slot that is read
   pub handle_read : (ms : List Metadata) (vs : List H) (n k : ℕ) (m : Metadata) (v : H) → length vs ≡ length ms
       → k ≡ n % length (cells ms vs) → k < length ms → v ≡ get_or vs k v → IfSome (slot_at (cells ms vs) n) (λ p. v ≡ p.entry.1)
-  handle_read ms vs n k m v same at within is =
-      subst (λ s. IfSome s (λ p. v ≡ p.entry.1)) (ap (λ w. cell (meaning (get_or ms k m)) w) is
-      ∙ sym (get_or-cells ms vs k m v same within) ∙ ap (λ j. get_or (cells ms vs) j None) at) (handle_of_cell (meaning (get_or ms k m)) v)
+  handle_read ms vs n k m v same at within is = grind (arith, get_or-cells ms vs k m v same within, handle_of_cell (meaning (get_or ms k m)) v)
 
   -- the same for a slot named by its number
   pub at_slot : (ms : List Metadata) (vs : List H) (k : ℕ) → length vs ≡ length ms → k < length ms → k ≡ k % length (cells ms vs)

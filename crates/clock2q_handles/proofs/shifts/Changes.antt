@@ -63,12 +63,7 @@ module _ {E : Type 0} where
 
   -- an empty slot bounds what is known of the slots before it: it is within a lap of the home
   pub vacant_within : (A : ℕ → Option (Placed E)) (m h v : ℕ) → ((n : ℕ) → A (n + m) ≡ A n) → 0 < m → (w : ℕ) → A w ≡ None → ((j : ℕ) → j < v → 1 ≤ reach (A (h + j))) → v < m
-  vacant_within A m h v again some w vacant full = elim (cases_lt v m) [
-    | inl below ↦ below
-    | inr from ↦
-        let l : lap m h w < m = lap-lt m h w some in
-        absurd (omega (arith, full (lap m h w) (omega arith), ap reach (lap-same A m again some h w ∙ vacant)))
-  ]
+  vacant_within A m h v again some w vacant full = grind (arith, cases_lt v m, lap m h w, lap-lt m h w some, lap-same A m again some h w)
 
   at_home-same : (d : ℕ) (e : E) → at_home (Some (placed d e)) d ≡ e ∷ []
   at_home-same d e = rw (eq-eqb d d refl)
@@ -80,13 +75,7 @@ module _ {E : Type 0} where
   -- that entry is between the two parts
   pub read-split : (slots : List (Option (Placed E))) (h d : ℕ) (e : E) → d < length slots → slot_at slots (h + d) ≡ Some (placed d e)
       → listed (homes_of slots) h ≡ met (slot_at slots) h 0 d ++ e ∷ met (slot_at slots) h (suc d) (length slots - suc d)
-  read-split slots h d e l here =
-      let q : length slots ≡ d + suc (length slots - suc d) = omega arith in
-      let z : 0 + d ≡ d = omega arith in
-      let own : at_home (slot_at slots (h + d)) d ≡ e ∷ [] = ap (λ o. at_home o d) here ∙ at_home-same d e in
-      listed-homes_of slots h ∙ ap (met (slot_at slots) h 0) q ∙ met-add (slot_at slots) h 0 d (suc (length slots - suc d))
-      ∙ ap (λ x. met (slot_at slots) h 0 d ++ met (slot_at slots) h x (suc (length slots - suc d))) z
-      ∙ ap (λ xs. met (slot_at slots) h 0 d ++ (xs ++ met (slot_at slots) h (suc d) (length slots - suc d))) own
+  read-split slots h d e l here = grind (arith, at_home-same d e, listed-homes_of slots h, met-add (slot_at slots) h 0 d (suc (length slots - suc d)))
 
   -- where a walk of an ordered table stops
   pub read-stop : (slots : List (Option (Placed E))) → IsTidy slots → 0 < length slots → (h n : ℕ) → Stops (slot_at slots) h 0 n → n ≡ spill_of (homes_of slots) h + count (homes_of slots) h

@@ -68,9 +68,7 @@ module _ {H : Type 0} (x : ℕ) (v : H) (slots others : List (Option (Placed (�
 
   -- the first empty slot from the home on
   first : (w : ℕ) × (w < length slots) × IsVacancy (slot_at slots) g w
-  first =
-      let v = first-vacant slots table.tidy some g in
-      (v.0, v.1, record { vacant = v.2; occupied = v.3 })
+  first = grind (arith, first-vacant slots table.tidy some g, some)
 
   module _ (before after : ℕ) (opens : (w : ℕ) → IsVacancy (slot_at slots) g w → Opens (slot_at slots) (slot_at others) (length slots) g n w (top x, v))
       (room : (w : ℕ) → IsVacancy (slot_at slots) g w → HasRoom (slot_at slots) 16777214 g n w)

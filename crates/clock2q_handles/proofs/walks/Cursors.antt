@@ -1,11 +1,11 @@
 -- Lookups that keep a slot and what they look for there: how far they are, and what a step does to what is left.
-use Rattle.std.proofs.Common.{◌≡◌, ◌≢◌, ℕ, suc, ◌+◌, ◌-◌, ◌%◌, ◌<◌, ◌≤◌, inl, inr, refl, ap, sym, ◌∙◌, subst, arith, ◌==◌, List, [], ◌∷◌, map, filter, length, Option, Some, None, IfSome}
+use Rattle.std.proofs.Common.{◌≡◌, ◌≢◌, ℕ, suc, ◌+◌, ◌-◌, ◌%◌, ◌<◌, ◌≤◌, refl, ap, sym, ◌∙◌, subst, arith, ◌==◌, List, [], ◌∷◌, length, Option, Some, None, IfSome}
 use Rattle.std.specs.Prelude.{IsSome, IsTrue, Bool, true, false, ◌↔◌}
 use Rattle.std.proofs.lemmas.Bool.{cases_lt, eqb-true, and_parts}
 use Rattle.std.proofs.lemmas.Nat.{mod_below}
 use Rattle.std.proofs.Math.Nat.{add-mod_right}
 use Rattle.clock2q_handles.specs.Homes.{top}
-use Rattle.clock2q_handles.specs.Layout.{Placed, slot_at, reach, met, homes_of, walk, IsTidy, AreNear}
+use Rattle.clock2q_handles.specs.Layout.{Placed, slot_at, reach, homes_of, walk, IsTidy, AreNear}
 use Rattle.clock2q_handles.specs.Candidates.{left_from, unread_from, home_back, left_at, unread_at, is_mark, peeked_at, IsOnWalk, IsLookup}
 use Rattle.clock2q_handles.specs.Slots.{Mark, mark_of, mark_on, mark_reach}
 use Rattle.clock2q_handles.proofs.layout.Periods.{rem-same}
@@ -22,9 +22,7 @@ rem-plus m y k = rem-same (λ z. (z + k) % m) m (λ n. let e : n + m + k ≡ n +
 pub home_of_walk : {H : Type 0} (slots : List (Option (Placed (ℕ × H)))) (x d n : ℕ) → d < length slots → n ≡ (x + d) % length slots → home_back slots n d ≡ x % length slots
 home_of_walk slots x d n within at =
     let m : ℕ = length slots in
-    let s : n + m - d ≡ n + (m - d) = omega (arith, within) in
-    let t : x + d + (m - d) ≡ x + m = omega (arith, within) in
-    ap (λ z. z % m) s ∙ ap (λ z. (z + (m - d)) % m) at ∙ rem-plus m (x + d) (m - d) ∙ ap (λ z. z % m) t ∙ add-mod_right x m
+    grind (arith, rem-plus m (x + d) (m - d), add-mod_right x m)
 
 module _ {H : Type 0} (slots : List (Option (Placed (ℕ × H)))) (tidy : IsTidy slots) (d f n : ℕ) (on : IsOnWalk slots d f n) where
   home_is : home_back slots n d ≡ on.hash % length slots
@@ -42,9 +40,7 @@ module _ {H : Type 0} (slots : List (Option (Placed (ℕ × H)))) (tidy : IsTidy
 
   -- what is left in slot n is what is left d slots past the home
   pub left_is : left_at slots (Some (d, f)) n ≡ left_from slots on.hash d
-  left_is =
-      ap (λ h. map (λ e. e.1) (filter (λ e. e.0 == f) (met (slot_at slots) h d (length slots - d)))) home_is
-      ∙ ap (λ t. map (λ e. e.1) (filter (λ e. e.0 == t) (met (slot_at slots) (on.hash % length slots) d (length slots - d)))) on.fingerprint
+  left_is = grind (arith, home_is)
 
   unread_is : unread_at slots (Some (d, f)) n ≡ unread_from slots on.hash d
   unread_is = ap (λ h. walk (homes_of slots) h - d) home_is ∙ ap (λ k. k - d) (walk-home slots tidy on.hash (on.hash % length slots) (λ _. refl))
@@ -64,12 +60,7 @@ module _ {H : Type 0} (slots : List (Option (Placed (ℕ × H)))) (tidy : IsTidy
 
   module _ (far : d < reach (slot_at slots n)) (next : ℕ) (at : next ≡ (n + 1) % length slots) where
     passed_more : (j : ℕ) → j < suc d → j < reach (slot_at slots (on.hash + j))
-    passed_more j l = elim (cases_lt j d) [
-      | inl before ↦ on.passed j before
-      | inr from ↦
-          let q : j ≡ d = omega arith in
-          omega (arith, far, ap reach walk_here, ap (λ i. reach (slot_at slots (on.hash + i))) q)
-    ]
+    passed_more j l = grind (arith, cases_lt j d, walk_here)
 
     -- it goes on to the next slot
     pub walk_goes : IsOnWalk slots (suc d) f next
@@ -154,17 +145,7 @@ module _ {H : Type 0} (slots : List (Option (Placed (ℕ × H)))) where
 
   -- a lookup that has read nothing yet, if there are slots
   pub lookup_begins : (x n : ℕ) → IsTidy slots → AreNear slots → 0 < length slots → n ≡ x % length slots → IsLookup slots (Some (0, top x)) n
-  lookup_begins x n tidy near some at = record {
-    tidy = tidy;
-    near = near;
-    walk = record {
-      hash = x;
-      slot = let e : x ≡ x + 0 = omega arith in at ∙ ap (λ y. y % length slots) e;
-      fingerprint = refl;
-      within = some;
-      passed = λ j l. absurd (omega (arith, l));
-    };
-  }
+  lookup_begins x n tidy near some at = grind arith
 
   -- has everything left
   pub begins_whole : (x n : ℕ) → IsTidy slots → AreNear slots → 0 < length slots → n ≡ x % length slots
@@ -180,10 +161,7 @@ module _ {H : Type 0} (slots : List (Option (Placed (ℕ × H)))) where
 
   -- a slot that doesn't end a walk lets it go on
   pub goes_on : (b : Bool) (s t : Mark) (n : ℕ) → IsTrue b ↔ (mark_reach t < mark_reach s) → b ≡ false → t ≡ mark_of (slot_at slots n) → mark_reach s ≤ reach (slot_at slots n)
-  goes_on b s t n test off is = elim (cases_lt (mark_reach t) (mark_reach s)) [
-    | inl ends ↦ absurd (refused b test off ends)
-    | inr on ↦ omega (arith, on, reach_of_meaning t (slot_at slots n) is)
-  ]
+  goes_on b s t n test off is = grind (arith, cases_lt (mark_reach t) (mark_reach s), refused, reach_of_meaning t (slot_at slots n) is)
 
 -- a walk in a slot where it has found what it looks for
 module _ {H : Type 0} (slots : List (Option (Placed (ℕ × H)))) where
@@ -212,11 +190,7 @@ module _ {H : Type 0} (slots : List (Option (Placed (ℕ × H)))) where
   pub standing : (s : Mark) (n : ℕ) → IsLookup slots s n → peeked_at slots s n ≡ true → IsCandidate s n
   standing s n lookup h =
       let is = peeked_found s n h in
-      record {
-        some = is.0;
-        within = lookup_slot slots s n is.0 lookup;
-        far = omega (arith, reach_of_meaning s (slot_at slots n) (sym is.1));
-      }
+      grind (arith, peeked_found s n h, lookup_slot slots s n is.0 lookup, reach_of_meaning s (slot_at slots n) (sym is.1))
 
   nothing_there : (s : Mark) → IsSome s → None ≡ s → ⊥
   nothing_there None some q = absurd (cc)

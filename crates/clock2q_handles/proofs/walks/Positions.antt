@@ -145,14 +145,7 @@ module _ {H : Type 0} (slots : List (Option (Placed (ℕ × H)))) where
   walking None n some lookup = absurd (cc)
   walking (Some s) n some lookup =
       let on = lookup.walk in
-      let past = past_home slots (length slots) (on.hash % length slots) on.hash refl refl in (
-        on.hash,
-        record {
-          distance = s.0;
-          come = record { slot = on.slot ∙ sym (rem-plus (length slots) on.hash s.0); within = on.within; passed = λ j l. omega (arith, on.passed j l, ap reach (past j)) };
-          mark = ap (λ t. Some (s.0, t)) on.fingerprint;
-        },
-      )
+      grind (arith, past_home slots (length slots) (on.hash % length slots) on.hash refl refl, rem-plus (length slots) on.hash s.0)
 
   module _ (s s' : Mark) (n n' : ℕ) (some : IsSome s) (lookup : IsLookup slots s n) where
     -- a walk that goes on keeps its end

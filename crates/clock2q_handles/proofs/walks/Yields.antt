@@ -1,5 +1,5 @@
 -- Lookups: the candidates that a walk has passed, those that are left, and the slots that it reads.
-use Rattle.std.proofs.Common.{◌≡◌, ◌≢◌, ℕ, zero, suc, ◌+◌, ◌-◌, ◌%◌, ◌<◌, ◌≤◌, inl, inr, refl, ap, sym, ◌∙◌, subst, arith, ◌==◌, eq-eqb, List, [], ◌∷◌, ◌++◌, map, drop, length, slice_get}
+use Rattle.std.proofs.Common.{◌≡◌, ◌≢◌, ℕ, zero, suc, ◌+◌, ◌-◌, ◌%◌, ◌<◌, ◌≤◌, inl, inr, refl, ap, sym, ◌∙◌, arith, ◌==◌, eq-eqb, List, [], ◌∷◌, ◌++◌, map, drop, length, slice_get}
 use Rattle.std.proofs.Common.{Option, Some, None, IfSome}
 use Rattle.std.proofs.lemmas.Bool.{cases_lt}
 use Rattle.std.proofs.lemmas.Bool.Decides.{eqb_tells}
@@ -35,10 +35,7 @@ module _ {E : Type 0} where
 
   -- the slots from a to b and on to c
   pub met-split : (A : ℕ → Option (Placed E)) (h a b c : ℕ) → a ≤ b → b ≤ c → met A h a (c - a) ≡ met A h a (b - a) ++ met A h b (c - b)
-  met-split A h a b c l u =
-      let s : c - a ≡ (b - a) + (c - b) = omega arith in
-      let t : a + (b - a) ≡ b = omega arith in
-      ap (met A h a) s ∙ met-add A h a (b - a) (c - b) ∙ ap (λ n. met A h a (b - a) ++ met A h n (c - b)) t
+  met-split A h a b c l u = grind (arith, met-add A h a (b - a) (c - b))
 
   -- one more slot
   pub met-next : (A : ℕ → Option (Placed E)) (h a b : ℕ) → a ≤ b → met A h a (b + 1 - a) ≡ met A h a (b - a) ++ at_home (A (h + b)) b
@@ -103,16 +100,14 @@ module _ {H : Type 0} (x : ℕ) where
   -- at the end of the walk none is left
   pub matching-end : (A : ℕ → Option (Placed (ℕ × H))) → IsOrdered A → (h a b c : ℕ) → a ≤ b → b ≤ c → reach (A (h + b)) ≤ b → matching x (met A h a (b - a)) ≡ [] → matching x (met A h a (c - a)) ≡ []
   matching-end A ordered h a b c l u near before =
-      ap (matching x) (met-split A h a b c l u ∙ ap (λ xs. met A h a (b - a) ++ xs) (met-past A ordered h b (c - b) near))
-      ∙ filter-append (λ e. e.0 == top x) (met A h a (b - a)) [] ∙ ap (λ xs. xs ++ []) before
+      grind (arith, met-split A h a b c l u, met-past A ordered h b (c - b) near, filter-append (λ e. e.0 == top x) (met A h a (b - a)))
 
 module _ {H : Type 0} (slots : List (Option (Placed (ℕ × H)))) (x : ℕ) where
   -- a lookup that begins has all candidates left
   pub left_at_start : left_from slots x 0 ≡ candidates (homes_of slots) x
   left_at_start =
       let g : ℕ = x % length slots in
-      let all : length slots - 0 ≡ length slots = omega arith in
-      ap (λ es. map (λ e. e.1) (matching x es)) (ap (met (slot_at slots) g 0) all ∙ sym (listed-homes_of slots g) ∙ listed-home slots g x (λ _. refl))
+      grind (arith, listed-homes_of slots g, listed-home slots g x (λ _. refl))
 
   -- the next candidate is the first that is left
   pub left_next : (g d n : ℕ) → g ≡ x % length slots → (next : IsNextCandidate slots g x d n) → left_from slots x d ≡ next.handle ∷ left_from slots x (n + 1)
@@ -157,9 +152,7 @@ module _ {H : Type 0} (slots : List (Option (Placed (ℕ × H)))) (tidy : IsTidy
 
   -- a handle that is yielded was the first that was left
   pub yielded : (d n : ℕ) (r : H) → IsNextCandidate slots g x d n → IfSome (slot_at slots (g + n)) (λ p. r ≡ p.entry.1) → left_from slots x d ≡ r ∷ left_from slots x (n + 1)
-  yielded d n r next handle =
-      let same : r ≡ next.handle = subst (λ o. IfSome o (λ p. r ≡ p.entry.1)) next.here handle in
-      left_next slots x g d n (at (omega (arith, next.within))) next ∙ ap (λ w. w ∷ left_from slots x (n + 1)) (sym same)
+  yielded d n r next handle = grind (arith, left_next slots x g d n (at (omega (arith, next.within))) next)
 
   -- at the end of the walk nothing is left
   pub left_end : (d : ℕ) → d < length slots → reach (slot_at slots (g + d)) ≤ d → left_from slots x d ≡ []
