@@ -31,8 +31,7 @@ module _ (c d : ℕ → ℕ) (m z a : ℕ) (roomy : Roomy c m) (roomy' : Roomy d
       where
         first : raised 0 ≡ 0
         first =
-            let o : z + 0 ≡ z = omega arith in
-            omega (arith, start_zero, ap (spill c m) o)
+            grind (arith, start_zero)
 
         last : raised m ≡ 0
         last = omega (arith, start_zero, spill-again c m roomy.again z)
@@ -53,8 +52,7 @@ module _ (c d : ℕ → ℕ) (m z a : ℕ) (roomy : Roomy c m) (roomy' : Roomy d
       where
         first : lowered 0 ≡ 0
         first =
-            let o : z + 0 ≡ z = omega arith in
-            omega (arith, ends, spill-again d m roomy'.again z, ap (spill d m) o)
+            grind (arith, ends, spill-again d m roomy'.again z)
 
         last : lowered m ≡ 0
         last = omega (arith, ends)
@@ -75,9 +73,7 @@ module _ (c d : ℕ → ℕ) (m z a : ℕ) (roomy : Roomy c m) (roomy' : Roomy d
             let s : spill d m (z + suc j) ≡ spill d m (z + j) + d (z + j) - 1 = ap (spill d m) e ∙ spill-step d m roomy' (z + j) in
             elim (cases_lt a j) [
               | inl past ↦ omega (arith, s, lowered_is j (omega arith), pushed (suc j) (omega arith) l, pushed j past (omega arith), same j (omega arith) (λ q. omega arith))
-              | inr at ↦
-                  let q : j ≡ a = omega arith in
-                  omega (arith, s, lowered_is j (omega arith), pushed (suc j) (omega arith) l, more, ap (λ x. d (z + x)) q, ap (λ x. c (z + x)) q)
+              | inr at ↦ grind (arith, s, lowered_is j (omega arith), pushed (suc j) (omega arith) l, more)
             ]
 
         gap : (j : ℕ) → suc j ≡ m → IsGap c m (z + j)
@@ -91,9 +87,8 @@ module _ (c d : ℕ → ℕ) (m z a : ℕ) (roomy : Roomy c m) (roomy' : Roomy d
                 counted = omega (arith, s, f, ends, pushed j past (omega arith), same j (omega arith) (λ q. omega arith));
               }
               | inr at ↦
-                  let p : j ≡ a = omega arith in
                   record {
-                    spilled = omega (arith, s, f, ends, lowered_is j (omega arith), more, ap (λ x. d (z + x)) p, ap (λ x. c (z + x)) p);
-                    counted = omega (arith, s, f, ends, more, ap (λ x. d (z + x)) p, ap (λ x. c (z + x)) p);
+                    spilled = grind (arith, s, f, ends, lowered_is j (omega arith), more);
+                    counted = grind (arith, s, f, ends, more);
                   }
             ]

@@ -91,17 +91,13 @@ module _ {E : Type 0} where
     pub near-unspilled : (n : ℕ) → spill (counts L) m 0 ≤ n → reach (A n) ≤ 1 → spill (counts L) m n ≡ 0
     near-unspilled n l near = elim (taken (counts L) m roomy n l) [
       | inl g ↦ g.spilled
-      | inr p ↦
-          let e : p.0 ≡ n = omega (arith, part-reach n p.0 p.1) in
-          omega (arith, ap (spill (counts L) m) e)
+      | inr p ↦ grind (arith, part-reach n p.0 p.1)
     ]
 
     not_before : (n g : ℕ) → IsGap (counts L) m n → g ≤ n → IsPartOf (counts L) m g (suc n) → ⊥
     not_before n g gap l p = elim (cases_lt g n) [
       | inl below ↦ omega (arith, apart (counts L) m roomy g n below)
-      | inr from ↦
-          let e : g ≡ n = omega arith in
-          omega (arith, ap (spill (counts L) m) e, ap (counts L) e)
+      | inr from ↦ grind arith
     ]
 
     order_between : (n g h : ℕ) → IsPartOf (counts L) m g (suc n) → IsPartOf (counts L) m h n → suc n - g ≤ suc (n - h)
@@ -126,25 +122,19 @@ module _ {E : Type 0} where
     not_own : (h k : ℕ) → spill (counts L) m 0 ≤ h → (IsPartOf (counts L) m h (h + k) → ⊥) → at_home (A (h + k)) k ≡ []
     not_own h k l other = at_home-other (A (h + k)) k (λ r. elim (taken (counts L) m roomy (h + k) (omega arith)) [
       | inl g ↦ omega (arith, gap-reach (h + k) g)
-      | inr p ↦
-          let e : p.0 ≡ h = omega (arith, part-reach (h + k) p.0 p.1) in
-          other (record { from = omega (arith, ap (spill (counts L) m) e); upto = omega (arith, ap (spill (counts L) m) e, ap (counts L) e) })
+      | inr p ↦ other (record { from = grind (arith, part-reach (h + k) p.0 p.1); upto = grind (arith, part-reach (h + k) p.0 p.1) })
     ])
 
     own : (h k : ℕ) → IsPartOf (counts L) m h (h + k) → (e : E) × (at_home (A (h + k)) k ≡ e ∷ []) × (slice_get (L h) (k - spill (counts L) m h) ≡ Some e)
     own h k p = grind (arith, shows (h + k) h p, eq-eqb k k refl)
 
     met_take : (h : ℕ) → spill (counts L) m 0 ≤ h → (k : ℕ) → met A h 0 k ≡ take (k - spill (counts L) m h) (L h)
-    met_take h l zero =
-        let e : 0 ≡ 0 - spill (counts L) m h = omega arith in
-        ap (λ x. take x (L h)) e
+    met_take h l zero = grind arith
     met_take h l (suc k) =
         let z : 0 + k ≡ k = omega arith in
         let last : met A h 0 (suc k) ≡ met A h 0 k ++ at_home (A (h + k)) k = met-last A h 0 k ∙ ap (λ x. met A h 0 k ++ at_home (A (h + x)) x) z in
         elim (cases_lt k (spill (counts L) m h)) [
-          | inl early ↦
-              let e : k - spill (counts L) m h ≡ suc k - spill (counts L) m h = omega arith in
-              last ∙ ap (λ xs. met A h 0 k ++ xs) (not_own h k l (λ p. omega arith)) ∙ append-nil (met A h 0 k) ∙ met_take h l k ∙ ap (λ x. take x (L h)) e
+          | inl early ↦ grind (arith, last, ap (λ xs. met A h 0 k ++ xs) (not_own h k l (λ p. omega arith)), append-nil (met A h 0 k), met_take h l k)
           | inr from ↦ elim (cases_lt k (spill (counts L) m h + counts L h)) [
             | inl upto ↦
                 let r = own h k (record { from = omega arith; upto = omega arith }) in
@@ -161,8 +151,7 @@ module _ {E : Type 0} where
       pub laid-ordered : IsOrdered A
       laid-ordered = record {
         next = λ n.
-            let e : suc n + m ≡ suc (n + m) = omega arith in
-            omega (arith, order_at (n + m) (omega (arith, spill-lt (counts L) m roomy 0)), ap reach (again n), ap reach (again (suc n)), ap (λ x. reach (A x)) e);
+            grind (arith, order_at (n + m) (omega (arith, spill-lt (counts L) m roomy 0)), ap reach (again n), ap reach (again (suc n)));
       }
 
       -- and each home's list is read off them

@@ -16,12 +16,10 @@ module _ {E : Type 0} where
       occupied-none A h k (ap A e ∙ hole)
   occupied-is A h (suc v) zero l hole full = absurd (omega arith)
   occupied-is A h (suc v) (suc k) l hole full =
-      let e : h ≡ h + 0 = omega arith in
       let s : suc h + v ≡ h + suc v = omega arith in
-      let here : 1 ≤ reach (A h) = omega (arith, full 0 (omega arith), ap (λ x. reach (A x)) e) in
+      let here : 1 ≤ reach (A h) = grind (arith, full 0 (omega arith)) in
       occupied-some A h k here ∙ ap suc (occupied-is A (suc h) v k (omega arith) (ap A s ∙ hole) (λ j l.
-      let q : h + suc j ≡ suc h + j = omega arith in
-      omega (arith, full (suc j) (omega arith), ap (λ x. reach (A x)) q)))
+      grind (arith, full (suc j) (omega arith))))
 
   occupied-above : (A : ℕ → Option (Placed E)) (h v k : ℕ) → v ≤ k → ((j : ℕ) → j < v → 1 ≤ reach (A (h + j))) → v ≤ occupied A h k
   occupied-above A h zero k l full = omega arith
@@ -33,8 +31,7 @@ module _ {E : Type 0} where
         arith,
         occupied-some A h k here,
         occupied-above A (suc h) v k (omega arith) (λ j l.
-            let q : h + suc j ≡ suc h + j = omega arith in
-            omega (arith, full (suc j) (omega arith), ap (λ x. reach (A x)) q)),
+            grind (arith, full (suc j) (omega arith))),
       )
 
   -- the run of h ends at the first empty slot

@@ -89,9 +89,7 @@ module _ {E : Type 0} where
             | inl above ↦ rems-differ (length homes) (h + spill_of homes h + i) (n + length homes)
                 (omega (arith, apart (count homes) (length homes) roomy h (n + length homes) (omega arith), spill-again (count homes) (length homes) roomy.again n))
                 (omega arith) (sym e ∙ sym r ∙ sym (add-mod_right n (length homes)))
-            | inr upto ↦
-                let s : h ≡ n = omega arith in
-                omega (arith, ap (count homes) s)
+            | inr upto ↦ grind arith
           ]
         ]
 

@@ -33,9 +33,7 @@ pub largest-above : (f : ℕ → ℕ) (n k : ℕ) → k < n → f k ≤ largest 
 largest-above f zero k l = absurd (omega arith)
 largest-above f (suc n) k l = elim (cases_lt k n) [
   | inl below ↦ omega (arith, largest-above f n k below)
-  | inr above ↦
-      let e : k ≡ n = omega arith in
-      omega (arith, ap f e)
+  | inr above ↦ grind arith
 ]
 
 pub largest-below : (f : ℕ → ℕ) (n b : ℕ) → ((k : ℕ) → k < n → f k ≤ b) → largest f n ≤ b
@@ -86,11 +84,9 @@ module _ (c : ℕ → ℕ) (m : ℕ) (roomy : Roomy c m) where
   spill_up : (h : ℕ) → spill c m h + c h ≤ suc (spill c m (suc h))
   spill_up h =
       let r = spill-found c m h (omega (arith, roomy.room)) in
-      let e : h + m - r.0 + r.0 ≡ h + m = omega arith in
-      let s : suc h + m - suc r.0 ≡ h + m - r.0 = omega arith in
       elim (cases_lt (suc r.0) m) [
-        | inl below ↦ omega (arith, spill-above c m (suc h) (suc r.0) below, ap (λ x. window c x (suc r.0)) s, ap c e, roomy.again h)
-        | inr above ↦ omega (arith, within_lap (h + m - r.0) (suc r.0) (omega arith), roomy.room, ap c e, roomy.again h)
+        | inl below ↦ grind (arith, spill-above c m (suc h) (suc r.0) below, roomy.again h)
+        | inr above ↦ grind (arith, within_lap (h + m - r.0) (suc r.0) (omega arith), roomy.room, roomy.again h)
       ]
 
   -- what is spilled at the next home: one slot has passed, and this home's entries need slots
@@ -101,10 +97,8 @@ module _ (c : ℕ → ℕ) (m : ℕ) (roomy : Roomy c m) where
         | inl more ↦
             let j : ℕ = r.0 - 1 in
             let p : r.0 ≡ suc j = omega arith in
-            let e : h + m - j + j ≡ h + m = omega arith in
-            let s : suc h + m - suc j ≡ h + m - j = omega arith in
             let w : window c (suc h + m - suc j) (suc j) ≡ spill c m (suc h) + suc j = rw p at r.2 in
-            omega (arith, spill_up h, w, spill-above c m h j (omega arith), ap (λ x. window c x (suc j)) s, ap c e, roomy.again h)
+            grind (arith, spill_up h, w, spill-above c m h j (omega arith), roomy.again h)
         | inr none ↦
             let p : r.0 ≡ 0 = omega arith in
             let w : window c (suc h + m - 0) 0 ≡ spill c m (suc h) + 0 = rw p at r.2 in

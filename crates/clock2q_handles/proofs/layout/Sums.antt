@@ -1,5 +1,5 @@
 -- The sums of the entries: by slots, by homes, and as a list in the order of the slots.
-use Rattle.std.proofs.Common.{◌≡◌, ℕ, zero, suc, ◌+◌, ◌-◌, ◌≤◌, inl, inr, refl, ap, ◌∙◌, arith, List, [], ◌∷◌, length, take, take_all, get_or, sum_by, Option, Some, None}
+use Rattle.std.proofs.Common.{◌≡◌, ℕ, zero, suc, ◌+◌, ◌-◌, ◌≤◌, inl, inr, refl, ap, arith, List, [], ◌∷◌, length, take, take_all, get_or, sum_by, Option, Some, None}
 use Rattle.std.proofs.lemmas.Bool.{cases_lt}
 use Rattle.std.proofs.lemmas.List.Sums.{sum_by-cons, sum_by_push}
 use Rattle.clock2q_handles.specs.Layout.{Placed, window, spill, entries}
@@ -57,9 +57,7 @@ module _ {E : Type 0} where
           ap (sum_by w) (take_all (counts L (z + k)) (L (z + k)) (omega arith)),
         ) in
         elim (cases_lt 0 (spill (counts L) m (z + k) + counts L (z + k))) [
-          | inl more ↦
-              let e : suc k + spill (counts L) m (z + suc k) ≡ k + spill (counts L) m (z + k) + counts L (z + k) = omega (arith, step, ap (spill (counts L) m) o) in
-              ap (window (λ n. weight w (A n)) z) e ∙ part
+          | inl more ↦ grind (arith, part, step, ap (spill (counts L) m) o)
           | inr none ↦
               let e : suc k + spill (counts L) m (z + suc k) ≡ suc k = omega (arith, step, ap (spill (counts L) m) o) in
               let q : k + spill (counts L) m (z + k) + counts L (z + k) ≡ k = omega arith in

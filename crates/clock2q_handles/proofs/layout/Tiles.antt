@@ -1,5 +1,5 @@
 -- The slots of a table as parts, one for each home, with gaps between them.
-use Rattle.std.proofs.Common.{◌≡◌, ℕ, zero, suc, ◌+◌, ◌-◌, ◌<◌, ◌≤◌, ◌⊎◌, inl, inr, ap, arith}
+use Rattle.std.proofs.Common.{◌≡◌, ℕ, zero, suc, ◌+◌, ◌-◌, ◌<◌, ◌≤◌, ◌⊎◌, inl, inr, arith}
 use Rattle.std.proofs.lemmas.Bool.{cases_lt}
 use Rattle.clock2q_handles.specs.Layout.{window, spill}
 use Rattle.clock2q_handles.proofs.layout.Spill.{Roomy, window-lap, spill-again, spill-step}
@@ -37,15 +37,12 @@ module _ (c : ℕ → ℕ) (m : ℕ) (roomy : Roomy c m) where
     zero_at_first =
         let g = gap z in
         let here : spill c m (z + g.0) ≡ f g.0 = omega (arith, g.2.spilled, not_above g.0 (omega arith)) in
-        let e : g.0 + (m - g.0) ≡ m = omega arith in
-        omega (arith, same_from g.0 here (m - g.0) (omega arith), ap f e, ap (λ x. spill c m (z + x)) e, spill-again c m roomy.again z)
+        grind (arith, same_from g.0 here (m - g.0) (omega arith), spill-again c m roomy.again z)
 
     pub unique : (j : ℕ) → j ≤ m → spill c m (z + j) ≡ f j
     unique j l =
-        let o : z + 0 ≡ z = omega arith in
-        let e : 0 + j ≡ j = omega arith in
-        let here : spill c m (z + 0) ≡ f 0 = omega (arith, zero_at_first, ap (spill c m) o) in
-        omega (arith, same_from 0 here j (omega arith), ap f e, ap (λ x. spill c m (z + x)) e)
+        let here : spill c m (z + 0) ≡ f 0 = grind (arith, zero_at_first) in
+        grind (arith, same_from 0 here j (omega arith))
 
   -- the parts come in the order of their homes
   starts_up : (h k : ℕ) → h + spill c m h ≤ h + k + spill c m (h + k)
@@ -65,9 +62,7 @@ module _ (c : ℕ → ℕ) (m : ℕ) (roomy : Roomy c m) where
     | inl before ↦ taken_upto n h l before
     | inr from ↦ elim (cases_lt n (h + spill c m h + c h)) [
       | inl upto ↦ inr (h, record { from = from; upto = upto })
-      | inr past ↦
-          let e : n ≡ h = omega (arith, spill-step c m roomy h) in
-          inl (record { spilled = omega (arith, spill-step c m roomy h, ap (spill c m) e); counted = omega (arith, spill-step c m roomy h, ap c e) })
+      | inr past ↦ inl (record { spilled = grind (arith, spill-step c m roomy h); counted = grind (arith, spill-step c m roomy h) })
     ]
   ]
 

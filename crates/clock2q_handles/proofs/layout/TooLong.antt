@@ -23,8 +23,7 @@ module _ {E : Type 0} where
       let m : ℕ = length homes in
       let roomy : Roomy (count homes) m = roomy-of homes room in
       let r = spill-found (count homes) m h (omega arith) in
-      let e : h + m - r.0 + r.0 ≡ h + m = omega arith in
-      omega (arith, r.2, within_lap (count homes) m roomy (h + m - r.0) (suc r.0) r.1, ap (count homes) e, count-again homes h, sum-window length homes)
+      grind (arith, r.2, within_lap (count homes) m roomy (h + m - r.0) (suc r.0) r.1, count-again homes h, sum-window length homes)
 
   -- so it takes 2^24 entries for one to be too far
   pub too-long-total : (homes : List (List E)) → total homes ≤ capacity (length homes) → IsTooLong homes → 2 ^ 24 ≤ total homes
@@ -56,9 +55,7 @@ module _ {E : Type 0} where
       | inr all ↦ elim (cases_lt 0 (reach (slot_at slots (h + k)))) [
         | inl full ↦ inr (λ j l. elim (cases_lt j k) [
           | inl u ↦ all j u
-          | inr v ↦
-              let e : j ≡ k = omega arith in
-              omega (arith, ap (λ x. reach (slot_at slots (h + x))) e)
+          | inr v ↦ grind arith
         ])
         | inr empty ↦ inl (k, omega arith, reach-none (slot_at slots (h + k)) (omega arith), all)
       ]

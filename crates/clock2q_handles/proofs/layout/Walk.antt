@@ -81,16 +81,10 @@ module _ {E : Type 0} (A : ℕ → Option (Placed E)) (ordered : IsOrdered A) wh
     one_on : (h : ℕ) → Stops A (suc h) 1 (ending h - 1)
     one_on h = record {
       before = λ j l.
-          let e : h + suc j ≡ suc h + j = omega arith in
-          omega (arith, (ending-stops h).before (suc j) (omega arith), ap (λ x. reach (A x)) e);
+          grind (arith, (ending-stops h).before (suc j) (omega arith));
       stop = elim (cases_lt 0 (ending h)) [
-        | inl more ↦
-            let e : h + ending h ≡ suc h + (ending h - 1) = omega arith in
-            omega (arith, (ending-stops h).stop, ap (λ x. reach (A x)) e)
-        | inr none ↦
-            let z : h + ending h ≡ h = omega arith in
-            let e : suc h + (ending h - 1) ≡ suc h = omega arith in
-            omega (arith, (ending-stops h).stop, ordered.next h, ap (λ x. reach (A x)) z, ap (λ x. reach (A x)) e)
+        | inl more ↦ grind (arith, (ending-stops h).stop)
+        | inr none ↦ grind (arith, (ending-stops h).stop, ordered.next h)
       ];
     }
 
@@ -193,11 +187,9 @@ module _ {E : Type 0} (A : ℕ → Option (Placed E)) (ordered : IsOrdered A) wh
 
     spill_from : (j : ℕ) → j ≤ m → spill (counts lists) m (suc v + j) ≡ pushed (suc v + j)
     spill_from =
-        let o : suc v + 0 ≡ suc v = omega arith in
-        unique (counts lists) m lists-roomy (suc v) (λ j. pushed (suc v + j)) (omega (arith, ap pushed o, pushed-step v, ending_at_vacant))
+        unique (counts lists) m lists-roomy (suc v) (λ j. pushed (suc v + j)) (grind (arith, pushed-step v, ending_at_vacant))
         (omega (arith, pushed-again (suc v), pushed-step v, ending_at_vacant)) (λ j l.
-        let e : suc v + suc j ≡ suc (suc v + j) = omega arith in
-        omega (arith, ap pushed e, pushed-step (suc v + j), lists-length (suc v + j), pushed-le (suc v + j)))
+        grind (arith, pushed-step (suc v + j), lists-length (suc v + j), pushed-le (suc v + j)))
 
     -- what is spilled at a home is what a walk from it passes first
     pub spill-pushed : (h : ℕ) → spill (counts lists) m h ≡ pushed h
@@ -217,8 +209,7 @@ module _ {E : Type 0} (A : ℕ → Option (Placed E)) (ordered : IsOrdered A) wh
           ap A (sym s) ∙ met-entry h m i e is ∙ ap (λ x. Some (placed x e)) d;
       rest = λ n g. reach-none (A n) (
           let z : ending n ≡ 0 = omega (arith, ending-sum n, g.spilled, g.counted) in
-          let e : n + ending n ≡ n = omega arith in
-          omega (arith, (ending-stops n).stop, ap (λ x. reach (A x)) e));
+          grind (arith, (ending-stops n).stop));
     }
 
     -- a walk stops past its home's last entry

@@ -68,9 +68,7 @@ module _ {E : Type 0} (slots : List (Option (Placed E))) where
   come_on tidy g d s s' come far on =
       let passed : (j : ℕ) → j < suc d → j < reach (slot_at slots (g + j)) = λ j l. elim (cases_lt j d) [
         | inl before ↦ come.passed j before
-        | inr from ↦
-            let q : j ≡ d = omega (arith, l, from) in
-            omega (arith, far, ap reach (come_here g d s come), ap (λ i. reach (slot_at slots (g + i))) q, q)
+        | inr from ↦ grind (arith, far, ap reach (come_here g d s come), l, from)
       ] in
       record {
         slot = slot_on (length slots) g d s s' come.slot on;
@@ -105,9 +103,7 @@ carried_opens slots slots' first h n s k e tidy same come is within occupied non
     let at' : s ≡ (h + n) % length slots' = come.slot ∙ ap (λ x. (h + n) % x) (sym same) in
     let full : (j : ℕ) → j < n + k → 0 < reach (slot_at slots (h + j)) = λ j l. elim (cases_lt j n) [
       | inl before ↦ omega (arith, come.passed j before)
-      | inr from ↦
-          let q : n + (j - n) ≡ j = omega (arith, from) in
-          omega (arith, occupied (j - n) (omega (arith, l, from)), ap reach (slot_from_plus slots h n s (j - n) come.slot), ap (λ i. reach (slot_at slots (h + i))) q)
+      | inr from ↦ grind (arith, occupied (j - n) (omega (arith, l, from)), ap reach (slot_from_plus slots h n s (j - n) come.slot), from)
     ] in
     let upto : n + k < m = less_than_lap slots h (n + k) tidy (omega (arith, within)) full in
     let vacant : slot_at slots (h + (n + k)) ≡ None = sym (slot_from_plus slots h n s k come.slot) ∙ none in
@@ -226,9 +222,7 @@ module _ {H : Type 0} (old now : List (Option (Placed (ℕ × H)))) where
         let len' : length now' ≡ length old = set_len now' t next is ∙ state.len in
         let full : (j : ℕ) → j < suc k → 0 < reach (slot_at old (s + j)) = λ j l. elim (cases_lt j k) [
           | inl before ↦ state.occupied j before
-          | inr from ↦
-              let q : j ≡ k = omega (arith, l, from) in
-              omega (arith, occupied_mark there (slot_at old (s + k)) occ state.there_is, ap (λ i. reach (slot_at old (s + i))) q)
+          | inr from ↦ grind (arith, occupied_mark there (slot_at old (s + k)) occ state.there_is, l, from)
         ] in
         let within' : suc k < length old = less_than_lap old s (suc k) tidy some full in
         let at' : t' ≡ (s + suc k) % length old = slot_on (length old) s k t t' state.slot (on ∙ ap (λ m. (t + 1) % m) len') in
@@ -295,9 +289,7 @@ module _ {H : Type 0} (old now : List (Option (Placed (ℕ × H)))) where
             len = set_len now' t (cell mark' held) is ∙ state.len;
             occupied = λ j l. elim (cases_lt j (suc k)) [
               | inl before ↦ state.occupied j (omega (arith, before))
-              | inr from ↦
-                  let q : j ≡ suc k = omega (arith, l, from) in
-                  omega (arith, reach_next, ap reach next_was, ap (λ i. reach (slot_at old (s + i))) q)
+              | inr from ↦ grind (arith, reach_next, ap reach next_was, l, from)
             ];
             back = subst (λ m. MovingBack (slot_at old) (slot_at now') m s 0 (suc k)) state.len moved;
             writes = omega (arith, state.writes);
@@ -311,9 +303,7 @@ module _ {H : Type 0} (old now : List (Option (Placed (ℕ × H)))) where
           let k : ℕ = state.steps in
           let full : (j : ℕ) → j ≤ n + k → 0 < reach (slot_at old (h + j)) = λ j l. elim (cases_lt j n) [
             | inl before ↦ omega (arith, come.passed j before)
-            | inr from ↦
-                let q : n + (j - n) ≡ j = omega (arith, from) in
-                omega (arith, state.occupied (j - n) (omega (arith, l, from)), ap reach (slot_from_plus old h n s (j - n) come.slot), ap (λ i. reach (slot_at old (h + i))) q)
+            | inr from ↦ grind (arith, state.occupied (j - n) (omega (arith, l, from)), ap reach (slot_from_plus old h n s (j - n) come.slot), from)
           ] in
           let upto : suc (n + k) < length old = less_than_lap old h (suc (n + k)) tidy close_some (λ j l. full j (omega (arith, l))) in
           let back = subst (λ m. MovingBack (slot_at old) (slot_at now) m h n (n + k)) (sym state.len) (moving_back_home old now h n s k state.len come (omega (arith, upto)) state.back) in

@@ -270,9 +270,7 @@ module _ {E : Type 0} where
     module _ (tidy : IsTidy others) (near : reach (slot_at others (h + suc v)) ≤ 1) where
       away : (j : ℕ) → 0 < j → j ≤ v → 2 ≤ reach (slot_at others (h + j))
       away j some upto = elim (cases_lt d j) [
-        | inl past ↦
-            let q : suc (j - 1) ≡ j = omega arith in
-            omega (arith, moved_far (slot_at slots) (slot_at others) (length slots) h d v e moved (j - 1) (omega arith) (omega arith), ap (λ x. reach (slot_at others (h + x))) q)
+        | inl past ↦ grind (arith, moved_far (slot_at slots) (slot_at others) (length slots) h d v e moved (j - 1) (omega arith) (omega arith))
         | inr from ↦ omega (arith, passed (slot_at others) tidy.ordered h 0 d (omega (arith, ap reach moved.here)) j from)
       ]
 
@@ -281,9 +279,7 @@ module _ {E : Type 0} where
         | inl early ↦ omega (arith, passed (slot_at others) tidy.ordered h 0 d (omega (arith, ap reach moved.here)) j (omega arith))
         | inr from ↦ elim (cases_lt d j) [
           | inl past ↦ omega (arith, away j (omega arith) (omega arith))
-          | inr at ↦
-              let q : d ≡ j = omega arith in
-              omega (arith, ap reach moved.here, ap (λ x. reach (slot_at others (h + x))) q)
+          | inr at ↦ grind (arith, ap reach moved.here)
         ]
       ]
 

@@ -34,14 +34,10 @@ module _ {E : Type 0} (A B : ℕ → Option (Placed E)) (m : ℕ) (again : (k : 
   wrapped : (j : ℕ) → suc j ≡ m → reach (B (g + suc j)) ≤ suc (reach (A (g + j)))
   wrapped j last =
       let p : g + suc j ≡ g + m = omega (arith, last) in
-      let z : g + 0 ≡ g = omega arith in
       let here = ap (λ k. reach (B k)) p ∙ ap reach (again' g) in
       elim (cases_lt 0 n) [
-        | inl later ↦
-            omega (arith, here, ap (λ k. reach (B k)) z, ap reach (opens.before 0 later), ap (λ k. reach (A k)) z, ap reach (again g), ap (λ k. reach (A k)) p, next j)
-        | inr home ↦
-            let q : g + n ≡ g = omega (arith, home) in
-            omega (arith, here, ap (λ k. reach (B k)) q, ap reach opens.put, home)
+        | inl later ↦ grind (arith, here, ap reach (opens.before 0 later), ap reach (again g), ap (λ k. reach (A k)) p, next j)
+        | inr home ↦ grind (arith, here, ap reach opens.put, home)
       ]
 
   inside : (j : ℕ) → suc j < m → reach (B (g + suc j)) ≤ suc (reach (A (g + j)))

@@ -69,8 +69,7 @@ module _ {E : Type 0} where
         let s : placed (suc r.0.displacement) r.0.entry ≡ placed (suc x) y = cc in
         let dx : suc r.0.displacement ≡ suc x = ap (λ w. w.displacement) s in
         let dy : r.0.entry ≡ y = ap (λ w. w.entry) s in
-        let ds : r.0.displacement ≡ x = omega arith in
-        r.1 ∙ ap (λ w. Some (placed w r.0.entry)) ds ∙ ap (λ w. Some (placed x w)) dy
+        grind (arith, r.1, ap (λ w. Some (placed x w)) dy)
 
   module _ (m z a v : ℕ) (L M : ℕ → List E) (A B : ℕ → Option (Placed E)) (xs ys : List E) (e : E)
       (less : L (z + a) ≡ xs ++ ys) (more : M (z + a) ≡ xs ++ e ∷ ys) (same : (j : ℕ) → j < m → (j ≡ a → ⊥) → M (z + j) ≡ L (z + j))
@@ -81,7 +80,6 @@ module _ {E : Type 0} where
     upto_last j k l lk = elim (cases_lt (suc j) m) [
       | inl inner ↦
           let i : ℕ = m - 1 in
-          let q : z + i ≡ v = omega arith in
           let g : IsGap (counts L) m (z + i) = one.gap i (omega arith) in
           omega (arith, apart (counts L) m roomy (z + j) (z + i) (omega arith), g.spilled)
       | inr last ↦
@@ -114,16 +112,16 @@ module _ {E : Type 0} where
       open_standing : (j k : ℕ) (f : E) → j < m → slice_get (M (z + j)) k ≡ Some f → B (z + j + spill (counts M) m (z + j) + k) ≡ Some (placed (spill (counts M) m (z + j) + k) f)
       open_standing j k f l is = elim (cases_lt j a) [
         | inl before ↦
-            let s : spill (counts L) m (z + j) ≡ spill (counts M) m (z + j) = omega (arith, one.spills j l) in
             let is' : slice_get (L (z + j)) k ≡ Some f = ap (λ x. slice_get x k) (sym (same j l (λ q. omega arith))) ∙ is in
-            ap (λ x. B (z + j + x + k)) (sym s)
-            ∙ in_place j k f l (omega (arith, apart (counts L) m roomy (z + j) (z + a) (omega arith), slice_get_within (L (z + j)) k f is')) is' ∙ ap (λ x. Some (placed (x + k) f)) s
+            grind (
+              arith,
+              in_place j k f l (omega (arith, apart (counts L) m roomy (z + j) (z + a) (omega arith), slice_get_within (L (z + j)) k f is')) is',
+              one.spills j l,
+            )
         | inr from ↦ elim (cases_lt a j) [
           | inl past ↦
-              let s : suc (spill (counts L) m (z + j) + k) ≡ spill (counts M) m (z + j) + k = omega (arith, one.spills j l) in
-              let p : suc (z + j + spill (counts L) m (z + j) + k) ≡ z + j + spill (counts M) m (z + j) + k = omega (arith, one.spills j l) in
               let is' : slice_get (L (z + j)) k ≡ Some f = ap (λ x. slice_get x k) (sym (same j l (λ q. omega arith))) ∙ is in
-              ap B (sym p) ∙ on_by_one j k f l from (λ q. omega arith) is' ∙ ap (λ x. Some (placed x f)) s
+              grind (arith, on_by_one j k f l from (λ q. omega arith) is', one.spills j l)
           | inr upto ↦
               let q : j ≡ a = omega arith in
               let qs : spill (counts L) m (z + j) ≡ spill (counts L) m (z + a) = ap (λ x. spill (counts L) m (z + x)) q in
@@ -132,14 +130,8 @@ module _ {E : Type 0} where
               elim (inserted_get xs ys e f k (ap (λ x. slice_get x k) (sym more) ∙ ap (λ x. slice_get (M (z + x)) k) (sym q) ∙ is)) [
                 | inl front ↦ ap (λ x. B (z + j + x + k)) (sym s) ∙ in_place j k f l (omega arith) (ap (λ x. slice_get x k) lq ∙ front.1) ∙ ap (λ x. Some (placed (x + k) f)) s
                 | inr r ↦ elim r [
-                  | inl here ↦
-                      let p : z + j + spill (counts M) m (z + j) + k ≡ z + a + spill (counts L) m (z + a) + length xs = omega arith in
-                      let t : spill (counts L) m (z + a) + length xs ≡ spill (counts M) m (z + j) + k = omega arith in
-                      ap B p ∙ opened.here ∙ ap (λ x. Some (placed x e)) t ∙ ap (λ y. Some (placed (spill (counts M) m (z + j) + k) y)) here.1
-                  | inr back ↦
-                      let p : suc (z + j + spill (counts L) m (z + j) + (k - 1)) ≡ z + j + spill (counts M) m (z + j) + k = omega arith in
-                      let t : suc (spill (counts L) m (z + j) + (k - 1)) ≡ spill (counts M) m (z + j) + k = omega arith in
-                      ap B (sym p) ∙ on_by_one j (k - 1) f l from (λ _. omega arith) (ap (λ x. slice_get x (k - 1)) lq ∙ back.1) ∙ ap (λ x. Some (placed x f)) t
+                  | inl here ↦ grind (arith, opened.here, ap (λ y. Some (placed (spill (counts M) m (z + j) + k) y)) here.1)
+                  | inr back ↦ grind (arith, on_by_one j (k - 1) f l from (λ _. omega arith) (ap (λ x. slice_get x (k - 1)) lq ∙ back.1))
                 ]
               ]
         ]

@@ -115,8 +115,6 @@ module _ {H : Type 0} (slots : List (Option (Placed (ℕ × H)))) (x : ℕ) wher
       let A = slot_at slots in
       let m : ℕ = length slots in
       let rest = met A g (n + 1) (m - (n + 1)) in
-      let k : n + 1 - n ≡ suc 0 = omega arith in
-      let z : n + 0 ≡ n = omega arith in
       let one : matching x (met A g n (n + 1 - n)) ≡ (top x, next.handle) ∷ [] =
       ap (matching x) (met-next A g n n (omega arith) ∙ ap (λ i. met A g n i ++ at_home (A (g + n)) n) (let s : n - n ≡ 0 = omega arith in s)) ∙ matching-here x (A (g + n)) n next.handle next.here in
       let split : met A g d (m - d) ≡ met A g d (n - d) ++ (met A g n (n + 1 - n) ++ rest) =
