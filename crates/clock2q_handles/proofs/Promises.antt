@@ -6,8 +6,7 @@ use Rattle.clock2q_handles.specs.Homes.{total, capacity, with_handle, removed, I
 use Rattle.clock2q_handles.specs.Layout.{Placed, layout, homes_of, IsTidy, IsTooLong}
 use Rattle.clock2q_handles.specs.TableStep.{TableValue}
 use Rattle.clock2q_handles.specs.Table.{IsWhole}
-use Rattle.clock2q_handles.specs.Changes.{PutIn, IsLaidOut}
-use Rattle.clock2q_handles.specs.declared.error.TableError.{TableError}
+use Rattle.clock2q_handles.specs.Changes.{IsLaidOut}
 use Rattle.clock2q_handles.proofs.layout.TidyLayout.{length-homes_of}
 use Rattle.clock2q_handles.proofs.shifts.Changes.{length-with_list}
 use Rattle.clock2q_handles.proofs.layout.FewerEntries.{total-put_last}
@@ -48,16 +47,6 @@ pub no_error : {T E : Type 0} (r : Result T E) (e : E) → IsOk r → r ≡ Err 
 no_error r e ok is = let no = subst IsOk is ok in cc
 
 module _ {H : Type 0} where
-  -- what an insertion that is not refused results in
-  pub put_ok : (old new : List (List (ℕ × H))) (x : ℕ) (v : H) (r : Result (Unit {0}) TableError) → PutIn old x v r new → OnOk r (new ≡ with_handle old x v)
-  put_ok old new x v (Ok u) put = put.0
-  put_ok old new x v (Err e) put = tt
-
-  -- and why one is refused
-  pub put_err : (old new : List (List (ℕ × H))) (x : ℕ) (v : H) (r : Result (Unit {0}) TableError) → PutIn old x v r new → OnErr r (IsTooLong (with_handle old x v))
-  put_err old new x v (Ok u) put = tt
-  put_err old new x v (Err e) put = put.2
-
   -- what callers may rely on of every table includes where the entries are
   pub whole_laid : (t : TableValue H) → IsWhole t → IsLaidOut t
   whole_laid t whole = record { laid = whole.laid; best = best-placed t.homes whole.room }

@@ -25,14 +25,8 @@ spill-any c m roomy a (suc k) = grind (arith, spill-any c m roomy a k, spill-ste
 pub spill-fewer : (c d : ℕ → ℕ) (m k : ℕ) → Roomy c m → 0 < k * m → ((n : ℕ) → d n ≤ c n) → (h : ℕ) → spill d (k * m) h ≤ spill c m h
 spill-fewer c d m k roomy some fewer h =
     let r = spill-found d (k * m) h some in
-    grind (
-      arith,
-      spill-found d (k * m) h some,
-      window-le d c (h + k * m - r.0) r.0 (λ j _. fewer (h + k * m - r.0 + j)),
-      spill-any c m roomy (h + k * m - r.0) r.0,
-      again-times (spill c m) m (spill-again c m roomy.again) h k,
-      spill-again c m roomy.again,
-    )
+    let a : ℕ = h + k * m - r.0 in
+    grind (arith, r.1, r.2, window-le d c a r.0 (λ j _. fewer (a + j)), spill-any c m roomy a r.0, again-times (spill c m) m (spill-again c m roomy.again) h k)
 
 module _ {E : Type 0} where
   pub walk-is : (homes : List (List E)) (x : ℕ) → 0 < length homes → walk homes x ≡ spill_of homes x + count homes x + 1
@@ -143,18 +137,16 @@ module _ {H : Type 0} (key : H → ℕ) where
 
   sum_by_front : (w : Placed (ℕ × H) → ℕ) (slots : List (Option (Placed (ℕ × H)))) (i : ℕ) → sum_by w (entries (take i slots)) ≤ sum_by w (entries slots)
   sum_by_front w slots i =
-      omega (
-        arith,
-        sum_by-append w (entries (take i slots)) (entries (drop i slots)),
-        ap (sum_by w) (sym (filter_map-append (λ s. s) (take i slots) (drop i slots)) ∙ ap entries (take-append-drop i slots)),
-      )
+      let front = entries (take i slots) in
+      let rest = entries (drop i slots) in
+      grind (arith, sum_by-append w front rest, filter_map-append (λ s. s) (take i slots) (drop i slots), take-append-drop i slots)
 
   -- while a table is rebuilt to k times its slots, no home has more entries than the home that they came from
   pub rebuilding-count : (homes : List (List (ℕ × H))) (k i n : ℕ) → total homes < length homes → 0 < k * length homes
       → IsHashOf key homes → count (put_all key (no_entries (k * length homes)) (entries (take i (layout homes)))) n ≤ count homes n
   rebuilding-count homes k i n room some hashes =
       let m : ℕ = k * length homes in
-      omega (
+      grind (
         arith,
         count-put_all (no_entries m) m n (entries (take i (layout homes))) (length-replicate m []) some,
         count-no_entries m n,

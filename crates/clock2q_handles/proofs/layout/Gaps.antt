@@ -1,5 +1,5 @@
 -- What one more entry does: to what is spilled, and to the slots, of which those up to the next empty one move on by one. In reverse, what one entry less does.
-use Rattle.std.proofs.Common.{◌≡◌, ℕ, suc, ◌+◌, ◌-◌, ◌<◌, ◌≤◌, inl, inr, min, ap, ◌∙◌, arith}
+use Rattle.std.proofs.Common.{◌≡◌, ℕ, suc, ◌+◌, ◌-◌, ◌<◌, ◌≤◌, min, arith}
 use Rattle.std.proofs.lemmas.Bool.{cases_lt}
 use Rattle.clock2q_handles.specs.Layout.{spill}
 use Rattle.clock2q_handles.proofs.layout.Spill.{Roomy, spill-again, spill-step}
@@ -27,14 +27,7 @@ module _ (c d : ℕ → ℕ) (m z a : ℕ) (roomy : Roomy c m) (roomy' : Roomy d
     raised_step j l = grind (arith, spill-step c m roomy (z + j), cases_lt (suc j) m, cases_lt j a, cases_lt a j)
 
     raised_is : (j : ℕ) → j ≤ m → spill d m (z + j) ≡ raised j
-    raised_is = unique d m roomy' z raised first last raised_step
-      where
-        first : raised 0 ≡ 0
-        first =
-            grind (arith, start_zero)
-
-        last : raised m ≡ 0
-        last = omega (arith, start_zero, spill-again c m roomy.again z)
+    raised_is = unique d m roomy' z raised (grind (arith, start_zero)) (omega (arith, start_zero, spill-again c m roomy.again z)) raised_step
 
     -- one more entry pushes the homes after it, up to the gap, by one
     pub one-more : IsOneMore c d m z a
@@ -48,47 +41,15 @@ module _ (c d : ℕ → ℕ) (m z a : ℕ) (roomy : Roomy c m) (roomy' : Roomy d
     lowered_step j l = grind (arith, spill-step d m roomy' (z + j), cases_lt j a, cases_lt a j, cases_lt (suc j) m)
 
     lowered_is : (j : ℕ) → j ≤ m → spill c m (z + j) ≡ lowered j
-    lowered_is = unique c m roomy z lowered first last lowered_step
-      where
-        first : lowered 0 ≡ 0
-        first =
-            grind (arith, ends, spill-again d m roomy'.again z)
-
-        last : lowered m ≡ 0
-        last = omega (arith, ends)
+    lowered_is = unique c m roomy z lowered (grind (arith, spill-again d m roomy'.again z)) (omega (arith, ends)) lowered_step
 
     -- one entry less pulls back the homes after it, up to the first slot whose entry is at its home
     pub one-less : IsOneMore c d m z a
-    one-less = record { spills = spills; more = more; same = same; full = full; gap = gap }
-      where
-        spills : (j : ℕ) → j < m → spill d m (z + j) ≡ spill c m (z + j) + min 1 (j - a)
-        spills j l = elim (cases_lt a j) [
-          | inl past ↦ omega (arith, lowered_is j (omega arith), pushed j past l)
-          | inr upto ↦ omega (arith, lowered_is j (omega arith))
-        ]
-
-        full : (j : ℕ) → a ≤ j → suc j < m → 1 ≤ spill c m (z + j) + c (z + j)
-        full j from l =
-            let e : z + suc j ≡ suc (z + j) = omega arith in
-            let s : spill d m (z + suc j) ≡ spill d m (z + j) + d (z + j) - 1 = ap (spill d m) e ∙ spill-step d m roomy' (z + j) in
-            elim (cases_lt a j) [
-              | inl past ↦ omega (arith, s, lowered_is j (omega arith), pushed (suc j) (omega arith) l, pushed j past (omega arith), same j (omega arith) (λ q. omega arith))
-              | inr at ↦ grind (arith, s, lowered_is j (omega arith), pushed (suc j) (omega arith) l, more)
-            ]
-
-        gap : (j : ℕ) → suc j ≡ m → IsGap c m (z + j)
-        gap j q =
-            let e : z + suc j ≡ suc (z + j) = omega arith in
-            let s : spill d m (z + suc j) ≡ spill d m (z + j) + d (z + j) - 1 = ap (spill d m) e ∙ spill-step d m roomy' (z + j) in
-            let f : spill d m (z + suc j) ≡ spill d m (z + m) = ap (λ x. spill d m (z + x)) q in
-            elim (cases_lt a j) [
-              | inl past ↦ record {
-                spilled = omega (arith, s, f, ends, lowered_is j (omega arith), pushed j past (omega arith), same j (omega arith) (λ q. omega arith));
-                counted = omega (arith, s, f, ends, pushed j past (omega arith), same j (omega arith) (λ q. omega arith));
-              }
-              | inr at ↦
-                  record {
-                    spilled = grind (arith, s, f, ends, lowered_is j (omega arith), more);
-                    counted = grind (arith, s, f, ends, more);
-                  }
-            ]
+    one-less =
+        record {
+          spills = λ j l. grind (arith, lowered_is j (omega arith), pushed j);
+          more = more;
+          same = same;
+          full = λ j from l. grind (arith, spill-step d m roomy' (z + j), lowered_is j (omega arith), pushed (suc j), pushed j, same j);
+          gap = λ j q. grind (arith, spill-step d m roomy' (z + j), lowered_is j (omega arith), pushed j, same j);
+        }

@@ -163,15 +163,8 @@ module _ {E : Type 0} where
   -- two lists of slots laid out for the same lists show the same
   pub laid-same : (m : ℕ) (L : ℕ → List E) (A B : ℕ → Option (Placed E)) → Roomy (counts L) m
       → ((n : ℕ) → A (n + m) ≡ A n) → ((n : ℕ) → B (n + m) ≡ B n) → IsLaid m L A → IsLaid m L B → (n : ℕ) → A n ≡ B n
-  laid-same m L A B roomy a b p q n = sym (a n) ∙ at_lap ∙ b n
-    where
-      at_lap : A (n + m) ≡ B (n + m)
-      at_lap = elim (taken (counts L) m roomy (n + m) (omega (arith, spill-lt (counts L) m roomy 0))) [
-        | inl g ↦ p.rest (n + m) g ∙ sym (q.rest (n + m) g)
-        | inr r ↦
-            let x = shows m L A roomy p (n + m) r.0 r.1 in
-            let y = shows m L B roomy q (n + m) r.0 r.1 in
-            let e : Some x.0 ≡ Some y.0 = sym x.2 ∙ y.2 in
-            let s : x.0 ≡ y.0 = cc in
-            x.1 ∙ ap (λ w. Some (placed (n + m - r.0) w)) s ∙ sym y.1
+  laid-same m L A B roomy a b p q n =
+      elim (taken (counts L) m roomy (n + m) (omega (arith, spill-lt (counts L) m roomy 0))) [
+        | inl g ↦ sym (a n) ∙ p.rest (n + m) g ∙ sym (q.rest (n + m) g) ∙ b n
+        | inr r ↦ let x = shows m L A roomy p (n + m) r.0 r.1 in let y = shows m L B roomy q (n + m) r.0 r.1 in grind (arith, a n, b n, x.1, x.2, y.1, y.2)
       ]

@@ -1,5 +1,5 @@
 -- No placement of the same entries does better than the layout: the homes of a window that is overfull have too many entries for nearer slots.
-use Rattle.std.proofs.Common.{◌≡◌, ℕ, zero, suc, ◌+◌, ◌-◌, ◌%◌, ◌<◌, ◌≤◌, ◌⊎◌, inl, inr, refl, ap, sym, ◌∙◌, arith, true, eqb, eqb-true, eq-eqb, ne_eqb, List, [], ◌∷◌, length}
+use Rattle.std.proofs.Common.{◌≡◌, ℕ, zero, suc, ◌+◌, ◌-◌, ◌%◌, ◌<◌, ◌≤◌, ◌⊎◌, inl, inr, refl, sym, arith, true, eqb, eqb-true, eq-eqb, ne_eqb, List, [], ◌∷◌, length}
 use Rattle.std.proofs.Common.{mod-eq_of_lt}
 use Rattle.std.specs.List.{IsDistinct, AllByRecursion, list_any}
 use Rattle.std.proofs.lemmas.Bool.{cases_lt}
@@ -79,18 +79,14 @@ some_in_row g (suc n) b = grind (arith, some_in_row g n b, cases_lt (g n) b)
 
 some_in_rows : (f : ℕ → ℕ → ℕ) (c : ℕ → ℕ) (n b : ℕ) → ((t : ℕ) × (j : ℕ) × (t < n) × (j < c t) × (b ≤ f t j)) ⊎ ((t j : ℕ) → t < n → j < c t → f t j < b)
 some_in_rows f c zero b = inr (λ t j l. absurd (omega arith))
-some_in_rows f c (suc n) b = elim (some_in_rows f c n b) [
-  | inl r ↦ inl (r.0, r.1, omega arith, r.3, r.4)
-  | inr all ↦ elim (some_in_row (f n) (c n) b) [
-    | inl r ↦ inl (n, r.0, omega arith, r.1, r.2)
-    | inr row ↦ inr (λ t j l lj. elim (cases_lt t n) [
-      | inl u ↦ all t j u lj
-      | inr v ↦
-          let e : t ≡ n = omega arith in
-          omega (arith, row j (omega (arith, ap c e)), ap (λ x. f x j) e)
-    ])
-  ]
-]
+some_in_rows f c (suc n) b =
+    elim (some_in_rows f c n b) [
+      | inl r ↦ inl (r.0, r.1, omega arith, r.3, r.4)
+      | inr all ↦ elim (some_in_row (f n) (c n) b) [
+        | inl r ↦ inl (n, r.0, omega arith, r.1, r.2)
+        | inr row ↦ inr (λ t j l lj. grind (arith, all t j, row j))
+      ]
+    ]
 
 window-from : (c : ℕ → ℕ) (a k : ℕ) → window (λ t. c (a + t)) 0 k ≡ window c a k
 window-from c a zero = refl
@@ -129,24 +125,23 @@ module _ {E : Type 0} (homes : List (List E)) (room : total homes < length homes
   slot_of t j l =
       let m : ℕ = length homes in
       let d : ℕ = (place (from_home t) j + m - from_home t) % m in
-      let e : h + m - wide + (t + d) ≡ h + m - wide + t + d = omega arith in
-      ap (λ x. x % m) e ∙ sym (rem-same (λ x. (x + d) % m) m (λ n. let q : n + m + d ≡ n + d + m = omega arith in ap (λ x. x % m) q ∙ add-mod_right (n + d) m) (h + m - wide + t))
-      ∙ round_trip m (from_home t) (place (from_home t) j) (home_lt t) (placement.within (from_home t) j (home_lt t) (omega (arith, home_count t)))
+      let around = rem-same (λ x. (x + d) % m) m (λ n. grind (arith, add-mod_right (n + d) m)) (h + m - wide + t) in
+      grind (arith, around, round_trip m (from_home t) (place (from_home t) j), home_lt t, placement.within (from_home t) j, home_count t)
 
   offsets_apart : (t j u k : ℕ) → t < suc wide → j < count homes (h + length homes - wide + t)
       → u < suc wide → k < count homes (h + length homes - wide + u) → offset t j ≡ offset u k → (t ≡ u) × (j ≡ k)
   offsets_apart t j u k lt lj lu lk e =
       let m : ℕ = length homes in
-      let same : place (from_home t) j ≡ place (from_home u) k = sym (slot_of t j lj) ∙ ap (λ x. (h + m - wide + x) % m) e ∙ slot_of u k lk in
-      let r = placement.apart (from_home t) j (from_home u) k (home_lt t) (omega (arith, home_count t)) (home_lt u) (omega (arith, home_count u)) same in (
-        elim (cases_lt t u) [
-          | inl below ↦ absurd (rems-differ m (h + m - wide + t) (h + m - wide + u) (omega arith) (omega (arith, wide_lt)) r.0)
-          | inr from ↦ elim (cases_lt u t) [
-            | inl above ↦ absurd (rems-differ m (h + m - wide + u) (h + m - wide + t) (omega arith) (omega (arith, wide_lt)) (sym r.0))
-            | inr upto ↦ omega arith
-          ]
-        ],
-        r.1,
+      let here = home_count t in
+      let there = home_count u in
+      grind (
+        arith,
+        slot_of t j lj,
+        slot_of u k lk,
+        placement.apart (from_home t) j (from_home u) k (home_lt t) (omega arith) (home_lt u) (omega arith),
+        rems-differ m (h + m - wide + t) (h + m - wide + u),
+        rems-differ m (h + m - wide + u) (h + m - wide + t),
+        wide_lt,
       )
 
   -- too many for nearer slots

@@ -25,14 +25,7 @@ module _ {E : Type 0} where
   occupied-above A h zero k l full = omega arith
   occupied-above A h (suc v) zero l full = absurd (omega arith)
   occupied-above A h (suc v) (suc k) l full =
-      let e : h ≡ h + 0 = omega arith in
-      let here : 1 ≤ reach (A h) = omega (arith, full 0 (omega arith), ap (λ x. reach (A x)) e) in
-      omega (
-        arith,
-        occupied-some A h k here,
-        occupied-above A (suc h) v k (omega arith) (λ j l.
-            grind (arith, full (suc j) (omega arith))),
-      )
+      grind (arith, full 0, occupied-some A h k, occupied-above A (suc h) v k (omega arith) (λ j l. grind (arith, full (suc j))))
 
   -- the run of h ends at the first empty slot
   pub run-is : (slots : List (Option (Placed E))) (h v : ℕ) → v < length slots → slot_at slots (h + v) ≡ None → ((j : ℕ) → j < v → 1 ≤ reach (slot_at slots (h + j))) → run slots h ≡ v

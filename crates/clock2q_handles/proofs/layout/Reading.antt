@@ -82,41 +82,30 @@ module _ {E : Type 0} where
 
     gap_other : (n : ℕ) → n < length homes → IsGap (count homes) (length homes) n → (h i : ℕ) → h < length homes → i < count homes h → n ≡ (h + spill_of homes h + i) % length homes → ⊥
     gap_other n l g h i lh li e =
-        let r : n % length homes ≡ n = mod-eq_of_lt l in
-        elim (cases_lt h n) [
-          | inl below ↦ rems-differ (length homes) (h + spill_of homes h + i) n (omega (arith, apart (count homes) (length homes) roomy h n below)) (omega arith) (sym e ∙ sym r)
-          | inr from ↦ elim (cases_lt n h) [
-            | inl above ↦ rems-differ (length homes) (h + spill_of homes h + i) (n + length homes)
-                (omega (arith, apart (count homes) (length homes) roomy h (n + length homes) (omega arith), spill-again (count homes) (length homes) roomy.again n))
-                (omega arith) (sym e ∙ sym r ∙ sym (add-mod_right n (length homes)))
-            | inr upto ↦ grind arith
-          ]
-        ]
+        grind (
+          arith,
+          mod-eq_of_lt l,
+          apart (count homes) (length homes) roomy h n,
+          apart (count homes) (length homes) roomy h (n + length homes),
+          spill-again (count homes) (length homes) roomy.again n,
+          rems-differ (length homes) (h + spill_of homes h + i) n,
+          rems-differ (length homes) (h + spill_of homes h + i) (n + length homes),
+          add-mod_right n (length homes),
+        )
 
     -- the layout lays out the lists
     pub layout-laid : IsLaid (length homes) (listed homes) (slot_at (layout homes))
-    layout-laid = record {
-      standing = λ h i e is.
-          let m : ℕ = length homes in
-          let g : ℕ = h % m in
-          let lg : g < m = omega (arith, roomy.room) in
-          let ls : listed homes g ≡ listed homes h = rem-same (listed homes) m (listed-again homes) h in
-          let ss : spill_of homes g ≡ spill_of homes h = rem-same (spill (count homes) m) m (spill-again (count homes) m roomy.again) h in
-          let here : get_or (layout_upto homes m) ((g + spill_of homes g + i) % m) None ≡ Some (placed (spill_of homes g + i) e) =
-          upto_at m (omega arith) g i e lg (ap (λ xs. slice_get xs i) ls ∙ is) in
-          let rem : (g + spill_of homes h + i) % m ≡ (h + spill_of homes h + i) % m =
-          rem-same (λ x. (x + spill_of homes h + i) % m) m (λ n. let e : n + m + spill_of homes h + i ≡ n + spill_of homes h + i + m = omega arith in
-          ap (λ x. x % m) e ∙ add-mod_right (n + spill_of homes h + i) m) h in
-          at_slot (h + spill_of homes h + i) ∙ ap (λ x. get_or (layout_upto homes m) x None) (sym rem)
-          ∙ ap (λ x. get_or (layout_upto homes m) ((g + x + i) % m) None) (sym ss) ∙ here ∙ ap (λ x. Some (placed (x + i) e)) ss;
-      rest = λ n g.
-          let m : ℕ = length homes in
-          let ln : n % m < m = omega (arith, roomy.room) in
-          at_slot n ∙ upto_other homes (n % m) m
-          (gap_other (n % m) ln
-          (record {
-            spilled = rem-same (spill (count homes) m) m (spill-again (count homes) m roomy.again) n
-                ∙ g.spilled;
-            counted = rem-same (count homes) m (count-again homes) n ∙ g.counted;
-          }));
-    }
+    layout-laid =
+        let m : ℕ = length homes in
+        record {
+          standing = λ h i e is.
+              let ls = rem-same (listed homes) m (listed-again homes) h in
+              let ss = rem-same (spill (count homes) m) m (spill-again (count homes) m roomy.again) h in
+              let rem = rem-same (λ x. (x + spill_of homes h + i) % m) m (λ n. grind (arith, add-mod_right (n + spill_of homes h + i) m)) h in
+              grind (arith, roomy.room, at_slot (h + spill_of homes h + i), rem, ss, ls, upto_at m (omega arith) (h % m) i e);
+          rest = λ n g.
+              at_slot n ∙ upto_other homes (n % m) m (gap_other (n % m) (omega (arith, roomy.room)) (record {
+                spilled = rem-same (spill (count homes) m) m (spill-again (count homes) m roomy.again) n ∙ g.spilled;
+                counted = rem-same (count homes) m (count-again homes) n ∙ g.counted;
+              }));
+        }

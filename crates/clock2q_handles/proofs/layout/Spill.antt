@@ -36,18 +36,11 @@ largest-above f (suc n) k l = elim (cases_lt k n) [
   | inr above ↦ grind arith
 ]
 
-pub largest-below : (f : ℕ → ℕ) (n b : ℕ) → ((k : ℕ) → k < n → f k ≤ b) → largest f n ≤ b
-largest-below f zero b below = omega arith
-largest-below f (suc n) b below = omega (arith, largest-below f n b (λ k l. below k (omega arith)), below n (omega arith))
-
 pub largest-found : (f : ℕ → ℕ) (n : ℕ) → (k : ℕ) × (k < suc n) × (f k ≡ largest f (suc n))
 largest-found f zero = (0, omega arith, omega arith)
 largest-found f (suc n) =
     let r = largest-found f n in
-    elim (cases_lt (f (suc n)) (largest f (suc n))) [
-      | inl below ↦ (r.0, omega arith, omega arith)
-      | inr above ↦ (suc n, omega arith, omega arith)
-    ]
+    elim (cases_lt (f (suc n)) (largest f (suc n))) [ inl below ↦ (r.0, omega arith, omega arith) | inr above ↦ (suc n, omega arith, omega arith) ]
 
 pub largest-same : (f g : ℕ → ℕ) (n : ℕ) → ((k : ℕ) → k < n → f k ≡ g k) → largest f n ≡ largest g n
 largest-same f g zero same = refl
@@ -84,23 +77,10 @@ module _ (c : ℕ → ℕ) (m : ℕ) (roomy : Roomy c m) where
   spill_up : (h : ℕ) → spill c m h + c h ≤ suc (spill c m (suc h))
   spill_up h =
       let r = spill-found c m h (omega (arith, roomy.room)) in
-      elim (cases_lt (suc r.0) m) [
-        | inl below ↦ grind (arith, spill-above c m (suc h) (suc r.0) below, roomy.again h)
-        | inr above ↦ grind (arith, within_lap (h + m - r.0) (suc r.0) (omega arith), roomy.room, roomy.again h)
-      ]
+      grind (arith, r.1, r.2, roomy.again h, roomy.room, spill-above c m (suc h) (suc r.0), within_lap (h + m - r.0) (suc r.0))
 
   -- what is spilled at the next home: one slot has passed, and this home's entries need slots
   pub spill-step : (h : ℕ) → spill c m (suc h) ≡ spill c m h + c h - 1
   spill-step h =
       let r = spill-found c m (suc h) (omega (arith, roomy.room)) in
-      elim (cases_lt 0 r.0) [
-        | inl more ↦
-            let j : ℕ = r.0 - 1 in
-            let p : r.0 ≡ suc j = omega arith in
-            let w : window c (suc h + m - suc j) (suc j) ≡ spill c m (suc h) + suc j = rw p at r.2 in
-            grind (arith, spill_up h, w, spill-above c m h j (omega arith), roomy.again h)
-        | inr none ↦
-            let p : r.0 ≡ 0 = omega arith in
-            let w : window c (suc h + m - 0) 0 ≡ spill c m (suc h) + 0 = rw p at r.2 in
-            omega (arith, spill_up h, w)
-      ]
+      grind (arith, r.1, r.2, spill_up h, spill-above c m h (r.0 - 1), roomy.again h)

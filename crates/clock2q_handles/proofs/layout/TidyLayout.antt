@@ -1,13 +1,12 @@
 -- A table's slots are tidy exactly if they are the layout of few enough entries, which are then those read off them.
 use Rattle.std.proofs.Common.{◌≡◌, ℕ, zero, suc, ◌-◌, ◌+◌, ◌%◌, ◌<◌, ◌≤◌, inl, inr, refl, ap, sym, ◌∙◌, subst, arith, List, [], ◌∷◌, length, take, take_all, get_or, length-append, ext_get_or}
 use Rattle.std.proofs.Common.{sum_by, Option, Some, None, slice_get, mod-eq_of_lt, add-one}
-use Rattle.std.proofs.lemmas.Bool.{cases_lt}
 use Rattle.std.proofs.lemmas.List.{get_or_past, get_or_at}
 use Rattle.std.proofs.lemmas.List.Sums.{sum_by_more, sum_by-cons}
 use Rattle.std.proofs.Math.ListN.{get_or-append}
 use Rattle.std.proofs.Math.Nat.{add-mod_right}
 use Rattle.clock2q_handles.specs.Homes.{capacity, listed, count, total}
-use Rattle.clock2q_handles.specs.Layout.{placed, reach, spill_of, Placed, window, slot_at, layout, entries, met, read_upto, homes_of, IsOrdered, IsTidy}
+use Rattle.clock2q_handles.specs.Layout.{placed, spill_of, Placed, window, slot_at, layout, entries, met, read_upto, homes_of, IsOrdered, IsTidy}
 use Rattle.clock2q_handles.proofs.layout.Spill.{Roomy, spill-lt, window-same}
 use Rattle.clock2q_handles.proofs.layout.Periods.{rem-same}
 use Rattle.clock2q_handles.proofs.layout.Tiles.{taken}
@@ -46,12 +45,8 @@ module _ {E : Type 0} where
 
   get-read_upto : (slots : List (Option (Placed E))) (k h : ℕ) → h < k → get_or (read_upto slots k) h [] ≡ met (slot_at slots) h 0 (length slots)
   get-read_upto slots zero h l = absurd (omega arith)
-  get-read_upto slots (suc k) h l = elim (cases_lt h k) [
-    | inl below ↦ get_or-append (read_upto slots k) (met (slot_at slots) k 0 (length slots) ∷ []) [] h (omega (arith, length-read_upto slots k)) ∙ get-read_upto slots k h below
-    | inr from ↦
-        let s : k ≡ h = omega arith in
-        get_or_at (read_upto slots k) (met (slot_at slots) k 0 (length slots)) [] [] h (omega (arith, length-read_upto slots k)) ∙ ap (λ x. met (slot_at slots) x 0 (length slots)) s
-  ]
+  get-read_upto slots (suc k) h l =
+      grind (arith, length-read_upto slots k, get_or-append (read_upto slots k), get-read_upto slots k h, get_or_at (read_upto slots k) (met (slot_at slots) k 0 (length slots)) [] [] h)
 
   pub length-homes_of : (slots : List (Option (Placed E))) → length (homes_of slots) ≡ length slots
   unfolding homes_of
@@ -63,15 +58,14 @@ module _ {E : Type 0} where
   -- the list of a home, read off the slots
   pub listed-homes_of : (slots : List (Option (Placed E))) (h : ℕ) → listed (homes_of slots) h ≡ met (slot_at slots) h 0 (length slots)
   unfolding homes_of
-  listed-homes_of slots h = elim (cases_lt 0 (length slots)) [
-    | inl some ↦
-        let l : h % length slots < length slots = omega arith in
-        ap (λ x. get_or (homes_of slots) (h % x) []) (length-homes_of slots) ∙ get-read_upto slots (length slots) (h % length slots) l
-        ∙ rem-same (λ x. met (slot_at slots) x 0 (length slots)) (length slots) (met-slots slots) h
-    | inr none ↦
-        let z : 0 ≡ length slots = omega arith in
-        get_or_past (homes_of slots) (h % length (homes_of slots)) [] (omega (arith, length-homes_of slots)) ∙ ap (met (slot_at slots) h 0) z
-  ]
+  listed-homes_of slots h =
+      grind (
+        arith,
+        length-homes_of slots,
+        get-read_upto slots (length slots) (h % length slots),
+        rem-same (λ x. met (slot_at slots) x 0 (length slots)) (length slots) (met-slots slots) h,
+        get_or_past (homes_of slots) (h % length (homes_of slots)) [],
+      )
 
   -- slot lists of one length that show the same are the same
   pub same-slots : (slots others : List (Option (Placed E))) → length slots ≡ length others → ((n : ℕ) → slot_at slots n ≡ slot_at others n) → slots ≡ others
@@ -110,14 +104,10 @@ module _ {E : Type 0} where
 
     pub read-room : total (homes_of slots) < length slots
     read-room =
-        let r = lists-roomy (slot_at slots) ordered (length slots) (slot-again slots) some v vacant in
-        omega (
-          arith,
-          r.room,
-          sum-window length (homes_of slots),
-          ap (window (count (homes_of slots)) 0) (length-homes_of slots),
-          window-same (count (homes_of slots)) (λ n. length (met (slot_at slots) n 0 (length slots))) 0 (length slots) (λ j _. ap length (listed-homes_of slots (0 + j))),
-        )
+        let m : ℕ = length slots in
+        let r = lists-roomy (slot_at slots) ordered m (slot-again slots) some v vacant in
+        let same = window-same (count (homes_of slots)) (λ n. length (met (slot_at slots) n 0 m)) 0 m (λ j _. ap length (listed-homes_of slots (0 + j))) in
+        grind (arith, r.room, sum-window length (homes_of slots), length-homes_of slots, same)
 
     pub read-laid-homes : IsLaid (length (homes_of slots)) (listed (homes_of slots)) (slot_at slots)
     read-laid-homes = subst (λ m. IsLaid m (listed (homes_of slots)) (slot_at slots)) (sym (length-homes_of slots)) read-laid
@@ -152,20 +142,14 @@ module _ {E : Type 0} where
       → (h : ℕ) × (i : ℕ) × (slice_get (listed homes h) i ≡ Some s.entry) × (s.displacement ≡ spill_of homes h + i) × ((h + spill_of homes h + i) % length homes ≡ n % length homes)
   layout-only homes l n s is =
       let m : ℕ = length homes in
-      let A : ℕ → Option (Placed E) = slot_at (layout homes) in
       let roomy : Roomy (count homes) m = roomy-of homes l in
-      let there : A (n + m) ≡ Some s = ap (λ x. A (n + x)) (sym (length-layout homes)) ∙ slot-again (layout homes) n ∙ is in
+      let laid = layout-laid homes roomy in
+      let there = slot-again (layout homes) n in
       elim (taken (count homes) m roomy (n + m) (omega (arith, spill-lt (count homes) m roomy 0))) [
-        | inl g ↦ absurd (omega (arith, gap-reach m (listed homes) A roomy (layout-laid homes roomy) (n + m) g, ap reach there))
+        | inl g ↦ absurd (grind (arith, length-layout homes, there, gap-reach m (listed homes) (slot_at (layout homes)) roomy laid (n + m) g))
         | inr p ↦
-            let r = shows m (listed homes) A roomy (layout-laid homes roomy) (n + m) p.0 p.1 in
-            let q : Some s ≡ Some (placed (n + m - p.0) r.0) = sym there ∙ r.1 in
-            let t : s ≡ placed (n + m - p.0) r.0 = cc in
-            let e : r.0 ≡ s.entry = ap (λ x. x.entry) (sym t) in
-            let d : s.displacement ≡ n + m - p.0 = ap (λ x. x.displacement) t in
-            let i : ℕ = n + m - (p.0 + spill_of homes p.0) in
-            let w : p.0 + spill_of homes p.0 + i ≡ n + m = omega arith in
-            (p.0, i, r.2 ∙ ap Some e, omega arith, ap (λ x. x % m) w ∙ add-mod_right n m)
+            let r = shows m (listed homes) (slot_at (layout homes)) roomy laid (n + m) p.0 p.1 in
+            (p.0, n + m - (p.0 + spill_of homes p.0), grind (arith, length-layout homes, there, r.1, r.2), grind (arith, length-layout homes, there, r.1, r.2), grind (arith, add-mod_right n m))
       ]
 
   pub layout-ordered : (homes : List (List E)) → total homes < length homes → IsOrdered (slot_at (layout homes))

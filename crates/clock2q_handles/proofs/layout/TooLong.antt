@@ -1,5 +1,5 @@
 -- When a table's entries are too far past their homes: what that takes, where it shows in the slots, and when an insertion makes it so.
-use Rattle.std.proofs.Common.{◌≡◌, ℕ, zero, suc, ◌+◌, ◌-◌, ◌*◌, ◌%◌, ◌^◌, ◌<◌, ◌≤◌, ◌⊎◌, inl, inr, ap, sym, ◌∙◌, subst, arith, List, [], ◌∷◌, ◌++◌, length, take, length-append, Option, None}
+use Rattle.std.proofs.Common.{◌≡◌, ℕ, zero, suc, ◌+◌, ◌-◌, ◌*◌, ◌%◌, ◌^◌, ◌<◌, ◌≤◌, ◌⊎◌, inl, inr, ap, ◌∙◌, arith, List, [], ◌∷◌, ◌++◌, length, take, length-append, Option, None}
 use Rattle.std.proofs.lemmas.Bool.{cases_lt}
 use Rattle.clock2q_handles.specs.Homes.{capacity, listed, count, total, no_entries, put_last}
 use Rattle.clock2q_handles.specs.Layout.{Placed, spill, spill_of, slot_at, layout, entries, reach, homes_of, IsTidy, IsTooLong}
@@ -50,24 +50,19 @@ module _ {E : Type 0} where
     -- the first empty slot from h on
     upto_vacant : (h k : ℕ) → ((v : ℕ) × (v < k) × (slot_at slots (h + v) ≡ None) × ((j : ℕ) → j < v → 1 ≤ reach (slot_at slots (h + j)))) ⊎ ((j : ℕ) → j < k → 1 ≤ reach (slot_at slots (h + j)))
     upto_vacant h zero = inr (λ j l. absurd (omega arith))
-    upto_vacant h (suc k) = elim (upto_vacant h k) [
-      | inl r ↦ inl (r.0, omega arith, r.2, r.3)
-      | inr all ↦ elim (cases_lt 0 (reach (slot_at slots (h + k)))) [
-        | inl full ↦ inr (λ j l. elim (cases_lt j k) [
-          | inl u ↦ all j u
-          | inr v ↦ grind arith
-        ])
-        | inr empty ↦ inl (k, omega arith, reach-none (slot_at slots (h + k)) (omega arith), all)
-      ]
-    ]
+    upto_vacant h (suc k) =
+        elim (upto_vacant h k) [
+          | inl r ↦ inl (r.0, omega arith, r.2, r.3)
+          | inr all ↦ elim (cases_lt 0 (reach (slot_at slots (h + k)))) [
+            | inl full ↦ inr (λ j l. grind (arith, all j))
+            | inr empty ↦ inl (k, omega arith, reach-none (slot_at slots (h + k)) (omega arith), all)
+          ]
+        ]
 
     pub first-vacant : 0 < length slots → (h : ℕ) → (v : ℕ) × (v < length slots) × (slot_at slots (h + v) ≡ None) × ((j : ℕ) → j < v → 1 ≤ reach (slot_at slots (h + j)))
     first-vacant some h =
         let w = tidy-vacant slots tidy some in
-        elim (upto_vacant h (length slots)) [
-          | inl r ↦ r
-          | inr all ↦ absurd (omega (arith, vacant_within (slot_at slots) (length slots) h (length slots) (slot-again slots) some w.0 w.1 all))
-        ]
+        elim (upto_vacant h (length slots)) [ inl r ↦ r | inr all ↦ absurd (omega (arith, vacant_within (slot_at slots) (length slots) h (length slots) (slot-again slots) some w.0 w.1 all)) ]
 
     module _ (h d : ℕ) (e : E) (stops : Stops (slot_at slots) h 0 d) (fits : total (homes_of slots) < capacity (length slots)) where
       abbrev more : List (List E)
@@ -103,11 +98,9 @@ module _ {E : Type 0} where
         same_spill =
             let c : ℕ → ℕ = count (homes_of slots) in
             let m : ℕ = length slots in
-            omega (
+            grind (
               arith,
-              one.spills (m - suc v) (omega arith),
-              ap (spill c m) there,
-              ap (spill (count more) m) there,
+              one.spills (m - suc v),
               spill-again c m (read_roomy some_slots).again h,
               spill-again (count more) m (roomy_at more m more_length more_room).again h,
             )
@@ -144,14 +137,7 @@ module _ {E : Type 0} where
       pub long-by-moved : (j : ℕ) → d ≤ j → ((i : ℕ) → d ≤ i → i ≤ j → 1 ≤ reach (slot_at slots (h + i))) → 2 ^ 24 ≤ suc (reach (slot_at slots (h + j))) → IsTooLong more
       long-by-moved j from full far =
           let v = first-vacant some_slots h in
-          let l : j < v.0 = elim (cases_lt j v.0) [
-            | inl l ↦ l
-            | inr u ↦ elim (cases_lt v.0 d) [
-              | inl early ↦ absurd (omega (arith, stops.before v.0 early, ap reach v.2))
-              | inr late ↦ absurd (omega (arith, full v.0 late u, ap reach v.2))
-            ]
-          ] in
-          moved_long v.0 v.1 v.2 v.3 j from l far
+          moved_long v.0 v.1 v.2 v.3 j from (grind (arith, v.2, stops.before v.0, full v.0)) far
 
 -- a rebuild to k times the slots never makes the table too long on its way
 pub rebuilding-short : {H : Type 0} (key : H → ℕ) (homes : List (List (ℕ × H))) (k i : ℕ) → total homes < length homes → 0 < k * length homes
@@ -173,21 +159,3 @@ module _ {H : Type 0} (key : H → ℕ) (homes : List (List (ℕ × H))) (m : �
         rebuilt-length key homes m,
         rebuilt-total key homes m room (omega arith),
       )
-
-  -- so it is never refused for a run
-  pub rebuilt-short : (IsTooLong homes → ⊥) → IsTooLong (rebuilt key m homes) → ⊥
-  rebuilt-short short long = elim (cases_lt 0 (length homes)) [
-    | inl some ↦
-        let k = multiple some in
-        let below : total homes < length homes = omega (arith, room, capacity-lt (length homes) some) in
-        let all : rebuilt key m homes ≡ put_all key (no_entries (k.0 * length homes)) (entries (take (length (layout homes)) (layout homes))) =
-        ap (λ x. rebuilt key x homes) k.1 ∙ ap (λ es. put_all key (no_entries (k.0 * length homes)) es) (sym (entries-all (layout homes))) in
-        rebuilding-short key homes k.0 (length (layout homes)) below (omega (arith, k.1, fits)) hashes short (subst IsTooLong all long)
-    | inr none ↦ omega (
-      arith,
-      reach-total (rebuilt key m homes) (omega (arith, rebuilt-length key homes m, rebuilt-total key homes m room (omega arith))) long.0,
-      rebuilt-total key homes m room (omega arith),
-      room,
-      long.3,
-    )
-  ]

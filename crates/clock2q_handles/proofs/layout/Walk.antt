@@ -79,14 +79,11 @@ module _ {E : Type 0} (A : ℕ → Option (Placed E)) (ordered : IsOrdered A) wh
     pushed-le h = grind (arith, cases_lt (ending h) (pushed h), ending h, pushed h, pushed-stops h, ending-stops h)
 
     one_on : (h : ℕ) → Stops A (suc h) 1 (ending h - 1)
-    one_on h = record {
-      before = λ j l.
-          grind (arith, (ending-stops h).before (suc j) (omega arith));
-      stop = elim (cases_lt 0 (ending h)) [
-        | inl more ↦ grind (arith, (ending-stops h).stop)
-        | inr none ↦ grind (arith, (ending-stops h).stop, ordered.next h)
-      ];
-    }
+    one_on h =
+        record {
+          before = λ j l. grind (arith, (ending-stops h).before (suc j));
+          stop = grind (arith, (ending-stops h).stop, ordered.next h);
+        }
 
     pushed-step : (h : ℕ) → pushed (suc h) ≡ ending h - 1
     pushed-step h = stops-unique (suc h) 1 (pushed (suc h)) (ending h - 1) (pushed-stops (suc h)) (one_on h)
@@ -202,15 +199,11 @@ module _ {E : Type 0} (A : ℕ → Option (Placed E)) (ordered : IsOrdered A) wh
 
     -- slots in order are the layout of the lists that are read off them
     pub ordered-laid : IsLaid m lists A
-    ordered-laid = record {
-      standing = λ h i e is.
-          let s : h + (pushed h + i) ≡ h + spill (counts lists) m h + i = omega (arith, spill-pushed h) in
-          let d : pushed h + i ≡ spill (counts lists) m h + i = omega (arith, spill-pushed h) in
-          ap A (sym s) ∙ met-entry h m i e is ∙ ap (λ x. Some (placed x e)) d;
-      rest = λ n g. reach-none (A n) (
-          let z : ending n ≡ 0 = omega (arith, ending-sum n, g.spilled, g.counted) in
-          grind (arith, (ending-stops n).stop));
-    }
+    ordered-laid =
+        record {
+          standing = λ h i e is. grind (arith, spill-pushed h, met-entry h m i e is);
+          rest = λ n g. reach-none (A n) (grind (arith, ending-sum n, g.spilled, g.counted, (ending-stops n).stop));
+        }
 
     -- a walk stops past its home's last entry
     pub stop-sum : (h n : ℕ) → Stops A h 0 n → n ≡ spill (counts lists) m h + counts lists h

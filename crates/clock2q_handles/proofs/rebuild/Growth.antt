@@ -4,7 +4,7 @@ use lib.Dec.{T, eqb→eq}
 use Rattle.std.proofs.lemmas.Bool.{cases_lt}
 use Rattle.std.proofs.Math.Nat.{two-pow-succ}
 use Rattle.clock2q_handles.specs.Homes.{capacity, total, count}
-use Rattle.clock2q_handles.specs.Layout.{spill_of, IsBestPlaced}
+use Rattle.clock2q_handles.specs.Layout.{spill_of}
 use Rattle.clock2q_handles.specs.TableStep.{rebuilt, grown, doubled, IsFull, IsHashOf}
 use Rattle.clock2q_handles.specs.Changes.{IsNearer}
 use Rattle.clock2q_handles.specs.Slots.{IsSlotCount}
@@ -12,7 +12,6 @@ use Rattle.clock2q_handles.proofs.layout.TidyLayout.{capacity-lt}
 use Rattle.clock2q_handles.proofs.layout.TooLong.{rebuilt-reach}
 use Rattle.clock2q_handles.proofs.layout.Periods.{powers-divide}
 use Rattle.clock2q_handles.proofs.rebuild.Hashes.{rebuilt-length, rebuilt-total}
-use Rattle.clock2q_handles.proofs.layout.Placement.{best-placed}
 
 -- twice the slots, or 16 of them
 pub slot_count_doubled : (n : ℕ) → IsSlotCount n → IsSlotCount (max (n * 2) 16)
@@ -44,10 +43,6 @@ module _ {H : Type 0} (key : H → ℕ) (homes : List (List (ℕ × H))) (m : �
   -- a rebuild leaves as much room as the slots have
   pub rebuilt_room : total homes < capacity m → total (rebuilt key m homes) < capacity (length (rebuilt key m homes))
   rebuilt_room fits = omega (arith, rebuilt-total key homes m room some, ap capacity (rebuilt-length key homes m), fits)
-
-  -- and its entries placed as well as possible
-  pub rebuilt_best : total homes ≤ capacity m → IsBestPlaced (rebuilt key m homes)
-  rebuilt_best fits = best-placed (rebuilt key m homes) (omega (arith, rebuilt-total key homes m room some, ap capacity (rebuilt-length key homes m), fits))
 
 -- growth before an insertion leaves no home's entries further past it than they were
 pub grown_nearer : {H : Type 0} (key : H → ℕ) (homes : List (List (ℕ × H))) → IsSlotCount (length homes)

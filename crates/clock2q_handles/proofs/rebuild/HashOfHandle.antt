@@ -14,14 +14,10 @@ use Rattle.clock2q_handles.specs.Rehash.{GivesHashes, AnswersInTurn, AfterGrowth
 use Rattle.clock2q_handles.proofs.rebuild.HeldHandles.{by_slot_held}
 use Rattle.clock2q_handles.proofs.rebuild.Hashes.{hashes-put_last, hashes-rebuilt, hashes-removed, rebuilt-length}
 
-one_of : (m x : ℕ) (b : Bool) → 0 < m → 0 < x → 0 < elim b [ true ↦ m | false ↦ x ]
-one_of m x true some other = some
-one_of m x false some other = other
-
 -- doubling leaves a count of slots that isn't 0
 until_some : (e m k : ℕ) → 0 < m → 0 < doubled_until e m k
 until_some e m zero some = some
-until_some e m (suc k) some = one_of m (doubled_until e (2 * m) k) (nat_le e (capacity m)) some (until_some e (2 * m) k (omega (arith, some)))
+until_some e m (suc k) some = grind (arith, until_some e (2 * m) k)
 
 pub fit_some : (e : ℕ) → 0 < fit e
 unfolding fit

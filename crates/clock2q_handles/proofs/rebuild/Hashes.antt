@@ -82,30 +82,25 @@ module _ {H : Type 0} (key : H → ℕ) where
   pub hashes-with_list : (homes : List (List (ℕ × H))) (x : ℕ) (es : List (ℕ × H)) → IsHashOf key homes
       → ((i : ℕ) (e : ℕ × H) → slice_get es i ≡ Some e → (home homes (key e.1) ≡ home homes x) × (top (key e.1) ≡ e.0)) → IsHashOf key (with_list homes x es)
   hashes-with_list homes x es hashes new h i e l is =
-      let len : length (with_list homes x es) ≡ length homes = length-with_list homes x es in
-      let l' : h < length homes = omega (arith, l, len) in
-      let rem : h % length homes ≡ h = mod-eq_of_lt l' in
-      let into : home (with_list homes x es) (key e.1) ≡ home homes (key e.1) = ap (λ m. key e.1 % m) len in
-      elim (cases_eq (h % length homes) (x % length homes)) [
-        | inl same ↦
-            let r = new i e (ap (λ xs. slice_get xs i) (sym (listed-with_same homes x h es (omega arith) same)) ∙ is) in
-            (into ∙ r.0 ∙ sym same ∙ rem, r.1)
-        | inr other ↦
-            let r = hashes h i e l' (ap (λ xs. slice_get xs i) (sym (listed-with_other homes x h es other)) ∙ is) in
-            (into ∙ r.0, r.1)
-      ]
+      grind (
+        arith,
+        length-with_list homes x es,
+        mod-eq_of_lt,
+        cases_eq (h % length homes) (x % length homes),
+        new i e,
+        listed-with_same homes x h es,
+        hashes h i e,
+        listed-with_other homes x h es,
+      )
 
   -- an entry put last
   pub hashes-put_last : (homes : List (List (ℕ × H))) (x : ℕ) (e : ℕ × H) → 0 < length homes → IsHashOf key homes
       → home homes (key e.1) ≡ home homes x → top (key e.1) ≡ e.0 → IsHashOf key (put_last homes x e)
-  hashes-put_last homes x e some hashes into fingerprint = hashes-with_list homes x (listed homes x ++ e ∷ []) hashes (λ i f is. elim (slice_get-append (listed homes x) (e ∷ []) i f is) [
-    | inl old ↦ hash-at homes hashes some x i f old
-    | inr new ↦
-        let z : i - length (listed homes x) ≡ 0 = omega (arith, slice_get_within (e ∷ []) (i - length (listed homes x)) f new.1) in
-        let q : Some e ≡ Some f = ap (slice_get (e ∷ [])) (sym z) ∙ new.1 in
-        let s : e ≡ f = cc in
-        subst (λ g. (home homes (key g.1) ≡ home homes x) × (top (key g.1) ≡ g.0)) s (into, fingerprint)
-  ])
+  hashes-put_last homes x e some hashes into fingerprint =
+      hashes-with_list homes x (listed homes x ++ e ∷ []) hashes (λ i f is. elim (slice_get-append (listed homes x) (e ∷ []) i f is) [
+        | inl old ↦ hash-at homes hashes some x i f old
+        | inr new ↦ grind (arith, new.1, slice_get_within (e ∷ []) (i - length (listed homes x)) f new.1)
+      ])
 
   -- an entry removed
   pub hashes-removed : (eq : H → H → Bool) (homes : List (List (ℕ × H))) (x : ℕ) (v : H) → 0 < length homes → IsHashOf key homes → IsHashOf key (removed eq homes x v)

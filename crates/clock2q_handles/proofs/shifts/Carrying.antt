@@ -18,16 +18,7 @@ use Rattle.clock2q_handles.proofs.walks.Cursors.{rem-plus, goes_on}
 -- the distance from s of the slot k past it is k
 pub lap-at : (m s k t : ℕ) → k < m → t ≡ (s + k) % m → lap m s t ≡ k
 lap-at m s k t within at =
-    let some : 0 < m = omega arith in
-    let l : ℕ = lap m s t in
-    let e : (s + l) % m ≡ (s + k) % m = lap-same (λ y. y % m) m (λ n. add-mod_right n m) some s t ∙ ap (λ y. y % m) at ∙ mod-mod (s + k) m in
-    elim (cases_lt l k) [
-      | inl below ↦ absurd (apart_on_lap m s l k (lap-lt m s t some) within (λ q. omega (arith, below, q)) e)
-      | inr from ↦ elim (cases_lt k l) [
-        | inl above ↦ absurd (apart_on_lap m s l k (lap-lt m s t some) within (λ q. omega (arith, above, q)) e)
-        | inr upto ↦ omega (arith, from, upto)
-      ]
-    ]
+    grind (arith, lap-lt m s t (omega arith), lap-same (λ y. y % m) m (λ n. add-mod_right n m) (omega arith) s t, mod-mod (s + k) m, apart_on_lap m s (lap m s t) k)
 
 -- one slot on
 pub slot_on : (m s k t t' : ℕ) → t ≡ (s + k) % m → t' ≡ (t + 1) % m → t' ≡ (s + suc k) % m
@@ -66,10 +57,7 @@ module _ {E : Type 0} (slots : List (Option (Placed E))) where
   -- a walk that goes on
   pub come_on : IsTidy slots → (g d s s' : ℕ) → HasCome slots g d s → d < reach (slot_at slots s) → s' ≡ (s + 1) % length slots → HasCome slots g (suc d) s'
   come_on tidy g d s s' come far on =
-      let passed : (j : ℕ) → j < suc d → j < reach (slot_at slots (g + j)) = λ j l. elim (cases_lt j d) [
-        | inl before ↦ come.passed j before
-        | inr from ↦ grind (arith, far, ap reach (come_here g d s come), l, from)
-      ] in
+      let passed : (j : ℕ) → j < suc d → j < reach (slot_at slots (g + j)) = λ j l. grind (arith, come.passed j, come_here g d s come) in
       record {
         slot = slot_on (length slots) g d s s' come.slot on;
         within = less_than_lap slots g (suc d) tidy (omega (arith, come.within)) (λ j l. omega (arith, passed j l));
@@ -138,23 +126,11 @@ pub moving_back_home : {E : Type 0} (slots slots' : List (Option (Placed E))) (h
     → HasCome slots h n s → n + k < length slots → MovingBack (slot_at slots) (slot_at slots') (length slots) s 0 k
     → MovingBack (slot_at slots) (slot_at slots') (length slots) h n (n + k)
 moving_back_home slots slots' h n s k same come upto back =
-    let m : ℕ = length slots in
-    let at' : s ≡ (h + n) % length slots' = come.slot ∙ ap (λ x. (h + n) % x) (sym same) in
+    let at : s ≡ (h + n) % length slots' = come.slot ∙ ap (λ x. (h + n) % x) (sym same) in
     record {
-      moved = λ j l u.
-          let i : ℕ = j - n in
-          let q : n + suc i ≡ suc j = omega (arith, l) in
-          let r : n + i ≡ j = omega (arith, l) in
-          ap (λ x. slot_at slots (h + x)) (sym q) ∙ sym (slot_from_plus slots h n s (suc i) come.slot)
-          ∙ back.moved i (omega arith) (omega (arith, l, u)) ∙ ap moved_on (slot_from_plus slots' h n s i at' ∙ ap (λ x. slot_at slots' (h + x)) r);
-      before = λ j l.
-          sym (slot_from_before slots' h n s j at' (omega (arith, come.within, same)) l) ∙ ap (λ x. slot_at slots' (s + (x - n + j))) same
-          ∙ back.after (m - n + j) (omega (arith, upto)) (omega (arith, l, come.within)) ∙ slot_from_before slots h n s j come.slot come.within l;
-      after = λ j l u.
-          let i : ℕ = j - n in
-          let r : n + i ≡ j = omega (arith, l) in
-          ap (λ x. slot_at slots' (h + x)) (sym r) ∙ sym (slot_from_plus slots' h n s i at')
-          ∙ back.after i (omega (arith, l)) (omega (arith, u)) ∙ slot_from_plus slots h n s i come.slot ∙ ap (λ x. slot_at slots (h + x)) r;
+      moved = λ j l u. grind (arith, slot_from_plus slots h n s (suc (j - n)) come.slot, slot_from_plus slots' h n s (j - n) at, back.moved (j - n));
+      before = λ j l. grind (arith, come.within, slot_from_before slots' h n s j at, slot_from_before slots h n s j come.slot, back.after (length slots - n + j));
+      after = λ j l u. grind (arith, slot_from_plus slots' h n s (j - n) at, slot_from_plus slots h n s (j - n) come.slot, back.after (j - n));
     }
 
 -- a mark of an entry
@@ -219,23 +195,19 @@ module _ {H : Type 0} (old now : List (Option (Placed (ℕ × H)))) where
         → t' ≡ (t + 1) % length now' → there' ≡ mark_of (slot_at now' t') → CarryState old now' first (cell mark' held) there' s t' w (w' + 1)
     carry_goes now' t' held there' mark' occ is handle more on meaning' =
         let k : ℕ = state.steps in
-        let len' : length now' ≡ length old = set_len now' t next is ∙ state.len in
-        let full : (j : ℕ) → j < suc k → 0 < reach (slot_at old (s + j)) = λ j l. elim (cases_lt j k) [
-          | inl before ↦ state.occupied j before
-          | inr from ↦ grind (arith, occupied_mark there (slot_at old (s + k)) occ state.there_is, l, from)
-        ] in
-        let within' : suc k < length old = less_than_lap old s (suc k) tidy some full in
-        let at' : t' ≡ (s + suc k) % length old = slot_on (length old) s k t t' state.slot (on ∙ ap (λ m. (t + 1) % m) len') in
-        let carrying' = written now' is in
+        let len : length now' ≡ length old = set_len now' t next is ∙ state.len in
+        let full = below_more (λ j. 0 < reach (slot_at old (s + j))) k state.occupied (occupied_mark there (slot_at old (s + k)) occ state.there_is) in
+        let within' : suc k < length old = less_than_lap old s (suc k) tidy some (λ j l. full j (omega (arith, l))) in
+        let at : t' ≡ (s + suc k) % length old = slot_on (length old) s k t t' state.slot (on ∙ ap (λ m. (t + 1) % m) len) in
         record {
           steps = suc k;
-          slot = at';
+          slot = at;
           within = within';
-          len = len';
-          occupied = full;
-          carrying = carrying';
+          len = len;
+          occupied = λ j l. full j (omega (arith, l));
+          carrying = written now' is;
           next_is = cell-mark_on there mark' (slot_at old (s + k)) held state.there_is more (subst (λ o. IfSome o (λ p. held ≡ p.entry.1)) untouched handle);
-          there_is = meaning' ∙ ap mark_of (slot_from now' s (suc k) t' (at' ∙ ap (λ m. (s + suc k) % m) (sym len')) ∙ carrying'.rest (suc k) (omega arith) within');
+          there_is = grind (arith, slot_from now' s (suc k) t', (written now' is).rest (suc k));
           writes = omega (arith, state.writes);
         }
 
@@ -277,20 +249,16 @@ module _ {H : Type 0} (old now : List (Option (Placed (ℕ × H)))) where
           → now' ≡ set now t (cell mark' held) → CloseState old now' s t' w (w' + 1)
       close_goes now' mark mark' held meaning far less handle is =
           let k : ℕ = state.steps in
-          let reach_next : 1 < reach (slot_at now t') = omega (arith, far, reach_of_meaning mark (slot_at now t') meaning) in
+          let far_next : 1 < reach (slot_at now t') = omega (arith, far, reach_of_meaning mark (slot_at now t') meaning) in
           let so_far = subst (λ m. MovingBack (slot_at old) (slot_at now) m s 0 k) (sym state.len) state.back in
-          let at_next : slot_at now (s + suc k) ≡ slot_at now t' = sym (slot_from now s (suc k) t' (next_at ∙ ap (λ m. (s + suc k) % m) (sym state.len))) in
           let moved = moving_back_more (slot_at old) now now' (cell mark' held) s 0 k (suc k) refl (omega arith) (omega (arith, next_within, state.len)) so_far
-          (at_next ∙ cell-mark_back mark mark' (slot_at now t') held reach_next meaning less handle) (is ∙ ap (λ i. set now i (cell mark' held)) close_at) in
+          (grind (arith, slot_from now s (suc k) t', next_at, cell-mark_back mark mark' (slot_at now t') held far_next meaning less handle)) (is ∙ ap (λ i. set now i (cell mark' held)) close_at) in
           record {
             steps = suc k;
             slot = next_at;
             within = next_within;
             len = set_len now' t (cell mark' held) is ∙ state.len;
-            occupied = λ j l. elim (cases_lt j (suc k)) [
-              | inl before ↦ state.occupied j (omega (arith, before))
-              | inr from ↦ grind (arith, reach_next, ap reach next_was, l, from)
-            ];
+            occupied = λ j l. grind (arith, state.occupied j, far_next, next_was);
             back = subst (λ m. MovingBack (slot_at old) (slot_at now') m s 0 (suc k)) state.len moved;
             writes = omega (arith, state.writes);
           }
@@ -389,10 +357,8 @@ module _ {E : Type 0} (slots : List (Option (Placed E))) (s : ℕ) where
         → (t' : ℕ) → t' ≡ (t + 1) % length slots → (next : IsPassing slots s t') × (next.steps ≡ suc so_far.steps)
     pass_goes tidy some far t' on =
         let k : ℕ = so_far.steps in
-        let full : (j : ℕ) → j < k + 1 → 0 < reach (slot_at slots (s + j)) =
-        below_more (λ j. 0 < reach (slot_at slots (s + j))) k so_far.occupied (omega (arith, some, ap reach here)) in
-        let less : (j : ℕ) → j < k + 1 → reach (slot_at slots (s + j)) < longest_reach =
-        below_more (λ j. reach (slot_at slots (s + j)) < longest_reach) k so_far.near (omega (arith, far, ap reach here)) in (
+        let full = below_more (λ j. 0 < reach (slot_at slots (s + j))) k so_far.occupied (omega (arith, some, ap reach here)) in
+        let less = below_more (λ j. reach (slot_at slots (s + j)) < longest_reach) k so_far.near (omega (arith, far, ap reach here)) in (
           record {
             steps = suc k;
             slot = slot_on (length slots) s k t t' so_far.slot on;

@@ -81,10 +81,8 @@ module _ {E : Type 0} where
   pub read-stop : (slots : List (Option (Placed E))) → IsTidy slots → 0 < length slots → (h n : ℕ) → Stops (slot_at slots) h 0 n → n ≡ spill_of (homes_of slots) h + count (homes_of slots) h
   read-stop slots tidy some h n stops =
       let v = tidy-vacant slots tidy some in
-      let r : n ≡ spill (count (homes_of slots)) (length slots) h + count (homes_of slots) h =
-      subst (λ L. n ≡ spill (counts L) (length slots) h + counts L h) (λ i x. sym (listed-homes_of slots x) i)
-      (stop-sum (slot_at slots) tidy.ordered (length slots) (slot-again slots) some v.0 v.1 h n stops) in
-      r ∙ ap (λ x. spill (count (homes_of slots)) x h + count (homes_of slots) h) (sym (length-homes_of slots))
+      let at = stop-sum (slot_at slots) tidy.ordered (length slots) (slot-again slots) some v.0 v.1 h n stops in
+      subst (λ L. n ≡ spill (counts L) (length slots) h + counts L h) (λ i x. sym (listed-homes_of slots x) i) at ∙ ap (λ x. spill (count (homes_of slots)) x h + count (homes_of slots) h) (sym (length-homes_of slots))
 
   -- what it has met by then is its home's list
   pub read-met : (slots : List (Option (Placed E))) → IsTidy slots → 0 < length slots → (h n : ℕ)
@@ -275,13 +273,7 @@ module _ {E : Type 0} where
       ]
 
       full_upto : (j : ℕ) → j < suc v → 1 ≤ reach (slot_at others (h + j))
-      full_upto j l = elim (cases_lt j d) [
-        | inl early ↦ omega (arith, passed (slot_at others) tidy.ordered h 0 d (omega (arith, ap reach moved.here)) j (omega arith))
-        | inr from ↦ elim (cases_lt d j) [
-          | inl past ↦ omega (arith, away j (omega arith) (omega arith))
-          | inr at ↦ grind (arith, ap reach moved.here)
-        ]
-      ]
+      full_upto j l = grind (arith, passed (slot_at others) tidy.ordered h 0 d, moved.here, away j)
 
       some_others : 0 < length others
       some_others = grind (arith, get_or_past)

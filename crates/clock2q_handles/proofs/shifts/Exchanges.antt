@@ -32,13 +32,7 @@ module _ {E : Type 0} (A B : ℕ → Option (Placed E)) (m : ℕ) (again : (k : 
   next j = grind arith
 
   wrapped : (j : ℕ) → suc j ≡ m → reach (B (g + suc j)) ≤ suc (reach (A (g + j)))
-  wrapped j last =
-      let p : g + suc j ≡ g + m = omega (arith, last) in
-      let here = ap (λ k. reach (B k)) p ∙ ap reach (again' g) in
-      elim (cases_lt 0 n) [
-        | inl later ↦ grind (arith, here, ap reach (opens.before 0 later), ap reach (again g), ap (λ k. reach (A k)) p, next j)
-        | inr home ↦ grind (arith, here, ap reach opens.put, home)
-      ]
+  wrapped j last = grind (arith, again' g, opens.before 0, again g, next j, opens.put)
 
   inside : (j : ℕ) → suc j < m → reach (B (g + suc j)) ≤ suc (reach (A (g + j)))
   inside j within = grind (arith, next, moved_reach)
@@ -50,14 +44,8 @@ module _ {E : Type 0} (A B : ℕ → Option (Placed E)) (m : ℕ) (again : (k : 
   pub one_on : (k : ℕ) → reach (B (suc k)) ≤ suc (reach (A k))
   one_on k =
       let j : ℕ = lap m g k in
-      let q : g + suc j ≡ suc (g + j) = omega arith in
-      omega (
-        arith,
-        step j (lap-lt m g k some),
-        ap (λ i. reach (B i)) q,
-        ap reach (lap-same (λ i. B (suc i)) m (λ i. let z : suc (i + m) ≡ suc i + m = omega arith in ap B z ∙ again' (suc i)) some g k),
-        ap reach (lap-same A m again some g k),
-      )
+      let on = lap-same (λ i. B (suc i)) m (λ i. grind (arith, again' (suc i))) some g k in
+      grind (arith, step j (lap-lt m g k some), on, lap-same A m again some g k)
 
 -- so tidy slots, and those that an insertion made of them
 module _ {E : Type 0} (slots more : List (Option (Placed E))) (tidy : IsTidy slots) (tidy' : IsTidy more) (same : length more ≡ length slots) (some : 0 < length slots)
@@ -69,15 +57,10 @@ module _ {E : Type 0} (slots more : List (Option (Placed E))) (tidy : IsTidy slo
   pub walk_on : (x : ℕ) → walk (homes_of more) x ≤ walk (homes_of slots) x + 1
   walk_on x =
       let v = tidy-vacant slots tidy some in
-      let v' = tidy-vacant more tidy' (omega (arith, some, same)) in
+      let w = tidy-vacant more tidy' (omega (arith, some, same)) in
       let s = stop (slot_at slots) tidy.ordered (length slots) (slot-again slots) some v.0 v.1 x 0 in
-      let t = stop (slot_at more) tidy'.ordered (length more) (slot-again more) (omega (arith, some, same)) v'.0 v'.1 x 0 in
-      let was = walk-at slots tidy x s.0 some (λ j l. omega (arith, s.2.before j l)) (omega (arith, s.2.stop)) in
-      let now = walk-at more tidy' x t.0 (omega (arith, some, same)) (λ j l. omega (arith, t.2.before j l)) (omega (arith, t.2.stop)) in
-      elim (cases_lt (suc s.0) t.0) [
-        | inl beyond ↦ absurd (omega (arith, t.2.before (suc s.0) beyond, further x s.0, s.2.stop))
-        | inr upto ↦ omega (arith, was, now, upto)
-      ]
+      let t = stop (slot_at more) tidy'.ordered (length more) (slot-again more) (omega (arith, some, same)) w.0 w.1 x 0 in
+      grind (arith, walk-at slots tidy x s.0, walk-at more tidy' x t.0, s.2.before, s.2.stop, t.2.before, t.2.stop, further x s.0)
 
   -- and a removal from them writes at most one slot more than the run was long
   pub taken_within : {test : E → Bool} {less : List (Option (Placed E))} (x : ℕ) {before after : ℕ} → TakesOut test more less (x % length more) before after → after ≤ before + (run slots x + 1)

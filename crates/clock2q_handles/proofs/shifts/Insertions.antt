@@ -1,6 +1,5 @@
 -- What putting an entry in does to a table, and when it is refused.
 use Rattle.std.proofs.Common.{◌≡◌, ℕ, suc, ◌+◌, ◌-◌, ◌%◌, ◌<◌, ◌≤◌, inl, inr, refl, ap, sym, ◌∙◌, subst, arith, List, length, Option}
-use Rattle.std.proofs.lemmas.Bool.{cases_lt}
 use Rattle.clock2q_handles.specs.Homes.{top, capacity, total, with_handle}
 use Rattle.clock2q_handles.specs.Layout.{Placed, slot_at, reach, longest_reach, homes_of, run, IsTooLong, AreNear}
 use Rattle.clock2q_handles.specs.Shifts.{Opens, HasRoom, IsVacancy, HasRoomAt, LacksRoomAt, PutsAt}
@@ -21,25 +20,19 @@ module _ {E : Type 0} where
   pub opened-near : (slots others : List (Option (Placed E))) (g n w : ℕ) (e : E) → length others ≡ length slots
       → Opens (slot_at slots) (slot_at others) (length slots) g n w e → HasRoom (slot_at slots) 16777214 g n w
       → AreNear slots → AreNear others
-  opened-near slots others g n w e same opens room near = near_by_lap others g longest_reach (omega (arith, opens.upto, same)) (λ j l. elim (cases_lt j n) [
-    | inl early ↦ omega (arith, near (g + j), ap reach (opens.before j early))
-    | inr from ↦ elim (cases_lt n j) [
-      | inr at ↦ let q : j ≡ n = omega arith in omega (arith, ap (λ i. reach (slot_at others (g + i))) q, ap reach opens.put, room.own)
-      | inl past ↦ elim (cases_lt w j) [
-        | inl after ↦ omega (arith, near (g + j), ap reach (opens.after j after (omega (arith, l, same))))
-        | inr upto ↦
-            let k : ℕ = j - 1 in
-            let q : suc k ≡ j = omega arith in
-            omega (
-              arith,
-              room.others k (omega arith) (omega arith),
-              ap (λ i. reach (slot_at others (g + i))) q,
-              ap reach (opens.moved k (omega arith) (omega arith)),
-              (reach-moved_on (slot_at slots (g + k))).1,
-            )
-      ]
-    ]
-  ])
+  opened-near slots others g n w e same opens room near =
+      near_by_lap others g longest_reach (omega (arith, opens.upto, same)) (λ j l.
+      grind (
+        arith,
+        near (g + j),
+        opens.before j,
+        opens.put,
+        room.own,
+        opens.after j,
+        room.others (j - 1),
+        opens.moved (j - 1),
+        reach-moved_on (slot_at slots (g + (j - 1))),
+      ))
 
 -- the walk for x ended n slots past its home g, in a table that has room
 pub record HasEnded {E : Type 0} (slots : List (Option (Placed E))) (x g n : ℕ) : Type 0 where
@@ -131,13 +124,7 @@ module _ {H : Type 0} (x : ℕ) (v : H) {slots : List (Option (Placed (ℕ × H)
   pub few_room : len ≤ 16777214 → HasRoomAt slots mark s
   few_room few =
       let near : (k : ℕ) → reach (slot_at slots k) ≤ 16777214 = λ k. omega (arith, few, table.counted, near_total slots table.tidy k) in
-      record {
-        own = elim (cases_lt 0 n) [
-          | inl some ↦ omega (arith, ap mark_reach ends.walk.mark, ends.walk.come.passed (n - 1) (omega (arith, some)), near (g + (n - 1)))
-          | inr none ↦ omega (arith, ap mark_reach ends.walk.mark, none)
-        ];
-        others = λ k occupied. omega (arith, near (s + k));
-      }
+      record { own = grind (arith, ends.walk.mark, ends.walk.come.passed (n - 1), near (g + (n - 1))); others = λ k occupied. omega (arith, near (s + k)) }
 
   pub inserted : {others : List (Option (Placed (ℕ × H)))} {before after : ℕ} → HasRoomAt slots mark s → PutsAt slots others mark s v before after → Insertion x v slots others len before after
   inserted {others} {before} {after} room puts =

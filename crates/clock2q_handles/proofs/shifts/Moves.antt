@@ -1,7 +1,6 @@
 -- What each slot contains after a write, what the tests of a slot's mark mean, and the loops that walk and move a run's entries.
-use Rattle.std.proofs.Common.{◌≡◌, ◌≢◌, ℕ, suc, ◌+◌, ◌%◌, ◌<◌, ◌≤◌, ◌↔◌, inl, inr, refl, ap, ◌∙◌, arith, Bool, true, false, IsTrue, List, length, set, get_or-set_same}
+use Rattle.std.proofs.Common.{◌≡◌, ◌≢◌, ℕ, suc, ◌+◌, ◌%◌, ◌<◌, ◌≤◌, ◌↔◌, refl, ap, ◌∙◌, arith, Bool, true, false, IsTrue, List, length, set, get_or-set_same}
 use Rattle.std.proofs.Common.{get_or-set_other, length-set, Option, Some, None, IfSome}
-use Rattle.std.proofs.lemmas.Bool.{cases_lt}
 use Rattle.std.proofs.lemmas.Nat.{mod_below}
 use Rattle.clock2q_handles.specs.Layout.{Placed, placed, slot_at, reach, IsTidy}
 use Rattle.clock2q_handles.specs.Shifts.{Opens, IsVacancy, moved_on}
@@ -65,12 +64,7 @@ pub less_than_lap : {E : Type 0} (slots : List (Option (Placed E))) (h n : ℕ) 
 less_than_lap slots h n tidy some occupied =
     let v = tidy-vacant slots tidy some in
     let l : ℕ = lap (length slots) h v.0 in
-    let within : l < length slots = lap-lt (length slots) h v.0 some in
-    let empty : slot_at slots (h + l) ≡ None = lap-same (slot_at slots) (length slots) (slot-again slots) some h v.0 ∙ v.1 in
-    elim (cases_lt l n) [
-      | inl before ↦ absurd (omega (arith, occupied l before, ap reach empty))
-      | inr from ↦ omega arith
-    ]
+    grind (arith, occupied l, lap-lt (length slots) h v.0 some, lap-same (slot_at slots) (length slots) (slot-again slots) some h v.0, v.1)
 
 -- B is A with the entries after n past h up to d moved back by one: slot d is unchanged
 pub record MovingBack {E : Type 0} (A B : ℕ → Option (Placed E)) (m h n d : ℕ) : Type 0 where

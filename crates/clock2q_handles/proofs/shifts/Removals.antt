@@ -1,5 +1,5 @@
 -- What removing an entry from its home's list results in: the list that a removal specifies, the table as it was before an insertion, and walks that are no longer.
-use Rattle.std.proofs.Common.{◌≡◌, ℕ, suc, ◌+◌, ◌<◌, ◌≤◌, refl, ap, sym, ◌∙◌, arith, Bool, true, false, cond, ◌||◌, eq-eqb, List, [], ◌∷◌, ◌++◌, length, set, set-set, append-nil}
+use Rattle.std.proofs.Common.{◌≡◌, ℕ, suc, ◌+◌, ◌<◌, ◌≤◌, refl, ap, sym, ◌∙◌, arith, Bool, true, false, cond, eq-eqb, List, [], ◌∷◌, ◌++◌, length, set, set-set, append-nil}
 use Rattle.std.proofs.lemmas.List.{set_comm}
 use Rattle.std.proofs.Common.{Option, Some, ◌-◌}
 use Rattle.std.specs.List.{list_any}
@@ -12,52 +12,29 @@ use Rattle.clock2q_handles.proofs.layout.FewerEntries.{shorter-walk}
 use Rattle.clock2q_handles.proofs.shifts.Changes.{list_without, read-split, length-with_list, listed-with_same, listed-with_other}
 
 module _ {E : Type 0} (test : E → Bool) where
-  none_at : (e : E) (es : List E) (b : Bool) → (list_any test es ≡ false → without_first test es ≡ es) → (b || list_any test es) ≡ false → cond b es (e ∷ without_first test es) ≡ e ∷ es
-  none_at e es true rest none = absurd (cc)
-  none_at e es false rest none = ap (λ xs. e ∷ xs) (rest none)
-
   -- if no element passes, none is left out
   pub without_first-none : (es : List E) → list_any test es ≡ false → without_first test es ≡ es
   without_first-none [] none = refl
-  without_first-none (e ∷ es) none = none_at e es (test e) (without_first-none es) none
-
-  later_at : (x e : E) (xs ys : List E) (b : Bool) → (list_any test xs ≡ false → without_first test (xs ++ e ∷ ys) ≡ xs ++ ys)
-      → (b || list_any test xs) ≡ false → cond b (xs ++ e ∷ ys) (x ∷ without_first test (xs ++ e ∷ ys)) ≡ x ∷ xs ++ ys
-  later_at x e xs ys true rest none = absurd (cc)
-  later_at x e xs ys false rest none = ap (λ zs. x ∷ zs) (rest none)
+  without_first-none (e ∷ es) none = grind (arith, without_first-none es)
 
   -- the first that passes is left out
   pub without_first-at : (xs ys : List E) (e : E) → list_any test xs ≡ false → test e ≡ true → without_first test (xs ++ e ∷ ys) ≡ xs ++ ys
   without_first-at [] ys e none is = ap (λ b. cond b ys (e ∷ without_first test ys)) is
-  without_first-at (x ∷ xs) ys e none is = later_at x e xs ys (test x) (λ n. without_first-at xs ys e n is) none
-
-  append_at : (e : E) (es ys : List E) (b : Bool) → (list_any test es ≡ true → without_first test (es ++ ys) ≡ without_first test es ++ ys)
-      → (b || list_any test es) ≡ true → cond b (es ++ ys) (e ∷ without_first test (es ++ ys)) ≡ cond b es (e ∷ without_first test es) ++ ys
-  append_at e es ys true rest some = refl
-  append_at e es ys false rest some = ap (λ xs. e ∷ xs) (rest some)
+  without_first-at (x ∷ xs) ys e none is = grind (arith, without_first-at xs ys e)
 
   -- what comes after the first that passes stays
   pub without_first-append : (es ys : List E) → list_any test es ≡ true → without_first test (es ++ ys) ≡ without_first test es ++ ys
   without_first-append [] ys some = absurd (cc)
-  without_first-append (e ∷ es) ys some = append_at e es ys (test e) (without_first-append es ys) some
-
-  shorter_at : (e : E) (es : List E) (b : Bool) → length (without_first test es) ≤ length es → length (cond b es (e ∷ without_first test es)) ≤ suc (length es)
-  shorter_at e es true l = omega arith
-  shorter_at e es false l = omega (arith, l)
+  without_first-append (e ∷ es) ys some = grind (arith, without_first-append es ys)
 
   pub length-without_first : (es : List E) → length (without_first test es) ≤ length es
   length-without_first [] = omega arith
-  length-without_first (e ∷ es) = shorter_at e es (test e) (length-without_first es)
+  length-without_first (e ∷ es) = grind (arith, length-without_first es)
 
 module _ {E : Type 0} (test : E → Bool) (new : E) where
-  with_at : (e : E) (es ys : List E) (b : Bool) → (list_any test es ≡ true → with_first test new (es ++ ys) ≡ with_first test new es ++ ys)
-      → (b || list_any test es) ≡ true → cond b (new ∷ es ++ ys) (e ∷ with_first test new (es ++ ys)) ≡ cond b (new ∷ es) (e ∷ with_first test new es) ++ ys
-  with_at e es ys true rest some = refl
-  with_at e es ys false rest some = ap (λ xs. e ∷ xs) (rest some)
-
   with_first-append : (es ys : List E) → list_any test es ≡ true → with_first test new (es ++ ys) ≡ with_first test new es ++ ys
   with_first-append [] ys some = absurd (cc)
-  with_first-append (e ∷ es) ys some = with_at e es ys (test e) (with_first-append es ys) some
+  with_first-append (e ∷ es) ys some = grind (arith, with_first-append es ys)
 
 -- a change of the list of y that leaves what is put last may be made after e is put in under x
 changed-after : {E : Type 0} (f : List E → List E) (homes : List (List E)) (x y : ℕ) (e : E) → 0 < length homes → f (listed homes y ++ e ∷ []) ≡ f (listed homes y) ++ e ∷ []
@@ -76,13 +53,9 @@ module _ {H : Type 0} (eq : H → H → Bool) where
       ap (set (homes_of slots) (home (homes_of slots) x)) (ap (without_first (is_entry_of eq x v)) (read-split slots x d e l here)
       ∙ without_first-at (is_entry_of eq x v) (met (slot_at slots) x 0 d) (met (slot_at slots) x (suc d) (length slots - suc d)) e none is)
 
-  any_by : (xs ys : Bool) (b : Bool) → (xs ≡ true → ys ≡ true) → (b || xs) ≡ true → (b || ys) ≡ true
-  any_by xs ys true rest some = refl
-  any_by xs ys false rest some = rest some
-
   any_at : (test : ℕ × H → Bool) (es ys : List (ℕ × H)) → list_any test es ≡ true → list_any test (es ++ ys) ≡ true
   any_at test [] ys some = absurd (cc)
-  any_at test (e ∷ es) ys some = any_by (list_any test es) (list_any test (es ++ ys)) (test e) (any_at test es ys) some
+  any_at test (e ∷ es) ys some = grind (arith, any_at test es ys)
 
   -- an entry that is held is held once another is put in
   pub held-still : (homes : List (List (ℕ × H))) (x y : ℕ) (v w : H) → 0 < length homes → list_any (is_entry_of eq y w) (listed homes y) ≡ true

@@ -1,16 +1,15 @@
 -- An entry replaced by another of the same displacement: every walk goes as before, and its home's list has the other in its place.
-use Rattle.std.proofs.Common.{◌≡◌, ℕ, zero, suc, ◌+◌, ◌-◌, ◌%◌, ◌<◌, ◌≤◌, inl, inr, refl, ap, sym, ◌∙◌, subst, arith, Bool, true, false, cond, ◌||◌, ◌&&◌, ◌==◌, List, [], ◌∷◌, ◌++◌, length}
+use Rattle.std.proofs.Common.{◌≡◌, ℕ, zero, suc, ◌+◌, ◌-◌, ◌%◌, ◌<◌, ◌≤◌, refl, ap, sym, ◌∙◌, subst, arith, Bool, true, false, cond, ◌&&◌, ◌==◌, List, [], ◌∷◌, ◌++◌, length}
 use Rattle.std.proofs.Common.{get_or, set, get_or-set_same, get_or-set_other, length-set, ext_get_or, mod-eq_of_lt, Option, Some, None}
 use Rattle.std.specs.List.{list_any}
 use lib.Dec.{T, eqb→eq}
-use Rattle.std.proofs.lemmas.Bool.{cases_lt}
 use Rattle.std.proofs.lemmas.Nat.{mod_below}
 use Rattle.clock2q_handles.specs.Homes.{top, listed, count, total, with_list, is_entry_of}
 use Rattle.clock2q_handles.specs.Layout.{Placed, placed, slot_at, reach, at_home, met, entries, homes_of, spill_of, IsTidy}
 use Rattle.clock2q_handles.specs.Slots.{cell, mark_of, IsSlotCount}
 use Rattle.clock2q_handles.specs.Table.{IsTable}
 use Rattle.clock2q_handles.specs.Found.{FindsAt}
-use Rattle.clock2q_handles.specs.Positions.{IsEntryAt, GapValue, gap_of, gap_value, with_entry, with_first, handle_replaced}
+use Rattle.clock2q_handles.specs.Positions.{IsEntryAt, gap_of, with_entry, with_first, handle_replaced}
 use Rattle.clock2q_handles.proofs.layout.Periods.{rems-differ}
 use Rattle.clock2q_handles.proofs.layout.Laid.{at_home-other, met-same}
 use Rattle.clock2q_handles.proofs.shifts.Steps.{past_home}
@@ -22,16 +21,7 @@ use Rattle.clock2q_handles.proofs.walks.Positions.{some_homes, position_at, slot
 -- homes that are equally far from the same slot are the same
 home_same : (m h x d : ℕ) → 0 < m → (h + d) % m ≡ (x + d) % m → h % m ≡ x % m
 home_same m h x d some e =
-    let l = mod_below h m some in
-    let u = mod_below x m some in
-    let same : (h % m + d) % m ≡ (x % m + d) % m = rem-plus m h d ∙ e ∙ sym (rem-plus m x d) in
-    elim (cases_lt (h % m) (x % m)) [
-      | inl below ↦ absurd (rems-differ m (h % m + d) (x % m + d) (omega (arith, below)) (omega (arith, u)) same)
-      | inr from ↦ elim (cases_lt (x % m) (h % m)) [
-        | inl above ↦ absurd (rems-differ m (x % m + d) (h % m + d) (omega (arith, above)) (omega (arith, l)) (sym same))
-        | inr upto ↦ omega (arith, from, upto)
-      ]
-    ]
+    grind (arith, mod_below h m some, mod_below x m some, rem-plus m h d, rem-plus m x d, rems-differ m (h % m + d) (x % m + d), rems-differ m (x % m + d) (h % m + d))
 
 module _ {E : Type 0} where
   met-alike : (A B : ℕ → Option (Placed E)) (g h d k : ℕ) → ((j : ℕ) → d ≤ j → j < d + k → at_home (A (g + j)) j ≡ at_home (B (h + j)) j) → met A g d k ≡ met B h d k
@@ -45,15 +35,9 @@ module _ {E : Type 0} where
   entries-set (None ∷ slots) (suc n) p q is = entries-set slots n p q is
   entries-set (Some s ∷ slots) (suc n) p q is = ap suc (entries-set slots n p q is)
 
-  -- the first that passes is replaced
-  later_with : (test : E → Bool) (x e e' : E) (xs ys : List E) (b : Bool) → (list_any test xs ≡ false → with_first test e' (xs ++ e ∷ ys) ≡ xs ++ e' ∷ ys)
-      → (b || list_any test xs) ≡ false → cond b (e' ∷ xs ++ e ∷ ys) (x ∷ with_first test e' (xs ++ e ∷ ys)) ≡ x ∷ xs ++ e' ∷ ys
-  later_with test x e e' xs ys true rest none = absurd (cc)
-  later_with test x e e' xs ys false rest none = ap (λ zs. x ∷ zs) (rest none)
-
   pub with_first-at : (test : E → Bool) (xs ys : List E) (e e' : E) → list_any test xs ≡ false → test e ≡ true → with_first test e' (xs ++ e ∷ ys) ≡ xs ++ e' ∷ ys
   with_first-at test [] ys e e' none is = ap (λ b. cond b (e' ∷ ys) (e ∷ with_first test e' ys)) is
-  with_first-at test (x ∷ xs) ys e e' none is = later_with test x e e' xs ys (test x) (λ n. with_first-at test xs ys e e' n is) none
+  with_first-at test (x ∷ xs) ys e e' none is = grind (arith, with_first-at test xs ys e e')
 
   module _ (slots : List (Option (Placed E))) (tidy : IsTidy slots) (some : 0 < length slots) (x d n : ℕ) (e e' : E)
       (here : slot_at slots (x + d) ≡ Some (placed d e)) (at : n ≡ (x + d) % length slots) where
@@ -142,9 +126,6 @@ module _ {E : Type 0} where
   module _ (homes : List (List E)) (x i : ℕ) (e' : E) (some : 0 < length homes) where
     with_entry-count : (h : ℕ) → count (with_entry homes x i e') h ≡ count homes h
     with_entry-count h = grind (arith, listed-with_same, length-set, listed-with_other)
-
-abbrev gap_at : ℕ → ℕ → ℕ → ℕ → GapValue
-gap_at y s c m = gap_value ((y + s + c) % m) (Some (s + c, top y))
 
 module _ {H : Type 0} (homes : List (List (ℕ × H))) (x i : ℕ) (e' : ℕ × H) (some : 0 < length homes) where
   -- so each hash's gap stays where it was

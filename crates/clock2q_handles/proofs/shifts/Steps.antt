@@ -1,8 +1,7 @@
 -- What putting an entry in and removing one do to a table.
-use Rattle.std.proofs.Common.{◌≡◌, ℕ, suc, ◌+◌, ◌-◌, ◌%◌, ◌<◌, ◌≤◌, inl, inr, refl, ap, sym, ◌∙◌, subst, arith, Bool, true, false, ◌||◌, List, [], ◌∷◌, ◌++◌, length, Option, Some, None}
+use Rattle.std.proofs.Common.{◌≡◌, ℕ, suc, ◌+◌, ◌-◌, ◌%◌, ◌<◌, ◌≤◌, refl, ap, sym, ◌∙◌, subst, arith, Bool, true, ◌||◌, List, [], ◌∷◌, ◌++◌, length, Option, Some, None}
 use Rattle.std.proofs.lemmas.List.{get_or_past}
 use Rattle.std.proofs.Math.Nat.{mod-mod}
-use Rattle.std.proofs.lemmas.Bool.{cases_lt}
 use Rattle.std.specs.List.{list_any}
 use Rattle.clock2q_handles.specs.Homes.{listed, total, is_entry_of, removed, with_list}
 use Rattle.clock2q_handles.specs.Layout.{Placed, placed, slot_at, reach, longest_reach, homes_of, met, run, IsBestPlaced}
@@ -19,10 +18,6 @@ use Rattle.clock2q_handles.proofs.layout.TidyLayout.{length-homes_of, tidy-layou
 use Rattle.clock2q_handles.proofs.shifts.Changes.{IsMovedOn, removed-run, removed-total, removed-tidy, removed-homes, list_without, read-split}
 use Rattle.clock2q_handles.proofs.layout.Placement.{best-placed}
 use Rattle.clock2q_handles.proofs.shifts.Removals.{removed-found}
-
-or_true : (b : Bool) → (b || true) ≡ true
-or_true true = refl
-or_true false = refl
 
 module _ {E : Type 0} where
   -- the slots past a home are those past any hash of it
@@ -54,16 +49,8 @@ module _ {E : Type 0} where
   -- entries that moved back are no further from their homes
   pub closed-near : (slots others : List (Option (Placed E))) (g n w b : ℕ) (e : E) → length slots ≡ length others → 0 < length others
       → Opens (slot_at slots) (slot_at others) (length others) g n w e → ((k : ℕ) → reach (slot_at others k) ≤ b) → (k : ℕ) → reach (slot_at slots k) ≤ b
-  closed-near slots others g n w b e same some opens near = near_by_lap slots g b (omega (arith, same, some)) (λ j l. elim (cases_lt j n) [
-    | inl early ↦ omega (arith, near (g + j), ap reach (opens.before j early))
-    | inr from ↦ elim (cases_lt j w) [
-      | inl moves ↦ omega (arith, near (g + suc j), ap reach (opens.moved j from moves), (reach-moved_on (slot_at slots (g + j))).0)
-      | inr past ↦ elim (cases_lt w j) [
-        | inl after ↦ omega (arith, near (g + j), ap reach (opens.after j after (omega (arith, l, same))))
-        | inr at ↦ let q : j ≡ w = omega arith in omega (arith, ap (λ i. reach (slot_at slots (g + i))) q, ap reach opens.vacant)
-      ]
-    ]
-  ])
+  closed-near slots others g n w b e same some opens near =
+      near_by_lap slots g b (omega (arith, same, some)) (λ j l. grind (arith, near (g + j), near (g + suc j), opens.before j, opens.moved j, opens.after j, opens.vacant, reach-moved_on (slot_at slots (g + j))))
 
   -- slots that were opened, seen from any hash of the home
   pub opens-moved : (slots others : List (Option (Placed E))) (m g x n v : ℕ) (e : E) → length slots ≡ m → length others ≡ m → g ≡ x % m → Opens (slot_at slots) (slot_at others) m g n v e
@@ -77,14 +64,8 @@ module _ {E : Type 0} where
             let r = entry_on (slot_at slots (g + j)) (slot_at others (g + suc j)) (full j from upto) (opens.moved j from upto) in
             (r.0, sym (a j) ∙ r.1, sym (b (suc j)) ∙ r.2);
         hole = sym (a v) ∙ opens.vacant;
-        kept = λ j from upto. elim (cases_lt j m) [
-          | inl within ↦ sym (b j) ∙ opens.after j from within ∙ a j
-          | inr past ↦
-              let k : ℕ = j - m in
-              let q : x + j ≡ x + k + m = omega arith in
-              ap (slot_at others) q ∙ ap (λ y. slot_at others (x + k + y)) (sym len') ∙ slot-again others (x + k) ∙ sym (b k)
-              ∙ opens.before k (omega arith) ∙ a k ∙ sym (slot-again slots (x + k)) ∙ ap (λ y. slot_at slots (x + k + y)) len ∙ ap (slot_at slots) (sym q)
-        ];
+        kept = λ j from upto.
+            grind (arith, opens.after j, a j, b j, opens.before (j - m), a (j - m), b (j - m), slot-again slots (x + (j - m)), slot-again others (x + (j - m)));
       }
 
 module _ {E : Type 0} where
@@ -95,7 +76,7 @@ module _ {E : Type 0} where
   -- a list with an element that passes
   pub list_any-at : (test : E → Bool) (xs : List E) (e : E) (ys : List E) → test e ≡ true → list_any test (xs ++ e ∷ ys) ≡ true
   list_any-at test [] e ys passes = ap (λ b. b || list_any test ys) passes
-  list_any-at test (x ∷ xs) e ys passes = ap (λ b. test x || b) (list_any-at test xs e ys passes) ∙ or_true (test x)
+  list_any-at test (x ∷ xs) e ys passes = grind (arith, list_any-at test xs e ys passes)
 
 module _ {E : Type 0} (x : ℕ) (others slots : List (Option (Placed E))) (g n w : ℕ) (e : E) (at : g ≡ x % length others)
     (closes : Closes (slot_at others) (slot_at slots) (length others) g n w e) (same : length slots ≡ length others) where

@@ -35,7 +35,7 @@ mark_parts s t e = (cc, cc)
 module _ {H : Type 0} (x : ℕ) where
   -- the entry of a candidate
   pub candidate : (s : Mark) (o : Option (Placed (ℕ × H))) (d : ℕ) (w : H) → s ≡ mark_of o → s ≡ Some (d, top x) → IfSome o (λ p. w ≡ p.entry.1) → o ≡ Some (placed d (top x, w))
-  candidate s None d w is meaning handle = absurd (cc)
+  candidate s None d w is meaning handle = grind (arith, mark_parts)
   candidate s (Some p) d w is meaning handle = grind (arith, mark_parts)
 
 module _ {H : Type 0} (eq : H → H → Bool) (x : ℕ) (v : H) where

@@ -1,11 +1,11 @@
 -- Where a home's entries are and its walks end, as slots show it.
-use Rattle.std.proofs.Common.{◌≡◌, ℕ, suc, ◌+◌, ◌-◌, ◌%◌, ◌<◌, ◌≤◌, refl, ap, sym, ◌∙◌, arith, List, [], ◌∷◌, ◌++◌, length, set, Option, Some, None, slice_get}
+use Rattle.std.proofs.Common.{◌≡◌, ℕ, suc, ◌+◌, ◌-◌, ◌%◌, ◌<◌, refl, ap, sym, ◌∙◌, arith, List, [], ◌∷◌, ◌++◌, length, Option, Some, None, slice_get}
 use Rattle.std.specs.Prelude.{IsSome}
 use Rattle.std.proofs.Math.Nat.{add-mod_right}
 use Rattle.std.proofs.Math.Seq.{set-append_seam}
 use Rattle.clock2q_handles.specs.Homes.{top, listed, count, with_list}
 use Rattle.clock2q_handles.specs.Layout.{Placed, placed, slot_at, reach, met, homes_of, layout, spill_of, IsTidy}
-use Rattle.clock2q_handles.specs.Slots.{Mark, mark_reach}
+use Rattle.clock2q_handles.specs.Slots.{Mark}
 use Rattle.clock2q_handles.specs.Candidates.{end_at, IsLookup, IsWalkFor, EndsAt}
 use Rattle.clock2q_handles.specs.Positions.{IsEntryAt, GapValue, gap_value, gap_from, gap_of, with_entry}
 use Rattle.clock2q_handles.specs.Shifts.{HasCome}
@@ -65,48 +65,37 @@ module _ {E : Type 0} where
       pub here_entry : (s : ℕ) → s ≡ (x + d) % length slots → IsEntryAt (homes_of slots) x (length (met (slot_at slots) x 0 d)) e s
       here_entry s at =
           let before : List E = met (slot_at slots) x 0 d in
-          let q : x + d ≡ x + spill_of (homes_of slots) x + length before = omega (arith, read-count slots tidy some x d (ap reach here)) in
           record {
             entry = ap (λ es. slice_get es (length before)) (read-split slots x d e here_within here) ∙ slice_get-seam before (met (slot_at slots) x (suc d) (length slots - suc d)) e;
-            slot = at ∙ ap (λ k. k % length slots) q ∙ ap (λ m. (x + spill_of (homes_of slots) x + length before) % m) (sym (length-homes_of slots));
+            slot = grind (arith, length-homes_of slots, read-count slots tidy some x d);
           }
 
       -- and with another in its place
       pub here_with : (i : ℕ) (e' : E) → i ≡ length (met (slot_at slots) x 0 d)
           → with_list (homes_of slots) x (met (slot_at slots) x 0 d ++ e' ∷ met (slot_at slots) x (suc d) (length slots - suc d)) ≡ with_entry (homes_of slots) x i e'
       here_with i e' at =
-          let before : List E = met (slot_at slots) x 0 d in
-          let after : List E = met (slot_at slots) x (suc d) (length slots - suc d) in
-          let other : set (listed (homes_of slots) x) i e' ≡ before ++ e' ∷ after =
-          ap (λ k. set (listed (homes_of slots) x) k e') at ∙ ap (λ es. set es (length before) e') (read-split slots x d e here_within here) ∙ set-append_seam before e after e' in
-          ap (with_list (homes_of slots) x) (sym other)
+          grind (arith, read-split slots x d e here_within here, set-append_seam (met (slot_at slots) x 0 d) e (met (slot_at slots) x (suc d) (length slots - suc d)) e')
 
 -- the gap of a hash is that of its home
 gap-home : {E : Type 0} (homes : List (List E)) (x f : ℕ) → gap_from homes (x % length homes) f ≡ gap_from homes x f
-gap-home homes x f = rem-same (λ h. gap_from homes h f) (length homes) (λ h.
-    let m : ℕ = length homes in
-    let d : ℕ = spill_of homes h + count homes h in
-    let same : spill_of homes (h + m) + count homes (h + m) ≡ d = omega (arith, spill-again (count homes) m (count-again homes) h, count-again homes h) in
-    let at : h + m + spill_of homes (h + m) + count homes (h + m) ≡ h + spill_of homes h + count homes h + m = omega (arith, same) in
-    ap (λ k. gap_value (k % m) (Some (spill_of homes (h + m) + count homes (h + m), f))) at
-    ∙ ap (λ k. gap_value ((h + spill_of homes h + count homes h + m) % m) (Some (k, f))) same
-    ∙ ap (λ k. gap_value k (Some (d, f))) (add-mod_right (h + spill_of homes h + count homes h) m)) x
+gap-home homes x f =
+    rem-same (λ h. gap_from homes h f) (length homes) (λ h.
+    grind (arith, spill-again (count homes) (length homes) (count-again homes) h, count-again homes h, add-mod_right (h + spill_of homes h + count homes h) (length homes))) x
 
 module _ {H : Type 0} (slots : List (Option (Placed (ℕ × H)))) (tidy : IsTidy slots) (some : 0 < length slots) (x : ℕ) where
   -- a walk ends at the gap
   pub ends_gap : (n : ℕ) (s : Mark) → EndsAt slots x s n → gap_value n s ≡ gap_of (homes_of slots) x
   ends_gap n s ends =
-      let homes = homes_of slots in
       let d : ℕ = ends.walk.distance in
-      let come = ends.walk.come in
       let past = past_home slots (length slots) (x % length slots) x refl refl in
-      let end : reach (slot_at slots (x + d)) ≤ d = omega (arith, ends.stop, ap mark_reach ends.walk.mark, ap reach (past_at slots tidy some x d n come.slot)) in
-      let sum : d ≡ spill_of homes x + count homes x =
-      omega (arith, walk-at slots tidy x d some (λ j l. omega (arith, come.passed j l, ap reach (past j))) end, walk-is homes x (omega (arith, some, length-homes_of slots))) in
-      let q : x + d ≡ x + spill_of homes x + count homes x = omega (arith, sum) in
-      ap (λ k. gap_value k s)
-      (come.slot ∙ rem-plus (length slots) x d ∙ ap (λ k. k % length slots) q ∙ ap (λ m. (x + spill_of homes x + count homes x) % m) (sym (length-homes_of slots)))
-      ∙ ap (gap_value ((x + spill_of homes x + count homes x) % length homes)) (ends.walk.mark ∙ ap (λ k. Some (k, top x)) sum)
+      grind (
+        arith,
+        past_at slots tidy some x d n ends.walk.come.slot,
+        walk-at slots tidy x d some (λ j l. omega (arith, ends.walk.come.passed j l, ap reach (past j))),
+        walk-is (homes_of slots) x,
+        rem-plus (length slots) x d,
+        length-homes_of slots,
+      )
 
   -- and so the gap is where one ends
   pub gap_ends : (g : GapValue) → g ≡ gap_of (homes_of slots) x → EndsAt slots x g.mark g.position
@@ -128,12 +117,7 @@ module _ {H : Type 0} (slots : List (Option (Placed (ℕ × H)))) where
   -- a walk for x ends at the gap of x, wherever it is
   pub end_of : (x : ℕ) (s : Mark) (n : ℕ) → IsWalkFor slots x s n → end_at slots s n ≡ Some (gap_of (homes_of slots) x)
   end_of x s n walk =
-      let homes = homes_of slots in
-      let d : ℕ = walk.distance in
-      let m : ℕ = length slots in
-      ap (λ t. end_at slots t n) walk.mark
-      ∙ ap (λ h. Some (gap_from homes h (top x))) (home_of_walk slots x d n walk.come.within (walk.come.slot ∙ rem-plus m x d) ∙ ap (λ k. x % k) (sym (length-homes_of slots)))
-      ∙ ap Some (gap-home homes x (top x))
+      grind (arith, home_of_walk slots x walk.distance n walk.come.within, rem-plus (length slots) x walk.distance, length-homes_of slots, gap-home (homes_of slots) x (top x))
 
   -- a lookup that has an end looks for something
   pub some_sought : (s : Mark) (n : ℕ) → IsSome (end_at slots s n) → IsSome s

@@ -1,8 +1,8 @@
 -- How many slots a walk has read when it has come to one, and when it ends.
-use Rattle.std.proofs.Common.{◌≡◌, ℕ, ◌+◌, ◌-◌, ◌%◌, ◌<◌, ◌≤◌, inl, inr, refl, ap, arith, List, length, Option}
+use Rattle.std.proofs.Common.{◌≡◌, ℕ, ◌-◌, ◌%◌, ◌<◌, inl, inr, refl, arith, List, length, Option}
 use Rattle.std.proofs.lemmas.Bool.{cases_lt}
 use Rattle.clock2q_handles.specs.Candidates.{EndsAt}
-use Rattle.clock2q_handles.specs.Layout.{Placed, slot_at, reach, homes_of, walk, IsTidy}
+use Rattle.clock2q_handles.specs.Layout.{Placed, homes_of, walk, IsTidy}
 use Rattle.clock2q_handles.specs.Shifts.{HasCome}
 use Rattle.clock2q_handles.specs.Slots.{Mark, mark_reach}
 use Rattle.clock2q_handles.proofs.layout.FewerEntries.{walk-is}
@@ -25,10 +25,6 @@ module _ {H : Type 0} (slots : List (Option (Placed (ℕ × H)))) (tidy : IsTidy
   -- a walk that ends has read as many slots as its definition says
   pub ends_reads : (x n : ℕ) (s : Mark) → EndsAt slots x s n → mark_reach s ≡ walk (homes_of slots) x
   ends_reads x n s ends =
-      let come = ends.walk.come in
       let d : ℕ = ends.walk.distance in
       let g : ℕ = x % length slots in
-      let some : 0 < length slots = omega (arith, come.within) in
-      let near : reach (slot_at slots (g + d)) ≤ d = omega (arith, ends.stop, ap mark_reach ends.walk.mark, ap reach (come_here slots g d n come)) in
-      let all : walk (homes_of slots) g ≡ d + 1 = walk-at slots tidy g d some come.passed near in
-      omega (arith, all, ap mark_reach ends.walk.mark, walk-home slots tidy x g (λ _. refl))
+      grind (arith, come_here slots g d n ends.walk.come, walk-at slots tidy g d, walk-home slots tidy x g (λ _. refl))

@@ -1,7 +1,7 @@
 -- Runs of occupied slots: fewer entries in the homes lengthen none, and as many in each home change none. The same of walks.
-use Rattle.std.proofs.Common.{◌≡◌, ℕ, zero, suc, ◌+◌, ◌*◌, ◌<◌, ◌≤◌, refl, ap, sym, ◌∙◌, arith, Bool, true, false, cond, List, [], ◌∷◌, length, Option, Some, None}
+use Rattle.std.proofs.Common.{◌≡◌, ℕ, zero, suc, ◌+◌, ◌<◌, ◌≤◌, refl, ap, sym, ◌∙◌, arith, Bool, List, [], ◌∷◌, length, Option, None}
 use Rattle.clock2q_handles.specs.Homes.{top, capacity, listed, count, total, with_list, without_first, is_entry_of, removed}
-use Rattle.clock2q_handles.specs.Layout.{Placed, window, spill, spill_of, slot_at, layout, walk, occupied, run}
+use Rattle.clock2q_handles.specs.Layout.{Placed, spill, spill_of, slot_at, layout, walk, occupied, run}
 use Rattle.clock2q_handles.specs.Positions.{with_first, handle_replaced}
 use Rattle.clock2q_handles.proofs.layout.Spill.{Roomy, window-le, spill-lt}
 use Rattle.clock2q_handles.proofs.layout.Tiles.{IsGap}
@@ -13,17 +13,10 @@ use Rattle.clock2q_handles.proofs.shifts.Changes.{length-with_list, listed-with_
 use Rattle.clock2q_handles.proofs.shifts.Removals.{length-without_first}
 
 module _ {E : Type 0} where
-  at_slot : (a b : Option (Placed E)) (m n : ℕ) → (a ≡ None → b ≡ None) → n ≤ m
-      → elim b [ None ↦ 0 | Some _ ↦ suc n ] ≤ elim a [ None ↦ 0 | Some _ ↦ suc m ]
-  at_slot None None m n still l = omega arith
-  at_slot None (Some t) m n still l = grind arith
-  at_slot (Some s) None m n still l = omega arith
-  at_slot (Some s) (Some t) m n still l = omega (arith, l)
-
   -- if each slot that was empty still is, no run is longer
   occupied-fewer : (A B : ℕ → Option (Placed E)) → ((n : ℕ) → A n ≡ None → B n ≡ None) → (n k : ℕ) → occupied B n k ≤ occupied A n k
   occupied-fewer A B still n zero = omega arith
-  occupied-fewer A B still n (suc k) = at_slot (A n) (B n) (occupied A (suc n) k) (occupied B (suc n) k) (still n) (occupied-fewer A B still (suc n) k)
+  occupied-fewer A B still n (suc k) = grind (arith, still n, occupied-fewer A B still (suc n) k)
 
   no_walk : (homes : List (List E)) (y : ℕ) → length homes ≤ 0 → walk homes y ≡ 0
   no_walk [] y none = refl
@@ -33,13 +26,8 @@ module _ {E : Type 0} where
   module _ (homes fewer : List (List E)) (room : total homes ≤ capacity (length homes)) (as_many : length fewer ≡ length homes)
       (below : 0 < length homes → (n : ℕ) → count fewer n ≤ count homes n) where
     pub total-fewer : total fewer ≤ total homes
-    total-fewer = omega (
-      arith,
-      sum-window length homes,
-      sum-window length fewer,
-      ap (window (count fewer) 0) as_many,
-      window-le (count fewer) (count homes) 0 (length homes) (λ j l. below (omega (arith, l)) (0 + j)),
-    )
+    total-fewer =
+        grind (arith, sum-window length homes, sum-window length fewer, window-le (count fewer) (count homes) 0 (length homes) (λ j l. below (omega (arith, l)) (0 + j)))
 
     pub room-fewer : total fewer ≤ capacity (length fewer)
     room-fewer = omega (arith, room, total-fewer, ap capacity as_many)
@@ -52,25 +40,14 @@ module _ {E : Type 0} where
       roomy_fewer = roomy-of fewer (omega (arith, room, total-fewer, as_many, capacity-lt (length homes) some))
 
       spills : (n : ℕ) → spill_of fewer n ≤ spill_of homes n
-      spills n =
-          let m : ℕ = length homes in
-          let one : 1 * m ≡ m = omega arith in
-          omega (
-            arith,
-            ap (λ w. spill (count fewer) w n) as_many,
-            ap (λ w. spill (count fewer) w n) one,
-            spill-fewer (count homes) (count fewer) m 1 roomy (omega (arith, some)) (below some) n,
-          )
+      spills n = grind (arith, as_many, spill-fewer (count homes) (count fewer) (length homes) 1 roomy (omega (arith, some)) (below some) n)
 
       still_empty : (n : ℕ) → slot_at (layout homes) n ≡ None → slot_at (layout fewer) n ≡ None
       still_empty n none =
           let m : ℕ = length homes in
-          let g = none-gap m (listed homes) (slot_at (layout homes)) roomy (layout-laid homes roomy) (n + m)
-          (omega (arith, spill-lt (count homes) m roomy 0)) (slots_again (layout homes) m (length-layout homes) n ∙ none) in
-          let here : IsGap (count fewer) (length fewer) (n + m) = record {
-            spilled = omega (arith, spills (n + m), g.spilled);
-            counted = omega (arith, below some (n + m), g.counted);
-          } in
+          let far : spill (count homes) m 0 ≤ n + m = omega (arith, spill-lt (count homes) m roomy 0) in
+          let g = none-gap m (listed homes) (slot_at (layout homes)) roomy (layout-laid homes roomy) (n + m) far (slots_again (layout homes) m (length-layout homes) n ∙ none) in
+          let here : IsGap (count fewer) (length fewer) (n + m) = grind (arith, spills (n + m), g.spilled, below some (n + m), g.counted) in
           sym (slots_again (layout fewer) m (length-layout fewer ∙ as_many) n) ∙ (layout-laid fewer roomy_fewer).rest (n + m) here
 
     -- no run is longer
@@ -84,13 +61,9 @@ module _ {E : Type 0} where
   count-with_same : (homes : List (List E)) (x n : ℕ) (es : List E) → 0 < length homes → length es ≡ count homes x → count (with_list homes x es) n ≡ count homes n
   count-with_same homes x n es some l = grind (arith, listed-with_same, listed-with_other)
 
-  as_long_at : (test : E → Bool) (e y : E) (ys : List E) (b : Bool) → length (with_first test e ys) ≡ length ys → length (cond b (e ∷ ys) (y ∷ with_first test e ys)) ≡ suc (length ys)
-  as_long_at test e y ys true l = refl
-  as_long_at test e y ys false l = ap suc l
-
   pub length-with_first : (test : E → Bool) (e : E) (es : List E) → length (with_first test e es) ≡ length es
   length-with_first test e [] = refl
-  length-with_first test e (y ∷ ys) = as_long_at test e y ys (test y) (length-with_first test e ys)
+  length-with_first test e (y ∷ ys) = grind (arith, length-with_first test e ys)
 
 module _ {H : Type 0} (eq : H → H → Bool) (homes : List (List (ℕ × H))) (x : ℕ) (v : H) (room : total homes ≤ capacity (length homes)) where
   abbrev less : List (ℕ × H)

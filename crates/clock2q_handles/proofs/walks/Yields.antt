@@ -58,13 +58,7 @@ module _ {E : Type 0} (slots : List (Option (Placed E))) (tidy : IsTidy slots) w
   walk-beyond h n some on =
       let v = tidy-vacant slots tidy some in
       let s = stop (slot_at slots) tidy.ordered (length slots) (slot-again slots) some v.0 v.1 h 0 in
-      let w : walk (homes_of slots) h ≡ s.0 + 1 = walk-at h s.0 some (λ j l. omega (arith, s.2.before j l)) (omega (arith, s.2.stop)) in (
-        elim (cases_lt n s.0) [
-          | inl below ↦ omega (arith, w, below)
-          | inr from ↦ absurd (omega (arith, on, after (slot_at slots) tidy.ordered h 0 s.0 s.2.stop n from))
-        ],
-        omega (arith, w, s.1),
-      )
+      grind (arith, walk-at h s.0 some, s.1, s.2.before, s.2.stop, after (slot_at slots) tidy.ordered h 0 s.0 s.2.stop n)
 
   -- no walk reads more slots than there are
   pub walk-le : (h : ℕ) → walk (homes_of slots) h ≤ length slots

@@ -4,7 +4,7 @@ use Rattle.clock2q_handles.proofs.walks.Cursors.{HasPassed, standing, passed_on}
 use Rattle.clock2q_handles.proofs.shifts.Carrying.{walks_on}
 use Rattle.clock2q_handles.proofs.walks.Positions.{same_end}
 use Rattle.clock2q_handles.proofs.candidates.Candidates.advance.Given.{Over}
-use Rattle.clock2q_handles.proofs.candidates.Candidates.advance.Goals.{After-after-self-inside, After-next-self-inside}
+use Rattle.clock2q_handles.proofs.candidates.Candidates.advance.Goals.{After-next-self-inside}
 use Rattle.clock2q_handles.proofs.candidates.Candidates.advance.Goals as goal
 
 pub after-self-inside-requires : goal.after-self-inside-requires

@@ -6,7 +6,7 @@ use Rattle.clock2q_handles.proofs.shifts.Moves.{reach_of_meaning, refused}
 use Rattle.clock2q_handles.proofs.walks.Cursors.{lookup_ends, lookup_steps, goes_on, HasStepped}
 use Rattle.clock2q_handles.proofs.shifts.Carrying.{walks_on}
 use Rattle.clock2q_handles.proofs.slots.reader.Reader.candidate.Given.{Over}
-use Rattle.clock2q_handles.proofs.slots.reader.Reader.candidate.Goals.{After-is, After-ends_walk_for, After-after-slot}
+use Rattle.clock2q_handles.proofs.slots.reader.Reader.candidate.Goals.{After-is, After-after-slot}
 use Rattle.clock2q_handles.proofs.slots.reader.Reader.candidate.Goals as goal
 
 -- the slot that was read

@@ -2,7 +2,6 @@ use Rattle.std.proofs.Common.{◌≡◌, length, sym, ap, ◌∙◌, subst, arit
 use Rattle.clock2q_handles.specs.Readers.{reader_value}
 use Rattle.clock2q_handles.specs.Slots.{IsSlotCount}
 use Rattle.clock2q_handles.proofs.shifts.Wrapping.{cells_along}
-use Rattle.clock2q_handles.proofs.slots.reader.Reader.new.Goals.{After-mask}
 use Rattle.clock2q_handles.proofs.slots.reader.Reader.new.Goals as goal
 
 pub returns : goal.returns
