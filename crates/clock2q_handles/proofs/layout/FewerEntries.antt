@@ -1,5 +1,5 @@
 -- Fewer entries push less, in as many homes or in a multiple: what that means for a removal and a rebuild. And what a rebuild does to the lists.
-use Rattle.std.proofs.Common.{◌≡◌, ℕ, zero, suc, ◌+◌, ◌-◌, ◌*◌, ◌%◌, ◌<◌, ◌≤◌, inl, inr, refl, ap, sym, ◌∙◌, arith, cond, eqb, eq-eqb, ne_eqb, List, [], ◌∷◌, ◌++◌, length}
+use Rattle.std.proofs.Common.{◌≡◌, ℕ, zero, suc, ◌+◌, ◌-◌, ◌*◌, ◌%◌, ◌<◌, ◌≤◌, inl, inr, refl, ap, ◌∙◌, arith, cond, eqb, eq-eqb, ne_eqb, List, [], ◌∷◌, ◌++◌, length}
 use Rattle.std.proofs.Common.{take, drop, take-append-drop, sum_by, length-append, Option, Some, slice_get}
 use Rattle.std.proofs.lemmas.Bool.{cases_lt}
 use Rattle.std.proofs.lemmas.List.{get_or_past, length-replicate}
@@ -128,12 +128,10 @@ module _ {H : Type 0} (key : H → ℕ) where
       let m : ℕ = length homes in
       let w : ℕ × H → ℕ = shares (k * m) n in
       let rem : (x : ℕ) → x % (k * m) % m ≡ x % m = rem-same (λ x. x % m) (k * m) (λ x. add-mul-mod_self_right x k m) in
-      let one : window (λ h. sum_by w (listed homes h)) 0 m ≤ sum_by w (listed homes (n % m)) =
-      window_one (λ h. sum_by w (listed homes h)) (n % m) m (λ h l other. sum_by_none w (listed homes h) (λ i e is.
-      let r = hashes h i e l is in
-      ap (λ b. cond b 1 0) (ne_eqb (n % (k * m)) (key e.1 % (k * m)) (λ q. other (sym r.0 ∙ sym (rem (key e.1)) ∙ ap (λ x. x % m) (sym q) ∙ rem n))))) in
-      let here : listed homes (n % m) ≡ listed homes n = rem-same (listed homes) m (listed-again homes) n in
-      omega (arith, layout-sum w homes room, one, sum_by_all w (listed homes (n % m)) (shares_one (k * m) n), ap length here)
+      let one = window_one (λ h. sum_by w (listed homes h)) (n % m) m (λ h l other. sum_by_none w (listed homes h) (λ i e is.
+      grind (arith, (hashes h i e l is).0, ne_eqb (n % (k * m)) (key e.1 % (k * m)), rem (key e.1), rem n))) in
+      let here = rem-same (listed homes) m (listed-again homes) n in
+      grind (arith, layout-sum w homes room, one, sum_by_all w (listed homes (n % m)) (shares_one (k * m) n), here)
 
   sum_by_front : (w : Placed (ℕ × H) → ℕ) (slots : List (Option (Placed (ℕ × H)))) (i : ℕ) → sum_by w (entries (take i slots)) ≤ sum_by w (entries slots)
   sum_by_front w slots i =

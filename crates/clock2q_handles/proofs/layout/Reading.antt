@@ -61,20 +61,17 @@ module _ {E : Type 0} where
     upto_at : (k : ℕ) → k ≤ length homes → (h i : ℕ) (e : E) → h < k → slice_get (listed homes h) i ≡ Some e
         → get_or (layout_upto homes k) ((h + spill_of homes h + i) % length homes) None ≡ Some (placed (spill_of homes h + i) e)
     upto_at zero u h i e l is = absurd (omega arith)
-    upto_at (suc k) u h i e l is = elim (cases_lt h k) [
-      | inl below ↦ put_from_other (length homes) (layout_upto homes k) (k + spill_of homes k) (spill_of homes k) (listed homes k) ((h + spill_of homes h + i) % length homes)
-          (length-layout_upto homes k) (λ j lj. rems-differ (length homes) (h + spill_of homes h + i) (k + spill_of homes k + j)
-          (omega (arith, apart (count homes) (length homes) roomy h k below, slice_get_within (listed homes h) i e is))
-          (omega (arith, apart (count homes) (length homes) roomy k (h + length homes) (omega arith), spill-again (count homes) (length homes) roomy.again h)))
-          ∙ upto_at k (omega arith) h i e below is
-      | inr from ↦
-          let s : h ≡ k = omega arith in
-          let same : slice_get (listed homes k) i ≡ Some e = ap (λ x. slice_get (listed homes x) i) (sym s) ∙ is in
-          ap (λ x. get_or (layout_upto homes (suc k)) ((x + spill_of homes x + i) % length homes) None) s
-          ∙ put_from_at (length homes) (layout_upto homes k) (k + spill_of homes k) (spill_of homes k) (listed homes k) i e (length-layout_upto homes k) (omega arith)
-          (omega (arith, apart (count homes) (length homes) roomy k (suc k) (omega arith), spill-lt (count homes) (length homes) roomy (suc k))) same
-          ∙ ap (λ x. Some (placed (spill_of homes x + i) e)) (sym s)
-    ]
+    upto_at (suc k) u h i e l is =
+        elim (cases_lt h k) [
+          | inl below ↦ put_from_other (length homes) (layout_upto homes k) (k + spill_of homes k) (spill_of homes k) (listed homes k) ((h + spill_of homes h + i) % length homes)
+              (length-layout_upto homes k) (λ j lj. rems-differ (length homes) (h + spill_of homes h + i) (k + spill_of homes k + j)
+              (omega (arith, apart (count homes) (length homes) roomy h k below, slice_get_within (listed homes h) i e is))
+              (omega (arith, apart (count homes) (length homes) roomy k (h + length homes) (omega arith), spill-again (count homes) (length homes) roomy.again h)))
+              ∙ upto_at k (omega arith) h i e below is
+          | inr from ↦
+              let fits : count homes k ≤ length homes = omega (arith, apart (count homes) (length homes) roomy k (suc k) (omega arith), spill-lt (count homes) (length homes) roomy (suc k)) in
+              grind (arith, put_from_at (length homes) (layout_upto homes k) (k + spill_of homes k) (spill_of homes k) (listed homes k) i e (length-layout_upto homes k) (omega arith) fits)
+        ]
 
     at_slot : (n : ℕ) → slot_at (layout homes) n ≡ get_or (layout_upto homes (length homes)) (n % length homes) None
     unfolding layout

@@ -1,5 +1,5 @@
 -- What holds of every table, at the start and as callers see it.
-use Rattle.std.proofs.Common.{◌≡◌, ℕ, zero, suc, ◌+◌, ◌-◌, ◌*◌, ◌/◌, ◌%◌, ◌^◌, ◌<◌, ◌≤◌, inl, inr, refl, ap, sym, ◌∙◌, subst, arith, List, [], length, get_or, replicate, Option, None}
+use Rattle.std.proofs.Common.{◌≡◌, ℕ, zero, suc, ◌-◌, ◌*◌, ◌/◌, ◌%◌, ◌<◌, inl, inr, refl, ap, sym, ◌∙◌, subst, arith, List, [], length, get_or, replicate, Option, None}
 use Rattle.std.proofs.lemmas.Bool.{cases_lt}
 use Rattle.std.proofs.lemmas.List.{length-replicate}
 use Rattle.std.proofs.lemmas.Nat.{pow-add}
@@ -90,13 +90,10 @@ no_slots = record { power = λ some. absurd (omega (arith, some)); least = λ so
 
 -- the capacity, by quarters of the slots
 pub capacity_quarters : (m : ℕ) → IsSlotCount m → m / 4 * 3 ≡ capacity m
-capacity_quarters m is_count = elim (cases_lt 0 m) [
-  | inl some ↦
-      let k : ℕ = (is_count.power some).0 in
-      let is : m ≡ 2 ^ k = (is_count.power some).1 in
-      elim (cases_lt 2 k) [
-        | inl large ↦ let four : 2 ^ k ≡ 2 ^ (k - 2) * 4 = ap (λ x. 2 ^ x) (let s : k ≡ k - 2 + 2 = omega arith in s) ∙ pow-add 2 (k - 2) 2 in omega (arith, is, four)
-        | inr small ↦ let most : 2 ^ k ≤ 2 ^ 2 = pow_mono {i = k} {j = 2} (omega arith) in absurd (omega (arith, is, most, is_count.least some))
-      ]
-  | inr none ↦ omega arith
-]
+capacity_quarters m is_count =
+    elim (cases_lt 0 m) [
+      | inl some ↦
+          let p = is_count.power some in
+          elim (cases_lt 2 p.0) [ inl large ↦ grind (arith, p.1, pow-add 2 (p.0 - 2) 2) | inr small ↦ absurd (omega (arith, p.1, pow_mono {i = p.0} {j = 2} (omega arith), is_count.least some)) ]
+      | inr none ↦ omega arith
+    ]

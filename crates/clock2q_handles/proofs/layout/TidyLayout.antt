@@ -118,15 +118,12 @@ module _ {E : Type 0} where
   -- the entries of a layout have the same sum by slot as by home
   pub layout-sum : (w : E → ℕ) (homes : List (List E)) → total homes < length homes → sum_by (λ s. w s.entry) (entries (layout homes)) ≡ window (λ h. sum_by w (listed homes h)) 0 (length homes)
   layout-sum w homes l =
-      let m : ℕ = length homes in
-      let A : ℕ → Option (Placed E) = slot_at (layout homes) in
-      let again : (n : ℕ) → A (n + m) ≡ A n = λ n. ap (λ x. slot_at (layout homes) (n + x)) (sym (length-layout homes)) ∙ slot-again (layout homes) n in
-      let around : window (λ n. weight w (get_or (layout homes) n None)) 0 (length (layout homes)) ≡ window (λ n. weight w (A n)) 0 (length (layout homes)) =
-      window-same (λ n. weight w (get_or (layout homes) n None)) (λ n. weight w (A n)) 0 (length (layout homes)) (λ j lj.
-      let e : (0 + j) % length (layout homes) ≡ 0 + j = mod-eq_of_lt (omega arith) in
-      ap (λ x. weight w (get_or (layout homes) x None)) (sym e)) in
-      entries-sum w (layout homes) ∙ around ∙ ap (window (λ n. weight w (A n)) 0) (length-layout homes)
-      ∙ laid-sum m (listed homes) A (roomy-of homes l) (layout-laid homes (roomy-of homes l)) w (listed-again homes) again
+      let slots = layout homes in
+      let A : ℕ → Option (Placed E) = slot_at slots in
+      let again : (n : ℕ) → A (n + length homes) ≡ A n = λ n. grind (arith, length-layout homes, slot-again slots n) in
+      let around = window-same (λ n. weight w (get_or slots n None)) (λ n. weight w (A n)) 0 (length slots) (λ j l. grind (arith, mod-eq_of_lt l)) in
+      entries-sum w slots ∙ around ∙ ap (window (λ n. weight w (A n)) 0) (length-layout homes)
+      ∙ laid-sum (length homes) (listed homes) A (roomy-of homes l) (layout-laid homes (roomy-of homes l)) w (listed-again homes) again
 
   laid-total : (homes : List (List E)) → total homes < length homes → length (entries (layout homes)) ≡ total homes
   laid-total homes l = sym (sum_by_one (entries (layout homes))) ∙ layout-sum (λ _. 1) homes l
@@ -157,15 +154,12 @@ module _ {E : Type 0} where
 
   read_back : (homes : List (List E)) → total homes < length homes → homes_of (layout homes) ≡ homes
   read_back homes l =
-      let m : ℕ = length homes in
       let A : ℕ → Option (Placed E) = slot_at (layout homes) in
-      let again : (n : ℕ) → A (n + m) ≡ A n = λ n. ap (λ x. slot_at (layout homes) (n + x)) (sym (length-layout homes)) ∙ slot-again (layout homes) n in
-      let len : length (homes_of (layout homes)) ≡ m = length-homes_of (layout homes) ∙ length-layout homes in
+      let again : (n : ℕ) → A (n + length homes) ≡ A n = λ n. grind (arith, length-layout homes, slot-again (layout homes) n) in
+      let len : length (homes_of (layout homes)) ≡ length homes = length-homes_of (layout homes) ∙ length-layout homes in
       ext_get_or [] (homes_of (layout homes)) homes len (λ i li.
-      let a : i % length (homes_of (layout homes)) ≡ i = mod-eq_of_lt li in
-      let b : i % m ≡ i = mod-eq_of_lt (omega arith) in
-      ap (λ x. get_or (homes_of (layout homes)) x []) (sym a) ∙ listed-homes_of (layout homes) i ∙ ap (met A i 0) (length-layout homes)
-      ∙ laid-met m (listed homes) A (roomy-of homes l) (layout-laid homes (roomy-of homes l)) again (listed-again homes) i ∙ ap (λ x. get_or homes x []) b)
+      let met_all = laid-met (length homes) (listed homes) A (roomy-of homes l) (layout-laid homes (roomy-of homes l)) again (listed-again homes) i in
+      grind (arith, mod-eq_of_lt li, len, listed-homes_of (layout homes) i, length-layout homes, met_all))
 
   below_all : (homes : List (List E)) (es : List E) → total (es ∷ homes) ≤ capacity (length (es ∷ homes)) → total (es ∷ homes) < length (es ∷ homes)
   below_all homes es l = omega (arith, capacity-lt (suc (length homes)) (omega arith))

@@ -1,10 +1,9 @@
 -- The slot counts that a table grows to, and what a rebuild at one results in.
-use Rattle.std.proofs.Common.{◌≡◌, ℕ, suc, ◌+◌, ◌*◌, ◌<◌, ◌≤◌, ◌==◌, inl, inr, max, refl, ap, sym, subst, arith, Bool, true, false, cond, List, length}
+use Rattle.std.proofs.Common.{◌≡◌, ℕ, suc, ◌*◌, ◌<◌, ◌≤◌, ◌==◌, inl, inr, max, refl, ap, sym, subst, arith, Bool, true, false, cond, List, length}
 use lib.Dec.{T, eqb→eq}
 use Rattle.std.proofs.lemmas.Bool.{cases_lt}
 use Rattle.std.proofs.Math.Nat.{two-pow-succ}
 use Rattle.clock2q_handles.specs.Homes.{capacity, total, count}
-use Rattle.clock2q_handles.specs.Layout.{spill_of}
 use Rattle.clock2q_handles.specs.TableStep.{rebuilt, grown, doubled, IsFull, IsHashOf}
 use Rattle.clock2q_handles.specs.Changes.{IsNearer}
 use Rattle.clock2q_handles.specs.Slots.{IsSlotCount}
@@ -15,15 +14,14 @@ use Rattle.clock2q_handles.proofs.rebuild.Hashes.{rebuilt-length, rebuilt-total}
 
 -- twice the slots, or 16 of them
 pub slot_count_doubled : (n : ℕ) → IsSlotCount n → IsSlotCount (max (n * 2) 16)
-slot_count_doubled n is_count = record {
-  power = λ _. elim (cases_lt 0 n) [
-    | inl some ↦
-        let k : ℕ = (is_count.power some).0 in
-        (suc k, omega (arith, (is_count.power some).1, two-pow-succ k, is_count.least some))
-    | inr none ↦ (4, omega (arith, none))
-  ];
-  least = λ _. omega arith;
-}
+slot_count_doubled n is_count =
+    record {
+      power = λ _. elim (cases_lt 0 n) [
+        | inl some ↦ let k = is_count.power some in (suc k.0, omega (arith, k.1, two-pow-succ k.0, is_count.least some))
+        | inr none ↦ (4, omega (arith, none))
+      ];
+      least = λ _. omega arith;
+    }
 
 module _ {E : Type 0} (homes : List (List E)) (n : ℕ) (len : length homes ≡ n) (is_count : IsSlotCount n) where
   pub doubled_is : max (n * 2) 16 ≡ doubled (length homes)
@@ -47,14 +45,13 @@ module _ {H : Type 0} (key : H → ℕ) (homes : List (List (ℕ × H))) (m : �
 -- growth before an insertion leaves no home's entries further past it than they were
 pub grown_nearer : {H : Type 0} (key : H → ℕ) (homes : List (List (ℕ × H))) → IsSlotCount (length homes)
     → total homes ≤ capacity (length homes) → (IsFull homes → IsHashOf key homes) → IsNearer homes (grown key homes)
-grown_nearer key homes is_count room hashes = by_fullness (total homes == capacity (length homes)) refl
+grown_nearer key homes is_count room hashes =
+    by_fullness (total homes == capacity (length homes)) refl
   where
     by_fullness : (b : Bool) → (total homes == capacity (length homes)) ≡ b → IsNearer homes (cond b (rebuilt key (doubled (length homes)) homes) homes)
     by_fullness false q x = omega arith
     by_fullness true q x =
-        let is : max (length homes * 2) 16 ≡ doubled (length homes) = doubled_is homes (length homes) refl is_count in
         let more = doubled_more homes (length homes) refl is_count in
         let less : total homes < max (length homes * 2) 16 = omega (arith, room, more, capacity-lt (max (length homes * 2) 16) (omega arith)) in
-        subst (λ m. spill_of (rebuilt key m homes) x + count (rebuilt key m homes) x ≤ spill_of homes x + count homes x) is
-        (rebuilt-reach key homes (max (length homes * 2) 16) room less (doubled_multiple homes (length homes) refl is_count)
-        (hashes (eqb→eq (total homes) (capacity (length homes)) (subst T (sym q) tt))) x)
+        let reach = rebuilt-reach key homes (max (length homes * 2) 16) room less (doubled_multiple homes (length homes) refl is_count) (hashes (eqb→eq (total homes) (capacity (length homes)) (subst T (sym q) tt))) x in
+        rw (doubled_is homes (length homes) refl is_count) at reach

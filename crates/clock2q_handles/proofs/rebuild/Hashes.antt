@@ -1,13 +1,13 @@
 -- One function that gives each entry's handle a hash of the entry's home and fingerprint: it does so after each change, and through a rebuild.
 use Rattle.std.proofs.Common.{◌≡◌, ℕ, zero, suc, ◌-◌, ◌%◌, ◌<◌, ◌≤◌, inl, inr, refl, ap, sym, ◌∙◌, subst, arith, Bool, true, false, cond, List, [], ◌∷◌, ◌++◌, length, take, drop}
 use Rattle.std.proofs.Common.{take-append-drop, take-suc, take_all, get_or, append-nil, length-append, Option, Some, None, slice_get, mod-eq_of_lt}
-use Rattle.std.proofs.lemmas.Bool.{cases_lt, cases_eq}
+use Rattle.std.proofs.lemmas.Bool.{cases_eq}
 use Rattle.std.proofs.lemmas.List.{get_or_past, length-replicate}
 use Rattle.std.proofs.lemmas.List.Elements.{filter_map-append}
 use Rattle.std.proofs.lemmas.Option.{slice_get_within}
 use Rattle.std.proofs.Math.ListN.{get_or-replicate}
 use Rattle.clock2q_handles.specs.Homes.{top, capacity, home, listed, total, no_entries, with_list, put_last, without_first, is_entry_of, removed}
-use Rattle.clock2q_handles.specs.Layout.{Placed, slot_at, layout, entries, homes_of, IsTidy, reach}
+use Rattle.clock2q_handles.specs.Layout.{Placed, slot_at, layout, entries, homes_of, IsTidy}
 use Rattle.clock2q_handles.specs.TableStep.{put_all, rebuilt, IsHashOf}
 use Rattle.clock2q_handles.proofs.layout.Walk.{slice_get-append}
 use Rattle.clock2q_handles.proofs.layout.TidyLayout.{layout-only, capacity-lt, length-homes_of, tidy-layout, tidy-total, layout-total, layout-tidy, layout-read}
@@ -64,15 +64,12 @@ module _ {H : Type 0} (key : H → ℕ) where
 
   -- an entry in a slot
   pub hash-slot : (slots : List (Option (Placed (ℕ × H)))) → IsTidy slots → IsHashOf key (homes_of slots) → (n : ℕ) (s : Placed (ℕ × H)) → slot_at slots n ≡ Some s → top (key s.entry.1) ≡ s.entry.0
-  hash-slot slots tidy hashes n s is = elim (cases_lt 0 (length slots)) [
-    | inl some ↦
-        let homes : List (List (ℕ × H)) = homes_of slots in
-        let len : length homes ≡ length slots = length-homes_of slots in
-        let room : total homes < length homes = omega (arith, tidy.room, tidy-total slots tidy, capacity-lt (length slots) some) in
-        let r = layout-only homes room n s (ap (λ x. slot_at x n) (sym (tidy-layout slots tidy)) ∙ is) in
-        (hash-at homes hashes (omega (arith, some, len)) r.0 r.1 s.entry r.2).1
-    | inr none ↦ absurd (omega (arith, ap reach is, ap reach (get_or_past slots (n % length slots) None (omega arith))))
-  ]
+  hash-slot slots tidy hashes n s is =
+      let homes : List (List (ℕ × H)) = homes_of slots in
+      let some : 0 < length slots = grind (arith, is, get_or_past slots (n % length slots) None) in
+      let room : total homes < length homes = omega (arith, tidy.room, tidy-total slots tidy, capacity-lt (length slots) some, length-homes_of slots) in
+      let r = layout-only homes room n s (ap (λ x. slot_at x n) (sym (tidy-layout slots tidy)) ∙ is) in
+      (hash-at homes hashes (omega (arith, room)) r.0 r.1 s.entry r.2).1
 
   -- homes without entries need no hashes
   pub hashes-none : (m : ℕ) → IsHashOf key (no_entries m)

@@ -3,7 +3,7 @@ use Rattle.std.proofs.Common.{◌≡◌, ℕ, zero, suc, ◌+◌, ◌%◌, ◌<�
 use Rattle.std.proofs.Common.{Option, Some, None, slice_get, mod-eq_of_lt}
 use lib.Dec.{T, eqb→eq}
 use Rattle.std.specs.List.{filter}
-use Rattle.std.proofs.lemmas.Bool.{cases_lt, eq-eqb}
+use Rattle.std.proofs.lemmas.Bool.{eq-eqb}
 use Rattle.std.proofs.lemmas.Option.{slice_get_within}
 use Rattle.std.proofs.Math.ListN.{get_or-replicate}
 use Rattle.std.proofs.lemmas.List.{length-replicate}
@@ -117,17 +117,15 @@ module _ {H : Type 0} (key : H → ℕ) where
 
     -- and brings in no other
     rebuilt_from : (e : ℕ × H) → IsEntry (rebuilt key m homes) e → IsEntry homes e
-    rebuilt_from e at = elim (all_from (no_entries m) (entries (layout homes)) e fresh at) [
-      | inl none ↦ absurd (none_there m e some none)
-      | inr one ↦ elim (cases_lt 0 (length homes)) [
-        | inl there ↦
-            let r = entries-from (layout homes) one.0 one.1 one.2 in
-            let q : r.0 % length (layout homes) ≡ r.0 = mod-eq_of_lt r.1 in
-            let o = layout-only homes (less there) r.0 one.1 (ap (λ x. get_or (layout homes) x None) q ∙ r.2) in
-            subst (IsEntry homes) one.3 (o.0, o.1, o.2)
-        | inr nowhere ↦ absurd (omega (arith, slice_get_within (entries (layout homes)) one.0 one.1 one.2, layout-total homes room, room, nowhere))
-      ]
-    ]
+    rebuilt_from e at =
+        elim (all_from (no_entries m) (entries (layout homes)) e fresh at) [
+          | inl none ↦ absurd (none_there m e some none)
+          | inr one ↦
+              let r = entries-from (layout homes) one.0 one.1 one.2 in
+              let there : 0 < length homes = grind (arith, slice_get_within (entries (layout homes)) one.0 one.1 one.2, layout-total homes room, room) in
+              let o = layout-only homes (less there) r.0 one.1 (grind (arith, mod-eq_of_lt r.1, r.2)) in
+              subst (IsEntry homes) one.3 (o.0, o.1, o.2)
+        ]
 
   -- so an insertion finds the same handles held as before the table grew
   module _ (homes : List (List (ℕ × H))) (v : H) where

@@ -1,5 +1,5 @@
 -- The slot count for a number of entries, as it is computed.
-use Rattle.std.proofs.Common.{◌≡◌, ℕ, zero, suc, ◌+◌, ◌-◌, ◌*◌, ◌/◌, ◌^◌, ◌<◌, ◌≤◌, inl, inr, max, ap, sym, ◌∙◌, subst, arith}
+use Rattle.std.proofs.Common.{◌≡◌, ℕ, zero, suc, ◌+◌, ◌-◌, ◌*◌, ◌^◌, ◌<◌, ◌≤◌, inl, inr, max, ap, ◌∙◌, arith}
 use Rattle.std.proofs.lemmas.Bool.{cases_lt}
 use Rattle.std.proofs.lemmas.Bool.Decides.{leb_tells}
 use Rattle.std.proofs.lemmas.Nat.{pow_below, pow-add, pow_pos}
@@ -18,14 +18,13 @@ doubled_found e zero m (suc k) l before fits = elim (leb_tells e (capacity m)) [
   | inr less ↦ let o : m ≡ 2 ^ zero * m = omega arith in absurd (omega (arith, fits, less.1, ap capacity o))
 ]
 doubled_found e (suc i) m zero l before fits = absurd (omega (arith, l))
-doubled_found e (suc i) m (suc k) l before fits = elim (leb_tells e (capacity m)) [
-  | inl enough ↦ let o : m ≡ 2 ^ zero * m = omega arith in absurd (omega (arith, before zero (omega arith), enough.1, ap capacity o))
-  | inr less ↦
-      let step : (j : ℕ) → 2 ^ j * (2 * m) ≡ 2 ^ suc j * m = λ j. rw (two-pow-succ j) (omega arith) in
-      rw (less.0, doubled_until)
-      (doubled_found e i (2 * m) k (omega (arith, l)) (λ j u. subst (λ x. capacity x < e) (sym (step j)) (before (suc j) (omega (arith, u)))) (subst (λ x. e ≤ capacity x) (sym (step i)) fits)
-      ∙ step i)
-]
+doubled_found e (suc i) m (suc k) l before fits =
+    elim (leb_tells e (capacity m)) [
+      | inl enough ↦ grind (arith, before zero, enough.1)
+      | inr less ↦
+          let step : (j : ℕ) → 2 ^ j * (2 * m) ≡ 2 ^ suc j * m = λ j. rw (two-pow-succ j) (omega arith) in
+          rw (less.0, doubled_until) (doubled_found e i (2 * m) k (omega (arith, l)) (λ j u. grind (arith, step j, before (suc j))) (grind (arith, step i)) ∙ step i)
+    ]
 
 -- a number is below its power of two
 below_pow : (n : ℕ) → n < 2 ^ n
@@ -41,39 +40,32 @@ fit_is e i before fits = grind (arith, below_pow, doubled_found)
 pub fit_from_power : (e p : ℕ) → IsNextPowerOfTwo (div_ceil e 3) p → fit e ≡ max (p * 4) 16
 fit_from_power e p next =
     let k : ℕ = next.0.0 in
-    let is : p ≡ 2 ^ k = next.0.1 in
+    let i : ℕ = k - 2 in
     elim (cases_lt 2 k) [
       | inl large ↦
-          let i : ℕ = k - 2 in
-          let four : 2 ^ k ≡ 2 ^ i * 4 = ap (λ x. 2 ^ x) (let s : k ≡ i + 2 = omega arith in s) ∙ pow-add 2 i 2 in
-          let half : 2 ^ i ≡ 2 ^ (i - 1) + 2 ^ (i - 1) = ap (λ x. 2 ^ x) (let s : i ≡ suc (i - 1) = omega arith in s) ∙ two-pow-succ (i - 1) in
+          let four : 2 ^ k ≡ 2 ^ i * 4 = grind (arith, pow-add 2 i 2) in
+          let half : 2 ^ i ≡ 2 ^ (i - 1) + 2 ^ (i - 1) = grind (arith, two-pow-succ (i - 1)) in
           let pos : 0 < 2 ^ (i - 1) = pow_pos (i - 1) in
-          let some : 3 * (p / 2) < e = omega (arith, next.2, is, four, half, pos) in
           let found : fit e ≡ 2 ^ i * 16 = fit_is e i (λ j l. elim (cases_lt j (i - 1)) [
-            | inl below ↦ let lower : 2 ^ j < 2 ^ (i - 1) = pow_below j (i - 1) below in omega (arith, lower, some, is, four, half)
-            | inr from ↦ let s : 2 ^ j ≡ 2 ^ (i - 1) = ap (λ x. 2 ^ x) (let q : j ≡ i - 1 = omega arith in q) in omega (arith, s, some, is, four, half)
-          ]) (omega (arith, next.1, is, four)) in
-          omega (arith, found, is, four, half, pos)
+            | inl below ↦ omega (arith, pow_below j (i - 1) below, next.2, next.0.1, four, half, pos)
+            | inr from ↦ grind (arith, next.2, next.0.1, four, half, pos)
+          ]) (omega (arith, next.1, next.0.1, four)) in
+          omega (arith, found, next.0.1, four, half, pos)
       | inr small ↦
           let most : 2 ^ k ≤ 2 ^ 2 = pow_mono {i = k} {j = 2} (omega arith) in
-          let found : fit e ≡ 2 ^ 0 * 16 = fit_is e 0 (λ j l. absurd (omega (arith, l))) (omega (arith, next.1, most, is)) in
-          omega (arith, found, most, is)
+          omega (arith, fit_is e 0 (λ j l. absurd (omega (arith, l))) (omega (arith, next.1, most, next.0.1)), most, next.0.1)
     ]
 
 -- what is computed from a power of two is a slot count
 pub slot_count_from_power : (p k : ℕ) → p ≡ 2 ^ k → IsSlotCount (max (p * 4) 16)
-slot_count_from_power p k is = record {
-  power = λ _. elim (cases_lt 2 k) [
-    | inl large ↦
-        let four : 2 ^ (k + 2) ≡ 2 ^ k * 4 = pow-add 2 k 2 in
-        let least : 2 ^ 3 ≤ 2 ^ k = pow_mono {i = 3} {j = k} (omega arith) in
-        (k + 2, omega (arith, is, four, least))
-    | inr small ↦
-        let most : 2 ^ k ≤ 2 ^ 2 = pow_mono {i = k} {j = 2} (omega arith) in
-        (4, omega (arith, is, most))
-  ];
-  least = λ _. omega arith;
-}
+slot_count_from_power p k is =
+    record {
+      power = λ _. elim (cases_lt 2 k) [
+        | inl large ↦ (k + 2, omega (arith, is, pow-add 2 k 2, pow_mono {i = 3} {j = k} (omega arith)))
+        | inr small ↦ (4, omega (arith, is, pow_mono {i = k} {j = 2} (omega arith)))
+      ];
+      least = λ _. omega arith;
+    }
 
 -- and fits the entries
 pub fit_enough : (e p m : ℕ) → IsNextPowerOfTwo (div_ceil e 3) p → m ≡ max (p * 4) 16 → e ≤ capacity m

@@ -275,16 +275,15 @@ module _ {H : Type 0} (old now : List (Option (Placed (ℕ × H)))) where
           ] in
           let upto : suc (n + k) < length old = less_than_lap old h (suc (n + k)) tidy close_some (λ j l. full j (omega (arith, l))) in
           let back = subst (λ m. MovingBack (slot_at old) (slot_at now) m h n (n + k)) (sym state.len) (moving_back_home old now h n s k state.len come (omega (arith, upto)) state.back) in
-          let place : t ≡ (h + (n + k)) % length now =
-          (let q : h + n + k ≡ h + (n + k) = omega arith in
-          close_at ∙ ap (λ y. (y + k) % length now) (come.slot ∙ ap (λ m. (h + n) % m) (sym state.len)) ∙ rem-plus (length now) (h + n) k ∙ ap (λ y. y % length now) q) in
+          let start : s ≡ (h + n) % length now = come.slot ∙ ap (λ m. (h + n) % m) (sym state.len) in
+          let q : h + n + k ≡ h + (n + k) = omega arith in
+          let place : t ≡ (h + (n + k)) % length now = close_at ∙ ap (λ y. (y + k) % length now) start ∙ rem-plus (length now) (h + n) k ∙ ap (λ y. y % length now) q in
           let opens = closed (slot_at old) now now' None h n (n + k) e (omega arith) (omega (arith, upto, state.len)) was back refl (is ∙ ap (λ i. set now i None) place) in
-          let end : slot_at old (s + suc k) ≡ slot_at old (h + suc (n + k)) =
-          (let q : n + suc k ≡ suc (n + k) = omega arith in slot_from_plus old h n s (suc k) come.slot ∙ ap (λ i. slot_at old (h + i)) q) in (
+          let p : n + suc k ≡ suc (n + k) = omega arith in (
             n + k,
             record {
               opens = subst (λ m. Opens (slot_at now') (slot_at old) m h n (n + k) e) state.len opens;
-              ends = omega (arith, near, ap reach next_was, ap reach end);
+              ends = omega (arith, near, ap reach next_was, ap reach (slot_from_plus old h n s (suc k) come.slot), ap (λ i. reach (slot_at old (h + i))) p);
               occupied = full;
             },
             omega (arith, state.writes),

@@ -108,11 +108,8 @@ module _ {E : Type 0} where
   one-put m h v L M A roomy roomy' within more other laid again hole full =
       one-more (counts L) (counts M) m (h + suc v) (m - suc v) roomy roomy' (omega arith) more_there (λ j l q. other (h + suc v + j) (other_home m h v j within l q)) put_full put_gap
     where
-      there : h + suc v + (m - suc v) ≡ h + m
-      there = omega arith
-
       more_there : counts M (h + suc v + (m - suc v)) ≡ suc (counts L (h + suc v + (m - suc v)))
-      more_there = omega (arith, more, ap (counts L) there, ap (counts M) there, roomy.again h, roomy'.again h)
+      more_there = grind (arith, more, roomy.again h, roomy'.again h)
 
       put_full : (j : ℕ) → m - suc v ≤ j → suc j < m → 1 ≤ spill (counts L) m (h + suc v + j) + counts L (h + suc v + j)
       put_full j from l =
@@ -120,19 +117,13 @@ module _ {E : Type 0} where
           let q : h + suc v + j ≡ h + k + m = omega arith in
           elim (cases_lt 0 (spill (counts L) m (h + suc v + j) + counts L (h + suc v + j))) [
             | inl some ↦ some
-            | inr none ↦ absurd (omega (
-              arith,
-              full k (omega arith),
-              ap reach (laid.rest (h + suc v + j) (record { spilled = omega arith; counted = omega arith })),
-              ap (λ x. reach (A x)) q,
-              ap reach (again (h + k)),
-            ))
+            | inr none ↦
+                let empty = laid.rest (h + suc v + j) (record { spilled = omega arith; counted = omega arith }) in
+                absurd (omega (arith, full k (omega arith), ap reach empty, ap (λ x. reach (A x)) q, ap reach (again (h + k))))
           ]
 
       put_gap : (j : ℕ) → suc j ≡ m → IsGap (counts L) m (h + suc v + j)
-      put_gap j l =
-          let q : h + suc v + j ≡ h + v + m = omega arith in
-          none-gap m L A roomy laid (h + suc v + j) (omega (arith, spill-lt (counts L) m roomy 0)) (ap A q ∙ again (h + v) ∙ hole)
+      put_gap j l = none-gap m L A roomy laid (h + suc v + j) (omega (arith, spill-lt (counts L) m roomy 0)) (grind (arith, again (h + v), hole))
 
   -- lists that differ in one entry, e, between xs and ys in the list of h, and slots that differ by moving on for it
   module _ (m h d v : ℕ) (L M : ℕ → List E) (A B : ℕ → Option (Placed E)) (xs ys : List E) (e : E)
@@ -243,18 +234,16 @@ module _ {E : Type 0} where
           let m : ℕ = length slots in
           let homes : List (List E) = homes_of slots in
           let some : 0 < m = omega arith in
-          let room : total homes < m = omega (arith, capacity-lt m some) in
-          let room' : total (put_last homes h e) < m = omega (arith, inserted-total, capacity-lt m some) in
           let w = tidy-vacant slots tidy some in
           let within : v < m = vacant_within (slot_at slots) m h v (slot-again slots) some w.0 w.1 full_before in
-          let laid : IsLaid m (listed homes) (slot_at slots) = subst (λ x. IsLaid x (listed homes) (slot_at slots)) (length-homes_of slots) (read-laid-homes slots tidy.ordered w.0 w.1 some) in
-          let at : spill (count homes) m h + length (listed homes h) ≡ d = sym (read-stop slots tidy some h d stops ∙ ap (λ x. spill (count homes) x h + count homes h) (length-homes_of slots)) in
-          let result : IsLaid m (listed (put_last homes h e)) (slot_at others) =
-          put-laid m h d v (listed homes) (listed (put_last homes h e)) (slot_at slots) (slot_at others) (listed homes h) [] e (sym (append-nil (listed homes h)))
+          let laid : IsLaid m (listed homes) (slot_at slots) = rw (length-homes_of slots) at (read-laid-homes slots tidy.ordered w.0 w.1 some) in
+          let at : spill (count homes) m h + count homes h ≡ d = grind (arith, read-stop slots tidy some h d stops, length-homes_of slots) in
+          let result = put-laid m h d v (listed homes) (listed (put_last homes h e)) (slot_at slots) (slot_at others) (listed homes h) [] e (sym (append-nil (listed homes h)))
           (listed-with_same homes h h (listed homes h ++ e ∷ []) (omega (arith, length-homes_of slots)) refl) (other_at homes m h (listed homes h ++ e ∷ []) (length-homes_of slots))
           (listed_at homes m (length-homes_of slots)) (listed_at (put_last homes h e) m put_length) (slot-again slots) (slots_again others m len)
-          (roomy_at homes m (length-homes_of slots) room) (roomy_at (put_last homes h e) m put_length room') order within moved laid full_before at in
-          laid-layout (put_last homes h e) others (omega (arith, put_length)) (len ∙ sym put_length) (subst (λ x. IsLaid x (listed (put_last homes h e)) (slot_at others)) (sym put_length) result)
+          (roomy_at homes m (length-homes_of slots) (omega (arith, capacity-lt m some))) (roomy_at (put_last homes h e) m put_length (omega (arith, inserted-total, capacity-lt m some)))
+          order within moved laid full_before at in
+          laid-layout (put_last homes h e) others (omega (arith, put_length, inserted-total, capacity-lt m some)) (len ∙ sym put_length) (rw put_length result)
 
       put_room : total (put_last (homes_of slots) h e) ≤ capacity (length (put_last (homes_of slots) h e))
       put_room = omega (arith, inserted-total, ap capacity put_length)
@@ -310,17 +299,14 @@ module _ {E : Type 0} where
           let w = tidy-vacant others tidy some in
           let room : total more < m = omega (arith, tidy.room, tidy-total others tidy, capacity-lt m some) in
           let room' : total less < m = omega (arith, removed-total, room) in
-          let laid : IsLaid m (listed more) (slot_at others) = subst (λ x. IsLaid x (listed more) (slot_at others)) (length-homes_of others) (read-laid-homes others tidy.ordered w.0 w.1 some) in
-          let at : spill (count more) m h + length (met (slot_at others) h 0 d) ≡ d =
-          ap (λ x. spill (count more) x h + length (met (slot_at others) h 0 d)) (sym (length-homes_of others)) ∙ read-count others tidy some h d (ap reach moved.here) in
-          let moved' : IsMovedOn (slot_at slots) (slot_at others) m h d v e = subst (λ x. IsMovedOn (slot_at slots) (slot_at others) x h d v e) (sym len) moved in
-          let result : IsLaid m (listed less) (slot_at slots) =
-          taken-laid m h d v (listed less) (listed more) (slot_at slots) (slot_at others) (met (slot_at others) h 0 d) (met (slot_at others) h (suc d) (m - suc d)) e
+          let laid : IsLaid m (listed more) (slot_at others) = rw (length-homes_of others) at (read-laid-homes others tidy.ordered w.0 w.1 some) in
+          let at : spill (count more) m h + length (met (slot_at others) h 0 d) ≡ d = grind (arith, read-count others tidy some h d (ap reach moved.here), length-homes_of others) in
+          let result = taken-laid m h d v (listed less) (listed more) (slot_at slots) (slot_at others) (met (slot_at others) h 0 d) (met (slot_at others) h (suc d) (m - suc d)) e
           (listed-with_same more h h (list_without others h d) (omega (arith, some, length-homes_of others)) refl) taken_split
           (λ n q. sym (other_at more m h (list_without others h d) (length-homes_of others) n q)) (listed_at less m taken_length) (listed_at more m (length-homes_of others))
-          (slots_again slots m (sym len)) (slot-again others) (roomy_at less m taken_length room')
-          (roomy_at more m (length-homes_of others) room) order (omega (arith, taken_within)) moved' laid away near at in
-          laid-layout less slots (omega (arith, room', taken_length)) (sym len ∙ sym taken_length) (subst (λ x. IsLaid x (listed less) (slot_at slots)) (sym taken_length) result)
+          (slots_again slots m (sym len)) (slot-again others) (roomy_at less m taken_length room') (roomy_at more m (length-homes_of others) room)
+          order (omega (arith, taken_within)) (rw (← len) at moved) laid away near at in
+          laid-layout less slots (omega (arith, room', taken_length)) (sym len ∙ sym taken_length) (rw taken_length result)
 
       pub removed-tidy : IsTidy slots
       removed-tidy = subst IsTidy (sym removed-layout) (layout-tidy (with_list (homes_of others) h (list_without others h d)) taken_room)

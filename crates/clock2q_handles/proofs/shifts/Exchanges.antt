@@ -1,6 +1,5 @@
 -- A removal that follows an insertion: no walk is more than one slot longer than before both, and the removal writes at most one slot more than the run was long.
-use Rattle.std.proofs.Common.{◌≡◌, ℕ, suc, ◌+◌, ◌%◌, ◌<◌, ◌≤◌, inl, inr, refl, sym, ap, ◌∙◌, arith, Bool, List, length, Option, Some, None}
-use Rattle.std.proofs.lemmas.Bool.{cases_lt}
+use Rattle.std.proofs.Common.{◌≡◌, ℕ, suc, ◌+◌, ◌%◌, ◌<◌, ◌≤◌, refl, sym, ap, ◌∙◌, arith, Bool, List, length, Option, Some, None}
 use Rattle.clock2q_handles.specs.Candidates.{IsWalkFor}
 use Rattle.clock2q_handles.specs.Found.{TakesOut}
 use Rattle.clock2q_handles.specs.Homes.{top}
@@ -68,17 +67,16 @@ module _ {E : Type 0} (slots more : List (Option (Placed E))) (tidy : IsTidy slo
       let v = first-vacant slots tidy some x in
       let is : run slots x ≡ v.0 = occupied-is (slot_at slots) x v.0 (length slots) v.1 v.2 v.3 in
       let g : ℕ = x % length more in
-      let closes = taken.closes in
       let end : reach (slot_at more (g + suc v.0)) ≤ 1 = omega (arith, further x v.0, ap reach v.2, ap reach (past_home more (length more) g x refl refl (suc v.0))) in
-      elim (cases_lt v.0 taken.vacancy) [
-        | inr upto ↦ omega (arith, is, upto, taken.written)
-        | inl beyond ↦ elim (cases_lt v.0 taken.distance) [
-          | inr from ↦
-              let far = ap reach (closes.opens.moved v.0 from beyond) in
-              absurd (omega (arith, end, far, moved_far (slot_at less (g + v.0)) (omega (arith, far, closes.occupied (suc v.0) beyond))))
-          | inl past ↦ absurd (omega (arith, ap reach taken.finds.here, after_stop (slot_at more) tidy'.ordered g 0 (suc v.0) (omega (arith, end)) taken.distance past))
-        ]
-      ]
+      grind (
+        arith,
+        taken.written,
+        taken.closes.opens.moved v.0,
+        taken.closes.occupied (suc v.0),
+        moved_far (slot_at less (g + v.0)),
+        taken.finds.here,
+        after_stop (slot_at more) tidy'.ordered g 0 (suc v.0) (omega (arith, end)) taken.distance,
+      )
 
 -- slots that an entry was put into where a walk ended
 pub put_on : {H : Type 0} (x : ℕ) {slots more : List (Option (Placed (ℕ × H)))} {mark : Mark} {s before after : ℕ} {v : H} → IsTidy slots → IsWalkFor slots x mark s

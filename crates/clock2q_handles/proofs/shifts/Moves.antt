@@ -3,7 +3,7 @@ use Rattle.std.proofs.Common.{◌≡◌, ◌≢◌, ℕ, suc, ◌+◌, ◌%◌, 
 use Rattle.std.proofs.Common.{get_or-set_other, length-set, Option, Some, None, IfSome}
 use Rattle.std.proofs.lemmas.Nat.{mod_below}
 use Rattle.clock2q_handles.specs.Layout.{Placed, placed, slot_at, reach, IsTidy}
-use Rattle.clock2q_handles.specs.Shifts.{Opens, IsVacancy, moved_on}
+use Rattle.clock2q_handles.specs.Shifts.{Opens, moved_on}
 use Rattle.clock2q_handles.specs.Slots.{Mark, cell, mark_of, mark_on, mark_back, mark_reach}
 use Rattle.clock2q_handles.proofs.layout.Periods.{lap, lap-lt, lap-same, rems-differ}
 use Rattle.clock2q_handles.proofs.layout.Reading.{slot-again}
@@ -92,7 +92,3 @@ module _ {E : Type 0} (A : ℕ → Option (Placed E)) (slots slots' : List (Opti
       → MovingBack A (slot_at slots) (length slots) h n v → x ≡ None → slots' ≡ set slots ((h + v) % length slots) x
       → Opens (slot_at slots') A (length slots) h n v entry
   closed n v entry from within was done is e = grind (arith, at_written, at_other)
-
--- the first empty slot is one
-pub vacancy_same : {E : Type 0} (A : ℕ → Option (Placed E)) (h v w : ℕ) → IsVacancy A h v → IsVacancy A h w → v ≡ w
-vacancy_same A h v w p q = grind arith

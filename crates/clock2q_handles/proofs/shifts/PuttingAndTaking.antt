@@ -15,12 +15,4 @@ module _ {E : Type 0} {test : E → Bool} {slots : List (Option (Placed E))} {h 
   found_taken taken =
       let come : HasCome slots h found.distance s = record { slot = found.slot; within = found.within; passed = found.passed } in
       let closed = taken.closes h found.distance found.finds.entry come found.finds.here in
-      record {
-        distance = found.distance;
-        vacancy = closed.0;
-        within = found.within;
-        finds = found.finds;
-        closes = closed.1;
-        written = closed.2;
-        len = taken.len;
-      }
+      record { distance = found.distance; vacancy = closed.0; within = found.within; finds = found.finds; closes = closed.1; written = closed.2; len = taken.len }

@@ -4,13 +4,13 @@ use Rattle.std.proofs.lemmas.List.{get_or_past}
 use Rattle.std.proofs.Math.Nat.{mod-mod}
 use Rattle.std.specs.List.{list_any}
 use Rattle.clock2q_handles.specs.Homes.{listed, total, is_entry_of, removed, with_list}
-use Rattle.clock2q_handles.specs.Layout.{Placed, placed, slot_at, reach, longest_reach, homes_of, met, run, IsBestPlaced}
-use Rattle.clock2q_handles.specs.Shifts.{Opens, Closes, moved_on}
+use Rattle.clock2q_handles.specs.Layout.{Placed, placed, slot_at, reach, longest_reach, homes_of, met, run}
+use Rattle.clock2q_handles.specs.Shifts.{Opens, moved_on}
 use Rattle.clock2q_handles.specs.Slots.{IsSlotCount}
 use Rattle.clock2q_handles.specs.Table.{IsTable}
 use Rattle.clock2q_handles.specs.TableStep.{table_value}
 use Rattle.clock2q_handles.specs.Changes.{IsLaidOut}
-use Rattle.clock2q_handles.specs.Found.{Finds, TakesOut}
+use Rattle.clock2q_handles.specs.Found.{TakesOut}
 use Rattle.clock2q_handles.proofs.layout.Periods.{rem-same, lap, lap-lt, lap-same}
 use Rattle.clock2q_handles.proofs.layout.Laid.{met-same}
 use Rattle.clock2q_handles.proofs.layout.Reading.{slot-again}
@@ -74,68 +74,13 @@ module _ {E : Type 0} where
   listed-home slots g x at = grind (arith, length-homes_of, mod-mod, get_or_past)
 
   -- a list with an element that passes
-  pub list_any-at : (test : E → Bool) (xs : List E) (e : E) (ys : List E) → test e ≡ true → list_any test (xs ++ e ∷ ys) ≡ true
+  list_any-at : (test : E → Bool) (xs : List E) (e : E) (ys : List E) → test e ≡ true → list_any test (xs ++ e ∷ ys) ≡ true
   list_any-at test [] e ys passes = ap (λ b. b || list_any test ys) passes
   list_any-at test (x ∷ xs) e ys passes = grind (arith, list_any-at test xs e ys passes)
 
-module _ {E : Type 0} (x : ℕ) (others slots : List (Option (Placed E))) (g n w : ℕ) (e : E) (at : g ≡ x % length others)
-    (closes : Closes (slot_at others) (slot_at slots) (length others) g n w e) (same : length slots ≡ length others) where
-  -- a gap that was closed is one that can be opened again
-  pub closed-moved : IsMovedOn (slot_at slots) (slot_at others) (length slots) x n w e
-  closed-moved = subst (λ m. IsMovedOn (slot_at slots) (slot_at others) m x n w e) (sym same)
-      (opens-moved slots others (length others) g x n w e same refl at closes.opens
-      (λ j from upto. entry_off (slot_at slots (g + j)) (slot_at others (g + suc j)) (closes.occupied (suc j) upto) (closes.opens.moved j from upto)))
-
-  pub closed-end : reach (slot_at others (x + suc w)) ≤ 1
-  closed-end = omega (arith, closes.ends, ap reach (past_home others (length others) g x refl at (suc w)))
-
-module _ {H : Type 0} (eq : H → H → Bool) (x : ℕ) (v : H) (others slots : List (Option (Placed (ℕ × H)))) (g n w len : ℕ) (table : IsTable others len)
-    (at : g ≡ x % length others) (within : n < length others) (found : Finds (is_entry_of eq x v) (slot_at others) g n)
-    (closes : Closes (slot_at others) (slot_at slots) (length others) g n w found.entry) (same : length slots ≡ length others) where
-  past : (j : ℕ) → slot_at others (g + j) ≡ slot_at others (x + j)
-  past = past_home others (length others) g x refl at
-
-  moved : IsMovedOn (slot_at slots) (slot_at others) (length slots) x n w found.entry
-  moved = closed-moved x others slots g n w found.entry at closes same
-
-  near : reach (slot_at others (x + suc w)) ≤ 1
-  near = closed-end x others slots g n w found.entry at closes same
-
-  lists : removed eq (homes_of others) x v ≡ with_list (homes_of others) x (list_without others x n)
-  lists = grind (arith, removed-found, past, met-same)
-
-  -- there was such an entry
-  pub taken-found : list_any (is_entry_of eq x v) (listed (homes_of others) x) ≡ true
-  taken-found = ap (list_any (is_entry_of eq x v)) (read-split others x n found.entry within (sym (past n) ∙ found.here))
-      ∙ list_any-at (is_entry_of eq x v) (met (slot_at others) x 0 n) found.entry (met (slot_at others) x (suc n) (length others - suc n)) found.passes
-
-  -- the lists are those without the entry
-  pub taken-homes : homes_of slots ≡ removed eq (homes_of others) x v
-  taken-homes = removed-homes slots others x n w found.entry (sym same) closes.opens.from moved table.tidy near ∙ sym lists
-
-  -- in at most as many writes as the run is long
-  pub taken-run : suc w ≤ run others x
-  taken-run = removed-run slots others x n w found.entry (sym same) closes.opens.from moved table.tidy near
-
-  -- with one entry less
-  pub taken-len : suc (total (homes_of slots)) ≡ len
-  taken-len = ap (λ hs. suc (total hs)) (taken-homes ∙ lists) ∙ removed-total slots others x n w found.entry (sym same) closes.opens.from moved table.tidy near ∙ sym table.counted
-
-  pub taken-table : IsTable slots (len - 1)
-  taken-table = record {
-    tidy = removed-tidy slots others x n w found.entry (sym same) closes.opens.from moved table.tidy near;
-    counted = omega (arith, taken-len);
-    slot_count = subst IsSlotCount (sym same) table.slot_count;
-    near = closed-near slots others g n w longest_reach found.entry same (omega (arith, within)) closes.opens table.near;
-  }
-
--- a table's entries are placed as well as possible
-pub table-best : {H : Type 0} (slots : List (Option (Placed (ℕ × H)))) (len : ℕ) → IsTable slots len → IsBestPlaced (homes_of slots)
-table-best slots len table = best-placed (homes_of slots) (tidy-room slots table.tidy)
-
--- in the slots that their lists determine
+-- in the slots that its lists determine, a table's entries are placed as well as possible
 pub table-laid : {H : Type 0} (slots : List (Option (Placed (ℕ × H)))) (len : ℕ) → IsTable slots len → (writes reads : ℕ) → IsLaidOut (table_value (homes_of slots) slots writes reads)
-table-laid slots len table writes reads = record { laid = tidy-layout slots table.tidy; best = table-best slots len table }
+table-laid slots len table writes reads = record { laid = tidy-layout slots table.tidy; best = best-placed (homes_of slots) (tidy-room slots table.tidy) }
 
 -- what a removal results in: the lists without the entry, which was there, and the writes
 pub record Removal {H : Type 0} (eq : H → H → Bool) (x : ℕ) (v : H) (others slots : List (Option (Placed (ℕ × H)))) (len before after : ℕ) : Type 0 where
@@ -146,17 +91,47 @@ pub record Removal {H : Type 0} (eq : H → H → Bool) (x : ℕ) (v : H) (other
   pub counted : before ≤ after
   pub writes : after ≤ before + run others x
 
-pub removal : {H : Type 0} (eq : H → H → Bool) (x : ℕ) (v : H) (others slots : List (Option (Placed (ℕ × H)))) (len before after : ℕ)
-    → IsTable others len → TakesOut (is_entry_of eq x v) others slots (x % length others) before after → Removal eq x v others slots len before after
-removal eq x v others slots len before after table taken =
-    let g : ℕ = x % length others in
-    let n : ℕ = taken.distance in
-    let w : ℕ = taken.vacancy in
-    record {
-      homes = taken-homes eq x v others slots g n w len table refl taken.within taken.finds taken.closes taken.len;
-      found = taken-found eq x v others slots g n w len table refl taken.within taken.finds taken.closes taken.len;
-      total_less = taken-len eq x v others slots g n w len table refl taken.within taken.finds taken.closes taken.len;
-      table = taken-table eq x v others slots g n w len table refl taken.within taken.finds taken.closes taken.len;
-      counted = omega (arith, taken.written, taken.closes.opens.from);
-      writes = omega (arith, taken-run eq x v others slots g n w len table refl taken.within taken.finds taken.closes taken.len, taken.written);
-    }
+module _ {H : Type 0} (eq : H → H → Bool) (x : ℕ) (v : H) (others slots : List (Option (Placed (ℕ × H)))) (len before after : ℕ)
+    (table : IsTable others len) (taken : TakesOut (is_entry_of eq x v) others slots (x % length others) before after) where
+  abbrev n : ℕ
+  n = taken.distance
+
+  abbrev entry : ℕ × H
+  entry = taken.finds.entry
+
+  past : (j : ℕ) → slot_at others (x % length others + j) ≡ slot_at others (x + j)
+  past = past_home others (length others) (x % length others) x refl refl
+
+  here : slot_at others (x + n) ≡ Some (placed n entry)
+  here = sym (past n) ∙ taken.finds.here
+
+  -- a gap that was closed is one that can be opened again
+  moved : IsMovedOn (slot_at slots) (slot_at others) (length slots) x n taken.vacancy entry
+  moved =
+      rw taken.len (opens-moved slots others (length others) (x % length others) x n taken.vacancy entry taken.len refl refl taken.closes.opens
+      (λ j from upto. entry_off (slot_at slots (x % length others + j)) (slot_at others (x % length others + suc j)) (taken.closes.occupied (suc j) upto) (taken.closes.opens.moved j from upto)))
+
+  near : reach (slot_at others (x + suc taken.vacancy)) ≤ 1
+  near = omega (arith, taken.closes.ends, ap reach (past (suc taken.vacancy)))
+
+  lists : homes_of slots ≡ with_list (homes_of others) x (list_without others x n)
+  lists = removed-homes slots others x n taken.vacancy entry (sym taken.len) taken.closes.opens.from moved table.tidy near
+
+  less : suc (total (homes_of slots)) ≡ len
+  less = ap (λ hs. suc (total hs)) lists ∙ removed-total slots others x n taken.vacancy entry (sym taken.len) taken.closes.opens.from moved table.tidy near ∙ sym table.counted
+
+  pub removal : Removal eq x v others slots len before after
+  removal = record {
+    homes = grind (arith, lists, removed-found eq others x n v entry taken.within here, past, met-same, taken.finds.none_before, taken.finds.passes);
+    found = ap (list_any (is_entry_of eq x v)) (read-split others x n entry taken.within here)
+        ∙ list_any-at (is_entry_of eq x v) (met (slot_at others) x 0 n) entry (met (slot_at others) x (suc n) (length others - suc n)) taken.finds.passes;
+    total_less = less;
+    table = record {
+      tidy = removed-tidy slots others x n taken.vacancy entry (sym taken.len) taken.closes.opens.from moved table.tidy near;
+      counted = omega (arith, less);
+      slot_count = subst IsSlotCount (sym taken.len) table.slot_count;
+      near = closed-near slots others (x % length others) n taken.vacancy longest_reach entry taken.len (omega (arith, taken.within)) taken.closes.opens table.near;
+    };
+    counted = omega (arith, taken.written, taken.closes.opens.from);
+    writes = omega (arith, removed-run slots others x n taken.vacancy entry (sym taken.len) taken.closes.opens.from moved table.tidy near, taken.written);
+  }

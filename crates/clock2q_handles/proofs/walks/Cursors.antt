@@ -64,15 +64,14 @@ module _ {H : Type 0} (slots : List (Option (Placed (ℕ × H)))) (tidy : IsTidy
 
     -- it goes on to the next slot
     pub walk_goes : IsOnWalk slots (suc d) f next
-    walk_goes = record {
-      hash = on.hash;
-      slot =
-          let e : on.hash + d + 1 ≡ on.hash + suc d = omega arith in
-          at ∙ ap (λ z. (z + 1) % length slots) on.slot ∙ rem-plus (length slots) (on.hash + d) 1 ∙ ap (λ z. z % length slots) e;
-      fingerprint = on.fingerprint;
-      within = less_than_lap slots on.hash (suc d) tidy some_slots (λ j l. omega (arith, passed_more j l));
-      passed = passed_more;
-    }
+    walk_goes =
+        record {
+          hash = on.hash;
+          slot = grind (arith, on.slot, rem-plus (length slots) (on.hash + d) 1);
+          fingerprint = on.fingerprint;
+          within = less_than_lap slots on.hash (suc d) tidy some_slots (λ j l. omega (arith, passed_more j l));
+          passed = passed_more;
+        }
 
 module _ {H : Type 0} (slots : List (Option (Placed (ℕ × H)))) (tidy : IsTidy slots) (d f n : ℕ)
     (on : IsOnWalk slots d f n) (far : d < reach (slot_at slots n)) (next : ℕ) (at : next ≡ (n + 1) % length slots) where
@@ -200,17 +199,13 @@ module _ {H : Type 0} (slots : List (Option (Placed (ℕ × H)))) where
   passed_on s s' n n' lookup h is at =
       let found = peeked_found s n h in
       let step = lookup_steps slots s s' n n' found.0 is at lookup (standing s n lookup h).far in
-      let taken : (r : H) → IfSome (slot_at slots n) (λ p. r ≡ p.entry.1) → (r : H) × (left_at slots s n ≡ r ∷ left_at slots s' n') = λ r there. (r, step.takes r found.1 there) in
-      record {
-        lookup = step.lookup;
-        read = step.read;
-        left = of (slot_at slots n) refl found.0 found.1 taken;
-      }
+      record { lookup = step.lookup; read = step.read; left = of (slot_at slots n) refl }
     where
-      of : (o : Option (Placed (ℕ × H))) → slot_at slots n ≡ o → IsSome s → mark_of (slot_at slots n) ≡ s
-          → ((r : H) → IfSome (slot_at slots n) (λ p. r ≡ p.entry.1) → (r : H) × (left_at slots s n ≡ r ∷ left_at slots s' n')) → (r : H) × (left_at slots s n ≡ r ∷ left_at slots s' n')
-      of None e some is taken = absurd (nothing_there s some (sym (ap mark_of e) ∙ is))
-      of (Some p) e some is taken = taken p.entry.1 (rw e refl)
+      of : (o : Option (Placed (ℕ × H))) → slot_at slots n ≡ o → (r : H) × (left_at slots s n ≡ r ∷ left_at slots s' n')
+      of None e = let found = peeked_found s n h in absurd (nothing_there s found.0 (sym (ap mark_of e) ∙ found.1))
+      of (Some p) e =
+          let found = peeked_found s n h in
+          (p.entry.1, (lookup_steps slots s s' n n' found.0 is at lookup (standing s n lookup h).far).takes p.entry.1 found.1 (rw e refl))
 
 -- a walk that looked for s in slot n has found the handle r in slot n', where it looks for s', and has read slots on from w up to w'
 pub record HasFound {H : Type 0} (slots : List (Option (Placed (ℕ × H)))) (s s' : Mark) (n n' : ℕ) (r : H) (w w' : ℕ) : Type 0 where

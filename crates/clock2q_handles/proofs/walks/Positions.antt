@@ -8,7 +8,6 @@ use Rattle.clock2q_handles.specs.Layout.{Placed, placed, slot_at, reach, met, ho
 use Rattle.clock2q_handles.specs.Slots.{Mark}
 use Rattle.clock2q_handles.specs.Candidates.{end_at, IsLookup, IsWalkFor, EndsAt}
 use Rattle.clock2q_handles.specs.Positions.{IsEntryAt, GapValue, gap_value, gap_from, gap_of, with_entry}
-use Rattle.clock2q_handles.specs.Shifts.{HasCome}
 use Rattle.clock2q_handles.proofs.layout.Reading.{slot-again, count-again}
 use Rattle.clock2q_handles.proofs.layout.Periods.{rem-same}
 use Rattle.clock2q_handles.proofs.shifts.Carrying.{slot_from}
@@ -102,16 +101,13 @@ module _ {H : Type 0} (slots : List (Option (Placed (ℕ × H)))) (tidy : IsTidy
   gap_ends g is =
       let v = tidy-vacant slots tidy some in
       let h : ℕ = x % length slots in
-      let past = past_home slots (length slots) h x refl refl in
       let t = stop (slot_at slots) tidy.ordered (length slots) (slot-again slots) some v.0 v.1 h 0 in
-      let come : HasCome slots h t.0 ((h + t.0) % length slots) = record { slot = refl; within = t.1; passed = λ j l. omega (arith, t.2.before j l) } in
-      let mark : Mark = Some (t.0, top x) in
-      let ends : EndsAt slots x mark ((h + t.0) % length slots) = record {
-        walk = record { distance = t.0; come = come; mark = refl };
-        stop = omega (arith, t.2.stop, ap reach (past_at slots tidy some x t.0 ((h + t.0) % length slots) refl), ap reach (past t.0));
+      let s : ℕ = (h + t.0) % length slots in
+      let ends : EndsAt slots x (Some (t.0, top x)) s = record {
+        walk = record { distance = t.0; come = record { slot = refl; within = t.1; passed = λ j l. omega (arith, t.2.before j l) }; mark = refl };
+        stop = omega (arith, t.2.stop, ap reach (past_at slots tidy some x t.0 s refl), ap reach (past_home slots (length slots) h x refl refl t.0));
       } in
-      let at : gap_value ((h + t.0) % length slots) mark ≡ g = ends_gap ((h + t.0) % length slots) mark ends ∙ sym is in
-      rw (← at) ends
+      rw (is ∙ sym (ends_gap s (Some (t.0, top x)) ends)) ends
 
 module _ {H : Type 0} (slots : List (Option (Placed (ℕ × H)))) where
   -- a walk for x ends at the gap of x, wherever it is

@@ -155,13 +155,11 @@ module _ {H : Type 0} (slots : List (Option (Placed (ℕ × H)))) (tidy : IsTidy
   left_skip d within other =
       let A = slot_at slots in
       let m : ℕ = length slots in
-      let base = at (omega (arith, within)) in
-      let z : d - d ≡ 0 = omega arith in
-      let first : matching x (met A g d (d + 1 - d)) ≡ [] = matching-more x A g d d (omega arith) (ap (λ k. matching x (met A g d k)) z) (matching-other x (A (g + d)) d other) in
-      ap (λ h. map (λ e. e.1) (matching x (met A h d (m - d)))) (sym base)
+      let first : matching x (met A g d (d + 1 - d)) ≡ [] = matching-more x A g d d (omega arith) (grind arith) (matching-other x (A (g + d)) d other) in
+      ap (λ h. map (λ e. e.1) (matching x (met A h d (m - d)))) (sym (at (omega (arith, within))))
       ∙ ap (λ es. map (λ e. e.1) es) (ap (matching x) (met-split A g d (d + 1) m (omega arith) (omega (arith, within)))
       ∙ filter-append (λ e. e.0 == top x) (met A g d (d + 1 - d)) (met A g (d + 1) (m - (d + 1))) ∙ ap (λ xs. xs ++ matching x (met A g (d + 1) (m - (d + 1)))) first)
-      ∙ ap (λ h. map (λ e. e.1) (matching x (met A h (d + 1) (m - (d + 1))))) base
+      ∙ ap (λ h. map (λ e. e.1) (matching x (met A h (d + 1) (m - (d + 1))))) (at (omega (arith, within)))
 
   -- a candidate is the first that is left
   pub left_take : (d : ℕ) (r : H) → d < length slots → ((j : ℕ) → j < d → j < reach (slot_at slots (g + j)))

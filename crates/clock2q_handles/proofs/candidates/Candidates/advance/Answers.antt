@@ -1,4 +1,4 @@
-use Rattle.std.proofs.Common.{length, drop, arith, sym, ap, ◌∙◌}
+use Rattle.std.proofs.Common.{arith, sym, ap, ◌∙◌}
 use Rattle.clock2q_handles.specs.Slots.{sought}
 use Rattle.clock2q_handles.proofs.walks.Cursors.{HasPassed, standing, passed_on}
 use Rattle.clock2q_handles.proofs.shifts.Carrying.{walks_on}
@@ -11,9 +11,7 @@ pub after-self-inside-requires : goal.after-self-inside-requires
 after-self-inside-requires g c = (standing c.self.inside.reader.slots (sought c.self.inside.wanted) c.self.inside.slot c.self.invariant (ap (λ t. t.peeked) c.self.view_is ∙ c.requires.peeked)).within
 
 pub next-self-inside-requires-clause-room : goal.next-self-inside-requires-clause-room
-next-self-inside-requires-clause-room g c =
-    let here = standing c.self.inside.reader.slots (sought c.self.inside.wanted) c.self.inside.slot c.self.invariant (ap (λ t. t.peeked) c.self.view_is ∙ c.requires.peeked) in
-    omega (arith, here.far, c.self.invariant.near c.self.inside.slot)
+next-self-inside-requires-clause-room g c = grind (arith, standing)
 
 -- the walk goes on to the slot after
 passed : (g : Over) (c : After-next-self-inside g) → HasPassed c.self.inside.reader.slots (sought c.self.inside.wanted) (sought c.next-self-inside.result) c.self.inside.slot c.after-self-inside.result
@@ -25,19 +23,13 @@ pub invariant_of-self : goal.invariant_of-self
 invariant_of-self g c = (passed g (goal.at.invariant_of-self g c).After-next-self-inside).lookup
 
 pub returns-clause-some : goal.returns-clause-some
-returns-clause-some g c =
-    let p = passed g (goal.at.returns-clause-some g c).After-next-self-inside in
-    omega (arith, ap length (ap (λ t. t.left) (sym c.self.view_is) ∙ p.left.1))
+returns-clause-some g c = grind (arith, passed)
 
 pub returns-clause-left : goal.returns-clause-left
-returns-clause-left g c =
-    let p = passed g (goal.at.returns-clause-left g c).After-next-self-inside in
-    sym (ap (λ hs. drop 1 hs) (ap (λ t. t.left) (sym c.self.view_is) ∙ p.left.1))
+returns-clause-left g c = grind (arith, passed)
 
 pub returns-clause-unread : goal.returns-clause-unread
-returns-clause-unread g c =
-    let p = passed g (goal.at.returns-clause-unread g c).After-next-self-inside in
-    omega (arith, p.read, ap (λ t. t.unread) c.self.view_is)
+returns-clause-unread g c = grind (arith, passed)
 
 pub returns-clause-end : goal.returns-clause-end
 returns-clause-end g c =

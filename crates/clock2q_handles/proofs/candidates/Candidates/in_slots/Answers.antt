@@ -7,10 +7,7 @@ use Rattle.clock2q_handles.proofs.walks.Positions.{end_of}
 use Rattle.clock2q_handles.proofs.candidates.Candidates.in_slots.Goals as goal
 
 pub invariant_of-result : goal.invariant_of-result
-invariant_of-result g c =
-    let slots = c.args.slots.now.slots in
-    let home = c.home-slot.ensures.home (omega (arith, c.requires.some, ap (λ r. length r.slots) c.new-reader.ensures)) ∙ ap (λ r. c.args.hash % length r.slots) c.new-reader.ensures in
-    rw (c.new-reader.ensures, c.new.ensures) (lookup_begins slots c.args.hash c.home-slot.result c.requires.tidy c.requires.near c.requires.some home)
+invariant_of-result g c = grind (arith, lookup_begins)
 
 pub returns : goal.returns
 returns g c =

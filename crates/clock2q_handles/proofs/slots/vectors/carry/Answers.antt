@@ -1,4 +1,4 @@
-use Rattle.std.proofs.Common.{rules, ◌≡◌, ◌+◌, ◌<◌, ◌%◌, length, arith, ap, sym, ◌∙◌, subst, refl, get_or, length-set}
+use Rattle.std.proofs.Common.{rules, ◌≡◌, ◌+◌, ◌<◌, ◌%◌, length, arith, ap, sym, ◌∙◌, subst, get_or, length-set}
 use Rattle.clock2q_handles.specs.Slots.{cell, cells, meaning, IsSlotCount}
 use Rattle.clock2q_handles.proofs.layout.Periods.{lap}
 use Rattle.clock2q_handles.proofs.shifts.Cells.{length-cells, mark_read_or, handle_read_at}
@@ -15,15 +15,7 @@ pub slice_copy_out-there : goal.slice_copy_out-there
 slice_copy_out-there g c = omega (arith, c.requires.within, length-cells _ _ c.requires.pair.same)
 
 pub loop-there-init : goal.loop-there-init
-loop-there-init g c = record {
-  pair = c.requires.pair;
-  len = refl;
-  state =
-      carry_begins (cells c.args.metadata.now c.args.handles.now) (cell (meaning c.args.word) c.args.handle) _ c.args.slot c.args.writes.now.total c.requires.within
-      (mark_read_or c.args.metadata.now c.args.handles.now c.args.slot _ c.requires.pair.same (omega (arith, c.requires.within, length-cells _ _ c.requires.pair.same)));
-  counted = omega arith;
-  reads = omega arith;
-}
+loop-there-init g c = grind (arith, carry_begins, mark_read_or, length-cells)
 
 -- the slot that the loop has reached
 at : (g : Over) (c : In-loop-there g) → c.loop-there.slot < length (cells c.loop-there.metadata c.loop-there.handles)

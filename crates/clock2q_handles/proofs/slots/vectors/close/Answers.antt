@@ -1,4 +1,4 @@
-use Rattle.std.proofs.Common.{rules, ◌≡◌, ◌+◌, ◌<◌, ◌%◌, length, arith, ap, sym, ◌∙◌, subst, refl, get_or, length-set, None}
+use Rattle.std.proofs.Common.{rules, ◌≡◌, ◌+◌, ◌<◌, ◌%◌, length, arith, ap, sym, ◌∙◌, subst, get_or, length-set, None}
 use Rattle.clock2q_handles.specs.Layout.{slot_at}
 use Rattle.clock2q_handles.specs.Slots.{cells, meaning, IsSlotCount}
 use Rattle.clock2q_handles.proofs.layout.Periods.{lap}
@@ -10,20 +10,13 @@ use Rattle.clock2q_handles.proofs.slots.vectors.close.Goals.{After-after-next, A
 use Rattle.clock2q_handles.proofs.slots.vectors.close.Goals as goal
 
 pub loop-word-init : goal.loop-word-init
-loop-word-init g c = record {
-  pair = c.requires.pair;
-  len = refl;
-  state = close_begins (cells c.args.metadata.now c.args.handles.now) c.args.slot c.args.writes.now.total c.requires.within c.requires.occupied;
-  reads = omega arith;
-}
+loop-word-init g c = grind (arith, close_begins)
 
 pub after-next-requires-clause-count : goal.after-next-requires-clause-count
 after-next-requires-clause-count g c = subst IsSlotCount (sym c.requires.mask) c.requires.pair.slot_count
 
 pub after-next-requires-clause-within : goal.after-next-requires-clause-within
-after-next-requires-clause-within g c =
-    let at = close_slot (cells c.args.metadata.now c.args.handles.now) (cells c.loop-word.metadata c.loop-word.handles) c.requires.tidy _ _ _ _ c.loop-word.invariant.state in
-    omega (arith, at, length-cells c.loop-word.metadata c.loop-word.handles c.loop-word.invariant.pair.same, c.requires.mask, c.loop-word.invariant.len)
+after-next-requires-clause-within g c = grind (arith, close_slot, length-cells)
 
 -- the slot after it is in the slices
 inside : (g : Over) (c : After-after-next g) → c.after-next.result < length c.loop-word.metadata
@@ -33,9 +26,7 @@ pub offset_bounds-metadata-next : goal.offset_bounds-metadata-next
 offset_bounds-metadata-next g c = let l : c.after-next.result < length c.args.metadata.now = omega (arith, c.after-next.ensures.within, c.requires.mask) in search rules
 
 pub offset_bounds-handles-next : goal.offset_bounds-handles-next
-offset_bounds-handles-next g c =
-    let here = inside g (goal.at.offset_bounds-handles-next g c).After-after-next in
-    let l : c.after-next.result < length c.args.handles.now = omega (arith, here, c.loop-word.invariant.pair.same, c.loop-word.auto.handles) in search rules
+offset_bounds-handles-next g c = grind (arith, inside)
 
 pub bounds-handles-next : goal.bounds-handles-next
 bounds-handles-next g c = omega (arith, inside g (goal.at.bounds-handles-next g c).After-after-next, c.loop-word.invariant.pair.same)
@@ -45,10 +36,7 @@ write-requires-clause-within g c = close_slot (cells c.args.metadata.now c.args.
 
 -- the slot after it, in the slots that contracts see
 next : (g : Over) (c : After-after-next g) → c.after-next.result ≡ (c.loop-word.hole + 1) % length (cells c.loop-word.metadata c.loop-word.handles)
-next g c =
-    let as_many : c.args.mask + 1 ≡ length (cells c.loop-word.metadata c.loop-word.handles) =
-    omega (arith, c.requires.mask, c.loop-word.invariant.len, length-cells c.loop-word.metadata c.loop-word.handles c.loop-word.invariant.pair.same) in
-    c.after-next.ensures.after ∙ ap (λ m. (c.loop-word.hole + 1) % m) as_many
+next g c = grind (arith, length-cells)
 
 -- what the next turn starts from
 more : (g : Over) (c : After-write g) → c.after-next.result < length c.loop-word.metadata
@@ -75,15 +63,7 @@ loop-word-smaller g c =
     omega (arith, was, is, then.within, state.writes, then.writes)
 
 pub loop-word-preserved : goal.loop-word-preserved
-loop-word-preserved g c =
-    let before = goal.at.loop-word-preserved g c in
-    record {
-      pair = c.write.ensures.pair;
-      len = c.write.ensures.len ∙ c.loop-word.invariant.len;
-      state = subst (λ w. CloseState (cells c.args.metadata.now c.args.handles.now) (cells c.write.new.metadata c.write.new.handles) c.args.slot c.after-next.result c.args.writes.now.total w)
-          (sym c.write.ensures.counted) (more g before.After-write (inside g before.After-after-next) (next g before.After-after-next));
-      reads = omega (arith, c.loop-word.invariant.reads, c.tick.ensures.ticked, c.write.ensures.counted);
-    }
+loop-word-preserved g c = grind (arith, more, inside, next)
 
 pub erase-requires-clause-within : goal.erase-requires-clause-within
 erase-requires-clause-within g c = close_slot (cells c.args.metadata.now c.args.handles.now) (cells c.loop-word.metadata c.loop-word.handles) c.requires.tidy _ _ _ _ c.loop-word.invariant.state

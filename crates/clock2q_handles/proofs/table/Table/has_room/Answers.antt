@@ -1,4 +1,4 @@
-use Rattle.std.proofs.Common.{◌<◌, ◌%◌, length, sym, ap, subst}
+use Rattle.std.proofs.Common.{◌<◌, length, sym, ap, subst, arith}
 use Rattle.clock2q_handles.specs.Candidates.{EndsAt}
 use Rattle.clock2q_handles.specs.Homes.{total, capacity, with_handle}
 use Rattle.clock2q_handles.specs.Layout.{homes_of, IsTooLong}
@@ -18,14 +18,10 @@ ends : (g : Over) (c : After-self g) → EndsAt c.self.inside.slots.slots c.args
 ends g c = subst (λ t. EndsAt t.slots c.args.hash c.args.gap.now.mark c.args.gap.now.position) (sym c.self.view_is) c.requires.ends
 
 fits : (g : Over) (c : After-self g) → total (homes_of c.self.inside.slots.slots) < capacity (length c.self.inside.slots.slots)
-fits g c =
-    subst (λ m. total (homes_of c.self.inside.slots.slots) < capacity m) (length-homes_of c.self.inside.slots.slots)
-    (subst (λ t. total t.homes < capacity (length t.homes)) (sym c.self.view_is) c.requires.below)
+fits g c = grind (arith, length-homes_of)
 
 pub has_room-requires-clause-within : goal.has_room-requires-clause-within
-has_room-requires-clause-within g c =
-    let walk = (ends g (goal.at.has_room-requires-clause-within g c).After-self).walk in
-    come_slot c.self.inside.slots.slots (c.args.hash % length c.self.inside.slots.slots) walk.distance c.args.gap.now.position walk.come
+has_room-requires-clause-within g c = grind (arith, ends, come_slot)
 
 pub returns-clause-room : goal.returns-clause-room
 returns-clause-room g c = on_true c.has_room.result (λ room. subst (λ t. HasRoomAt t.slots c.args.gap.now.mark c.args.gap.now.position) c.self.view_is room) c.has_room.ensures.room

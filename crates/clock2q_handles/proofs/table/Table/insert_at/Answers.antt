@@ -14,9 +14,7 @@ ends : (g : Over) (c : After-self g) → EndsAt c.self.inside.slots.slots c.args
 ends g c = subst (λ t. EndsAt t.slots c.args.hash c.args.end.mark c.args.end.position) (sym c.self.view_is) c.requires.ends
 
 fits : (g : Over) (c : After-self g) → total (homes_of c.self.inside.slots.slots) < capacity (length c.self.inside.slots.slots)
-fits g c =
-    subst (λ m. total (homes_of c.self.inside.slots.slots) < capacity m) (length-homes_of c.self.inside.slots.slots)
-    (subst (λ t. total t.homes < capacity (length t.homes)) (sym c.self.view_is) c.requires.room)
+fits g c = grind (arith, length-homes_of)
 
 pub put_at-requires-clause-room : goal.put_at-requires-clause-room
 put_at-requires-clause-room g c =

@@ -21,9 +21,7 @@ use Rattle.clock2q_handles.proofs.table.Table.insert_then_take.Goals.{After-self
 use Rattle.clock2q_handles.proofs.table.Table.insert_then_take.Goals as goal
 
 fits : (g : Over) (c : After-self g) → total (homes_of c.self.inside.slots.slots) < capacity (length c.self.inside.slots.slots)
-fits g c =
-    subst (λ m. total (homes_of c.self.inside.slots.slots) < capacity m) (length-homes_of c.self.inside.slots.slots)
-    (subst (λ t. total t.homes < capacity (length t.homes)) (sym c.self.view_is) c.requires.spare.room)
+fits g c = grind (arith, length-homes_of)
 
 -- the walk for the hash ends at the gap
 ends : (g : Over) (c : After-self g) → EndsAt c.self.inside.slots.slots c.args.hash c.args.gap.mark c.args.gap.position

@@ -1,4 +1,4 @@
-use Rattle.std.proofs.Common.{ℕ, suc, refl, ◌≤◌, ◌+◌, ◌<◌, ◌%◌, length, sym, ap, ◌∙◌, subst, arith}
+use Rattle.std.proofs.Common.{ℕ, suc, refl, ◌≤◌, ◌+◌, ◌<◌, length, sym, ap, ◌∙◌, subst, arith}
 use Rattle.clock2q_handles.specs.Candidates.{EndsAt}
 use Rattle.clock2q_handles.specs.Homes.{total, capacity, with_handle}
 use Rattle.clock2q_handles.specs.Layout.{homes_of, run, slot_at, reach, IsTooLong}
@@ -18,9 +18,7 @@ ends : (g : Over) (c : After-self g) → EndsAt c.self.inside.slots.slots c.args
 ends g c = subst (λ t. EndsAt t.slots c.args.hash c.args.gap.mark c.args.gap.position) (sym c.self.view_is) c.requires.ends
 
 pub put_at-requires-clause-within : goal.put_at-requires-clause-within
-put_at-requires-clause-within g c =
-    let walk = (ends g (goal.at.put_at-requires-clause-within g c).After-self).walk in
-    come_slot c.self.inside.slots.slots (c.args.hash % length c.self.inside.slots.slots) walk.distance c.args.gap.position walk.come
+put_at-requires-clause-within g c = grind (arith, ends, come_slot)
 
 room : (g : Over) (c : After-self g) → HasRoomAt c.self.inside.slots.slots c.args.gap.mark c.args.gap.position
 room g c = subst (λ t. HasRoomAt t.slots c.args.gap.mark c.args.gap.position) (sym c.self.view_is) c.requires.room
@@ -29,9 +27,7 @@ pub put_at-requires-clause-room : goal.put_at-requires-clause-room
 put_at-requires-clause-room g c = room g (goal.at.put_at-requires-clause-room g c).After-self
 
 fits : (g : Over) (c : After-self g) → total (homes_of c.self.inside.slots.slots) < capacity (length c.self.inside.slots.slots)
-fits g c =
-    subst (λ m. total (homes_of c.self.inside.slots.slots) < capacity m) (length-homes_of c.self.inside.slots.slots)
-    (subst (λ t. total t.homes < capacity (length t.homes)) (sym c.self.view_is) c.requires.below)
+fits g c = grind (arith, length-homes_of)
 
 -- what was put in
 step : (g : Over) (c : After-put_at g) (s : After-self g)
@@ -42,9 +38,7 @@ step : (g : Over) (c : After-put_at g) (s : After-self g)
 step g c s end free below = inserted c.args.hash c.args.handle c.self.invariant below end free c.put_at.ensures.puts
 
 pub overflow_add-self : goal.overflow_add-self
-overflow_add-self g c =
-    let below = fits g (goal.at.overflow_add-self g c).After-self in
-    omega (arith, c.self.invariant.counted, below, c.put_at.ensures.small)
+overflow_add-self g c = grind (arith, fits)
 
 pub invariant_of-self : goal.invariant_of-self
 invariant_of-self g c =

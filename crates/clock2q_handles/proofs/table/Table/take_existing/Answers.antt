@@ -1,7 +1,6 @@
-use Rattle.std.proofs.Common.{◌≡◌, ◌≤◌, ◌+◌, ◌-◌, ◌%◌, length, refl, true, sym, ap, ◌∙◌, subst, arith}
-use Rattle.std.specs.List.{list_any}
+use Rattle.std.proofs.Common.{◌≤◌, ◌+◌, ◌-◌, ◌%◌, length, refl, sym, ap, ◌∙◌, subst, arith}
 use Rattle.clock2q_handles.specs.Found.{TakesOut}
-use Rattle.clock2q_handles.specs.Homes.{listed, total, removed, is_entry_of}
+use Rattle.clock2q_handles.specs.Homes.{total, removed, is_entry_of}
 use Rattle.clock2q_handles.specs.Layout.{homes_of, walk, run}
 use Rattle.clock2q_handles.proofs.layout.TidyLayout.{tidy-room}
 use Rattle.clock2q_handles.proofs.shifts.PuttingAndTaking.{found_occupied, found_taken}
@@ -12,10 +11,7 @@ use Rattle.clock2q_handles.proofs.table.Table.take_existing.Goals.{After-take_ou
 use Rattle.clock2q_handles.proofs.table.Table.take_existing.Goals as goal
 
 pub find_existing-held-requires-clause-held : goal.find_existing-held-requires-clause-held
-find_existing-held-requires-clause-held g c =
-    let slots = c.self.inside.slots.slots in
-    let test = is_entry_of g.H.PartialEq.eq c.args.hash c.args.handle in
-    ap (list_any test) (listed-home slots (c.args.hash % length slots) c.args.hash (λ _. refl)) ∙ subst (λ t. list_any test (listed t.homes c.args.hash) ≡ true) (sym c.self.view_is) c.requires.held
+find_existing-held-requires-clause-held g c = grind (arith, listed-home)
 
 pub take_out-requires-clause-occupied : goal.take_out-requires-clause-occupied
 take_out-requires-clause-occupied g c = found_occupied c.find_existing-held.ensures.found

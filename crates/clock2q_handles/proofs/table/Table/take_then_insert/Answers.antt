@@ -1,6 +1,6 @@
 use Rattle.std.proofs.Common.{◌≤◌, ◌<◌, length, sym, ap, ◌∙◌, subst, arith}
 use Rattle.clock2q_handles.specs.Candidates.{EndsAt}
-use Rattle.clock2q_handles.specs.Homes.{capacity, with_handle}
+use Rattle.clock2q_handles.specs.Homes.{with_handle}
 use Rattle.clock2q_handles.specs.Layout.{layout, run, walk}
 use Rattle.clock2q_handles.specs.Shifts.{HasRoomAt}
 use Rattle.clock2q_handles.specs.TableStep.{IsBelowCapacity, TableValue}
@@ -14,9 +14,7 @@ use Rattle.clock2q_handles.proofs.table.Table.take_then_insert.Goals as goal
 
 -- one more entry fits once one was removed
 fits : (g : Over) (c : After-take_existing g) → IsBelowCapacity c.take_existing.new.self.homes
-fits g c =
-    let taken = c.take_existing.ensures.taken in
-    omega (arith, taken.fewer, c.len.ensures.whole.room, ap capacity (ap length taken.removed ∙ length-with_list c.args.self.now.homes c.args.old_hash _))
+fits g c = grind (arith, length-with_list)
 
 pub gap-gap-requires : goal.gap-gap-requires
 gap-gap-requires g c = record { below = fits g (goal.at.gap-gap-requires g c).After-take_existing }

@@ -1,6 +1,5 @@
 use Rattle.std.proofs.Common.{◌≡◌, [], sym, ap, ◌∙◌, subst, arith}
-use Rattle.clock2q_handles.specs.Homes.{no_entries}
-use Rattle.clock2q_handles.specs.Layout.{homes_of, layout}
+use Rattle.clock2q_handles.specs.Layout.{layout}
 use Rattle.clock2q_handles.specs.TableStep.{table_value, made_for}
 use Rattle.clock2q_handles.specs.Table.{IsTable}
 use Rattle.clock2q_handles.proofs.layout.Tables.{table-empty, view-empty, layout-nothing, made_for-some}
@@ -15,8 +14,4 @@ pub invariant_of-result : goal.invariant_of-result
 invariant_of-result g c = subst (λ s. IsTable s.slots 0) (sym c.in-Ok.ensures) (table-empty _ c.in-Some.count c.in-Some.ensures.power)
 
 pub returns-clause-made : goal.returns-clause-made
-returns-clause-made g c =
-    let lists = made_for-some _ c.args.entries (omega (arith, c.if-entries-eq0.false)) in
-    ap (λ r. table_value (homes_of c.in-Ok.slots.slots) c.in-Ok.slots.slots c.in-Ok.slots.writes r) c.new-reads.ensures.zero
-    ∙ ap (λ s. table_value (homes_of s.slots) s.slots s.writes 0) c.in-Ok.ensures ∙ view-empty _ c.in-Some.count
-    ∙ ap (λ n. table_value (no_entries n) (layout (no_entries n)) 0 0) c.in-Some.ensures.count ∙ ap (λ hs. table_value hs (layout hs) 0 0) (sym lists)
+returns-clause-made g c = grind (arith, made_for-some, view-empty)

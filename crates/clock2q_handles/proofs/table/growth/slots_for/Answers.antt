@@ -1,8 +1,7 @@
-use Rattle.std.proofs.Common.{◌≡◌, ◌*◌, ℕ, max, arith, sym, subst, inl, inr}
+use Rattle.std.proofs.Common.{◌≡◌, ◌*◌, ℕ, max, arith, subst, inl, inr}
 use Rattle.std.proofs.lemmas.Bool.{cases_lt}
 use Rattle.std.specs.Int.{IsNextPowerOfTwo}
 use Rattle.clock2q_handles.specs.TableStep.{fit}
-use Rattle.clock2q_handles.specs.Slots.{IsSlotCount}
 use Rattle.clock2q_handles.proofs.rebuild.SlotCounts.{fit_from_power, fit_enough, slot_count_from_power}
 use Rattle.clock2q_handles.proofs.table.growth.slots_for.Goals as goal
 
@@ -16,18 +15,10 @@ returns-in_default-clause-count c =
     ]
 
 pub returns-clause-count : goal.returns-clause-count
-returns-clause-count c =
-    let quarter : ℕ = c.in_ok-quarter.quarter in
-    let is : fit c.args.entries ≡ max (quarter * 4) 16 = fit_from_power c.args.entries quarter (subst (λ n. IsNextPowerOfTwo n quarter) c.div_ceil.ensures c.in_ok-quarter.ensures) in
-    omega (arith, is, c.max.ensures, c.in-Some.ensures.1)
+returns-clause-count c = grind (arith, fit_from_power)
 
 pub returns-clause-power : goal.returns-clause-power
-returns-clause-power c =
-    let quarter : ℕ = c.in_ok-quarter.quarter in
-    let is : c.max.result ≡ max (quarter * 4) 16 = omega (arith, c.max.ensures, c.in-Some.ensures.1) in
-    subst IsSlotCount (sym is) (slot_count_from_power quarter c.in_ok-quarter.ensures.0.0 c.in_ok-quarter.ensures.0.1)
+returns-clause-power c = grind (arith, slot_count_from_power)
 
 pub returns-clause-enough : goal.returns-clause-enough
-returns-clause-enough c =
-    let quarter : ℕ = c.in_ok-quarter.quarter in
-    fit_enough c.args.entries quarter c.max.result (subst (λ n. IsNextPowerOfTwo n quarter) c.div_ceil.ensures c.in_ok-quarter.ensures) (omega (arith, c.max.ensures, c.in-Some.ensures.1))
+returns-clause-enough c = grind (arith, fit_enough)

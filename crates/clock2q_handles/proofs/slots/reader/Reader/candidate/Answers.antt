@@ -14,22 +14,10 @@ here : (g : Over) (c : After-is g) → meaning c.read-metadata.result ≡ mark_o
 here g c = subst (λ s. meaning c.read-metadata.result ≡ mark_of (slot_at s c.loop-metadata.slot)) c.loop-metadata.invariant.same c.read-metadata.ensures.meaning
 
 pub returns-then-ends_walk_for-clause-none : goal.returns-then-ends_walk_for-clause-none
-returns-then-ends_walk_for-clause-none g c =
-    let slots = c.args.self.now.slots in
-    let l = c.loop-metadata.invariant in
-    let mark = here g (goal.at.returns-then-ends_walk_for-clause-none g c).After-is in
-    l.left ∙ (lookup_ends slots (sought c.loop-metadata.wanted) c.loop-metadata.slot l.some l.lookup
-    (omega (arith, reach_of_meaning _ (slot_at slots c.loop-metadata.slot) mark, c.ends_walk_for.ensures.0 c.if-ends_walk_for.true))).0
+returns-then-ends_walk_for-clause-none g c = grind (arith, here, lookup_ends, reach_of_meaning)
 
 pub returns-then-ends_walk_for-clause-read_all : goal.returns-then-ends_walk_for-clause-read_all
-returns-then-ends_walk_for-clause-read_all g c =
-    let slots = c.args.self.now.slots in
-    let l = c.loop-metadata.invariant in
-    let mark = here g (goal.at.returns-then-ends_walk_for-clause-read_all g c).After-is in
-    let end =
-    lookup_ends slots (sought c.loop-metadata.wanted) c.loop-metadata.slot l.some l.lookup
-    (omega (arith, reach_of_meaning _ (slot_at slots c.loop-metadata.slot) mark, c.ends_walk_for.ensures.0 c.if-ends_walk_for.true)) in
-    omega (arith, l.read, end.1, c.read-metadata.ensures.counted)
+returns-then-ends_walk_for-clause-read_all g c = grind (arith, here, lookup_ends, reach_of_meaning)
 
 pub returns-then-ends_walk_for-clause-ends : goal.returns-then-ends_walk_for-clause-ends
 returns-then-ends_walk_for-clause-ends g c x walk =
@@ -47,9 +35,7 @@ on g c mark =
     (meaning c.read-metadata.result) c.loop-metadata.slot c.ends_walk_for.ensures c.if-ends_walk_for.false mark
 
 pub next-wanted-requires-clause-room : goal.next-wanted-requires-clause-room
-next-wanted-requires-clause-room g c =
-    let before = goal.at.next-wanted-requires-clause-room g c in
-    omega (arith, on g before.After-after-slot (here g before.After-is), c.loop-metadata.invariant.lookup.near c.loop-metadata.slot)
+next-wanted-requires-clause-room g c = grind (arith, on, here)
 
 -- the walk goes on to the next slot
 gone : (g : Over) (c : After-after-slot g) (mark : meaning c.read-metadata.result ≡ mark_of (slot_at c.args.self.now.slots c.loop-metadata.slot)) (wanted : Wanted)

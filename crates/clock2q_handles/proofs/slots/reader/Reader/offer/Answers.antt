@@ -1,4 +1,4 @@
-use Rattle.std.proofs.Common.{◌≡◌, ◌+◌, ◌%◌, [], ◌∷◌, ◌++◌, length, true, false, Some, None, IfSome, refl, sym, ap, ◌∙◌, subst, arith}
+use Rattle.std.proofs.Common.{◌≡◌, ◌+◌, ◌%◌, [], ◌∷◌, ◌++◌, length, true, false, None, IfSome, refl, sym, ap, ◌∙◌, subst, arith}
 use Rattle.std.proofs.lemmas.List.{append_assoc}
 use Rattle.std.specs.Fn.{Called}
 use Rattle.std.specs.Prelude.{IsSome}
@@ -54,10 +54,7 @@ found g c =
 
 -- the walk reached it
 came : (g : Over) (c : After-handle-handle g) → IsWalkFor c.args.self.now.slots c.args.hash (sought c.in-Ok.found) c.in-Ok.here
-came g c =
-    let l = c.loop-end.invariant in
-    subst (λ s. IsWalkFor s c.args.hash (sought c.in-Ok.found) c.in-Ok.here) l.same
-    (c.in-Ok.ensures.walks c.args.hash (subst (λ s. IsWalkFor s c.args.hash (sought c.loop-end.wanted) c.loop-end.slot) (sym l.same) l.walk))
+came g c = grind arith
 
 pub returns-then-matches-clause-at : goal.returns-then-matches-clause-at
 returns-then-matches-clause-at g c =
@@ -86,16 +83,10 @@ first : (g : Over) (c : After-handle-handle g) → left_at c.args.self.now.slots
 first g c = ((found g c).on (mark_on (sought c.in-Ok.found)) ((c.in-Ok.here + 1) % length c.args.self.now.slots) refl refl).1
 
 pub matches-requires : goal.matches-requires
-matches-requires g c =
-    (subst (λ hs. TakesInTurn g.F.FnMut c.loop-end.matches hs) (first g (goal.at.matches-requires g c).After-handle-handle) c.loop-end.invariant.callable).0
+matches-requires g c = grind (arith, first)
 
 pub returns-then-matches-clause-offers : goal.returns-then-matches-clause-offers
-returns-then-matches-clause-offers g c =
-    let r = c.handle-handle.result in
-    let next = c.matches.new.self in
-    let called = subst (λ b. Called g.F.FnMut c.loop-end.matches (r, tt) b next) c.if-matches.true c.matches.ensures in
-    c.loop-end.invariant.offers (Some r) next
-    (subst (λ hs. Offers g.F.FnMut c.loop-end.matches hs (Some r) next) (sym (first g (goal.at.returns-then-matches-clause-offers g c).After-handle-handle)) (true, next, called, (refl, refl)))
+returns-then-matches-clause-offers g c = grind (arith, first)
 
 pub returns-then-matches-clause-read : goal.returns-then-matches-clause-read
 returns-then-matches-clause-read g c =
@@ -104,14 +95,7 @@ returns-then-matches-clause-read g c =
     omega (arith, c.loop-end.invariant.read, here.read, step.read, c.handle-handle.ensures.reads)
 
 pub returns-then-matches-clause-handles : goal.returns-then-matches-clause-handles
-returns-then-matches-clause-handles g c =
-    omega (
-      arith,
-      c.loop-end.invariant.handles,
-      c.candidate.ensures.handles,
-      c.handle-handle.ensures.counted,
-      ap length (first g (goal.at.returns-then-matches-clause-handles g c).After-handle-handle),
-    )
+returns-then-matches-clause-handles g c = grind (arith, first)
 
 -- the walk goes on to the next slot
 on : (g : Over) (c : After-next-wanted g)
@@ -125,9 +109,7 @@ on g c here =
     ∙ ap (λ s. (c.in-Ok.here + 1) % length s) (c.handle-handle.ensures.same ∙ c.candidate.ensures.same ∙ c.loop-end.invariant.same))
 
 pub loop-end-smaller : goal.loop-end-smaller
-loop-end-smaller g c =
-    let here = found g (goal.at.loop-end-smaller g c).After-handle-handle in
-    omega (arith, here.read, (on g c here).0.read, c.candidate.ensures.reads)
+loop-end-smaller g c = grind (arith, found, on)
 
 pub loop-end-preserved : goal.loop-end-preserved
 loop-end-preserved g c =

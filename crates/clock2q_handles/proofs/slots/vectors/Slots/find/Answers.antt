@@ -1,4 +1,4 @@
-use Rattle.std.proofs.Common.{◌≡◌, ◌+◌, ◌%◌, ◌<◌, ℕ, zero, suc, Some, length, refl, arith, ap, sym, ◌∙◌}
+use Rattle.std.proofs.Common.{◌≡◌, ◌+◌, ◌%◌, ℕ, suc, Some, length, arith, ap, sym, ◌∙◌}
 use Rattle.std.specs.List.{list_any}
 use Rattle.clock2q_handles.specs.Homes.{top, is_entry_of}
 use Rattle.clock2q_handles.specs.Layout.{slot_at, met, reach}
@@ -14,19 +14,10 @@ use Rattle.clock2q_handles.proofs.slots.vectors.Slots.find.Goals.{After-next-wan
 use Rattle.clock2q_handles.proofs.slots.vectors.Slots.find.Goals as goal
 
 pub returns-then-count-eq0-clause-none : goal.returns-then-count-eq0-clause-none
-returns-then-count-eq0-clause-none g c =
-    let slots = c.args.self.now.slots in
-    let none : length slots ≡ zero = omega (arith, c.count.ensures.count, c.if-count-eq0.true) in
-    ap (list_any (is_entry_of g.H.PartialEq.eq c.args.hash c.args.handle)) (listed-homes_of slots (c.args.hash % length slots) ∙ ap (met (slot_at slots) (c.args.hash % length slots) 0) none)
+returns-then-count-eq0-clause-none g c = grind (arith, listed-homes_of)
 
 pub loop-handle-init : goal.loop-handle-init
-loop-handle-init g c =
-    let slots = c.args.self.now.slots in
-    let home : ℕ = c.args.hash % length slots in
-    let some : 0 < length slots = omega (arith, c.count.ensures.count, c.if-count-eq0.false) in
-    let at = c.home-slot.ensures.home some in
-    let within : home < length slots = omega (arith, at, c.home-slot.ensures.within some) in
-    record { come = (0, come_home slots c.requires.tidy home (top c.args.hash) c.home-slot.result at within, c.new-wanted.ensures, refl); reads = omega (arith, ap mark_reach c.new-wanted.ensures) }
+loop-handle-init g c = grind (arith, come_home)
 
 pub returns-then-eq-clause-found : goal.returns-then-eq-clause-found
 returns-then-eq-clause-found g c =

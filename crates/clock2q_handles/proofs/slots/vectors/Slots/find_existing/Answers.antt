@@ -1,4 +1,4 @@
-use Rattle.std.proofs.Common.{◌≡◌, ◌+◌, ◌%◌, ◌<◌, ℕ, suc, Some, length, refl, arith, ap, sym, ◌∙◌}
+use Rattle.std.proofs.Common.{◌≡◌, ◌+◌, ◌%◌, ◌<◌, ℕ, suc, Some, length, arith, ap, sym, ◌∙◌}
 use Rattle.std.specs.List.{list_any}
 use Rattle.clock2q_handles.specs.Homes.{top, is_entry_of}
 use Rattle.clock2q_handles.specs.Layout.{slot_at, met, reach}
@@ -14,13 +14,7 @@ use Rattle.clock2q_handles.proofs.slots.vectors.Slots.find_existing.Goals.{After
 use Rattle.clock2q_handles.proofs.slots.vectors.Slots.find_existing.Goals as goal
 
 pub loop-handle-init : goal.loop-handle-init
-loop-handle-init g c =
-    let slots = c.args.self.now.slots in
-    let home : ℕ = c.args.hash % length slots in
-    let some = held_somewhere (is_entry_of g.H.PartialEq.eq c.args.hash c.args.handle) slots c.requires.tidy home c.requires.held in
-    let at = c.home-slot.ensures.home some in
-    let within : home < length slots = omega (arith, at, c.home-slot.ensures.within some) in
-    record { come = (0, come_home slots c.requires.tidy home (top c.args.hash) c.home-slot.result at within, c.new-wanted.ensures, refl); reads = omega (arith, ap mark_reach c.new-wanted.ensures) }
+loop-handle-init g c = grind (arith, held_somewhere, come_home)
 
 pub returns-then-eq : goal.returns-then-eq
 returns-then-eq g c =
@@ -55,8 +49,7 @@ further g c =
     held_further (is_entry_of g.H.PartialEq.eq c.args.hash c.args.handle) slots c.requires.tidy (c.args.hash % length slots) c.requires.held l.0 c.loop-handle.slot l.1 l.3
 
 pub next-wanted-requires-clause-room : goal.next-wanted-requires-clause-room
-next-wanted-requires-clause-room g c =
-    omega (arith, further g (goal.at.next-wanted-requires-clause-room g c).After-read-metadata, c.requires.near c.loop-handle.slot, ap mark_reach c.loop-handle.invariant.come.2)
+next-wanted-requires-clause-room g c = grind (arith, further)
 
 more : (g : Over) (c : After-next-wanted g)
     → HasCome c.args.self.now.slots (c.args.hash % length c.args.self.now.slots) (suc c.loop-handle.invariant.come.0) c.after-slot.result

@@ -1,4 +1,4 @@
-use Rattle.std.proofs.Common.{◌≡◌, ◌%◌, ◌<◌, ℕ, suc, Some, length, arith, ap, sym, subst}
+use Rattle.std.proofs.Common.{◌≡◌, ◌%◌, suc, Some, length, arith, ap, sym, subst}
 use Rattle.clock2q_handles.specs.Candidates.{EndsAt}
 use Rattle.clock2q_handles.specs.Homes.{top}
 use Rattle.clock2q_handles.specs.Shifts.{HasCome}
@@ -9,12 +9,7 @@ use Rattle.clock2q_handles.proofs.slots.vectors.Slots.gap.Goals.{After-next-want
 use Rattle.clock2q_handles.proofs.slots.vectors.Slots.gap.Goals as goal
 
 pub loop-slot-init : goal.loop-slot-init
-loop-slot-init g c =
-    let slots = c.args.self.now.slots in
-    let home : ℕ = c.args.hash % length slots in
-    let at = c.home-slot.ensures.home c.requires.some in
-    let within : home < length slots = omega (arith, at, c.home-slot.ensures.within c.requires.some) in
-    record { come = (0, come_home slots c.requires.tidy home (top c.args.hash) c.home-slot.result at within, c.new-wanted.ensures); reads = omega (arith, ap mark_reach c.new-wanted.ensures) }
+loop-slot-init g c = grind (arith, come_home)
 
 pub next-wanted-requires-clause-room : goal.next-wanted-requires-clause-room
 next-wanted-requires-clause-room g c =

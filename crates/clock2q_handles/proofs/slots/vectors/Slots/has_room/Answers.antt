@@ -1,4 +1,4 @@
-use Rattle.std.proofs.Common.{◌≡◌, ◌≤◌, ◌<◌, suc, inl, inr, arith, ap, sym, subst}
+use Rattle.std.proofs.Common.{◌≡◌, ◌≤◌, ◌<◌, suc, inl, inr, arith}
 use Rattle.std.proofs.lemmas.Bool.{cases_lt}
 use Rattle.clock2q_handles.specs.Layout.{slot_at, reach, longest_reach}
 use Rattle.clock2q_handles.specs.Slots.{mark_reach, meaning}
@@ -9,17 +9,10 @@ use Rattle.clock2q_handles.proofs.slots.vectors.Slots.has_room.Goals.{After-afte
 use Rattle.clock2q_handles.proofs.slots.vectors.Slots.has_room.Goals as goal
 
 pub returns-then-not-is_near-clause-far : goal.returns-then-not-is_near-clause-far
-returns-then-not-is_near-clause-far g c = elim (cases_lt longest_reach (mark_reach c.args.gap.now.mark)) [
-  | inl far ↦ inl far
-  | inr near ↦ absurd (refused c.is_near.result c.is_near.ensures c.if-not-is_near.true (omega (arith, near, ap mark_reach c.wanted.ensures)))
-]
+returns-then-not-is_near-clause-far g c = grind (arith, cases_lt, refused)
 
 pub loop-metadata-init : goal.loop-metadata-init
-loop-metadata-init g c = record {
-  own = omega (arith, c.is_near.ensures.0 c.if-not-is_near.false, ap mark_reach c.wanted.ensures);
-  passing = subst (IsPassing c.args.self.now.slots c.args.gap.now.position) (sym c.slot-slot.ensures) (pass_begins c.args.self.now.slots c.args.gap.now.position c.requires.within);
-  counted = omega arith;
-}
+loop-metadata-init g c = grind (arith, pass_begins)
 
 pub read-metadata-requires : goal.read-metadata-requires
 read-metadata-requires g c = pass_slot c.args.self.now.slots c.args.gap.now.position c.loop-metadata.invariant.passing
