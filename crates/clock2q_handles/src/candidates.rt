@@ -72,6 +72,7 @@ impl<'a, H: Copy + Eq + Default> Candidates<'a, H> {
 
     /// Returns a lookup that has read nothing yet, given that there are slots.
     #[inline(always)]
+    #[tactic(auto, using(crate::proofs::walks::Cursors::lookup_begins))]
     pub(super) fn in_slots<A: Allocator>(slots: &'a Slots<H, A>, hash: u64) -> Candidates<'a, H>
         requires tidy { IsTidy slots.now.slots }
         requires near { AreNear slots.now.slots }
@@ -153,6 +154,7 @@ impl<'a, H: Copy + Eq + Default> Candidates<'a, H> {
 
     /// Moves past the candidate that [`peek`](Candidates::peek) is at. It reads no slot.
     #[inline(always)]
+    #[tactic(auto, using(crate::proofs::walks::Cursors::standing, crate::proofs::walks::Cursors::passed_on))]
     pub fn advance(&mut self)
         requires peeked { self.old.peeked ≡ true }
         ensures some { 0 < length self.old.left }

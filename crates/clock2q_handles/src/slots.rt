@@ -27,6 +27,7 @@ pub(super) use view::SlotsRef;
 
 impl<H: Copy + Default, A: Allocator> Slots<H, A> {
     /// Returns the home slot of a hash, if there are slots.
+    #[tactic(auto, using(crate::proofs::shifts::Cells::slot_mask, std::proofs::lemmas::Nat::mod_below))]
     pub(super) fn home(&self, hash: u64) -> usize
         ensures home { 0 < length self.now.slots → result ≡ hash % length self.now.slots }
         ensures within { 0 < length self.now.slots → result < length self.now.slots }
@@ -45,6 +46,7 @@ impl<H: Copy + Default, A: Allocator> Slots<H, A> {
 
     /// Returns where a walk for `hash` ends.
     #[inline(always)]
+    #[tactic(auto, using(crate::proofs::shifts::Carrying::come_home, crate::proofs::shifts::Carrying::looks_room))]
     pub(super) fn gap(&self, hash: u64, reads: &mut Count) -> Gap
         requires tidy { IsTidy self.now.slots }
         requires near { AreNear self.now.slots }
@@ -63,6 +65,7 @@ impl<H: Copy + Default, A: Allocator> Slots<H, A> {
 
     /// Returns true if an entry can be inserted at the gap: neither it nor an entry that has to
     /// move on for it ends up too far past its home.
+    #[tactic(auto, using(crate::proofs::shifts::Moves::refused, crate::proofs::shifts::Carrying::pass_begins, crate::proofs::shifts::Carrying::pass_slot, crate::proofs::shifts::Carrying::pass_room))]
     pub(super) fn has_room(&self, gap: &Gap, reads: &mut Count) -> bool
         requires tidy { IsTidy self.now.slots }
         requires within { gap.now.position < length self.now.slots }
@@ -88,6 +91,7 @@ impl<H: Copy + Default, A: Allocator> Slots<H, A> {
 
     /// Returns the slot of the first candidate of `hash` that equals `handle`.
     #[inline(always)]
+    #[tactic(auto, using(crate::proofs::shifts::Carrying::come_home, crate::proofs::shifts::Carrying::looks_room))]
     pub(super) fn find(&self, hash: u64, handle: H, reads: &mut Count) -> Option<usize>
     where
         H: PartialEq,
@@ -123,6 +127,7 @@ impl<H: Copy + Default, A: Allocator> Slots<H, A> {
     /// Returns the slot of the first candidate of `hash` that equals `handle`, given that there is
     /// one.
     #[inline(always)]
+    #[tactic(auto, using(crate::proofs::shifts::Carrying::come_home, crate::proofs::walks::Holding::held_somewhere, crate::proofs::walks::Holding::held_further))]
     pub(super) fn find_existing(&self, hash: u64, handle: H, reads: &mut Count) -> usize
     where
         H: PartialEq,

@@ -81,6 +81,7 @@ impl<H: Copy + Eq + Default, A: Allocator + Copy> Table<H, A> {
     /// # Cost
     ///
     /// Linear in `entries`: every slot is initialized.
+    #[tactic(auto, using(crate::proofs::layout::Tables::emptied))]
     pub fn with_capacity(alloc: A, entries: usize) -> Result<Table<H, A>, TableError>
         ensures made { IfOk result
             (λ t. t ≡ table_value (made_for entries) (layout (made_for entries)) 0 0) }
@@ -125,6 +126,7 @@ impl<H: Copy + Eq + Default, A: Allocator> Table<H, A> {
 
     /// Returns the number of entries that the table holds before it grows: three quarters of its
     /// slots.
+    #[tactic(auto, using(crate::proofs::layout::Tables::capacity_quarters, crate::proofs::layout::TidyLayout::homes_length))]
     pub fn capacity(&self) -> usize
         ensures capacity { result ≡ capacity (length self.now.homes) }
     {
@@ -139,6 +141,7 @@ impl<H: Copy + Eq + Default, A: Allocator> Table<H, A> {
     ///
     /// The iterator reads slots as it is advanced. Once drained, it has read those from the home of
     /// `hash` to the first that is empty or whose entry is nearer to its own home.
+    #[tactic(auto, using(crate::proofs::walks::Yields::left_at_start, crate::proofs::layout::TidyLayout::homes_length))]
     pub fn get(&self, hash: u64) -> Candidates<'_, H>
         ensures candidates { result.left ≡ candidates self.now.homes hash }
         ensures reads { result.reads ≡ 0 }
@@ -151,6 +154,7 @@ impl<H: Copy + Eq + Default, A: Allocator> Table<H, A> {
 
     /// Returns what [`get`](Table::get) does, given that the table has slots. It doesn't test for that.
     #[inline(always)]
+    #[tactic(auto, using(crate::proofs::walks::Yields::left_at_start, crate::proofs::layout::TidyLayout::homes_length))]
     pub fn get_in_slots(&self, hash: u64) -> Candidates<'_, H>
         requires slots { 0 < length self.now.homes }
         ensures candidates { result.left ≡ candidates self.now.homes hash }

@@ -97,3 +97,6 @@ capacity_quarters m is_count =
           elim (cases_lt 2 p.0) [ inl large ↦ grind (arith, p.1, pow-add 2 (p.0 - 2) 2) | inr small ↦ absurd (omega (arith, p.1, pow_mono {i = p.0} {j = 2} (omega arith), is_count.least some)) ]
       | inr none ↦ omega arith
     ]
+
+-- tables without entries
+pub ruleset emptied = (homes_of-empty, made_for-some, view-empty, layout-nothing)

@@ -200,3 +200,6 @@ module _ {E : Type 0} where
 
   pub tidy-room : (slots : List (Option (Placed E))) → IsTidy slots → total (homes_of slots) ≤ capacity (length (homes_of slots))
   tidy-room slots tidy = omega (arith, tidy.room, tidy-total slots tidy, ap capacity (length-homes_of slots))
+
+-- there are as many homes as slots
+pub ruleset homes_length = (length-homes_of)

@@ -121,3 +121,6 @@ module _ {H : Type 0} where
 -- a vector whose slice was written contains what the slice does
 pub kept_whole : {X : Type 0} (xs ys : List X) (n : ℕ) → length xs ≡ n → take n (xs ++ ys) ≡ xs
 kept_whole xs ys n len = ap (λ k. take k (xs ++ ys)) (sym len) ∙ take-append_seam xs ys
+
+-- there are as many cells as words of metadata
+pub ruleset counted_cells = (length-cells)

@@ -36,6 +36,7 @@ impl<'a, H: Copy + Default> Reader<'a, H> {
     ghost use Rattle.clock2q_handles.specs.Slots.{meaning, mark_of};
 
     /// Returns a reader that has read nothing yet.
+    #[tactic(auto, using(crate::proofs::shifts::Wrapping::cells_along))]
     pub(crate) fn new<A: Allocator>(slots: &'a Slots<H, A>) -> Reader<'a, H>
         ensures { result ≡ reader_value slots.now.slots 0 0 }
     {
@@ -56,6 +57,7 @@ impl<'a, H: Copy + Default> Reader<'a, H> {
     }
 
     /// Reads the metadata of a slot.
+    #[tactic(auto, using(crate::proofs::shifts::Cells::counted_cells, crate::proofs::shifts::Cells::mark_read_at))]
     pub(crate) fn read(&mut self, slot: usize) -> Metadata
         requires { slot < length self.old.slots }
         ensures meaning { meaning result ≡ mark_of (slot_at self.old.slots slot) }
@@ -67,6 +69,7 @@ impl<'a, H: Copy + Default> Reader<'a, H> {
     }
 
     /// Reads the handle of an entry that was found.
+    #[tactic(auto, using(crate::proofs::shifts::Cells::counted_cells, crate::proofs::shifts::Cells::handle_read_at))]
     pub(crate) fn handle(&mut self, slot: usize) -> H
         requires { slot < length self.old.slots }
         ensures handle { IfSome (slot_at self.old.slots slot) (λ p. result ≡ p.entry.1) }
@@ -85,6 +88,7 @@ impl<'a, H: Copy + Default> Reader<'a, H> {
     }
 
     /// Returns the slot after `slot`: slot 0 after the last.
+    #[tactic(auto, using(crate::proofs::shifts::Cells::slot_mask, crate::proofs::shifts::Cells::counted_cells, std::proofs::lemmas::Nat::mod_below))]
     pub(crate) fn after(&self, slot: usize) -> usize
         requires { slot < length self.now.slots }
         ensures after { result ≡ (slot + 1) % length self.now.slots }

@@ -53,6 +53,7 @@ impl<H: Copy + Default, A: Allocator> Slots<H, A> {
     }
 
     /// Returns `count` empty slots.
+    #[tactic(auto, using(crate::proofs::shifts::Cells::filled_cells))]
     pub(crate) fn with_count(alloc: A, count: usize) -> Result<Slots<H, A>, AllocError>
     where
         A: Copy,
@@ -88,6 +89,7 @@ impl<H: Copy + Default, A: Allocator> Slots<H, A> {
 
     /// Returns a view that reads the slots.
     #[inline(always)]
+    #[tactic(auto, using(crate::proofs::shifts::Cells::counted_cells, crate::proofs::shifts::Wrapping::cells_along))]
     pub(crate) fn view(&self) -> SlotsRef<'_, H>
         ensures shown { cells result.metadata.now result.handles.now ≡ self.now.slots }
         ensures count { length result.metadata.now ≡ length self.now.slots }
@@ -97,6 +99,7 @@ impl<H: Copy + Default, A: Allocator> Slots<H, A> {
     }
 
     /// Returns the number of slots.
+    #[tactic(auto, using(crate::proofs::shifts::Cells::counted_cells))]
     pub(crate) fn count(&self) -> usize
         ensures count { result ≡ length self.now.slots }
         ensures power { IsSlotCount (length self.now.slots) }
@@ -106,6 +109,7 @@ impl<H: Copy + Default, A: Allocator> Slots<H, A> {
     }
 
     /// Returns the number of slots minus one, if there are slots.
+    #[tactic(auto, using(crate::proofs::shifts::Cells::counted_cells))]
     pub(crate) fn mask(&self) -> usize
         ensures mask { 0 < length self.now.slots → result + 1 ≡ length self.now.slots }
         ensures power { IsSlotCount (length self.now.slots) }
@@ -116,6 +120,7 @@ impl<H: Copy + Default, A: Allocator> Slots<H, A> {
 
     /// Reads the metadata of a slot, and counts the read.
     #[inline(always)]
+    #[tactic(auto, using(crate::proofs::shifts::Cells::counted_cells, crate::proofs::shifts::Cells::mark_read_at))]
     pub(crate) fn read(&self, slot: usize, reads: &mut Count) -> Metadata
         requires { slot < length self.now.slots }
         ensures meaning { meaning result ≡ mark_of (slot_at self.now.slots slot) }
@@ -125,6 +130,7 @@ impl<H: Copy + Default, A: Allocator> Slots<H, A> {
         self.metadata[slot]
     }
 
+    #[tactic(auto, using(crate::proofs::shifts::Cells::counted_cells, crate::proofs::shifts::Cells::handle_read_at))]
     pub(crate) fn handle(&self, slot: usize) -> H
         requires { slot < length self.now.slots }
         ensures { IfSome (slot_at self.now.slots slot) (λ p. result ≡ p.entry.1) }
@@ -134,6 +140,7 @@ impl<H: Copy + Default, A: Allocator> Slots<H, A> {
 
     /// Writes the handle of a slot.
     #[inline(always)]
+    #[tactic(auto, using(crate::proofs::shifts::Cells::counted_cells, crate::proofs::shifts::Cells::handle_replaced_cells))]
     pub(crate) fn replace_handle_at(&mut self, slot: usize, handle: H)
         requires { slot < length self.old.slots }
         ensures { self.new
@@ -147,6 +154,7 @@ impl<H: Copy + Default, A: Allocator> Slots<H, A> {
 
     /// Inserts an entry at a gap. The rest of the run moves on by one slot.
     #[inline(always)]
+    #[tactic(auto, using(crate::proofs::shifts::Cells::counted_cells, crate::proofs::shifts::Wrapping::cells_along, crate::proofs::shifts::Wrapping::cells_back, crate::proofs::shifts::Wrapping::puts_at_along))]
     pub(crate) fn put_at(&mut self, gap: &Gap, handle: H, reads: &mut Count)
         requires tidy { IsTidy self.old.slots }
         requires within { gap.now.position < length self.old.slots }
@@ -317,6 +325,7 @@ fn erase<H: Copy>(metadata: &mut [Metadata], handles: &[H], writes: &mut Count, 
 }
 
 /// Returns the slot after `slot`, of `mask + 1` slots: slot 0 after the last.
+#[tactic(auto, using(crate::proofs::shifts::Cells::slot_mask, std::proofs::lemmas::Nat::mod_below))]
 pub(super) fn after(slot: usize, mask: usize) -> usize
     requires count { IsSlotCount (mask + 1) }
     requires small { mask + 1 < 2 ^ 64 }

@@ -37,6 +37,7 @@ impl<'a, H: Copy> SlotsRef<'a, H> {
         self.metadata[slot]
     }
 
+    #[tactic(auto, using(crate::proofs::shifts::Cells::handle_read_at))]
     pub(crate) fn handle(&self, slot: usize) -> H
         requires same { length self.now.handles.now ≡ length self.now.metadata.now }
         requires within { slot < length self.now.metadata.now }

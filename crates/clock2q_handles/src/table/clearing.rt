@@ -13,6 +13,7 @@ impl<H: Copy + Eq + Default, A: Allocator> Table<H, A> {
     ///
     /// One counted write per slot. It writes the metadata alone, which the code shows and no clause
     /// states.
+    #[tactic(auto, using(crate::proofs::layout::TidyLayout::homes_length, crate::proofs::layout::Tables::emptied))]
     pub fn clear(&mut self)
         ensures cleared { self.new.homes ≡ no_entries (length self.old.homes) }
         ensures writes { self.new.writes ≡ self.old.writes + length self.old.slots }

@@ -16,6 +16,7 @@ use std::alloc::Allocator;
 const MIN_SLOTS: usize = 16;
 
 /// Returns the smallest slot count in which `entries` entries fit, if it can be counted.
+#[tactic(auto, using(crate::proofs::rebuild::SlotCounts::fit_from_power, crate::proofs::rebuild::SlotCounts::slot_count_from_power, crate::proofs::rebuild::SlotCounts::fit_enough))]
 pub(super) fn slots_for(entries: usize) -> Option<usize>
     ensures count { MatchOption result (2 ^ 64 ≤ fit entries) (λ count. count ≡ fit entries) }
     ensures power { IfSome result IsSlotCount }

@@ -39,6 +39,7 @@ impl<H: Copy + Eq + Default, A: Allocator + Copy> Table<H, A> {
     /// Below capacity it writes the slots from the new entry's to the end of its run. Growth is
     /// linear in the number of slots.
     #[inline(always)]
+    #[tactic(auto, using(crate::proofs::Promises::no_error))]
     pub fn insert<F: FnMut(H) -> u64>(
         &mut self,
         hash: u64,
@@ -134,6 +135,7 @@ impl<H: Copy + Eq + Default, A: Allocator> Table<H, A> {
     ///
     /// It writes the slots from the new entry's to the end of its run.
     #[inline(always)]
+    #[tactic(auto, using(crate::proofs::Promises::on_err))]
     pub fn insert_within_capacity(&mut self, hash: u64, handle: H) -> Result<(), TableError>
         requires room { IsBelowCapacity self.old.homes }
         ensures put { PutIn self.old.homes hash handle result self.new.homes }
@@ -250,6 +252,7 @@ impl<H: Copy + Eq + Default, A: Allocator> Table<H, A> {
     /// Inserts an entry at the gap for its hash as [insert_at](Table::insert_at) does, in a table
     /// with so many entries that a run may become too long. It first reads the rest of the run.
     #[inline(never)]
+    #[tactic(auto, using(crate::proofs::Promises::no_error))]
     fn insert_among_many(&mut self, end: Gap, hash: u64, handle: H) -> Result<(), TableError>
         requires room { IsBelowCapacity self.old.homes }
         requires ends { EndsAt self.old.slots hash end.mark end.position }

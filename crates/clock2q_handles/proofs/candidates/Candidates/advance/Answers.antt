@@ -7,20 +7,11 @@ use Rattle.clock2q_handles.proofs.candidates.Candidates.advance.Given.{Over}
 use Rattle.clock2q_handles.proofs.candidates.Candidates.advance.Goals.{After-next-self-inside}
 use Rattle.clock2q_handles.proofs.candidates.Candidates.advance.Goals as goal
 
-pub after-self-inside-requires : goal.after-self-inside-requires
-after-self-inside-requires g c = (standing c.self.inside.reader.slots (sought c.self.inside.wanted) c.self.inside.slot c.self.invariant (ap (λ t. t.peeked) c.self.view_is ∙ c.requires.peeked)).within
-
-pub next-self-inside-requires-clause-room : goal.next-self-inside-requires-clause-room
-next-self-inside-requires-clause-room g c = grind (arith, standing)
-
 -- the walk goes on to the slot after
 passed : (g : Over) (c : After-next-self-inside g) → HasPassed c.self.inside.reader.slots (sought c.self.inside.wanted) (sought c.next-self-inside.result) c.self.inside.slot c.after-self-inside.result
 passed g c =
     passed_on c.self.inside.reader.slots (sought c.self.inside.wanted) (sought c.next-self-inside.result) c.self.inside.slot c.after-self-inside.result
     c.self.invariant (ap (λ t. t.peeked) c.self.view_is ∙ c.requires.peeked) c.next-self-inside.ensures c.after-self-inside.ensures.after
-
-pub invariant_of-self : goal.invariant_of-self
-invariant_of-self g c = (passed g (goal.at.invariant_of-self g c).After-next-self-inside).lookup
 
 pub returns-clause-some : goal.returns-clause-some
 returns-clause-some g c = grind (arith, passed)

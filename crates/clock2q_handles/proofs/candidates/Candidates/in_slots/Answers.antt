@@ -1,13 +1,10 @@
 use Rattle.std.proofs.Common.{ap, ◌∙◌, arith, length, ◌%◌}
 use Rattle.clock2q_handles.specs.Candidates.{left_at, unread_at, end_at}
 use Rattle.clock2q_handles.specs.Slots.{sought}
-use Rattle.clock2q_handles.proofs.walks.Cursors.{begins_whole, lookup_begins}
+use Rattle.clock2q_handles.proofs.walks.Cursors.{begins_whole}
 use Rattle.clock2q_handles.proofs.shifts.Carrying.{walks_begin}
 use Rattle.clock2q_handles.proofs.walks.Positions.{end_of}
 use Rattle.clock2q_handles.proofs.candidates.Candidates.in_slots.Goals as goal
-
-pub invariant_of-result : goal.invariant_of-result
-invariant_of-result g c = grind (arith, lookup_begins)
 
 pub returns : goal.returns
 returns g c =

@@ -1,5 +1,4 @@
 use Rattle.std.proofs.Common.{◌≡◌, ◌+◌, ◌-◌, bit_and, ap, ◌∙◌, arith}
-use Rattle.std.proofs.lemmas.Nat.{mod_below}
 use Rattle.clock2q_handles.proofs.shifts.Cells.{slot_mask}
 use Rattle.clock2q_handles.proofs.slots.vectors.after.Goals as goal
 
@@ -7,6 +6,3 @@ pub returns-clause-after : goal.returns-clause-after
 returns-clause-after c =
     let mask : c.args.mask ≡ c.args.mask + 1 - 1 = omega arith in
     ap (bit_and (c.args.slot + 1)) mask ∙ slot_mask (c.args.slot + 1) (c.args.mask + 1) c.requires.count (omega arith)
-
-pub returns-clause-within : goal.returns-clause-within
-returns-clause-within c = omega (arith, returns-clause-after c, mod_below (c.args.slot + 1) (c.args.mask + 1) (omega arith))

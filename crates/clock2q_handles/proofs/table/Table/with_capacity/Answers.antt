@@ -1,8 +1,8 @@
-use Rattle.std.proofs.Common.{◌≡◌, [], sym, ap, ◌∙◌, subst, arith}
+use Rattle.std.proofs.Common.{◌≡◌, [], sym, ap, ◌∙◌, subst}
 use Rattle.clock2q_handles.specs.Layout.{layout}
 use Rattle.clock2q_handles.specs.TableStep.{table_value, made_for}
 use Rattle.clock2q_handles.specs.Table.{IsTable}
-use Rattle.clock2q_handles.proofs.layout.Tables.{table-empty, view-empty, layout-nothing, made_for-some}
+use Rattle.clock2q_handles.proofs.layout.Tables.{table-empty, layout-nothing}
 use Rattle.clock2q_handles.proofs.table.Table.with_capacity.Goals as goal
 
 pub returns-then-entries-eq0-clause-made : goal.returns-then-entries-eq0-clause-made
@@ -12,6 +12,3 @@ returns-then-entries-eq0-clause-made g c =
 
 pub invariant_of-result : goal.invariant_of-result
 invariant_of-result g c = subst (λ s. IsTable s.slots 0) (sym c.in-Ok.ensures) (table-empty _ c.in-Some.count c.in-Some.ensures.power)
-
-pub returns-clause-made : goal.returns-clause-made
-returns-clause-made g c = grind (arith, made_for-some, view-empty)

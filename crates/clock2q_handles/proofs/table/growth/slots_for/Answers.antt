@@ -2,7 +2,7 @@ use Rattle.std.proofs.Common.{◌≡◌, ◌*◌, ℕ, max, arith, subst, inl, i
 use Rattle.std.proofs.lemmas.Bool.{cases_lt}
 use Rattle.std.specs.Int.{IsNextPowerOfTwo}
 use Rattle.clock2q_handles.specs.TableStep.{fit}
-use Rattle.clock2q_handles.proofs.rebuild.SlotCounts.{fit_from_power, fit_enough, slot_count_from_power}
+use Rattle.clock2q_handles.proofs.rebuild.SlotCounts.{fit_from_power}
 use Rattle.clock2q_handles.proofs.table.growth.slots_for.Goals as goal
 
 pub returns-in_default-clause-count : goal.returns-in_default-clause-count
@@ -13,12 +13,3 @@ returns-in_default-clause-count c =
       | inl fits ↦ absurd (c.in_default.ensures fits)
       | inr past ↦ omega (arith, is, past)
     ]
-
-pub returns-clause-count : goal.returns-clause-count
-returns-clause-count c = grind (arith, fit_from_power)
-
-pub returns-clause-power : goal.returns-clause-power
-returns-clause-power c = grind (arith, slot_count_from_power)
-
-pub returns-clause-enough : goal.returns-clause-enough
-returns-clause-enough c = grind (arith, fit_enough)

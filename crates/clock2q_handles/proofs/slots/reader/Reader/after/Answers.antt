@@ -3,9 +3,6 @@ use Rattle.std.proofs.lemmas.Nat.{mod_below}
 use Rattle.clock2q_handles.proofs.shifts.Cells.{read_words, slot_mask}
 use Rattle.clock2q_handles.proofs.slots.reader.Reader.after.Goals as goal
 
-pub overflow_add-result : goal.overflow_add-result
-overflow_add-result g c = omega (arith, c.requires, read_words c.self.inside.metadata.items.now c.self.inside.handles.items.now c.self.invariant.same c.self.view_is, c.self.invariant.small)
-
 pub returns-clause-after : goal.returns-clause-after
 returns-clause-after g c =
     let len = read_words c.self.inside.metadata.items.now c.self.inside.handles.items.now c.self.invariant.same c.self.view_is in

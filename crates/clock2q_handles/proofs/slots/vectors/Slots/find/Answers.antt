@@ -8,16 +8,13 @@ use Rattle.clock2q_handles.proofs.layout.TidyLayout.{listed-homes_of}
 use Rattle.clock2q_handles.proofs.walks.Finding.{met_all, none_more, candidate, is_entry_of-candidate, any-other, any-failed}
 use Rattle.clock2q_handles.proofs.walks.Reads.{come_reads}
 use Rattle.clock2q_handles.proofs.shifts.Moves.{refused}
-use Rattle.clock2q_handles.proofs.shifts.Carrying.{come_home, come_here, looks_on, looks_room, looks_end}
+use Rattle.clock2q_handles.proofs.shifts.Carrying.{come_here, looks_on, looks_end}
 use Rattle.clock2q_handles.proofs.slots.vectors.Slots.find.Given.{Over}
 use Rattle.clock2q_handles.proofs.slots.vectors.Slots.find.Goals.{After-next-wanted, else-is-via-then-is+else-eq, else-is-via-else-is}
 use Rattle.clock2q_handles.proofs.slots.vectors.Slots.find.Goals as goal
 
 pub returns-then-count-eq0-clause-none : goal.returns-then-count-eq0-clause-none
 returns-then-count-eq0-clause-none g c = grind (arith, listed-homes_of)
-
-pub loop-handle-init : goal.loop-handle-init
-loop-handle-init g c = grind (arith, come_home)
 
 pub returns-then-eq-clause-found : goal.returns-then-eq-clause-found
 returns-then-eq-clause-found g c =
@@ -46,11 +43,6 @@ returns-then-ends_walk_for-clause-none g c =
     (sought c.loop-handle.wanted) _ l.2 c.ends_walk_for.ensures c.if-ends_walk_for.true c.read-metadata.ensures.meaning in
     ap (list_any (is_entry_of g.H.PartialEq.eq c.args.hash c.args.handle))
     (met_all slots c.requires.tidy home l.0 l.1.within l.1.passed (omega (arith, near, ap reach (come_here slots home l.0 c.loop-handle.slot l.1)))) ∙ l.3
-
-pub next-wanted-requires-clause-room : goal.next-wanted-requires-clause-room
-next-wanted-requires-clause-room g c =
-    looks_room c.args.self.now.slots c.requires.tidy 0 0 c.loop-handle.invariant.come.0 c.loop-handle.slot c.ends_walk_for.result
-    (sought c.loop-handle.wanted) _ c.ends_walk_for.ensures c.if-ends_walk_for.false c.read-metadata.ensures.meaning c.requires.near
 
 more : (g : Over) (c : After-next-wanted g)
     → HasCome c.args.self.now.slots (c.args.hash % length c.args.self.now.slots) (suc c.loop-handle.invariant.come.0) c.after-slot.result

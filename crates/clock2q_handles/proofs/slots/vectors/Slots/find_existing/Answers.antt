@@ -5,16 +5,13 @@ use Rattle.clock2q_handles.specs.Layout.{slot_at, met, reach}
 use Rattle.clock2q_handles.specs.Shifts.{HasCome}
 use Rattle.clock2q_handles.specs.Slots.{sought, mark_reach, mark_on, mark_of}
 use Rattle.clock2q_handles.proofs.walks.Finding.{none_more, candidate, is_entry_of-candidate, any-other, any-failed}
-use Rattle.clock2q_handles.proofs.walks.Holding.{held_somewhere, held_further}
+use Rattle.clock2q_handles.proofs.walks.Holding.{held_further}
 use Rattle.clock2q_handles.proofs.walks.Reads.{come_reads}
 use Rattle.clock2q_handles.proofs.shifts.Moves.{refused}
-use Rattle.clock2q_handles.proofs.shifts.Carrying.{come_home, come_here, come_on}
+use Rattle.clock2q_handles.proofs.shifts.Carrying.{come_here, come_on}
 use Rattle.clock2q_handles.proofs.slots.vectors.Slots.find_existing.Given.{Over}
 use Rattle.clock2q_handles.proofs.slots.vectors.Slots.find_existing.Goals.{After-read-metadata, After-next-wanted, else-is-via-then-is+else-eq, else-is-via-else-is}
 use Rattle.clock2q_handles.proofs.slots.vectors.Slots.find_existing.Goals as goal
-
-pub loop-handle-init : goal.loop-handle-init
-loop-handle-init g c = grind (arith, held_somewhere, come_home)
 
 pub returns-then-eq : goal.returns-then-eq
 returns-then-eq g c =
@@ -47,9 +44,6 @@ further g c =
     let slots = c.args.self.now.slots in
     let l = c.loop-handle.invariant.come in
     held_further (is_entry_of g.H.PartialEq.eq c.args.hash c.args.handle) slots c.requires.tidy (c.args.hash % length slots) c.requires.held l.0 c.loop-handle.slot l.1 l.3
-
-pub next-wanted-requires-clause-room : goal.next-wanted-requires-clause-room
-next-wanted-requires-clause-room g c = grind (arith, further)
 
 more : (g : Over) (c : After-next-wanted g)
     → HasCome c.args.self.now.slots (c.args.hash % length c.args.self.now.slots) (suc c.loop-handle.invariant.come.0) c.after-slot.result

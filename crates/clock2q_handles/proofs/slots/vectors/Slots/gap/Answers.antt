@@ -3,18 +3,10 @@ use Rattle.clock2q_handles.specs.Candidates.{EndsAt}
 use Rattle.clock2q_handles.specs.Homes.{top}
 use Rattle.clock2q_handles.specs.Shifts.{HasCome}
 use Rattle.clock2q_handles.specs.Slots.{sought, mark_reach}
-use Rattle.clock2q_handles.proofs.shifts.Carrying.{come_home, looks_on, looks_room, looks_end}
+use Rattle.clock2q_handles.proofs.shifts.Carrying.{looks_on, looks_end}
 use Rattle.clock2q_handles.proofs.slots.vectors.Slots.gap.Given.{Over}
 use Rattle.clock2q_handles.proofs.slots.vectors.Slots.gap.Goals.{After-next-wanted}
 use Rattle.clock2q_handles.proofs.slots.vectors.Slots.gap.Goals as goal
-
-pub loop-slot-init : goal.loop-slot-init
-loop-slot-init g c = grind (arith, come_home)
-
-pub next-wanted-requires-clause-room : goal.next-wanted-requires-clause-room
-next-wanted-requires-clause-room g c =
-    looks_room c.args.self.now.slots c.requires.tidy 0 0 c.loop-slot.invariant.come.0 c.loop-slot.slot c.ends_walk_for.result
-    (sought c.loop-slot.wanted) _ c.ends_walk_for.ensures c.loop-slot-test.true c.read.ensures.meaning c.requires.near
 
 more : (g : Over) (c : After-next-wanted g)
     → HasCome c.args.self.now.slots (c.args.hash % length c.args.self.now.slots) (suc c.loop-slot.invariant.come.0) c.after-slot.result

@@ -3,19 +3,10 @@ use Rattle.std.proofs.lemmas.Bool.{cases_lt}
 use Rattle.clock2q_handles.specs.Layout.{slot_at, reach, longest_reach}
 use Rattle.clock2q_handles.specs.Slots.{mark_reach, meaning}
 use Rattle.clock2q_handles.proofs.shifts.Moves.{refused, occupied_of_meaning, vacant_of_meaning, reach_of_meaning}
-use Rattle.clock2q_handles.proofs.shifts.Carrying.{IsPassing, pass_begins, pass_slot, pass_lap, pass_goes, pass_room, pass_far}
+use Rattle.clock2q_handles.proofs.shifts.Carrying.{IsPassing, pass_lap, pass_goes, pass_room, pass_far}
 use Rattle.clock2q_handles.proofs.slots.vectors.Slots.has_room.Given.{Over}
 use Rattle.clock2q_handles.proofs.slots.vectors.Slots.has_room.Goals.{After-after-slot}
 use Rattle.clock2q_handles.proofs.slots.vectors.Slots.has_room.Goals as goal
-
-pub returns-then-not-is_near-clause-far : goal.returns-then-not-is_near-clause-far
-returns-then-not-is_near-clause-far g c = grind (arith, cases_lt, refused)
-
-pub loop-metadata-init : goal.loop-metadata-init
-loop-metadata-init g c = grind (arith, pass_begins)
-
-pub read-metadata-requires : goal.read-metadata-requires
-read-metadata-requires g c = pass_slot c.args.self.now.slots c.args.gap.now.position c.loop-metadata.invariant.passing
 
 pub returns-then-is_empty-clause-room : goal.returns-then-is_empty-clause-room
 returns-then-is_empty-clause-room g c =
@@ -30,9 +21,6 @@ returns-then-not-can_move_on-clause-far g c =
       | inr near ↦ absurd (refused c.can_move_on.result c.can_move_on.ensures c.if-not-can_move_on.true near)
     ] in
     pass_far c.args.self.now.slots c.args.gap.now.position c.loop-metadata.invariant.passing c.args.gap.now.mark far
-
-pub after-slot-requires : goal.after-slot-requires
-after-slot-requires g c = pass_slot c.args.self.now.slots c.args.gap.now.position c.loop-metadata.invariant.passing
 
 -- the entry there may move on, and the walk continues past it
 on : (g : Over) (c : After-after-slot g) → 0 < reach (slot_at c.args.self.now.slots c.loop-metadata.slot) → reach (slot_at c.args.self.now.slots c.loop-metadata.slot) < longest_reach
