@@ -33,6 +33,11 @@ module _ {E : Type 0} where
   walk-is [] x some = absurd (omega arith)
   walk-is (es ∷ homes) x some = refl
 
+  -- a table without homes has no walk
+  pub walk-none : (homes : List (List E)) (x : ℕ) → length homes ≡ 0 → walk homes x ≡ 0
+  walk-none [] x none = refl
+  walk-none (es ∷ homes) x none = absurd (omega arith)
+
   pub count-with_list : (homes : List (List E)) (x n : ℕ) (es : List E) → 0 < length homes → length es ≤ count homes x → count (with_list homes x es) n ≤ count homes n
   count-with_list homes x n es some l = grind (arith, listed-with_same, listed-with_other)
 
@@ -54,14 +59,8 @@ module _ {E : Type 0} where
           spill-fewer (count homes) (count less) m 1 roomy (omega arith) (λ n. count-with_list homes x n es some l) y,
           count-with_list homes x y es some l,
         )
-    | inr none ↦
-        let is : (hs : List (List E)) → length hs ≤ 0 → walk hs y ≡ 0 = no_walk y in
-        omega (arith, is (with_list homes x es) (omega (arith, length-with_list homes x es)))
+    | inr none ↦ omega (arith, walk-none (with_list homes x es) y (omega (arith, length-with_list homes x es)))
   ]
-    where
-      no_walk : (y : ℕ) (hs : List (List E)) → length hs ≤ 0 → walk hs y ≡ 0
-      no_walk y [] l = refl
-      no_walk y (h ∷ hs) l = absurd (omega arith)
 
 window_none : (f : ℕ → ℕ) (k : ℕ) → ((j : ℕ) → j < k → f j ≡ 0) → window f 0 k ≡ 0
 window_none f zero none = refl

@@ -17,6 +17,9 @@ module _ {E : Type 0} where
   pub slot-again : (slots : List (Option (Placed E))) (n : ℕ) → slot_at slots (n + length slots) ≡ slot_at slots n
   slot-again slots n = ap (λ x. get_or slots x None) (add-mod_right n (length slots))
 
+  pub slots_again : (slots : List (Option (Placed E))) (m : ℕ) → length slots ≡ m → (n : ℕ) → slot_at slots (n + m) ≡ slot_at slots n
+  slots_again slots m len n = ap (λ x. slot_at slots (n + x)) (sym len) ∙ slot-again slots n
+
   pub listed-again : (homes : List (List E)) (n : ℕ) → listed homes (n + length homes) ≡ listed homes n
   listed-again homes n = ap (λ x. get_or homes x []) (add-mod_right n (length homes))
 

@@ -1,16 +1,16 @@
 -- What holds of every table, at the start and as callers see it.
-use Rattle.std.proofs.Common.{◌≡◌, ℕ, zero, suc, ◌-◌, ◌*◌, ◌/◌, ◌%◌, ◌<◌, inl, inr, refl, ap, sym, ◌∙◌, subst, arith, List, [], length, get_or, replicate, Option, None}
+use Rattle.std.proofs.Common.{◌+◌, ◌≡◌, ℕ, zero, suc, ◌-◌, ◌*◌, ◌/◌, ◌%◌, ◌<◌, inl, inr, refl, ap, sym, ◌∙◌, subst, arith, List, [], length, get_or, replicate, Option, None}
 use Rattle.std.proofs.lemmas.Bool.{cases_lt}
 use Rattle.std.proofs.lemmas.List.{length-replicate}
 use Rattle.std.proofs.lemmas.Nat.{pow-add}
 use Rattle.std.proofs.Math.Pow.{pow_mono}
 use Rattle.clock2q_handles.specs.Homes.{capacity, listed, count, total, no_entries}
-use Rattle.clock2q_handles.specs.Layout.{Placed, reach, layout, layout_upto, homes_of, IsTidy, IsTooLong}
+use Rattle.clock2q_handles.specs.Layout.{Placed, spill, reach, layout, layout_upto, homes_of, IsTidy, IsTooLong}
 use Rattle.clock2q_handles.specs.TableStep.{table_value, made_for, fit}
 use Rattle.clock2q_handles.specs.Slots.{IsSlotCount}
 use Rattle.clock2q_handles.specs.Table.{IsTable, IsWhole}
 use Rattle.clock2q_handles.proofs.layout.Laid.{get_some}
-use Rattle.clock2q_handles.proofs.layout.TidyLayout.{length-homes_of, tidy-vacant, tidy-layout, tidy-room, read-laid-homes, layout-tidy, layout-read}
+use Rattle.clock2q_handles.proofs.layout.TidyLayout.{length-homes_of, tidy-layout, tidy-room, read-laid, layout-tidy, layout-read}
 
 module _ (E : Type 0) where
   -- m empty slots
@@ -78,7 +78,10 @@ module _ {H : Type 0} (slots : List (Option (Placed (ℕ × H)))) (len : ℕ) (t
       let homes = homes_of slots in
       let h : ℕ = long.0 in
       let i : ℕ = count homes h - 1 in
-      grind (arith, length-homes_of slots, tidy-vacant, read-laid-homes, get_some (listed homes h) i (omega (arith, long.2)))
+      let some : 0 < length slots = omega (arith, long.1, length-homes_of slots) in
+      let entry = get_some (listed homes h) i (omega (arith, long.2)) in
+      let in_slot = (read-laid slots table.tidy some).standing h i entry.0 entry.1 in
+      grind (arith, long.2, long.3, in_slot, length-homes_of slots, table.near (h + spill (count homes) (length slots) h + i))
 
   -- so callers may rely on all of it
   pub table-whole : (writes reads : ℕ) → IsWhole (table_value (homes_of slots) slots writes reads)

@@ -13,7 +13,7 @@ use Rattle.clock2q_handles.proofs.layout.Tiles.{taken}
 use Rattle.clock2q_handles.proofs.layout.Laid.{shows, gap-reach, IsLaid, laid-ordered, laid-met, laid-same, met-again}
 use Rattle.clock2q_handles.proofs.layout.Walk.{lists-roomy, ordered-laid}
 use Rattle.clock2q_handles.proofs.layout.Sums.{weight, entries-sum, laid-sum}
-use Rattle.clock2q_handles.proofs.layout.Reading.{slot-again, listed-again, count-again, length-layout, layout-laid}
+use Rattle.clock2q_handles.proofs.layout.Reading.{slot-again, slots_again, listed-again, count-again, length-layout, layout-laid}
 
 -- as many as there are
 pub sum_by_one : {X : Type 0} (xs : List X) → sum_by (λ _. 1) xs ≡ length xs
@@ -79,9 +79,7 @@ module _ {E : Type 0} where
       → length slots ≡ length homes → IsLaid (length homes) (listed homes) (slot_at slots) → slots ≡ layout homes
   laid-layout homes slots l len laid =
       same-slots slots (layout homes) (len ∙ sym (length-layout homes)) (laid-same (length homes) (listed homes) (slot_at slots) (slot_at (layout homes)) (roomy-of homes l)
-      (λ n. ap (λ x. slot_at slots (n + x)) (sym len) ∙ slot-again slots n)
-      (λ n. ap (λ x. slot_at (layout homes) (n + x)) (sym (length-layout homes)) ∙ slot-again (layout homes) n)
-      laid (layout-laid homes (roomy-of homes l)))
+      (slots_again slots (length homes) len) (slots_again (layout homes) (length homes) (length-layout homes)) laid (layout-laid homes (roomy-of homes l)))
 
   vacant_in : (slots : List (Option (Placed E))) → length (entries slots) < length slots → (v : ℕ) × (v < length slots) × (get_or slots v None ≡ None)
   vacant_in [] l = absurd (omega arith)
@@ -97,19 +95,22 @@ module _ {E : Type 0} where
   pub tidy-vacant : (slots : List (Option (Placed E))) → IsTidy slots → 0 < length slots → (v : ℕ) × (slot_at slots v ≡ None)
   tidy-vacant slots tidy some = vacant-slot slots (omega (arith, tidy.room, capacity-lt (length slots) some))
 
-  module _ (slots : List (Option (Placed E))) (ordered : IsOrdered (slot_at slots)) (v : ℕ) (vacant : slot_at slots v ≡ None) (some : 0 < length slots) where
-    -- slots in order, with an empty one, lay out the lists read off them
+  module _ (slots : List (Option (Placed E))) (tidy : IsTidy slots) (some : 0 < length slots) where
+    abbrev vacancy : (v : ℕ) × (slot_at slots v ≡ None)
+    vacancy = tidy-vacant slots tidy some
+
+    -- tidy slots lay out the lists read off them
     pub read-laid : IsLaid (length slots) (listed (homes_of slots)) (slot_at slots)
-    read-laid = subst (λ L. IsLaid (length slots) L (slot_at slots)) (λ i n. sym (listed-homes_of slots n) i) (ordered-laid (slot_at slots) ordered (length slots) (slot-again slots) some v vacant)
+    read-laid = subst (λ L. IsLaid (length slots) L (slot_at slots)) (λ i n. sym (listed-homes_of slots n) i) (ordered-laid (slot_at slots) tidy.ordered (length slots) (slot-again slots) some vacancy.0 vacancy.1)
 
     pub read-room : total (homes_of slots) < length slots
     read-room =
         let m : ℕ = length slots in
-        let r = lists-roomy (slot_at slots) ordered m (slot-again slots) some v vacant in
+        let r = lists-roomy (slot_at slots) tidy.ordered m (slot-again slots) some vacancy.0 vacancy.1 in
         let same = window-same (count (homes_of slots)) (λ n. length (met (slot_at slots) n 0 m)) 0 m (λ j _. ap length (listed-homes_of slots (0 + j))) in
         grind (arith, r.room, sum-window length (homes_of slots), length-homes_of slots, same)
 
-    pub read-laid-homes : IsLaid (length (homes_of slots)) (listed (homes_of slots)) (slot_at slots)
+    read-laid-homes : IsLaid (length (homes_of slots)) (listed (homes_of slots)) (slot_at slots)
     read-laid-homes = subst (λ m. IsLaid m (listed (homes_of slots)) (slot_at slots)) (sym (length-homes_of slots)) read-laid
 
     pub read-layout : slots ≡ layout (homes_of slots)
@@ -120,10 +121,9 @@ module _ {E : Type 0} where
   layout-sum w homes l =
       let slots = layout homes in
       let A : ℕ → Option (Placed E) = slot_at slots in
-      let again : (n : ℕ) → A (n + length homes) ≡ A n = λ n. grind (arith, length-layout homes, slot-again slots n) in
       let around = window-same (λ n. weight w (get_or slots n None)) (λ n. weight w (A n)) 0 (length slots) (λ j l. grind (arith, mod-eq_of_lt l)) in
       entries-sum w slots ∙ around ∙ ap (window (λ n. weight w (A n)) 0) (length-layout homes)
-      ∙ laid-sum (length homes) (listed homes) A (roomy-of homes l) (layout-laid homes (roomy-of homes l)) w (listed-again homes) again
+      ∙ laid-sum (length homes) (listed homes) A (roomy-of homes l) (layout-laid homes (roomy-of homes l)) w (listed-again homes) (slots_again slots (length homes) (length-layout homes))
 
   laid-total : (homes : List (List E)) → total homes < length homes → length (entries (layout homes)) ≡ total homes
   laid-total homes l = sym (sum_by_one (entries (layout homes))) ∙ layout-sum (λ _. 1) homes l
@@ -154,11 +154,10 @@ module _ {E : Type 0} where
 
   read_back : (homes : List (List E)) → total homes < length homes → homes_of (layout homes) ≡ homes
   read_back homes l =
-      let A : ℕ → Option (Placed E) = slot_at (layout homes) in
-      let again : (n : ℕ) → A (n + length homes) ≡ A n = λ n. grind (arith, length-layout homes, slot-again (layout homes) n) in
+      let again = slots_again (layout homes) (length homes) (length-layout homes) in
       let len : length (homes_of (layout homes)) ≡ length homes = length-homes_of (layout homes) ∙ length-layout homes in
       ext_get_or [] (homes_of (layout homes)) homes len (λ i li.
-      let met_all = laid-met (length homes) (listed homes) A (roomy-of homes l) (layout-laid homes (roomy-of homes l)) again (listed-again homes) i in
+      let met_all = laid-met (length homes) (listed homes) (slot_at (layout homes)) (roomy-of homes l) (layout-laid homes (roomy-of homes l)) again (listed-again homes) i in
       grind (arith, mod-eq_of_lt li, len, listed-homes_of (layout homes) i, length-layout homes, met_all))
 
   below_all : (homes : List (List E)) (es : List E) → total (es ∷ homes) ≤ capacity (length (es ∷ homes)) → total (es ∷ homes) < length (es ∷ homes)
@@ -186,16 +185,13 @@ module _ {E : Type 0} where
   pub tidy-layout : (slots : List (Option (Placed E))) → IsTidy slots → slots ≡ layout (homes_of slots)
   unfolding homes_of layout
   tidy-layout [] tidy = refl
-  tidy-layout (s ∷ slots) tidy =
-      let v = tidy-vacant (s ∷ slots) tidy (omega arith) in
-      read-layout (s ∷ slots) tidy.ordered v.0 v.1 (omega arith)
+  tidy-layout (s ∷ slots) tidy = read-layout (s ∷ slots) tidy (omega arith)
 
   pub tidy-total : (slots : List (Option (Placed E))) → IsTidy slots → total (homes_of slots) ≡ length (entries slots)
   unfolding homes_of
   tidy-total [] tidy = refl
   tidy-total (s ∷ slots) tidy =
-      let v = tidy-vacant (s ∷ slots) tidy (omega arith) in
-      let room : total (homes_of (s ∷ slots)) < length (homes_of (s ∷ slots)) = omega (arith, read-room (s ∷ slots) tidy.ordered v.0 v.1 (omega arith), length-homes_of (s ∷ slots)) in
+      let room : total (homes_of (s ∷ slots)) < length (homes_of (s ∷ slots)) = omega (arith, read-room (s ∷ slots) tidy (omega arith), length-homes_of (s ∷ slots)) in
       sym (ap (λ x. length (entries x)) (tidy-layout (s ∷ slots) tidy) ∙ laid-total (homes_of (s ∷ slots)) room)
 
   pub tidy-room : (slots : List (Option (Placed E))) → IsTidy slots → total (homes_of slots) ≤ capacity (length (homes_of slots))

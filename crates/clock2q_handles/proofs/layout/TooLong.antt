@@ -7,10 +7,10 @@ use Rattle.clock2q_handles.specs.TableStep.{put_all, rebuilt, IsHashOf}
 use Rattle.clock2q_handles.proofs.layout.Spill.{Roomy, spill-again, spill-found, spill-lt, within_lap}
 use Rattle.clock2q_handles.proofs.layout.Tiles.{taken}
 use Rattle.clock2q_handles.proofs.layout.Periods.{rem-same}
-use Rattle.clock2q_handles.proofs.layout.Laid.{IsLaid, part-reach, gap-reach, reach-none}
+use Rattle.clock2q_handles.proofs.layout.Laid.{part-reach, gap-reach, reach-none}
 use Rattle.clock2q_handles.proofs.layout.Walk.{Stops, after}
 use Rattle.clock2q_handles.proofs.layout.Reading.{slot-again, count-again}
-use Rattle.clock2q_handles.proofs.layout.TidyLayout.{capacity-lt, roomy-of, sum-window, length-homes_of, tidy-vacant, tidy-total, read-laid-homes}
+use Rattle.clock2q_handles.proofs.layout.TidyLayout.{capacity-lt, roomy-of, sum-window, length-homes_of, tidy-vacant, read-laid, read-room}
 use Rattle.clock2q_handles.proofs.layout.Gaps.{IsOneMore}
 use Rattle.clock2q_handles.proofs.shifts.Changes.{length-with_list, listed-with_same, total-with_list, vacant_within, read-stop, one-put, roomy_at, other_at}
 use Rattle.clock2q_handles.proofs.layout.FewerEntries.{rebuilding-count, rebuilding-reach}
@@ -38,14 +38,8 @@ module _ {E : Type 0} where
       (n % m, omega arith, omega arith, omega arith)
 
   module _ (slots : List (Option (Placed E))) (tidy : IsTidy slots) where
-    read_laid : 0 < length slots → IsLaid (length slots) (listed (homes_of slots)) (slot_at slots)
-    read_laid some = grind (arith, tidy-vacant, length-homes_of, read-laid-homes)
-
-    read_room : 0 < length slots → total (homes_of slots) < length slots
-    read_room some = omega (arith, tidy.room, tidy-total slots tidy, capacity-lt (length slots) some)
-
     read_roomy : 0 < length slots → Roomy (count (homes_of slots)) (length slots)
-    read_roomy some = roomy_at (homes_of slots) (length slots) (length-homes_of slots) (read_room some)
+    read_roomy some = roomy_at (homes_of slots) (length slots) (length-homes_of slots) (read-room slots tidy some)
 
     -- the first empty slot from h on
     upto_vacant : (h k : ℕ) → ((v : ℕ) × (v < k) × (slot_at slots (h + v) ≡ None) × ((j : ℕ) → j < v → 1 ≤ reach (slot_at slots (h + j)))) ⊎ ((j : ℕ) → j < k → 1 ≤ reach (slot_at slots (h + j)))
@@ -89,7 +83,7 @@ module _ {E : Type 0} where
       module _ (v : ℕ) (within : v < length slots) (hole : slot_at slots (h + v) ≡ None) (full : (j : ℕ) → j < v → 1 ≤ reach (slot_at slots (h + j))) where
         one : IsOneMore (count (homes_of slots)) (count more) (length slots) (h + suc v) (length slots - suc v)
         one = one-put (length slots) h v (listed (homes_of slots)) (listed more) (slot_at slots) (read_roomy some_slots) (roomy_at more (length slots) more_length more_room) within more_here
-            (λ n q. ap length (other_at (homes_of slots) (length slots) h (listed (homes_of slots) h ++ e ∷ []) (length-homes_of slots) n q)) (read_laid some_slots) (slot-again slots) hole full
+            (λ n q. ap length (other_at (homes_of slots) (length slots) h (listed (homes_of slots) h ++ e ∷ []) (length-homes_of slots) n q)) (read-laid slots tidy some_slots) (slot-again slots) hole full
 
         there : h + suc v + (length slots - suc v) ≡ h + length slots
         there = omega arith
@@ -117,9 +111,9 @@ module _ {E : Type 0} where
             let same : reach (slot_at slots n) ≡ reach (slot_at slots (h + j)) = ap reach (slot-again slots (h + j)) in
             let near : reach (slot_at slots (h + j)) ≤ j + 0 = after (slot_at slots) tidy.ordered h 0 d stops.stop j from in
             elim (taken c m (read_roomy some_slots) n (omega (arith, spill-lt c m (read_roomy some_slots) 0))) [
-              | inl g ↦ absurd (omega (arith, same, gap-reach m (listed (homes_of slots)) (slot_at slots) (read_roomy some_slots) (read_laid some_slots) n g, far))
+              | inl g ↦ absurd (omega (arith, same, gap-reach m (listed (homes_of slots)) (slot_at slots) (read_roomy some_slots) (read-laid slots tidy some_slots) n g, far))
               | inr p ↦
-                  let r : reach (slot_at slots n) ≡ suc (n - p.0) = part-reach m (listed (homes_of slots)) (slot_at slots) (read_roomy some_slots) (read_laid some_slots) n p.0 p.1 in
+                  let r : reach (slot_at slots n) ≡ suc (n - p.0) = part-reach m (listed (homes_of slots)) (slot_at slots) (read_roomy some_slots) (read-laid slots tidy some_slots) n p.0 p.1 in
                   let k : ℕ = p.0 - (h + suc v) in
                   let q : h + suc v + k ≡ p.0 = omega (arith, r, same, near) in
                   let sp : spill (count more) m p.0 ≡ suc (spill c m p.0) = omega (arith, one.spills k (omega (arith, r, same, near)), r, same, near, ap (spill c m) q, ap (spill (count more) m) q) in

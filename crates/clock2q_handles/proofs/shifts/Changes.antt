@@ -11,8 +11,8 @@ use Rattle.clock2q_handles.proofs.layout.Tiles.{IsGap}
 use Rattle.clock2q_handles.proofs.layout.Periods.{again-at, lap, lap-lt, lap-same, other_home}
 use Rattle.clock2q_handles.proofs.layout.Laid.{counts, IsLaid, met-add, none-gap, far-spilled, near-unspilled}
 use Rattle.clock2q_handles.proofs.layout.Walk.{Stops, passed, stop-sum, met-count, met-stop}
-use Rattle.clock2q_handles.proofs.layout.Reading.{slot-again, listed-again}
-use Rattle.clock2q_handles.proofs.layout.TidyLayout.{capacity-lt, roomy-of, length-homes_of, listed-homes_of, laid-layout, tidy-vacant, tidy-total, read-laid-homes, layout-read, layout-tidy}
+use Rattle.clock2q_handles.proofs.layout.Reading.{slot-again, slots_again, listed-again}
+use Rattle.clock2q_handles.proofs.layout.TidyLayout.{capacity-lt, roomy-of, length-homes_of, listed-homes_of, laid-layout, tidy-vacant, tidy-total, read-laid, read-room, layout-read, layout-tidy}
 use Rattle.clock2q_handles.proofs.layout.Reaching.{run-is, run-above}
 use Rattle.clock2q_handles.proofs.layout.Gaps.{IsOneMore, one-more, one-less}
 use Rattle.clock2q_handles.proofs.shifts.Shifts.{IsOpened, opened-laid, closed-laid}
@@ -57,9 +57,6 @@ module _ {E : Type 0} where
     hole = again-at A m a (h + m + v) (h + v) (omega arith) ∙ moved.hole;
     kept = λ n from upto. kept_at A B m h d v n e moved (n - h) (omega arith) (omega arith) (omega arith);
   }
-
-  pub slots_again : (slots : List (Option (Placed E))) (m : ℕ) → length slots ≡ m → (n : ℕ) → slot_at slots (n + m) ≡ slot_at slots n
-  slots_again slots m len n = ap (λ x. slot_at slots (n + x)) (sym len) ∙ slot-again slots n
 
   -- an empty slot bounds what is known of the slots before it: it is within a lap of the home
   pub vacant_within : (A : ℕ → Option (Placed E)) (m h v : ℕ) → ((n : ℕ) → A (n + m) ≡ A n) → 0 < m → (w : ℕ) → A w ≡ None → ((j : ℕ) → j < v → 1 ≤ reach (A (h + j))) → v < m
@@ -236,13 +233,12 @@ module _ {E : Type 0} where
           let some : 0 < m = omega arith in
           let w = tidy-vacant slots tidy some in
           let within : v < m = vacant_within (slot_at slots) m h v (slot-again slots) some w.0 w.1 full_before in
-          let laid : IsLaid m (listed homes) (slot_at slots) = rw (length-homes_of slots) at (read-laid-homes slots tidy.ordered w.0 w.1 some) in
           let at : spill (count homes) m h + count homes h ≡ d = grind (arith, read-stop slots tidy some h d stops, length-homes_of slots) in
           let result = put-laid m h d v (listed homes) (listed (put_last homes h e)) (slot_at slots) (slot_at others) (listed homes h) [] e (sym (append-nil (listed homes h)))
           (listed-with_same homes h h (listed homes h ++ e ∷ []) (omega (arith, length-homes_of slots)) refl) (other_at homes m h (listed homes h ++ e ∷ []) (length-homes_of slots))
           (listed_at homes m (length-homes_of slots)) (listed_at (put_last homes h e) m put_length) (slot-again slots) (slots_again others m len)
           (roomy_at homes m (length-homes_of slots) (omega (arith, capacity-lt m some))) (roomy_at (put_last homes h e) m put_length (omega (arith, inserted-total, capacity-lt m some)))
-          order within moved laid full_before at in
+          order within moved (read-laid slots tidy some) full_before at in
           laid-layout (put_last homes h e) others (omega (arith, put_length, inserted-total, capacity-lt m some)) (len ∙ sym put_length) (rw put_length result)
 
       put_room : total (put_last (homes_of slots) h e) ≤ capacity (length (put_last (homes_of slots) h e))
@@ -296,16 +292,13 @@ module _ {E : Type 0} where
           let some : 0 < m = some_others in
           let more : List (List E) = homes_of others in
           let less : List (List E) = with_list (homes_of others) h (list_without others h d) in
-          let w = tidy-vacant others tidy some in
-          let room : total more < m = omega (arith, tidy.room, tidy-total others tidy, capacity-lt m some) in
-          let room' : total less < m = omega (arith, removed-total, room) in
-          let laid : IsLaid m (listed more) (slot_at others) = rw (length-homes_of others) at (read-laid-homes others tidy.ordered w.0 w.1 some) in
+          let room' : total less < m = omega (arith, removed-total, read-room others tidy some) in
           let at : spill (count more) m h + length (met (slot_at others) h 0 d) ≡ d = grind (arith, read-count others tidy some h d (ap reach moved.here), length-homes_of others) in
           let result = taken-laid m h d v (listed less) (listed more) (slot_at slots) (slot_at others) (met (slot_at others) h 0 d) (met (slot_at others) h (suc d) (m - suc d)) e
           (listed-with_same more h h (list_without others h d) (omega (arith, some, length-homes_of others)) refl) taken_split
           (λ n q. sym (other_at more m h (list_without others h d) (length-homes_of others) n q)) (listed_at less m taken_length) (listed_at more m (length-homes_of others))
-          (slots_again slots m (sym len)) (slot-again others) (roomy_at less m taken_length room') (roomy_at more m (length-homes_of others) room)
-          order (omega (arith, taken_within)) (rw (← len) at moved) laid away near at in
+          (slots_again slots m (sym len)) (slot-again others) (roomy_at less m taken_length room') (roomy_at more m (length-homes_of others) (read-room others tidy some))
+          order (omega (arith, taken_within)) (rw (← len) at moved) (read-laid others tidy some) away near at in
           laid-layout less slots (omega (arith, room', taken_length)) (sym len ∙ sym taken_length) (rw taken_length result)
 
       pub removed-tidy : IsTidy slots

@@ -6,10 +6,10 @@ use Rattle.clock2q_handles.specs.Positions.{with_first, handle_replaced}
 use Rattle.clock2q_handles.proofs.layout.Spill.{Roomy, window-le, spill-lt}
 use Rattle.clock2q_handles.proofs.layout.Tiles.{IsGap}
 use Rattle.clock2q_handles.proofs.layout.Laid.{none-gap}
-use Rattle.clock2q_handles.proofs.layout.Reading.{length-layout, layout-laid}
+use Rattle.clock2q_handles.proofs.layout.Reading.{slots_again, length-layout, layout-laid}
 use Rattle.clock2q_handles.proofs.layout.TidyLayout.{capacity-lt, sum-window, roomy-of}
-use Rattle.clock2q_handles.proofs.layout.FewerEntries.{spill-fewer, walk-is, count-with_list}
-use Rattle.clock2q_handles.proofs.shifts.Changes.{length-with_list, listed-with_same, listed-with_other, slots_again}
+use Rattle.clock2q_handles.proofs.layout.FewerEntries.{spill-fewer, walk-is, walk-none, count-with_list}
+use Rattle.clock2q_handles.proofs.shifts.Changes.{length-with_list, listed-with_same, listed-with_other}
 use Rattle.clock2q_handles.proofs.shifts.Removals.{length-without_first}
 
 module _ {E : Type 0} where
@@ -17,10 +17,6 @@ module _ {E : Type 0} where
   occupied-fewer : (A B : ℕ → Option (Placed E)) → ((n : ℕ) → A n ≡ None → B n ≡ None) → (n k : ℕ) → occupied B n k ≤ occupied A n k
   occupied-fewer A B still n zero = omega arith
   occupied-fewer A B still n (suc k) = grind (arith, still n, occupied-fewer A B still (suc n) k)
-
-  no_walk : (homes : List (List E)) (y : ℕ) → length homes ≤ 0 → walk homes y ≡ 0
-  no_walk [] y none = refl
-  no_walk (es ∷ homes) y none = absurd (omega arith)
 
   -- as many homes, none of which has more entries
   module _ (homes fewer : List (List E)) (room : total homes ≤ capacity (length homes)) (as_many : length fewer ≡ length homes)
@@ -56,7 +52,7 @@ module _ {E : Type 0} where
 
     -- nor any walk
     pub walk-fewer : (y : ℕ) → walk fewer y ≤ walk homes y
-    walk-fewer y = grind (arith, walk-is, spills, no_walk)
+    walk-fewer y = grind (arith, walk-is, spills, walk-none)
 
   count-with_same : (homes : List (List E)) (x n : ℕ) (es : List E) → 0 < length homes → length es ≡ count homes x → count (with_list homes x es) n ≡ count homes n
   count-with_same homes x n es some l = grind (arith, listed-with_same, listed-with_other)

@@ -1,5 +1,5 @@
 -- Lookups: the candidates that a walk has passed, those that are left, and the slots that it reads.
-use Rattle.std.proofs.Common.{◌≡◌, ◌≢◌, ℕ, zero, suc, ◌+◌, ◌-◌, ◌%◌, ◌<◌, ◌≤◌, inl, inr, refl, ap, sym, ◌∙◌, arith, ◌==◌, eq-eqb, List, [], ◌∷◌, ◌++◌, map, drop, length, slice_get}
+use Rattle.std.proofs.Common.{◌≡◌, ◌≢◌, ℕ, ◌+◌, ◌-◌, ◌%◌, ◌<◌, ◌≤◌, inl, inr, refl, ap, sym, ◌∙◌, arith, ◌==◌, eq-eqb, List, [], ◌∷◌, ◌++◌, map, drop, length, slice_get}
 use Rattle.std.proofs.Common.{Option, Some, None, IfSome}
 use Rattle.std.proofs.lemmas.Bool.{cases_lt}
 use Rattle.std.proofs.lemmas.Bool.Decides.{eqb_tells}
@@ -8,12 +8,12 @@ use Rattle.clock2q_handles.specs.Homes.{top, candidates}
 use Rattle.clock2q_handles.specs.Layout.{Placed, placed, slot_at, reach, at_home, met, homes_of, walk, IsOrdered, IsTidy}
 use Rattle.clock2q_handles.specs.Candidates.{matching, left_from, IsNextCandidate}
 use Rattle.clock2q_handles.specs.Slots.{mark_of}
-use Rattle.clock2q_handles.proofs.layout.Laid.{at_home-other, met-last, met-add}
-use Rattle.clock2q_handles.proofs.layout.Walk.{Stops, after, stop}
+use Rattle.clock2q_handles.proofs.layout.Laid.{met-last, met-add}
+use Rattle.clock2q_handles.proofs.layout.Walk.{Stops, after, stop, met-late}
 use Rattle.clock2q_handles.proofs.layout.Reading.{slot-again}
 use Rattle.clock2q_handles.proofs.layout.TidyLayout.{length-homes_of, listed-homes_of, tidy-vacant}
 use Rattle.clock2q_handles.proofs.shifts.Changes.{read-stop}
-use Rattle.clock2q_handles.proofs.layout.FewerEntries.{walk-is}
+use Rattle.clock2q_handles.proofs.layout.FewerEntries.{walk-is, walk-none}
 use Rattle.clock2q_handles.proofs.walks.Finding.{mark_parts}
 use Rattle.clock2q_handles.proofs.shifts.Steps.{listed-home, past_home}
 use Rattle.std.specs.Iterator.{MakesProgress, item_count}
@@ -28,11 +28,6 @@ none_is [] e = refl
 none_is (x ∷ xs) e = absurd (cc)
 
 module _ {E : Type 0} where
-  -- past its end a walk meets no entry of its home
-  pub met-past : (A : ℕ → Option (Placed E)) → IsOrdered A → (h d k : ℕ) → reach (A (h + d)) ≤ d → met A h d k ≡ []
-  met-past A ordered h d zero near = refl
-  met-past A ordered h d (suc k) near = grind (arith, at_home-other, after, met-past A ordered h (suc d) k (omega (arith, after A ordered h 0 d (omega (arith, near)) (suc d) (omega arith))))
-
   -- the slots from a to b and on to c
   pub met-split : (A : ℕ → Option (Placed E)) (h a b c : ℕ) → a ≤ b → b ≤ c → met A h a (c - a) ≡ met A h a (b - a) ++ met A h b (c - b)
   met-split A h a b c l u = grind (arith, met-add A h a (b - a) (c - b))
@@ -40,11 +35,6 @@ module _ {E : Type 0} where
   -- one more slot
   pub met-next : (A : ℕ → Option (Placed E)) (h a b : ℕ) → a ≤ b → met A h a (b + 1 - a) ≡ met A h a (b - a) ++ at_home (A (h + b)) b
   met-next A h a b l = grind (arith, met-last)
-
-  -- an unallocated table has no walk
-  walk-none : (homes : List (List E)) (x : ℕ) → length homes ≡ 0 → walk homes x ≡ 0
-  walk-none [] x none = refl
-  walk-none (es ∷ homes) x none = absurd (omega (arith, none))
 
 module _ {E : Type 0} (slots : List (Option (Placed E))) (tidy : IsTidy slots) where
   -- a walk that ended has read one slot more than it passed
@@ -94,7 +84,7 @@ module _ {H : Type 0} (x : ℕ) where
   -- at the end of the walk none is left
   pub matching-end : (A : ℕ → Option (Placed (ℕ × H))) → IsOrdered A → (h a b c : ℕ) → a ≤ b → b ≤ c → reach (A (h + b)) ≤ b → matching x (met A h a (b - a)) ≡ [] → matching x (met A h a (c - a)) ≡ []
   matching-end A ordered h a b c l u near before =
-      grind (arith, met-split A h a b c l u, met-past A ordered h b (c - b) near, filter-append (λ e. e.0 == top x) (met A h a (b - a)))
+      grind (arith, met-split A h a b c l u, met-late A ordered h b (c - b) near, filter-append (λ e. e.0 == top x) (met A h a (b - a)))
 
 module _ {H : Type 0} (slots : List (Option (Placed (ℕ × H)))) (x : ℕ) where
   -- a lookup that begins has all candidates left
