@@ -50,6 +50,7 @@ impl<'a, H: Copy + Eq + Default> Candidates<'a, H> {
     ghost use Rattle.std.specs.Prelude.{ℕ, ◌≤◌, Some, true, drop, slice_get, IfSome, IfNone, IfOk, IfErr};
 
     /// Returns a lookup that has read nothing yet. If there are no slots, it yields nothing.
+    #[tactic(auto, using(crate::proofs::walks::Cursors::begins_empty))]
     pub(super) fn new<A: Allocator>(slots: &'a Slots<H, A>, hash: u64) -> Candidates<'a, H>
         requires tidy { IsTidy slots.now.slots }
         requires near { AreNear slots.now.slots }
@@ -274,6 +275,7 @@ impl<'a, H: Copy + Eq + Default> Iterator for Candidates<'a, H> {
     ghost remaining = { item_count (λ c. c.left) };
 
     #[inline(always)]
+    #[tactic(auto, using(crate::proofs::walks::Yields::none_is, crate::proofs::walks::Yields::first_is))]
     fn next(&mut self) -> Option<H> {
         let Some(handle) = self.peek() else {
             return None;

@@ -110,6 +110,7 @@ impl<H: Copy + Eq + Default, A: Allocator> Table<H, A> {
     ghost use Rattle.clock2q_handles.specs.Table.{IsWhole};
 
     /// Returns the number of entries.
+    #[tactic(auto, using(crate::proofs::layout::TidyLayout::homes_length))]
     pub fn len(&self) -> usize
         ensures len { result ≡ total self.now.homes }
         ensures whole { IsWhole self.now }

@@ -124,3 +124,6 @@ kept_whole xs ys n len = ap (λ k. take k (xs ++ ys)) (sym len) ∙ take-append_
 
 -- there are as many cells as words of metadata
 pub ruleset counted_cells = (length-cells)
+
+-- what a write leaves of the cells
+pub ruleset written_cells = (length-cells, set-cells, set_empty)

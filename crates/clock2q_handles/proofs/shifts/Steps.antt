@@ -135,3 +135,6 @@ module _ {H : Type 0} (eq : H → H → Bool) (x : ℕ) (v : H) (others slots : 
     counted = omega (arith, taken.written, taken.closes.opens.from);
     writes = omega (arith, removed-run slots others x n taken.vacancy entry (sym taken.len) taken.closes.opens.from moved table.tidy near, taken.written);
   }
+
+-- a home's list, by any hash of it
+pub ruleset home_lists = (listed-home)

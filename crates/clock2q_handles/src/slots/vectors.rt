@@ -214,6 +214,7 @@ impl<H: Copy + Default, A: Allocator> Slots<H, A> {
 /// Writes an entry to a slot, and moves the entries from there on by one slot, up to an empty slot.
 /// It reads each slot that it writes.
 #[inline(always)]
+#[tactic(auto, using(crate::proofs::shifts::Cells::counted_cells, crate::proofs::shifts::Carrying::carry_begins, crate::proofs::shifts::Cells::mark_read_or, crate::proofs::shifts::Carrying::carry_slot, crate::proofs::shifts::Carrying::carry_room, crate::proofs::shifts::Moves::refused))]
 fn carry<H: Copy>(
     metadata: &mut [Metadata],
     handles: &mut [H],
@@ -253,6 +254,7 @@ fn carry<H: Copy>(
 /// Empties a slot, once the entries after it have moved back by one slot, up to an empty slot or an
 /// entry at its home. It reads as many slots as it writes.
 #[inline(always)]
+#[tactic(auto, using(crate::proofs::shifts::Cells::counted_cells, crate::proofs::shifts::Carrying::close_begins, crate::proofs::shifts::Carrying::close_slot))]
 fn close<H: Copy>(
     metadata: &mut [Metadata],
     handles: &mut [H],
@@ -288,6 +290,7 @@ fn close<H: Copy>(
 }
 
 /// Writes a slot in both vectors, and counts the write.
+#[tactic(auto, using(crate::proofs::shifts::Cells::written_cells))]
 fn write<H: Copy>(
     metadata: &mut [Metadata],
     handles: &mut [H],
@@ -310,6 +313,7 @@ fn write<H: Copy>(
 }
 
 /// Empties a slot, and counts the write. Its handle stays in memory, but no lookup reaches it.
+#[tactic(auto, using(crate::proofs::shifts::Cells::written_cells))]
 fn erase<H: Copy>(metadata: &mut [Metadata], handles: &[H], writes: &mut Count, slot: usize)
     requires pair { ArePaired metadata.old handles.now }
     requires within { slot < length (cells metadata.old handles.now) }

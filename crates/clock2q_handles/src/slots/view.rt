@@ -28,6 +28,7 @@ impl<'a, H: Copy> SlotsRef<'a, H> {
         self.metadata.len()
     }
 
+    #[tactic(auto, using(crate::proofs::shifts::Cells::mark_read_or))]
     pub(crate) fn metadata(&self, slot: usize) -> Metadata
         requires same { length self.now.handles.now ≡ length self.now.metadata.now }
         requires within { slot < length self.now.metadata.now }

@@ -88,6 +88,7 @@ impl<H: Copy + Eq + Default, A: Allocator + Copy> Table<H, A> {
 
     /// Makes room for one more entry: a full table grows.
     #[inline(always)]
+    #[tactic(auto, using(crate::proofs::Promises::whole_laid, crate::proofs::rebuild::Growth::grown_nearer))]
     pub(super) fn make_room<F: FnMut(H) -> u64>(&mut self, rehash: &mut F) -> Result<(), TableError>
         requires rehash { IsFull self.old.homes → MayRehash F.FnMut rehash.old self.old.homes }
         ensures grown { OnOk result

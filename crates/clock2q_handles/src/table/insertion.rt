@@ -156,6 +156,7 @@ impl<H: Copy + Eq + Default, A: Allocator> Table<H, A> {
     /// does, in a table with so few entries that no run becomes too long. It is for callers whose
     /// contracts bound the number of entries, which it doesn't check.
     #[inline(always)]
+    #[tactic(auto, using(crate::proofs::layout::TidyLayout::homes_length))]
     pub fn insert_infallible(&mut self, hash: u64, handle: H)
         requires room { IsBelowCapacity self.old.homes }
         requires few { total self.old.homes + 1 < 2 ^ 24 }
@@ -205,6 +206,7 @@ impl<H: Copy + Eq + Default, A: Allocator> Table<H, A> {
     /// Calls `matches` on the candidates of `hash`, up to the first that it accepts. Returns that
     /// candidate and its slot, or else the gap for the hash.
     #[inline(always)]
+    #[tactic(auto, using(crate::proofs::layout::TidyLayout::homes_length, crate::proofs::walks::Yields::left_at_start, crate::proofs::Promises::if_err))]
     fn offer<M: FnMut(H) -> bool>(&mut self, hash: u64, matches: &mut M) -> Result<(H, usize), Gap>
         requires slots { 0 < length self.old.homes }
         requires callable { MayBeOffered M.FnMut matches.old (candidates self.old.homes hash) }
@@ -224,6 +226,7 @@ impl<H: Copy + Eq + Default, A: Allocator> Table<H, A> {
 
     /// Returns the gap for a hash: where its walk ends.
     #[inline(always)]
+    #[tactic(auto, using(crate::proofs::layout::TidyLayout::homes_length, crate::proofs::walks::Reads::ends_reads, crate::proofs::shifts::Insertions::few_room))]
     pub(super) fn gap(&mut self, hash: u64) -> Gap
         requires below { IsBelowCapacity self.old.homes }
         ensures ends { EndsAt self.old.slots hash result.mark result.position }
@@ -237,6 +240,7 @@ impl<H: Copy + Eq + Default, A: Allocator> Table<H, A> {
 
     /// Inserts an entry at the gap for its hash, unless a run would be too long.
     #[inline(always)]
+    #[tactic(auto, using(crate::proofs::layout::TidyLayout::homes_length, crate::proofs::shifts::Insertions::few_room))]
     fn insert_at(&mut self, end: Gap, hash: u64, handle: H) -> Result<(), TableError>
         requires room { IsBelowCapacity self.old.homes }
         requires ends { EndsAt self.old.slots hash end.mark end.position }
@@ -252,7 +256,7 @@ impl<H: Copy + Eq + Default, A: Allocator> Table<H, A> {
     /// Inserts an entry at the gap for its hash as [insert_at](Table::insert_at) does, in a table
     /// with so many entries that a run may become too long. It first reads the rest of the run.
     #[inline(never)]
-    #[tactic(auto, using(crate::proofs::Promises::no_error))]
+    #[tactic(auto, using(crate::proofs::layout::TidyLayout::homes_length))]
     fn insert_among_many(&mut self, end: Gap, hash: u64, handle: H) -> Result<(), TableError>
         requires room { IsBelowCapacity self.old.homes }
         requires ends { EndsAt self.old.slots hash end.mark end.position }
@@ -267,6 +271,7 @@ impl<H: Copy + Eq + Default, A: Allocator> Table<H, A> {
     }
 
     /// Returns true if inserting an entry at the gap for its hash makes no run too long.
+    #[tactic(auto, using(crate::proofs::layout::TidyLayout::homes_length, crate::proofs::shifts::Carrying::come_slot, crate::proofs::shifts::Insertions::refusal, crate::proofs::Promises::on_true, crate::proofs::Promises::on_false))]
     fn has_room(&mut self, gap: &Gap, hash: u64, handle: H) -> bool
         requires below { IsBelowCapacity self.old.homes }
         requires ends { EndsAt self.old.slots hash gap.now.mark gap.now.position }
@@ -282,6 +287,7 @@ impl<H: Copy + Eq + Default, A: Allocator> Table<H, A> {
 
     /// Inserts an entry at the gap for its hash, given that there is room.
     #[inline(always)]
+    #[tactic(auto, using(crate::proofs::layout::TidyLayout::homes_length, crate::proofs::shifts::Carrying::come_slot))]
     pub(super) fn put_at(&mut self, gap: Gap, hash: u64, handle: H)
         requires below { IsBelowCapacity self.old.homes }
         requires ends { EndsAt self.old.slots hash gap.mark gap.position }

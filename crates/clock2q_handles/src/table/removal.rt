@@ -58,6 +58,7 @@ impl<H: Copy + Eq + Default, A: Allocator> Table<H, A> {
     /// Does what [`remove_existing`](Table::remove_existing) does, out of line, so that a caller that
     /// removes one entry to insert another has fewer registers to save.
     #[inline(never)]
+    #[tactic(auto, using(crate::proofs::shifts::Steps::home_lists))]
     pub(super) fn take_existing(&mut self, hash: u64, handle: H)
         requires held { list_any (is_entry_of H.PartialEq.eq hash handle)
             (listed self.old.homes hash) ≡ true }

@@ -1,9 +1,6 @@
 use Rattle.std.proofs.Common.{arith}
-use Rattle.clock2q_handles.proofs.walks.Yields.{yields_progress, first_is, none_is}
+use Rattle.clock2q_handles.proofs.walks.Yields.{yields_progress, first_is}
 use Rattle.clock2q_handles.proofs.candidates.CandidatesIterator.next.Goals as goal
-
-pub returns-in_default-clause-steps : goal.returns-in_default-clause-steps
-returns-in_default-clause-steps g c = grind (arith, none_is)
 
 pub returns-clause-steps : goal.returns-clause-steps
 returns-clause-steps g c = grind (arith, first_is)

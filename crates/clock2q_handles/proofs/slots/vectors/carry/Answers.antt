@@ -1,21 +1,15 @@
 use Rattle.std.proofs.Common.{rules, ◌≡◌, ◌+◌, ◌<◌, ◌%◌, length, arith, ap, sym, ◌∙◌, subst, get_or, length-set}
-use Rattle.clock2q_handles.specs.Slots.{cell, cells, meaning, IsSlotCount}
+use Rattle.clock2q_handles.specs.Slots.{cell, cells, meaning}
 use Rattle.clock2q_handles.proofs.layout.Periods.{lap}
 use Rattle.clock2q_handles.proofs.shifts.Cells.{length-cells, mark_read_or, handle_read_at}
 use Rattle.clock2q_handles.proofs.shifts.Moves.{refused}
-use Rattle.clock2q_handles.proofs.shifts.Carrying.{CarryState, carry_begins, carry_slot, carry_lap, carry_room, carry_goes, carry_ends}
+use Rattle.clock2q_handles.proofs.shifts.Carrying.{CarryState, carry_slot, carry_lap, carry_room, carry_goes, carry_ends}
 use Rattle.clock2q_handles.proofs.slots.vectors.carry.Given.{Over}
 use Rattle.clock2q_handles.proofs.slots.vectors.carry.Goals.{In-loop-there, After-after-slot}
 use Rattle.clock2q_handles.proofs.slots.vectors.carry.Goals as goal
 
 pub offset_bounds-metadata-slot : goal.offset_bounds-metadata-slot
 offset_bounds-metadata-slot g c = let l : c.args.slot < length c.args.metadata.now = omega (arith, c.requires.within, length-cells _ _ c.requires.pair.same) in search rules
-
-pub slice_copy_out-there : goal.slice_copy_out-there
-slice_copy_out-there g c = omega (arith, c.requires.within, length-cells _ _ c.requires.pair.same)
-
-pub loop-there-init : goal.loop-there-init
-loop-there-init g c = grind (arith, carry_begins, mark_read_or, length-cells)
 
 -- the slot that the loop has reached
 at : (g : Over) (c : In-loop-there g) → c.loop-there.slot < length (cells c.loop-there.metadata c.loop-there.handles)
@@ -27,23 +21,10 @@ within g c = omega (arith, at g c, length-cells _ _ c.loop-there.invariant.pair.
 pub offset_bounds-handles-slot : goal.offset_bounds-handles-slot
 offset_bounds-handles-slot g c = let l : c.loop-there.slot < length c.args.handles.now = omega (arith, within g c, c.loop-there.invariant.pair.same, c.loop-there.auto.handles) in search rules
 
-pub bounds-handles-slot : goal.bounds-handles-slot
-bounds-handles-slot g c = omega (arith, within g c, c.loop-there.invariant.pair.same)
-
-pub write-requires-clause-within : goal.write-requires-clause-within
-write-requires-clause-within g c = at g (goal.at.write-requires-clause-within g c).In-loop-there
-
 pub one_further-word-requires-clause-room : goal.one_further-word-requires-clause-room
 one_further-word-requires-clause-room g c =
     carry_room (cells c.args.metadata.now c.args.handles.now) (cells c.loop-there.metadata c.loop-there.handles) c.requires.tidy c.loop-there.invariant.state c.requires.room
     (λ e. refused c.is_empty.result c.is_empty.ensures c.loop-there-test.true e)
-
-pub after-slot-requires-clause-within : goal.after-slot-requires-clause-within
-after-slot-requires-clause-within g c =
-    omega (arith, within g (goal.at.after-slot-requires-clause-within g c).In-loop-there, c.requires.mask, c.loop-there.invariant.len)
-
-pub after-slot-requires-clause-count : goal.after-slot-requires-clause-count
-after-slot-requires-clause-count g c = subst IsSlotCount (sym c.requires.mask) c.requires.pair.slot_count
 
 -- the slot after it is in the slices
 inside : (g : Over) (c : After-after-slot g) → c.after-slot.result < length c.write.new.metadata
@@ -91,9 +72,6 @@ loop-there-preserved g c =
       counted = omega (arith, c.loop-there.invariant.counted, c.tick-in-loop-there.ensures.ticked);
       reads = omega (arith, c.loop-there.invariant.reads, c.tick-in-loop-there.ensures.ticked, c.write.ensures.counted);
     }
-
-pub write-requires-2-clause-within : goal.write-requires-2-clause-within
-write-requires-2-clause-within g c = carry_slot (cells c.args.metadata.now c.args.handles.now) (cells c.loop-there.metadata c.loop-there.handles) c.requires.tidy c.loop-there.invariant.state
 
 pub returns-clause-puts : goal.returns-clause-puts
 returns-clause-puts g c = record {

@@ -1,22 +1,13 @@
-use Rattle.std.proofs.Common.{rules, ◌≡◌, ◌+◌, ◌<◌, ◌%◌, length, arith, ap, sym, ◌∙◌, subst, get_or, length-set, None}
+use Rattle.std.proofs.Common.{rules, ◌≡◌, ◌+◌, ◌<◌, ◌%◌, length, arith, ap, ◌∙◌, get_or, length-set, None}
 use Rattle.clock2q_handles.specs.Layout.{slot_at}
-use Rattle.clock2q_handles.specs.Slots.{cells, meaning, IsSlotCount}
+use Rattle.clock2q_handles.specs.Slots.{cells, meaning}
 use Rattle.clock2q_handles.proofs.layout.Periods.{lap}
 use Rattle.clock2q_handles.proofs.shifts.Cells.{length-cells, mark_read_or, handle_read_at}
 use Rattle.clock2q_handles.proofs.shifts.Moves.{near_of_meaning}
-use Rattle.clock2q_handles.proofs.shifts.Carrying.{CloseState, close_begins, close_slot, close_lap, close_goes, close_ends}
+use Rattle.clock2q_handles.proofs.shifts.Carrying.{CloseState, close_lap, close_goes, close_ends}
 use Rattle.clock2q_handles.proofs.slots.vectors.close.Given.{Over}
 use Rattle.clock2q_handles.proofs.slots.vectors.close.Goals.{After-after-next, After-write}
 use Rattle.clock2q_handles.proofs.slots.vectors.close.Goals as goal
-
-pub loop-word-init : goal.loop-word-init
-loop-word-init g c = grind (arith, close_begins)
-
-pub after-next-requires-clause-count : goal.after-next-requires-clause-count
-after-next-requires-clause-count g c = subst IsSlotCount (sym c.requires.mask) c.requires.pair.slot_count
-
-pub after-next-requires-clause-within : goal.after-next-requires-clause-within
-after-next-requires-clause-within g c = grind (arith, close_slot, length-cells)
 
 -- the slot after it is in the slices
 inside : (g : Over) (c : After-after-next g) → c.after-next.result < length c.loop-word.metadata
@@ -27,12 +18,6 @@ offset_bounds-metadata-next g c = let l : c.after-next.result < length c.args.me
 
 pub offset_bounds-handles-next : goal.offset_bounds-handles-next
 offset_bounds-handles-next g c = grind (arith, inside)
-
-pub bounds-handles-next : goal.bounds-handles-next
-bounds-handles-next g c = omega (arith, inside g (goal.at.bounds-handles-next g c).After-after-next, c.loop-word.invariant.pair.same)
-
-pub write-requires-clause-within : goal.write-requires-clause-within
-write-requires-clause-within g c = close_slot (cells c.args.metadata.now c.args.handles.now) (cells c.loop-word.metadata c.loop-word.handles) c.requires.tidy _ _ _ _ c.loop-word.invariant.state
 
 -- the slot after it, in the slots that contracts see
 next : (g : Over) (c : After-after-next g) → c.after-next.result ≡ (c.loop-word.hole + 1) % length (cells c.loop-word.metadata c.loop-word.handles)
@@ -64,9 +49,6 @@ loop-word-smaller g c =
 
 pub loop-word-preserved : goal.loop-word-preserved
 loop-word-preserved g c = grind (arith, more, inside, next)
-
-pub erase-requires-clause-within : goal.erase-requires-clause-within
-erase-requires-clause-within g c = close_slot (cells c.args.metadata.now c.args.handles.now) (cells c.loop-word.metadata c.loop-word.handles) c.requires.tidy _ _ _ _ c.loop-word.invariant.state
 
 pub returns-clause-taken : goal.returns-clause-taken
 returns-clause-taken g c =

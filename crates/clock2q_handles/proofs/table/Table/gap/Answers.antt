@@ -1,5 +1,4 @@
 use Rattle.std.proofs.Common.{◌+◌, ◌^◌, ◌<◌, length, ap, sym, ◌∙◌, subst, arith}
-use Rattle.clock2q_handles.specs.Candidates.{EndsAt}
 use Rattle.clock2q_handles.specs.Layout.{homes_of, walk}
 use Rattle.clock2q_handles.specs.Homes.{total, capacity}
 use Rattle.clock2q_handles.specs.Shifts.{HasRoomAt}
@@ -8,12 +7,6 @@ use Rattle.clock2q_handles.proofs.shifts.Insertions.{few_room}
 use Rattle.clock2q_handles.proofs.layout.TidyLayout.{length-homes_of}
 use Rattle.clock2q_handles.proofs.walks.Reads.{ends_reads}
 use Rattle.clock2q_handles.proofs.table.Table.gap.Goals as goal
-
-pub gap-requires-clause-some : goal.gap-requires-clause-some
-gap-requires-clause-some g c = omega (arith, c.requires.below, length-homes_of c.self.inside.slots.slots, ap (λ t. length t.homes) c.self.view_is)
-
-pub returns-clause-ends : goal.returns-clause-ends
-returns-clause-ends g c = subst (λ t. EndsAt t.slots c.args.hash c.gap.result.mark c.gap.result.position) c.self.view_is c.gap.ensures.ends
 
 pub returns-clause-reads : goal.returns-clause-reads
 returns-clause-reads g c =

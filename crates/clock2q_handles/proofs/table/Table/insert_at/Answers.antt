@@ -1,4 +1,4 @@
-use Rattle.std.proofs.Common.{◌<◌, length, ap, sym, subst, arith}
+use Rattle.std.proofs.Common.{◌<◌, length, sym, subst, arith}
 use Rattle.clock2q_handles.specs.Candidates.{EndsAt}
 use Rattle.clock2q_handles.specs.Homes.{total, capacity}
 use Rattle.clock2q_handles.specs.Layout.{homes_of}
@@ -21,6 +21,3 @@ put_at-requires-clause-room g c =
     let at = (goal.at.put_at-requires-clause-room g c).After-self in
     subst (λ t. HasRoomAt t.slots c.args.end.mark c.args.end.position) c.self.view_is
     (few_room c.args.hash c.args.handle c.self.invariant (fits g at) (ends g at) (omega (arith, c.if-self-gt-MAX_DISPLACEMENT.false)))
-
-pub insert_among_many-requires-clause-many : goal.insert_among_many-requires-clause-many
-insert_among_many-requires-clause-many g c = omega (arith, c.if-self-gt-MAX_DISPLACEMENT.true, c.self.invariant.counted, ap (λ t. total t.homes) c.self.view_is)

@@ -7,7 +7,6 @@ use Rattle.clock2q_handles.proofs.layout.TidyLayout.{length-homes_of}
 use Rattle.clock2q_handles.proofs.shifts.Exchanges.{put_on}
 use Rattle.clock2q_handles.proofs.shifts.Steps.{table-laid}
 use Rattle.clock2q_handles.proofs.shifts.Insertions.{Insertion, inserted}
-use Rattle.clock2q_handles.proofs.shifts.Carrying.{come_slot}
 use Rattle.clock2q_handles.proofs.Promises.{restored_by}
 use Rattle.clock2q_handles.proofs.table.Table.put_at.Given.{Over}
 use Rattle.clock2q_handles.proofs.table.Table.put_at.Goals.{After-self, After-put_at}
@@ -17,14 +16,8 @@ use Rattle.clock2q_handles.proofs.table.Table.put_at.Goals as goal
 ends : (g : Over) (c : After-self g) → EndsAt c.self.inside.slots.slots c.args.hash c.args.gap.mark c.args.gap.position
 ends g c = subst (λ t. EndsAt t.slots c.args.hash c.args.gap.mark c.args.gap.position) (sym c.self.view_is) c.requires.ends
 
-pub put_at-requires-clause-within : goal.put_at-requires-clause-within
-put_at-requires-clause-within g c = grind (arith, ends, come_slot)
-
 room : (g : Over) (c : After-self g) → HasRoomAt c.self.inside.slots.slots c.args.gap.mark c.args.gap.position
 room g c = subst (λ t. HasRoomAt t.slots c.args.gap.mark c.args.gap.position) (sym c.self.view_is) c.requires.room
-
-pub put_at-requires-clause-room : goal.put_at-requires-clause-room
-put_at-requires-clause-room g c = room g (goal.at.put_at-requires-clause-room g c).After-self
 
 fits : (g : Over) (c : After-self g) → total (homes_of c.self.inside.slots.slots) < capacity (length c.self.inside.slots.slots)
 fits g c = grind (arith, length-homes_of)
@@ -36,9 +29,6 @@ step : (g : Over) (c : After-put_at g) (s : After-self g)
     → total (homes_of c.self.inside.slots.slots) < capacity (length c.self.inside.slots.slots)
     → Insertion c.args.hash c.args.handle c.self.inside.slots.slots c.put_at.new.self.slots c.self.inside.len c.self.inside.slots.writes c.put_at.new.self.writes
 step g c s end free below = inserted c.args.hash c.args.handle c.self.invariant below end free c.put_at.ensures.puts
-
-pub overflow_add-self : goal.overflow_add-self
-overflow_add-self g c = grind (arith, fits)
 
 pub invariant_of-self : goal.invariant_of-self
 invariant_of-self g c =

@@ -5,13 +5,10 @@ use Rattle.clock2q_handles.specs.Layout.{homes_of, walk, run}
 use Rattle.clock2q_handles.proofs.layout.TidyLayout.{tidy-room}
 use Rattle.clock2q_handles.proofs.shifts.PuttingAndTaking.{found_occupied, found_taken}
 use Rattle.clock2q_handles.proofs.shifts.Removals.{removed-walk}
-use Rattle.clock2q_handles.proofs.shifts.Steps.{Removal, listed-home, table-laid, removal}
+use Rattle.clock2q_handles.proofs.shifts.Steps.{Removal, table-laid, removal}
 use Rattle.clock2q_handles.proofs.table.Table.take_existing.Given.{Over}
 use Rattle.clock2q_handles.proofs.table.Table.take_existing.Goals.{After-take_out}
 use Rattle.clock2q_handles.proofs.table.Table.take_existing.Goals as goal
-
-pub find_existing-held-requires-clause-held : goal.find_existing-held-requires-clause-held
-find_existing-held-requires-clause-held g c = grind (arith, listed-home)
 
 pub take_out-requires-clause-occupied : goal.take_out-requires-clause-occupied
 take_out-requires-clause-occupied g c = found_occupied c.find_existing-held.ensures.found
