@@ -65,7 +65,7 @@ impl<H: Copy + Default, A: Allocator> Slots<H, A> {
 
     /// Returns true if an entry can be inserted at the gap: neither it nor an entry that has to
     /// move on for it ends up too far past its home.
-    #[tactic(auto, using(crate::proofs::shifts::Moves::refused, crate::proofs::shifts::Carrying::pass_begins, crate::proofs::shifts::Carrying::pass_slot, crate::proofs::shifts::Carrying::pass_room))]
+    #[tactic(auto, using(crate::proofs::shifts::Moves::refused, crate::proofs::shifts::Carrying::pass_begins, crate::proofs::shifts::Carrying::pass_slot))]
     pub(super) fn has_room(&self, gap: &Gap, reads: &mut Count) -> bool
         requires tidy { IsTidy self.now.slots }
         requires within { gap.now.position < length self.now.slots }

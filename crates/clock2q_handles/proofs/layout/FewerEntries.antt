@@ -92,7 +92,7 @@ module _ {H : Type 0} (key : H → ℕ) where
 
   pub length-put_all : (homes : List (List (ℕ × H))) (es : List (Placed (ℕ × H))) → length (put_all key homes es) ≡ length homes
   length-put_all homes [] = refl
-  length-put_all homes (s ∷ es) = length-put_all (put_last homes (key s.entry.1) s.entry) es ∙ length-with_list homes (key s.entry.1) (listed homes (key s.entry.1) ++ s.entry ∷ [])
+  length-put_all homes (s ∷ es) = grind (arith, length-put_all (put_last homes (key s.entry.1) s.entry) es, length-with_list homes (key s.entry.1))
 
   pub total-put_last : (homes : List (List (ℕ × H))) (x : ℕ) (e : ℕ × H) → 0 < length homes → total (put_last homes x e) ≡ suc (total homes)
   total-put_last homes x e some = omega (arith, total-with_list homes x (listed homes x ++ e ∷ []) some, length-append (listed homes x) (e ∷ []))

@@ -33,9 +33,9 @@ module _ {E : Type 0} where
   too-long-at : (homes : List (List E)) → total homes < length homes → (n : ℕ) → 0 < count homes n → 2 ^ 24 ≤ spill_of homes n + count homes n → IsTooLong homes
   too-long-at homes room n some far =
       let m : ℕ = length homes in
-      let c : count homes (n % m) ≡ count homes n = rem-same (count homes) m (count-again homes) n in
-      let s : spill_of homes (n % m) ≡ spill_of homes n = rem-same (spill (count homes) m) m (spill-again (count homes) m (count-again homes)) n in
-      (n % m, omega arith, omega arith, omega arith)
+      let c = rem-same (count homes) m (count-again homes) n in
+      let s = rem-same (spill (count homes) m) m (spill-again (count homes) m (count-again homes)) n in
+      (n % m, omega arith, omega (arith, c), omega (arith, c, s))
 
   module _ (slots : List (Option (Placed E))) (tidy : IsTidy slots) where
     read_roomy : 0 < length slots → Roomy (count (homes_of slots)) (length slots)

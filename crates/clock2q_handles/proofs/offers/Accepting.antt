@@ -1,10 +1,10 @@
 -- The candidate that a closure accepts, and those that it rejected before.
-use Rattle.std.proofs.Common.{◌≡◌, ℕ, ◌+◌, ◌-◌, ◌%◌, ◌<◌, ◌≤◌, Bool, true, false, List, [], ◌∷◌, ◌++◌, map, take, length, Option, Some, None, refl, ap, sym, ◌∙◌, subst, arith}
+use Rattle.std.proofs.Common.{◌≡◌, ℕ, ◌+◌, ◌-◌, ◌%◌, ◌<◌, ◌≤◌, Bool, true, false, List, [], ◌∷◌, ◌++◌, map, length, Option, Some, None, refl, ap, sym, ◌∙◌, subst, arith}
 use Rattle.std.proofs.lemmas.List.{map-append, append_cancel_right}
 use Rattle.std.proofs.lemmas.List.Elements.{filter-append}
 use Rattle.std.proofs.Math.Seq.{take-append_seam}
 use Rattle.std.specs.Fn.{Called, Mut}
-use Rattle.clock2q_handles.specs.Homes.{top, listed, candidates_before}
+use Rattle.clock2q_handles.specs.Homes.{top, candidates_before}
 use Rattle.clock2q_handles.specs.Layout.{Placed, placed, slot_at, reach, met, homes_of, IsTidy}
 use Rattle.clock2q_handles.specs.Candidates.{left_at, left_from, matching, met_before, IsWalkFor, IsFoundAt}
 use Rattle.clock2q_handles.specs.Offers.{Offers}
@@ -58,12 +58,11 @@ module _ {H : Type 0} (slots : List (Option (Placed (ℕ × H)))) (tidy : IsTidy
     pub accepted_entry : (i : ℕ) × IsEntryAt (homes_of slots) x i (top x, v) n × (met_before slots x found.distance ≡ candidates_before (homes_of slots) x i)
     accepted_entry =
         let d : ℕ = found.distance in
-        let A = slot_at slots in
         let here : slot_at slots (x + d) ≡ Some (placed d (top x, v)) = sym (past_at slots tidy some x d n found.come.slot) ∙ found.here in
-        let before : List (ℕ × H) = met A x 0 d in
-        let front : take (length before) (listed (homes_of slots) x) ≡ before =
-        ap (take (length before)) (read-split slots x d (top x, v) (here_within slots tidy some x d (top x, v) here) here) ∙ take-append_seam before _ in (
+        let before : List (ℕ × H) = met (slot_at slots) x 0 d in
+        let same = met-same (slot_at slots) (slot_at slots) (x % length slots) x 0 d (λ j _ _. past_home slots (length slots) (x % length slots) x refl refl j) in
+        let split = read-split slots x d (top x, v) (here_within slots tidy some x d (top x, v) here) here in (
           length before,
           here_entry slots tidy some x d (top x, v) here n (found.come.slot ∙ rem-plus (length slots) x d),
-          ap (λ es. map (λ e. e.1) (matching x es)) (met-same A A (x % length slots) x 0 d (λ j _ _. past_home slots (length slots) (x % length slots) x refl refl j) ∙ sym front),
+          grind (arith, split, take-append_seam before, same),
         )

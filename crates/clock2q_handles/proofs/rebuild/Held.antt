@@ -81,9 +81,7 @@ module _ {H : Type 0} (key : H → ℕ) where
   all_new : (homes : List (List (ℕ × H))) (es : List (Placed (ℕ × H))) (i : ℕ) (s : Placed (ℕ × H)) → 0 < length homes → slice_get es i ≡ Some s → IsEntry (put_all key homes es) s.entry
   all_new homes [] i s some is = absurd (cc)
   all_new homes (t ∷ es) zero s some is =
-      let q : t ≡ s = cc in
-      subst (λ u. IsEntry (put_all key homes (t ∷ es)) u.entry) q
-      (all_kept (put_last homes (key t.entry.1) t.entry) es t.entry (put_some homes t some) (entry_new homes (key t.entry.1) t.entry t.entry some))
+      grind (arith, all_kept (put_last homes (key t.entry.1) t.entry) es t.entry (put_some homes t some) (entry_new homes (key t.entry.1) t.entry t.entry some))
   all_new homes (t ∷ es) (suc i) s some is = all_new (put_last homes (key t.entry.1) t.entry) es i s (put_some homes t some) is
 
   all_from : (homes : List (List (ℕ × H))) (es : List (Placed (ℕ × H))) (f : ℕ × H) → 0 < length homes → IsEntry (put_all key homes es) f
@@ -110,10 +108,10 @@ module _ {H : Type 0} (key : H → ℕ) where
     -- a rebuild keeps each entry
     rebuilt_kept : (e : ℕ × H) → IsEntry homes e → IsEntry (rebuilt key m homes) e
     rebuilt_kept e at =
+        let d : ℕ = spill_of homes at.0 + at.1 in
         let in_slot = layout-standing homes (less (has_homes homes e at)) at.0 at.1 e at.2 in
-        let n : ℕ = at.0 + spill_of homes at.0 + at.1 in
-        let r = entries-to (layout homes) (n % length (layout homes)) (placed (spill_of homes at.0 + at.1) e) in_slot in
-        all_new (no_entries m) (entries (layout homes)) r.0 (placed (spill_of homes at.0 + at.1) e) fresh r.1
+        let r = entries-to (layout homes) ((at.0 + spill_of homes at.0 + at.1) % length (layout homes)) (placed d e) in_slot in
+        all_new (no_entries m) (entries (layout homes)) r.0 (placed d e) fresh r.1
 
     -- and brings in no other
     rebuilt_from : (e : ℕ × H) → IsEntry (rebuilt key m homes) e → IsEntry homes e
@@ -157,8 +155,7 @@ module _ {H : Type 0} where
       let q : x ≡ e = cc in
       (0, rw (ap test q ∙ passes) (ap (λ y. Some y.1) q))
   passing test (x ∷ es) (suc i) e is passes =
-      let r = passing test es i e is passes in
-      further (test x) r
+      further (test x) (passing test es i e is passes)
     where
       further : (b : Bool) → (j : ℕ) × (slice_get (map (λ e. e.1) (filter test es)) j ≡ Some e.1) → (j : ℕ) × (slice_get (map (λ e. e.1) (cond b (x ∷ filter test es) (filter test es))) j ≡ Some e.1)
       further true r = (suc r.0, r.1)
@@ -181,15 +178,12 @@ module _ {H : Type 0} where
 
   -- each candidate is held
   pub candidate_held : (homes : List (List (ℕ × H))) (x i : ℕ) (v : H) → slice_get (candidates homes x) i ≡ Some v → IsHeld homes v
-  candidate_held homes x i v is =
-      let r = passed (λ e. e.0 == top x) (listed homes x) i v is in
-      (x, r.0, r.1, r.2, r.3)
+  candidate_held homes x i v is = let r = passed (λ e. e.0 == top x) (listed homes x) i v is in (x, r.0, r.1, r.2, r.3)
 
   -- and a held handle is a candidate of the hash that it was put in under
   pub held_candidate : (key : H → ℕ) (homes : List (List (ℕ × H))) (v : H) → IsHashOf key homes → IsHeld homes v → (i : ℕ) × (slice_get (candidates homes (key v)) i ≡ Some v)
   held_candidate key homes v hashes at =
-      let e = held_entry homes v at in
-      let hashed = hash-at key homes hashes (has_homes homes e.0 e.1) at.0 at.1 e.0 at.3 in
-      let here : slice_get (listed homes (key e.0.1)) at.1 ≡ Some e.0 = ap (λ k. slice_get (get_or homes k []) at.1) hashed.0 ∙ at.3 in
-      let r = passing (λ f. f.0 == top (key e.0.1)) (listed homes (key e.0.1)) at.1 e.0 here (eq-eqb e.0.0 (top (key e.0.1)) (sym hashed.1)) in
-      subst (λ w. (i : ℕ) × (slice_get (candidates homes (key w)) i ≡ Some w)) e.2 r
+      let hashed = hash-at key homes hashes (has_homes homes at.2 (at.0, at.1, at.3)) at.0 at.1 at.2 at.3 in
+      let here : slice_get (listed homes (key at.2.1)) at.1 ≡ Some at.2 = grind (arith, hashed.0, at.3) in
+      let r = passing (λ f. f.0 == top (key at.2.1)) (listed homes (key at.2.1)) at.1 at.2 here (eq-eqb at.2.0 (top (key at.2.1)) (sym hashed.1)) in
+      subst (λ w. (i : ℕ) × (slice_get (candidates homes (key w)) i ≡ Some w)) at.4 r

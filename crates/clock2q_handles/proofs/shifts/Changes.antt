@@ -93,10 +93,9 @@ module _ {E : Type 0} where
       → reach (slot_at slots (h + d)) ≡ suc d → spill_of (homes_of slots) h + length (met (slot_at slots) h 0 d) ≡ d
   read-count slots tidy some h d r =
       let v = tidy-vacant slots tidy some in
-      let q : spill (count (homes_of slots)) (length slots) h + length (met (slot_at slots) h 0 d) ≡ d =
-      subst (λ L. spill (counts L) (length slots) h + length (met (slot_at slots) h 0 d) ≡ d)
-      (λ i x. sym (listed-homes_of slots x) i) (met-count (slot_at slots) tidy.ordered (length slots) (slot-again slots) some v.0 v.1 h d r) in
-      ap (λ x. spill (count (homes_of slots)) x h + length (met (slot_at slots) h 0 d)) (length-homes_of slots) ∙ q
+      let at = met-count (slot_at slots) tidy.ordered (length slots) (slot-again slots) some v.0 v.1 h d r in
+      ap (λ x. spill (count (homes_of slots)) x h + length (met (slot_at slots) h 0 d)) (length-homes_of slots)
+      ∙ subst (λ L. spill (counts L) (length slots) h + length (met (slot_at slots) h 0 d) ≡ d) (λ i x. sym (listed-homes_of slots x) i) at
 
   -- one more entry in a home from which the slots are full up to a hole
   pub one-put : (m h v : ℕ) (L M : ℕ → List E) (A : ℕ → Option (Placed E)) → Roomy (counts L) m → Roomy (counts M) m → v < m → counts M h ≡ suc (counts L h)
@@ -206,17 +205,13 @@ module _ {E : Type 0} where
       (order : d ≤ v) (moved : IsMovedOn (slot_at slots) (slot_at others) (length slots) h d v e) where
     module _ (tidy : IsTidy slots) (stops : Stops (slot_at slots) h 0 d) (fits : total (homes_of slots) < capacity (length slots)) where
       full_before : (j : ℕ) → j < v → 1 ≤ reach (slot_at slots (h + j))
-      full_before j l = elim (cases_lt j d) [
-        | inl early ↦ omega (arith, stops.before j early)
-        | inr from ↦ omega (arith, ap reach (moved.moved j from l).1)
-      ]
+      full_before j l = grind (arith, stops.before j, moved.moved j)
 
       -- its run ends at the hole
       pub inserted-run : run slots h ≡ v
       inserted-run =
-          let some : 0 < length slots = omega arith in
-          let w = tidy-vacant slots tidy some in
-          run-is slots h v (vacant_within (slot_at slots) (length slots) h v (slot-again slots) some w.0 w.1 full_before) moved.hole full_before
+          let w = tidy-vacant slots tidy (omega arith) in
+          run-is slots h v (vacant_within (slot_at slots) (length slots) h v (slot-again slots) (omega arith) w.0 w.1 full_before) moved.hole full_before
 
       -- one more entry
       pub inserted-total : total (put_last (homes_of slots) h e) ≡ suc (total (homes_of slots))

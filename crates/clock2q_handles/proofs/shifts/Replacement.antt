@@ -91,19 +91,14 @@ module _ {E : Type 0} where
 
     own_list : listed (homes_of others) x ≡ before ++ e' ∷ after
     own_list =
-        let inside : d < length others = omega (arith, close, len) in
-        let first : met (slot_at others) x 0 d ≡ before = met-alike (slot_at others) (slot_at slots) x x 0 d (λ j from upto. same-home x j (λ _ q. omega (arith, q, upto))) in
-        let last : met (slot_at others) x (suc d) (length slots - suc d) ≡ after =
-        met-alike (slot_at others) (slot_at slots) x x (suc d) (length slots - suc d) (λ j from upto. same-home x j (λ _ q. omega (arith, q, from))) in
-        read-split others x d e' inside (now_at (x + d) (sym at)) ∙ ap (λ xs. xs ++ e' ∷ met (slot_at others) x (suc d) (length others - suc d)) first
-        ∙ ap (λ m. before ++ e' ∷ met (slot_at others) x (suc d) (m - suc d)) len ∙ ap (λ ys. before ++ e' ∷ ys) last
+        let front = met-alike (slot_at others) (slot_at slots) x x 0 d (λ j from upto. same-home x j (λ _ q. omega (arith, q, upto))) in
+        let rest = met-alike (slot_at others) (slot_at slots) x x (suc d) (length slots - suc d) (λ j from upto. same-home x j (λ _ q. omega (arith, q, from))) in
+        grind (arith, read-split others x d e' (omega (arith, close, len)) (now_at (x + d) (sym at)), front, rest, len)
 
     other_list : (h : ℕ) → (h % length slots ≡ x % length slots → ⊥) → listed (homes_of others) h ≡ listed (homes_of slots) h
     other_list h other =
-        listed-homes_of others h ∙ ap (met (slot_at others) h 0) len
-        ∙ met-alike (slot_at others) (slot_at slots) h h 0 (length slots) (λ j from upto. same-home h j (λ is q.
-        other (home_same (length slots) h x d some (ap (λ k. (h + k) % length slots) (sym q) ∙ is ∙ at))))
-        ∙ sym (listed-homes_of slots h)
+        let same = met-alike (slot_at others) (slot_at slots) h h 0 (length slots) (λ j from upto. same-home h j (λ is q. other (home_same (length slots) h x d some (grind (arith, q, is, at))))) in
+        grind (arith, listed-homes_of others h, len, same, listed-homes_of slots h)
 
     abbrev listed_so : List (List E)
     listed_so = with_list (homes_of slots) x (before ++ e' ∷ after)
@@ -117,10 +112,7 @@ module _ {E : Type 0} where
     pub handle_replaced-homes : homes_of others ≡ listed_so
     handle_replaced-homes =
         let so : length listed_so ≡ length (homes_of slots) = length-with_list (homes_of slots) x (before ++ e' ∷ after) in
-        ext_get_or [] (homes_of others) listed_so (lists_len ∙ sym so) (λ h l.
-        let a : h % length (homes_of others) ≡ h = mod-eq_of_lt l in
-        let b : h % length listed_so ≡ h = mod-eq_of_lt (omega (arith, l, lists_len, so)) in
-        ap (λ k. get_or (homes_of others) k []) (sym a) ∙ same_list h ∙ ap (λ k. get_or listed_so k []) b)
+        ext_get_or [] (homes_of others) listed_so (lists_len ∙ sym so) (λ h l. grind (arith, mod-eq_of_lt l, lists_len, so, same_list h))
 
   -- replacing an entry by another changes no count
   module _ (homes : List (List E)) (x i : ℕ) (e' : E) (some : 0 < length homes) where

@@ -166,9 +166,7 @@ module _ {H : Type 0} (slots : List (Option (Placed (ℕ × H)))) where
 module _ {H : Type 0} (slots : List (Option (Placed (ℕ × H)))) where
   this_mark : (s : ℕ × ℕ) (m : Mark) → is_mark s m ≡ true → m ≡ Some s
   this_mark s None h = absurd (cc)
-  this_mark s (Some m) h =
-      let p = and_parts (s.0 == m.0) (s.1 == m.1) h in
-      ap (λ z. Some (z, m.1)) (sym (eqb-true s.0 m.0 p.0)) ∙ ap (λ z. Some (s.0, z)) (sym (eqb-true s.1 m.1 p.1))
+  this_mark s (Some m) h = grind (arith, and_parts (s.0 == m.0) (s.1 == m.1) h, eqb-true s.0 m.0, eqb-true s.1 m.1)
 
   peeked_found : (s : Mark) (n : ℕ) → peeked_at slots s n ≡ true → IsSome s × (mark_of (slot_at slots n) ≡ s)
   peeked_found None n h = absurd (cc)

@@ -134,7 +134,7 @@ module _ {H : Type 0} (slots : List (Option (Placed (ℕ × H)))) (tidy : IsTidy
 
   -- a handle that is yielded was the first that was left
   pub yielded : (d n : ℕ) (r : H) → IsNextCandidate slots g x d n → IfSome (slot_at slots (g + n)) (λ p. r ≡ p.entry.1) → left_from slots x d ≡ r ∷ left_from slots x (n + 1)
-  yielded d n r next handle = grind (arith, left_next slots x g d n (at (omega (arith, next.within))) next)
+  yielded d n r next handle = grind (arith, next.here, handle, left_next slots x g d n (at (omega (arith, next.within))) next)
 
   -- at the end of the walk nothing is left
   pub left_end : (d : ℕ) → d < length slots → reach (slot_at slots (g + d)) ≤ d → left_from slots x d ≡ []

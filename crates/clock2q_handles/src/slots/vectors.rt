@@ -214,7 +214,7 @@ impl<H: Copy + Default, A: Allocator> Slots<H, A> {
 /// Writes an entry to a slot, and moves the entries from there on by one slot, up to an empty slot.
 /// It reads each slot that it writes.
 #[inline(always)]
-#[tactic(auto, using(crate::proofs::shifts::Cells::counted_cells, crate::proofs::shifts::Carrying::carry_begins, crate::proofs::shifts::Cells::mark_read_or, crate::proofs::shifts::Carrying::carry_slot, crate::proofs::shifts::Carrying::carry_room, crate::proofs::shifts::Moves::refused))]
+#[tactic(auto, using(crate::proofs::shifts::Cells::counted_cells, crate::proofs::shifts::Carrying::carry_begins, crate::proofs::shifts::Cells::mark_read_or, crate::proofs::shifts::Carrying::carry_slot))]
 fn carry<H: Copy>(
     metadata: &mut [Metadata],
     handles: &mut [H],

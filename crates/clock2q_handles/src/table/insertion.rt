@@ -226,7 +226,7 @@ impl<H: Copy + Eq + Default, A: Allocator> Table<H, A> {
 
     /// Returns the gap for a hash: where its walk ends.
     #[inline(always)]
-    #[tactic(auto, using(crate::proofs::layout::TidyLayout::homes_length, crate::proofs::walks::Reads::ends_reads, crate::proofs::shifts::Insertions::few_room))]
+    #[tactic(auto, using(crate::proofs::layout::TidyLayout::homes_length))]
     pub(super) fn gap(&mut self, hash: u64) -> Gap
         requires below { IsBelowCapacity self.old.homes }
         ensures ends { EndsAt self.old.slots hash result.mark result.position }
@@ -240,7 +240,7 @@ impl<H: Copy + Eq + Default, A: Allocator> Table<H, A> {
 
     /// Inserts an entry at the gap for its hash, unless a run would be too long.
     #[inline(always)]
-    #[tactic(auto, using(crate::proofs::layout::TidyLayout::homes_length, crate::proofs::shifts::Insertions::few_room))]
+    #[tactic(auto, using(crate::proofs::layout::TidyLayout::homes_length))]
     fn insert_at(&mut self, end: Gap, hash: u64, handle: H) -> Result<(), TableError>
         requires room { IsBelowCapacity self.old.homes }
         requires ends { EndsAt self.old.slots hash end.mark end.position }
@@ -271,7 +271,7 @@ impl<H: Copy + Eq + Default, A: Allocator> Table<H, A> {
     }
 
     /// Returns true if inserting an entry at the gap for its hash makes no run too long.
-    #[tactic(auto, using(crate::proofs::layout::TidyLayout::homes_length, crate::proofs::shifts::Carrying::come_slot, crate::proofs::shifts::Insertions::refusal, crate::proofs::Promises::on_true, crate::proofs::Promises::on_false))]
+    #[tactic(auto, using(crate::proofs::layout::TidyLayout::homes_length, crate::proofs::shifts::Carrying::come_slot, crate::proofs::Promises::on_true))]
     fn has_room(&mut self, gap: &Gap, hash: u64, handle: H) -> bool
         requires below { IsBelowCapacity self.old.homes }
         requires ends { EndsAt self.old.slots hash gap.now.mark gap.now.position }
