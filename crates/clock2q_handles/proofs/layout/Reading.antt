@@ -46,7 +46,12 @@ module _ {E : Type 0} where
       → length es ≤ m → slice_get es i ≡ Some e → get_or (put_from slots n d es) ((n + i) % m) None ≡ Some (placed (d + i) e)
   put_from_at m slots n d [] i e len some fits is = absurd (cc)
   put_from_at m slots n d (x ∷ es) zero e len some fits is = grind (arith, put_from_other, length-set, rems-differ, get_or-set_same)
-  put_from_at m slots n d (x ∷ es) (suc i) e len some fits is = grind (arith, length-set, put_from_at m (set slots (n % length slots) (Some (placed d x))) (suc n) (suc d) es i e (length-set slots (n % length slots) (Some (placed d x)) ∙ len) some (omega arith) is)
+  put_from_at m slots n d (x ∷ es) (suc i) e len some fits is =
+      grind (
+        arith,
+        length-set,
+        put_from_at m (set slots (n % length slots) (Some (placed d x))) (suc n) (suc d) es i e (length-set slots (n % length slots) (Some (placed d x)) ∙ len) some (omega arith) is,
+      )
 
   pub length-layout_upto : (homes : List (List E)) (k : ℕ) → length (layout_upto homes k) ≡ length homes
   length-layout_upto homes zero = length-replicate (length homes) None
@@ -72,8 +77,16 @@ module _ {E : Type 0} where
               (omega (arith, apart (count homes) (length homes) roomy k (h + length homes) (omega arith), spill-again (count homes) (length homes) roomy.again h)))
               ∙ upto_at k (omega arith) h i e below is
           | inr from ↦
-              let fits : count homes k ≤ length homes = omega (arith, apart (count homes) (length homes) roomy k (suc k) (omega arith), spill-lt (count homes) (length homes) roomy (suc k)) in
-              grind (arith, put_from_at (length homes) (layout_upto homes k) (k + spill_of homes k) (spill_of homes k) (listed homes k) i e (length-layout_upto homes k) (omega arith) fits)
+              let fits : count homes k ≤ length homes = omega (
+                arith,
+                apart (count homes) (length homes) roomy k (suc k) (omega arith),
+                spill-lt (count homes)
+                    (length homes) roomy (suc k),
+              ) in
+              grind (
+                arith,
+                put_from_at (length homes) (layout_upto homes k) (k + spill_of homes k) (spill_of homes k) (listed homes k) i e (length-layout_upto homes k) (omega arith) fits,
+              )
         ]
 
     at_slot : (n : ℕ) → slot_at (layout homes) n ≡ get_or (layout_upto homes (length homes)) (n % length homes) None

@@ -97,7 +97,10 @@ capacity_quarters m is_count =
     elim (cases_lt 0 m) [
       | inl some ↦
           let p = is_count.power some in
-          elim (cases_lt 2 p.0) [ inl large ↦ grind (arith, p.1, pow-add 2 (p.0 - 2) 2) | inr small ↦ absurd (omega (arith, p.1, pow_mono {i = p.0} {j = 2} (omega arith), is_count.least some)) ]
+          elim (cases_lt 2 p.0) [
+            | inl large ↦ grind (arith, p.1, pow-add 2 (p.0 - 2) 2)
+            | inr small ↦ absurd (omega (arith, p.1, pow_mono {i = p.0} {j = 2} (omega arith), is_count.least some))
+          ]
       | inr none ↦ omega arith
     ]
 

@@ -46,7 +46,13 @@ module _ {E : Type 0} where
   get-read_upto : (slots : List (Option (Placed E))) (k h : ℕ) → h < k → get_or (read_upto slots k) h [] ≡ met (slot_at slots) h 0 (length slots)
   get-read_upto slots zero h l = absurd (omega arith)
   get-read_upto slots (suc k) h l =
-      grind (arith, length-read_upto slots k, get_or-append (read_upto slots k), get-read_upto slots k h, get_or_at (read_upto slots k) (met (slot_at slots) k 0 (length slots)) [] [] h)
+      grind (
+        arith,
+        length-read_upto slots k,
+        get_or-append (read_upto slots k),
+        get-read_upto slots k h,
+        get_or_at (read_upto slots k) (met (slot_at slots) k 0 (length slots)) [] [] h,
+      )
 
   pub length-homes_of : (slots : List (Option (Placed E))) → length (homes_of slots) ≡ length slots
   unfolding homes_of
@@ -101,7 +107,8 @@ module _ {E : Type 0} where
 
     -- tidy slots lay out the lists read off them
     pub read-laid : IsLaid (length slots) (listed (homes_of slots)) (slot_at slots)
-    read-laid = subst (λ L. IsLaid (length slots) L (slot_at slots)) (λ i n. sym (listed-homes_of slots n) i) (ordered-laid (slot_at slots) tidy.ordered (length slots) (slot-again slots) some vacancy.0 vacancy.1)
+    read-laid = subst (λ L. IsLaid (length slots) L (slot_at slots)) (λ i n. sym (listed-homes_of slots n) i)
+        (ordered-laid (slot_at slots) tidy.ordered (length slots) (slot-again slots) some vacancy.0 vacancy.1)
 
     pub read-room : total (homes_of slots) < length slots
     read-room =
@@ -123,7 +130,8 @@ module _ {E : Type 0} where
       let A : ℕ → Option (Placed E) = slot_at slots in
       let around = window-same (λ n. weight w (get_or slots n None)) (λ n. weight w (A n)) 0 (length slots) (λ j l. grind (arith, mod-eq_of_lt l)) in
       entries-sum w slots ∙ around ∙ ap (window (λ n. weight w (A n)) 0) (length-layout homes)
-      ∙ laid-sum (length homes) (listed homes) A (roomy-of homes l) (layout-laid homes (roomy-of homes l)) w (listed-again homes) (slots_again slots (length homes) (length-layout homes))
+      ∙ laid-sum (length homes) (listed homes) A (roomy-of homes l) (layout-laid homes (roomy-of homes l)) w (listed-again homes)
+      (slots_again slots (length homes) (length-layout homes))
 
   laid-total : (homes : List (List E)) → total homes < length homes → length (entries (layout homes)) ≡ total homes
   laid-total homes l = sym (sum_by_one (entries (layout homes))) ∙ layout-sum (λ _. 1) homes l
@@ -157,7 +165,8 @@ module _ {E : Type 0} where
       let again = slots_again (layout homes) (length homes) (length-layout homes) in
       let len : length (homes_of (layout homes)) ≡ length homes = length-homes_of (layout homes) ∙ length-layout homes in
       ext_get_or [] (homes_of (layout homes)) homes len (λ i li.
-      let met_all = laid-met (length homes) (listed homes) (slot_at (layout homes)) (roomy-of homes l) (layout-laid homes (roomy-of homes l)) again (listed-again homes) i in
+      let met_all = laid-met (length homes) (listed homes) (slot_at (layout homes)) (roomy-of homes l) (layout-laid homes (roomy-of homes l)) again
+      (listed-again homes) i in
       grind (arith, mod-eq_of_lt li, len, listed-homes_of (layout homes) i, length-layout homes, met_all))
 
   below_all : (homes : List (List E)) (es : List E) → total (es ∷ homes) ≤ capacity (length (es ∷ homes)) → total (es ∷ homes) < length (es ∷ homes)

@@ -56,7 +56,10 @@ module _ {E : Type 0} where
     pub first-vacant : 0 < length slots → (h : ℕ) → (v : ℕ) × (v < length slots) × (slot_at slots (h + v) ≡ None) × ((j : ℕ) → j < v → 1 ≤ reach (slot_at slots (h + j)))
     first-vacant some h =
         let w = tidy-vacant slots tidy some in
-        elim (upto_vacant h (length slots)) [ inl r ↦ r | inr all ↦ absurd (omega (arith, vacant_within (slot_at slots) (length slots) h (length slots) (slot-again slots) some w.0 w.1 all)) ]
+        elim (upto_vacant h (length slots)) [
+          | inl r ↦ r
+          | inr all ↦ absurd (omega (arith, vacant_within (slot_at slots) (length slots) h (length slots) (slot-again slots) some w.0 w.1 all))
+        ]
 
     module _ (h d : ℕ) (e : E) (stops : Stops (slot_at slots) h 0 d) (fits : total (homes_of slots) < capacity (length slots)) where
       abbrev more : List (List E)
@@ -83,7 +86,8 @@ module _ {E : Type 0} where
       module _ (v : ℕ) (within : v < length slots) (hole : slot_at slots (h + v) ≡ None) (full : (j : ℕ) → j < v → 1 ≤ reach (slot_at slots (h + j))) where
         one : IsOneMore (count (homes_of slots)) (count more) (length slots) (h + suc v) (length slots - suc v)
         one = one-put (length slots) h v (listed (homes_of slots)) (listed more) (slot_at slots) (read_roomy some_slots) (roomy_at more (length slots) more_length more_room) within more_here
-            (λ n q. ap length (other_at (homes_of slots) (length slots) h (listed (homes_of slots) h ++ e ∷ []) (length-homes_of slots) n q)) (read-laid slots tidy some_slots) (slot-again slots) hole full
+            (λ n q. ap length (other_at (homes_of slots) (length slots) h (listed (homes_of slots) h ++ e ∷ []) (length-homes_of slots) n q))
+            (read-laid slots tidy some_slots) (slot-again slots) hole full
 
         there : h + suc v + (length slots - suc v) ≡ h + length slots
         there = omega arith
@@ -111,9 +115,16 @@ module _ {E : Type 0} where
             let same : reach (slot_at slots n) ≡ reach (slot_at slots (h + j)) = ap reach (slot-again slots (h + j)) in
             let near : reach (slot_at slots (h + j)) ≤ j + 0 = after (slot_at slots) tidy.ordered h 0 d stops.stop j from in
             elim (taken c m (read_roomy some_slots) n (omega (arith, spill-lt c m (read_roomy some_slots) 0))) [
-              | inl g ↦ absurd (omega (arith, same, gap-reach m (listed (homes_of slots)) (slot_at slots) (read_roomy some_slots) (read-laid slots tidy some_slots) n g, far))
+              | inl g ↦ absurd (omega (
+                arith,
+                same,
+                gap-reach m (listed (homes_of slots)) (slot_at slots) (read_roomy some_slots)
+                    (read-laid slots tidy some_slots) n g,
+                far,
+              ))
               | inr p ↦
-                  let r : reach (slot_at slots n) ≡ suc (n - p.0) = part-reach m (listed (homes_of slots)) (slot_at slots) (read_roomy some_slots) (read-laid slots tidy some_slots) n p.0 p.1 in
+                  let r : reach (slot_at slots n) ≡ suc (n - p.0) = part-reach m (listed (homes_of slots)) (slot_at slots) (read_roomy some_slots)
+                  (read-laid slots tidy some_slots) n p.0 p.1 in
                   let k : ℕ = p.0 - (h + suc v) in
                   let q : h + suc v + k ≡ p.0 = omega (arith, r, same, near) in
                   let sp : spill (count more) m p.0 ≡ suc (spill c m p.0) = omega (arith, one.spills k (omega (arith, r, same, near)), r, same, near, ap (spill c m) q, ap (spill (count more) m) q) in

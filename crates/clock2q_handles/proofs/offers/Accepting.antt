@@ -28,13 +28,13 @@ module _ {H : Type 0} (slots : List (Option (Placed (ℕ × H)))) (tidy : IsTidy
   -- what a walk still has to yield is what it looks for from its slot on
   walk_left : (wanted : Mark) (n : ℕ) (walk : IsWalkFor slots x wanted n) → left_at slots wanted n ≡ left_from slots x walk.distance
   walk_left wanted n walk =
-      let m : ℕ = length slots in
-      grind (
-        arith,
-        left_is slots tidy walk.distance (top x) n (record { hash = x; slot = walk.come.slot ∙ rem-plus m x walk.distance; fingerprint = refl; within = walk.come.within; passed = λ j l. omega (arith, walk.come.passed j l, ap reach (past_home slots m (x % m) x refl refl j)) }),
-        rem-plus m x walk.distance,
-        past_home,
-      )
+      ap (λ s. left_at slots s n) walk.mark ∙ left_is slots tidy walk.distance (top x) n (record {
+        hash = x;
+        slot = walk.come.slot ∙ rem-plus (length slots) x walk.distance;
+        fingerprint = refl;
+        within = walk.come.within;
+        passed = λ j l. omega (arith, walk.come.passed j l, ap reach (past_home slots (length slots) (x % length slots) x refl refl j));
+      })
 
   -- the candidates are those that a walk has met and those that it still has to yield
   left_split : (d : ℕ) → d ≤ length slots → left_from slots x 0 ≡ met_before slots x d ++ left_from slots x d

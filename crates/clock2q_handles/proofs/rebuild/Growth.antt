@@ -53,5 +53,6 @@ grown_nearer key homes is_count room hashes =
     by_fullness true q x =
         let more = doubled_more homes (length homes) refl is_count in
         let less : total homes < max (length homes * 2) 16 = omega (arith, room, more, capacity-lt (max (length homes * 2) 16) (omega arith)) in
-        let reach = rebuilt-reach key homes (max (length homes * 2) 16) room less (doubled_multiple homes (length homes) refl is_count) (hashes (eqb→eq (total homes) (capacity (length homes)) (subst T (sym q) tt))) x in
+        let reach = rebuilt-reach key homes (max (length homes * 2) 16) room less (doubled_multiple homes (length homes) refl is_count)
+        (hashes (eqb→eq (total homes) (capacity (length homes)) (subst T (sym q) tt))) x in
         rw (doubled_is homes (length homes) refl is_count) at reach

@@ -109,7 +109,13 @@ module _ {H : Type 0} (key : H → ℕ) where
   pub hashes-put_all : (homes : List (List (ℕ × H))) (es : List (Placed (ℕ × H))) → 0 < length homes → IsHashOf key homes
       → ((i : ℕ) (s : Placed (ℕ × H)) → slice_get es i ≡ Some s → top (key s.entry.1) ≡ s.entry.0) → IsHashOf key (put_all key homes es)
   hashes-put_all homes [] some hashes all = hashes
-  hashes-put_all homes (s ∷ es) some hashes all = grind (arith, length-with_list, hashes-put_last, hashes-put_all (put_last homes (key s.entry.1) s.entry) es (omega (arith, some, length-with_list homes (key s.entry.1) (listed homes (key s.entry.1) ++ s.entry ∷ []))) (hashes-put_last homes (key s.entry.1) s.entry some hashes refl (all 0 s refl)) (λ i t is. all (suc i) t is))
+  hashes-put_all homes (s ∷ es) some hashes all =
+      grind (
+        arith,
+        length-with_list,
+        hashes-put_last,
+        hashes-put_all (put_last homes (key s.entry.1) s.entry) es (omega (arith, some, length-with_list homes (key s.entry.1) (listed homes (key s.entry.1) ++ s.entry ∷ []))) (hashes-put_last homes (key s.entry.1) s.entry some hashes refl (all 0 s refl)) (λ i t is. all (suc i) t is),
+      )
 
   -- the entries keep their fingerprints and homes through a rebuild
   pub hashes-rebuilt : (homes : List (List (ℕ × H))) (m : ℕ) → total homes ≤ capacity (length homes) → 0 < m → IsHashOf key homes → IsHashOf key (rebuilt key m homes)

@@ -252,7 +252,8 @@ module _ {H : Type 0} (old now : List (Option (Placed (ℕ × H)))) where
           let far_next : 1 < reach (slot_at now t') = omega (arith, far, reach_of_meaning mark (slot_at now t') meaning) in
           let so_far = subst (λ m. MovingBack (slot_at old) (slot_at now) m s 0 k) (sym state.len) state.back in
           let moved = moving_back_more (slot_at old) now now' (cell mark' held) s 0 k (suc k) refl (omega arith) (omega (arith, next_within, state.len)) so_far
-          (grind (arith, slot_from now s (suc k) t', next_at, cell-mark_back mark mark' (slot_at now t') held far_next meaning less handle)) (is ∙ ap (λ i. set now i (cell mark' held)) close_at) in
+          (grind (arith, slot_from now s (suc k) t', next_at, cell-mark_back mark mark' (slot_at now t') held far_next meaning less handle))
+          (is ∙ ap (λ i. set now i (cell mark' held)) close_at) in
           record {
             steps = suc k;
             slot = next_at;

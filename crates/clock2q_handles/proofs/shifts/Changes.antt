@@ -79,7 +79,8 @@ module _ {E : Type 0} where
   read-stop slots tidy some h n stops =
       let v = tidy-vacant slots tidy some in
       let at = stop-sum (slot_at slots) tidy.ordered (length slots) (slot-again slots) some v.0 v.1 h n stops in
-      subst (λ L. n ≡ spill (counts L) (length slots) h + counts L h) (λ i x. sym (listed-homes_of slots x) i) at ∙ ap (λ x. spill (count (homes_of slots)) x h + count (homes_of slots) h) (sym (length-homes_of slots))
+      subst (λ L. n ≡ spill (counts L) (length slots) h + counts L h) (λ i x. sym (listed-homes_of slots x) i) at
+      ∙ ap (λ x. spill (count (homes_of slots)) x h + count (homes_of slots) h) (sym (length-homes_of slots))
 
   -- what it has met by then is its home's list
   pub read-met : (slots : List (Option (Placed E))) → IsTidy slots → 0 < length slots → (h n : ℕ)
@@ -229,10 +230,12 @@ module _ {E : Type 0} where
           let w = tidy-vacant slots tidy some in
           let within : v < m = vacant_within (slot_at slots) m h v (slot-again slots) some w.0 w.1 full_before in
           let at : spill (count homes) m h + count homes h ≡ d = grind (arith, read-stop slots tidy some h d stops, length-homes_of slots) in
-          let result = put-laid m h d v (listed homes) (listed (put_last homes h e)) (slot_at slots) (slot_at others) (listed homes h) [] e (sym (append-nil (listed homes h)))
+          let result = put-laid m h d v (listed homes) (listed (put_last homes h e)) (slot_at slots) (slot_at others) (listed homes h) [] e
+          (sym (append-nil (listed homes h)))
           (listed-with_same homes h h (listed homes h ++ e ∷ []) (omega (arith, length-homes_of slots)) refl) (other_at homes m h (listed homes h ++ e ∷ []) (length-homes_of slots))
           (listed_at homes m (length-homes_of slots)) (listed_at (put_last homes h e) m put_length) (slot-again slots) (slots_again others m len)
-          (roomy_at homes m (length-homes_of slots) (omega (arith, capacity-lt m some))) (roomy_at (put_last homes h e) m put_length (omega (arith, inserted-total, capacity-lt m some)))
+          (roomy_at homes m (length-homes_of slots) (omega (arith, capacity-lt m some)))
+          (roomy_at (put_last homes h e) m put_length (omega (arith, inserted-total, capacity-lt m some)))
           order within moved (read-laid slots tidy some) full_before at in
           laid-layout (put_last homes h e) others (omega (arith, put_length, inserted-total, capacity-lt m some)) (len ∙ sym put_length) (rw put_length result)
 
@@ -288,11 +291,17 @@ module _ {E : Type 0} where
           let more : List (List E) = homes_of others in
           let less : List (List E) = with_list (homes_of others) h (list_without others h d) in
           let room' : total less < m = omega (arith, removed-total, read-room others tidy some) in
-          let at : spill (count more) m h + length (met (slot_at others) h 0 d) ≡ d = grind (arith, read-count others tidy some h d (ap reach moved.here), length-homes_of others) in
-          let result = taken-laid m h d v (listed less) (listed more) (slot_at slots) (slot_at others) (met (slot_at others) h 0 d) (met (slot_at others) h (suc d) (m - suc d)) e
+          let at : spill (count more) m h + length (met (slot_at others) h 0 d) ≡ d = grind (
+            arith,
+            read-count others tidy some h d (ap reach moved.here),
+            length-homes_of others,
+          ) in
+          let result = taken-laid m h d v (listed less) (listed more) (slot_at slots) (slot_at others) (met (slot_at others) h 0 d)
+          (met (slot_at others) h (suc d) (m - suc d)) e
           (listed-with_same more h h (list_without others h d) (omega (arith, some, length-homes_of others)) refl) taken_split
           (λ n q. sym (other_at more m h (list_without others h d) (length-homes_of others) n q)) (listed_at less m taken_length) (listed_at more m (length-homes_of others))
-          (slots_again slots m (sym len)) (slot-again others) (roomy_at less m taken_length room') (roomy_at more m (length-homes_of others) (read-room others tidy some))
+          (slots_again slots m (sym len)) (slot-again others) (roomy_at less m taken_length room')
+          (roomy_at more m (length-homes_of others) (read-room others tidy some))
           order (omega (arith, taken_within)) (rw (← len) at moved) (read-laid others tidy some) away near at in
           laid-layout less slots (omega (arith, room', taken_length)) (sym len ∙ sym taken_length) (rw taken_length result)
 

@@ -25,6 +25,13 @@ module _ {E : Type 0} (slots : List (Option (Placed E))) (tidy : IsTidy slots) w
               let e : h + d ≡ k + d * length slots = omega (arith, le-mul_of_pos_right d some) in
               let same : slot_at slots (h + d) ≡ slot_at slots k = ap (slot_at slots) e ∙ again-times (slot_at slots) (length slots) (slot-again slots) k d in
               let room : total (homes_of slots) < length (homes_of slots) = omega (arith, tidy.room, tidy-total slots tidy, capacity-lt (length slots) some, length-homes_of slots) in
-              omega (arith, high, (walk-beyond slots tidy h d some (omega (arith, high, ap reach same))).0, walk-is (homes_of slots) h (omega (arith, room)), reach-total (homes_of slots) room h)
+              omega (
+                arith,
+                high,
+                (walk-beyond slots tidy h d some (omega (arith, high, ap reach same))).0,
+                walk-is (homes_of slots) h
+                    (omega (arith, room)),
+                reach-total (homes_of slots) room h,
+              )
         ]
       ]

@@ -79,7 +79,12 @@ module _ {H : Type 0} (x : ℕ) (v : H) {slots : List (Option (Placed (ℕ × H)
       own = omega (arith, room.own, ap mark_reach ends.walk.mark);
       others = λ j from upto.
           let here : (i : ℕ) → slot_at slots (s + i) ≡ slot_at slots (g + (n + i)) = λ i. slot_from_plus slots g n s i ends.walk.come.slot in
-          let full : (i : ℕ) → i ≤ j - n → 0 < reach (slot_at slots (s + i)) = λ i l. omega (arith, put.1.occupied (n + i) (omega (arith, l, from, upto)), ap reach (here i)) in
+          let full : (i : ℕ) → i ≤ j - n → 0 < reach (slot_at slots (s + i)) = λ i l. omega (
+            arith,
+            put.1.occupied (n + i)
+                (omega (arith, l, from, upto)),
+            ap reach (here i),
+          ) in
           grind (arith, room.others (j - n) full, here (j - n), from);
     }
 

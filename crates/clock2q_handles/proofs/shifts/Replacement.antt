@@ -97,7 +97,8 @@ module _ {E : Type 0} where
 
     other_list : (h : ℕ) → (h % length slots ≡ x % length slots → ⊥) → listed (homes_of others) h ≡ listed (homes_of slots) h
     other_list h other =
-        let same = met-alike (slot_at others) (slot_at slots) h h 0 (length slots) (λ j from upto. same-home h j (λ is q. other (home_same (length slots) h x d some (grind (arith, q, is, at))))) in
+        let same = met-alike (slot_at others) (slot_at slots) h h 0 (length slots)
+        (λ j from upto. same-home h j (λ is q. other (home_same (length slots) h x d some (grind (arith, q, is, at))))) in
         grind (arith, listed-homes_of others h, len, same, listed-homes_of slots h)
 
     abbrev listed_so : List (List E)
@@ -140,13 +141,15 @@ replacement v slots x i n len e table entry_at =
     let d : ℕ = spill_of (homes_of slots) x + i in
     let here : slot_at slots (x + d) ≡ Some (placed d e) = standing slots table.tidy some x i n e entry_at in
     let at : n ≡ (x + d) % length slots = position_at slots x i n e entry_at in
-    let written : set slots n (cell (mark_of (slot_at slots n)) v) ≡ set slots n (Some (placed d (e.0, v))) = ap (λ o. set slots n (cell (mark_of o) v)) (slot_near slots (x + d) n at ∙ here) in
+    let written : set slots n (cell (mark_of (slot_at slots n)) v) ≡ set slots n (Some (placed d (e.0, v))) = ap (λ o. set slots n (cell (mark_of o) v))
+    (slot_near slots (x + d) n at ∙ here) in
     record {
       homes = λ y j f is.
           let c : ℕ = spill_of (homes_of slots) y + j in
           let own : slot_at slots (y + c) ≡ Some (placed c f) = standing slots table.tidy some y j n f is in
           let on : n ≡ (y + c) % length slots = position_at slots y j n f is in
-          ap (λ o. homes_of (set slots n (cell (mark_of o) v))) (slot_near slots (y + c) n on ∙ own) ∙ handle_replaced-homes slots table.tidy some y c n f (f.0, v) own on
+          ap (λ o. homes_of (set slots n (cell (mark_of o) v))) (slot_near slots (y + c) n on ∙ own) ∙ handle_replaced-homes slots table.tidy some y c n f
+          (f.0, v) own on
           ∙ here_with slots table.tidy some y c f own j (f.0, v) (here_index slots table.tidy some y c f own j refl);
       table = rw written (record {
         tidy = handle_replaced-tidy slots table.tidy some x d n e (e.0, v) here at;
@@ -169,11 +172,21 @@ first_entry eq x s v w slots len table found =
     let here : slot_at slots (x + d) ≡ Some (placed d e) = sym (past d) ∙ found.finds.here in
     let before = met (slot_at slots) x 0 d in
     let after = met (slot_at slots) x (suc d) (length slots - suc d) in
-    let none : list_any test before ≡ false = grind (arith, met-same (slot_at slots) (slot_at slots) (x % length slots) x 0 d (λ j _ _. past j), found.finds.none_before) in
+    let none : list_any test before ≡ false = grind (
+      arith,
+      met-same (slot_at slots) (slot_at slots) (x % length slots) x 0 d (λ j _ _. past j),
+      found.finds.none_before,
+    ) in
     let mark : e.0 ≡ top x = eqb→eq e.0 (top x) (subst T (sym (and_parts (e.0 == top x) (eq e.1 v) found.finds.passes)) tt) in
     let split = read-split slots x d e (here_within slots table.tidy some x d e here) here in (
       length before,
       e,
       here_entry slots table.tidy some x d e here s (found.slot ∙ rem-plus (length slots) x d),
-      grind (arith, here_with slots table.tidy some x d e here (length before) (e.0, w) refl, split, with_first-at test before after e (top x, w) none found.finds.passes, mark),
+      grind (
+        arith,
+        here_with slots table.tidy some x d e here (length before) (e.0, w) refl,
+        split,
+        with_first-at test before after e (top x, w) none found.finds.passes,
+        mark,
+      ),
     )

@@ -73,9 +73,14 @@ module _ {E : Type 0} where
       on_by_one : (j k : ℕ) (f : E) → j < m → a ≤ j → (j ≡ a → length xs ≤ k) → slice_get (L (z + j)) k ≡ Some f
           → B (suc (z + j + spill (counts L) m (z + j) + k)) ≡ Some (placed (suc (spill (counts L) m (z + j) + k)) f)
       on_by_one j k f l from past is =
-          let past : z + a + spill (counts L) m (z + a) + length xs ≤ z + j + spill (counts L) m (z + j) + k = grind (arith, apart (counts L) m roomy (z + a) (z + j), upto_here) in
+          let past : z + a + spill (counts L) m (z + a) + length xs ≤ z + j + spill (counts L) m (z + j) + k = grind (
+            arith,
+            apart (counts L) m roomy (z + a) (z + j),
+            upto_here,
+          ) in
           moved_to A B z (z + a + spill (counts L) m (z + a) + length xs) v (spill (counts L) m (z + a) + length xs) e opened
-          (z + j + spill (counts L) m (z + j) + k) (spill (counts L) m (z + j) + k) f past (upto_last j k l (slice_get_within (L (z + j)) k f is)) (laid.standing (z + j) k f is)
+          (z + j + spill (counts L) m (z + j) + k) (spill (counts L) m (z + j) + k) f past (upto_last j k l (slice_get_within (L (z + j)) k f is))
+          (laid.standing (z + j) k f is)
 
       -- an entry that keeps its slot
       in_place : (j k : ℕ) (f : E) → j < m → z + j + spill (counts L) m (z + j) + k < z + a + spill (counts L) m (z + a) + length xs
@@ -103,7 +108,15 @@ module _ {E : Type 0} where
       close_standing : (j k : ℕ) (f : E) → j < m → slice_get (L (z + j)) k ≡ Some f → A (z + j + spill (counts L) m (z + j) + k) ≡ Some (placed (spill (counts L) m (z + j) + k) f)
       close_standing j k f l is =
           elim (cases_lt j a) [
-            | inl before ↦ grind (arith, one.spills j l, same j l, apart (counts L) m roomy (z + j) (z + a), slice_get_within (L (z + j)) k f is, opened.kept, laid.standing (z + j) k f)
+            | inl before ↦ grind (
+              arith,
+              one.spills j l,
+              same j l,
+              apart (counts L) m roomy (z + j) (z + a),
+              slice_get_within (L (z + j)) k f is,
+              opened.kept,
+              laid.standing (z + j) k f,
+            )
             | inr from ↦ elim (cases_lt a j) [
               | inl past ↦
                   let under : slice_get (M (z + j)) k ≡ Some f = ap (λ x. slice_get x k) (same j l (λ q. omega arith)) ∙ is in

@@ -50,7 +50,16 @@ module _ {E : Type 0} where
   pub closed-near : (slots others : List (Option (Placed E))) (g n w b : ℕ) (e : E) → length slots ≡ length others → 0 < length others
       → Opens (slot_at slots) (slot_at others) (length others) g n w e → ((k : ℕ) → reach (slot_at others k) ≤ b) → (k : ℕ) → reach (slot_at slots k) ≤ b
   closed-near slots others g n w b e same some opens near =
-      near_by_lap slots g b (omega (arith, same, some)) (λ j l. grind (arith, near (g + j), near (g + suc j), opens.before j, opens.moved j, opens.after j, opens.vacant, reach-moved_on (slot_at slots (g + j))))
+      near_by_lap slots g b (omega (arith, same, some)) (λ j l. grind (
+        arith,
+        near (g + j),
+        near (g + suc j),
+        opens.before j,
+        opens.moved j,
+        opens.after j,
+        opens.vacant,
+        reach-moved_on (slot_at slots (g + j)),
+      ))
 
   -- slots that were opened, seen from any hash of the home
   pub opens-moved : (slots others : List (Option (Placed E))) (m g x n v : ℕ) (e : E) → length slots ≡ m → length others ≡ m → g ≡ x % m → Opens (slot_at slots) (slot_at others) m g n v e
@@ -109,7 +118,8 @@ module _ {H : Type 0} (eq : H → H → Bool) (x : ℕ) (v : H) (others slots : 
   moved : IsMovedOn (slot_at slots) (slot_at others) (length slots) x n taken.vacancy entry
   moved =
       rw taken.len (opens-moved slots others (length others) (x % length others) x n taken.vacancy entry taken.len refl refl taken.closes.opens
-      (λ j from upto. entry_off (slot_at slots (x % length others + j)) (slot_at others (x % length others + suc j)) (taken.closes.occupied (suc j) upto) (taken.closes.opens.moved j from upto)))
+      (λ j from upto. entry_off (slot_at slots (x % length others + j)) (slot_at others (x % length others + suc j)) (taken.closes.occupied (suc j) upto)
+      (taken.closes.opens.moved j from upto)))
 
   near : reach (slot_at others (x + suc taken.vacancy)) ≤ 1
   near = omega (arith, taken.closes.ends, ap reach (past (suc taken.vacancy)))
@@ -118,7 +128,8 @@ module _ {H : Type 0} (eq : H → H → Bool) (x : ℕ) (v : H) (others slots : 
   lists = removed-homes slots others x n taken.vacancy entry (sym taken.len) taken.closes.opens.from moved table.tidy near
 
   less : suc (total (homes_of slots)) ≡ len
-  less = ap (λ hs. suc (total hs)) lists ∙ removed-total slots others x n taken.vacancy entry (sym taken.len) taken.closes.opens.from moved table.tidy near ∙ sym table.counted
+  less = ap (λ hs. suc (total hs)) lists ∙ removed-total slots others x n taken.vacancy entry (sym taken.len) taken.closes.opens.from moved table.tidy near
+      ∙ sym table.counted
 
   pub removal : Removal eq x v others slots len before after
   removal = record {

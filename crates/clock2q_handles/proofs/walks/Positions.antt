@@ -73,13 +73,23 @@ module _ {E : Type 0} where
       pub here_with : (i : ℕ) (e' : E) → i ≡ length (met (slot_at slots) x 0 d)
           → with_list (homes_of slots) x (met (slot_at slots) x 0 d ++ e' ∷ met (slot_at slots) x (suc d) (length slots - suc d)) ≡ with_entry (homes_of slots) x i e'
       here_with i e' at =
-          grind (arith, read-split slots x d e here_within here, set-append_seam (met (slot_at slots) x 0 d) e (met (slot_at slots) x (suc d) (length slots - suc d)) e')
+          grind (
+            arith,
+            read-split slots x d e here_within here,
+            set-append_seam (met (slot_at slots) x 0 d) e (met (slot_at slots) x (suc d) (length slots - suc d)) e',
+          )
 
 -- the gap of a hash is that of its home
 gap-home : {E : Type 0} (homes : List (List E)) (x f : ℕ) → gap_from homes (x % length homes) f ≡ gap_from homes x f
 gap-home homes x f =
     rem-same (λ h. gap_from homes h f) (length homes) (λ h.
-    grind (arith, spill-again (count homes) (length homes) (count-again homes) h, count-again homes h, add-mod_right (h + spill_of homes h + count homes h) (length homes))) x
+    grind (
+      arith,
+      spill-again (count homes) (length homes) (count-again homes) h,
+      count-again homes h,
+      add-mod_right (h + spill_of homes h + count homes h)
+          (length homes),
+    )) x
 
 module _ {H : Type 0} (slots : List (Option (Placed (ℕ × H)))) (tidy : IsTidy slots) (some : 0 < length slots) (x : ℕ) where
   -- a walk ends at the gap
@@ -113,7 +123,13 @@ module _ {H : Type 0} (slots : List (Option (Placed (ℕ × H)))) where
   -- a walk for x ends at the gap of x, wherever it is
   pub end_of : (x : ℕ) (s : Mark) (n : ℕ) → IsWalkFor slots x s n → end_at slots s n ≡ Some (gap_of (homes_of slots) x)
   end_of x s n walk =
-      grind (arith, home_of_walk slots x walk.distance n walk.come.within, rem-plus (length slots) x walk.distance, length-homes_of slots, gap-home (homes_of slots) x (top x))
+      grind (
+        arith,
+        home_of_walk slots x walk.distance n walk.come.within,
+        rem-plus (length slots) x walk.distance,
+        length-homes_of slots,
+        gap-home (homes_of slots) x (top x),
+      )
 
   -- a lookup that has an end looks for something
   pub some_sought : (s : Mark) (n : ℕ) → IsSome (end_at slots s n) → IsSome s

@@ -23,7 +23,12 @@ module _ {E : Type 0} where
       (below : 0 < length homes → (n : ℕ) → count fewer n ≤ count homes n) where
     pub total-fewer : total fewer ≤ total homes
     total-fewer =
-        grind (arith, sum-window length homes, sum-window length fewer, window-le (count fewer) (count homes) 0 (length homes) (λ j l. below (omega (arith, l)) (0 + j)))
+        grind (
+          arith,
+          sum-window length homes,
+          sum-window length fewer,
+          window-le (count fewer) (count homes) 0 (length homes) (λ j l. below (omega (arith, l)) (0 + j)),
+        )
 
     pub room-fewer : total fewer ≤ capacity (length fewer)
     room-fewer = omega (arith, room, total-fewer, ap capacity as_many)
@@ -42,7 +47,8 @@ module _ {E : Type 0} where
       still_empty n none =
           let m : ℕ = length homes in
           let far : spill (count homes) m 0 ≤ n + m = omega (arith, spill-lt (count homes) m roomy 0) in
-          let g = none-gap m (listed homes) (slot_at (layout homes)) roomy (layout-laid homes roomy) (n + m) far (slots_again (layout homes) m (length-layout homes) n ∙ none) in
+          let g = none-gap m (listed homes) (slot_at (layout homes)) roomy (layout-laid homes roomy) (n + m) far
+          (slots_again (layout homes) m (length-layout homes) n ∙ none) in
           let here : IsGap (count fewer) (length fewer) (n + m) = grind (arith, spills (n + m), g.spilled, below some (n + m), g.counted) in
           sym (slots_again (layout fewer) m (length-layout fewer ∙ as_many) n) ∙ (layout-laid fewer roomy_fewer).rest (n + m) here
 
