@@ -99,13 +99,7 @@ module _ {H : Type 0} (key : H → ℕ) where
 
   pub total-put_all : (homes : List (List (ℕ × H))) (es : List (Placed (ℕ × H))) → 0 < length homes → total (put_all key homes es) ≡ total homes + length es
   total-put_all homes [] some = omega arith
-  total-put_all homes (s ∷ es) some =
-      grind (
-        arith,
-        length-with_list,
-        total-put_last,
-        total-put_all (put_last homes (key s.entry.1) s.entry) es (omega (arith, length-with_list homes (key s.entry.1) (listed homes (key s.entry.1) ++ s.entry ∷ []))),
-      )
+  total-put_all homes (s ∷ es) some = grind (arith, length-with_list, total-put_last, total-put_all (put_last homes (key s.entry.1) s.entry) es)
 
   pub put_all-push : (homes : List (List (ℕ × H))) (es : List (Placed (ℕ × H))) (s : Placed (ℕ × H)) → put_all key homes (es ++ s ∷ []) ≡ put_last (put_all key homes es) (key s.entry.1) s.entry
   put_all-push homes es s = fold_push (λ hs s. put_last hs (key s.entry.1) s.entry) homes es s

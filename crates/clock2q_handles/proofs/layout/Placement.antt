@@ -60,14 +60,7 @@ distinct-row_onto : (g : ℕ → ℕ) (n : ℕ) (rest : List ℕ) → IsDistinct
     → ((j : ℕ) → j < n → list_any (eqb (g j)) rest ≡ true → ⊥) → IsDistinct eqb (row_onto g n rest)
 unfolding IsDistinct
 distinct-row_onto g zero rest d inj other = d
-distinct-row_onto g (suc n) rest d inj other =
-    grind (
-      arith,
-      all_among,
-      ne_eqb,
-      among-row_onto,
-      distinct-row_onto g n rest d (λ i j l u. inj i j l (omega arith)) (λ j l. other j (omega arith)),
-    )
+distinct-row_onto g (suc n) rest d inj other = grind (arith, all_among, ne_eqb, among-row_onto, distinct-row_onto g n rest d)
 
 distinct-rows : (f : ℕ → ℕ → ℕ) (c : ℕ → ℕ) (n : ℕ) → ((t j u k : ℕ) → t < n → j < c t → u < n → k < c u → f t j ≡ f u k → (t ≡ u) × (j ≡ k)) → IsDistinct eqb (rows f c n)
 unfolding IsDistinct

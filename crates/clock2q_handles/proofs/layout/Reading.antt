@@ -47,11 +47,7 @@ module _ {E : Type 0} where
   put_from_at m slots n d [] i e len some fits is = absurd (cc)
   put_from_at m slots n d (x ∷ es) zero e len some fits is = grind (arith, put_from_other, length-set, rems-differ, get_or-set_same)
   put_from_at m slots n d (x ∷ es) (suc i) e len some fits is =
-      grind (
-        arith,
-        length-set,
-        put_from_at m (set slots (n % length slots) (Some (placed d x))) (suc n) (suc d) es i e (length-set slots (n % length slots) (Some (placed d x)) ∙ len) some (omega arith) is,
-      )
+      grind (arith, length-set, put_from_at m (set slots (n % length slots) (Some (placed d x))) (suc n) (suc d) es i e (length-set slots (n % length slots) (Some (placed d x)) ∙ len) some)
 
   pub length-layout_upto : (homes : List (List E)) (k : ℕ) → length (layout_upto homes k) ≡ length homes
   length-layout_upto homes zero = length-replicate (length homes) None
@@ -83,10 +79,7 @@ module _ {E : Type 0} where
                 spill-lt (count homes)
                     (length homes) roomy (suc k),
               ) in
-              grind (
-                arith,
-                put_from_at (length homes) (layout_upto homes k) (k + spill_of homes k) (spill_of homes k) (listed homes k) i e (length-layout_upto homes k) (omega arith) fits,
-              )
+              grind (arith, put_from_at (length homes) (layout_upto homes k) (k + spill_of homes k) (spill_of homes k) (listed homes k) i e (length-layout_upto homes k))
         ]
 
     at_slot : (n : ℕ) → slot_at (layout homes) n ≡ get_or (layout_upto homes (length homes)) (n % length homes) None

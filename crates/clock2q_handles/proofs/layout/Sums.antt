@@ -70,10 +70,4 @@ module _ {E : Type 0} where
         let g = gap (counts L) m roomy 0 in
         let z : ℕ = suc (0 + g.0) in
         let s : spill (counts L) m z ≡ 0 = omega (arith, spill-step (counts L) m roomy (0 + g.0), g.2.spilled, g.2.counted) in
-        grind (
-          arith,
-          homes_sum z s m,
-          spill-again (counts L) m roomy.again z,
-          window-lap (λ n. weight w (A n)) m (λ n. ap (weight w) (again n)) z,
-          window-lap (λ h. sum_by w (L h)) m (λ n. ap (sum_by w) (same n)) z,
-        )
+        grind (arith, homes_sum z s m, spill-again (counts L) m roomy.again z, window-lap, window-lap)

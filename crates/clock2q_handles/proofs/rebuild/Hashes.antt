@@ -79,16 +79,7 @@ module _ {H : Type 0} (key : H → ℕ) where
   pub hashes-with_list : (homes : List (List (ℕ × H))) (x : ℕ) (es : List (ℕ × H)) → IsHashOf key homes
       → ((i : ℕ) (e : ℕ × H) → slice_get es i ≡ Some e → (home homes (key e.1) ≡ home homes x) × (top (key e.1) ≡ e.0)) → IsHashOf key (with_list homes x es)
   hashes-with_list homes x es hashes new h i e l is =
-      grind (
-        arith,
-        length-with_list homes x es,
-        mod-eq_of_lt,
-        cases_eq (h % length homes) (x % length homes),
-        new i e,
-        listed-with_same homes x h es,
-        hashes h i e,
-        listed-with_other homes x h es,
-      )
+      grind (arith, length-with_list, mod-eq_of_lt, cases_eq, new i e, listed-with_same, hashes h i e, listed-with_other)
 
   -- an entry put last
   pub hashes-put_last : (homes : List (List (ℕ × H))) (x : ℕ) (e : ℕ × H) → 0 < length homes → IsHashOf key homes

@@ -94,13 +94,4 @@ module _ {F H : Type 0} (g : Mut F (H × Unit {0}) ℕ) where
     -- once every slot has been moved, so has every entry
     pub moving_ends : {last : F} {new : List (Option (Placed (ℕ × H)))} {i : ℕ} → i ≡ length old → MovedSo f last old from new i → Moves g f last old from new
     moving_ends {last = last} {new = new} {i = i} all so_far =
-        grind (
-          arith,
-          entries-all old,
-          tidy-layout old may.table.tidy,
-          cases_lt 0 (length from),
-          rebuilt-total,
-          tidy-room old may.table.tidy,
-          tidy-room new so_far.table.tidy,
-          length-homes_of new,
-        )
+        grind (arith, entries-all, tidy-layout, cases_lt, rebuilt-total, tidy-room, tidy-room, length-homes_of)

@@ -291,11 +291,7 @@ module _ {E : Type 0} where
           let more : List (List E) = homes_of others in
           let less : List (List E) = with_list (homes_of others) h (list_without others h d) in
           let room' : total less < m = omega (arith, removed-total, read-room others tidy some) in
-          let at : spill (count more) m h + length (met (slot_at others) h 0 d) ≡ d = grind (
-            arith,
-            read-count others tidy some h d (ap reach moved.here),
-            length-homes_of others,
-          ) in
+          let at : spill (count more) m h + length (met (slot_at others) h 0 d) ≡ d = grind (arith, read-count others tidy some h d (ap reach moved.here), length-homes_of others) in
           let result = taken-laid m h d v (listed less) (listed more) (slot_at slots) (slot_at others) (met (slot_at others) h 0 d)
           (met (slot_at others) h (suc d) (m - suc d)) e
           (listed-with_same more h h (list_without others h d) (omega (arith, some, length-homes_of others)) refl) taken_split

@@ -108,15 +108,7 @@ module _ {E : Type 0} where
       close_standing : (j k : ℕ) (f : E) → j < m → slice_get (L (z + j)) k ≡ Some f → A (z + j + spill (counts L) m (z + j) + k) ≡ Some (placed (spill (counts L) m (z + j) + k) f)
       close_standing j k f l is =
           elim (cases_lt j a) [
-            | inl before ↦ grind (
-              arith,
-              one.spills j l,
-              same j l,
-              apart (counts L) m roomy (z + j) (z + a),
-              slice_get_within (L (z + j)) k f is,
-              opened.kept,
-              laid.standing (z + j) k f,
-            )
+            | inl before ↦ grind (arith, one.spills j l, same j l, apart (counts L) m roomy (z + j) (z + a), slice_get_within (L (z + j)) k f is, opened.kept, laid.standing (z + j) k f)
             | inr from ↦ elim (cases_lt a j) [
               | inl past ↦
                   let under : slice_get (M (z + j)) k ≡ Some f = ap (λ x. slice_get x k) (same j l (λ q. omega arith)) ∙ is in

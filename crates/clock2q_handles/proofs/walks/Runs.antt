@@ -22,13 +22,7 @@ module _ {E : Type 0} where
   module _ (homes fewer : List (List E)) (room : total homes ≤ capacity (length homes)) (as_many : length fewer ≡ length homes)
       (below : 0 < length homes → (n : ℕ) → count fewer n ≤ count homes n) where
     pub total-fewer : total fewer ≤ total homes
-    total-fewer =
-        grind (
-          arith,
-          sum-window length homes,
-          sum-window length fewer,
-          window-le (count fewer) (count homes) 0 (length homes) (λ j l. below (omega (arith, l)) (0 + j)),
-        )
+    total-fewer = grind (arith, sum-window length homes, sum-window length fewer, window-le (count fewer) (count homes) 0 (length homes))
 
     pub room-fewer : total fewer ≤ capacity (length fewer)
     room-fewer = omega (arith, room, total-fewer, ap capacity as_many)

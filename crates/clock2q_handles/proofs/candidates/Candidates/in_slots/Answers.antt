@@ -1,5 +1,4 @@
 use Rattle.std.proofs.Common.{ap, ◌∙◌, arith, length, ◌%◌}
-use Rattle.clock2q_handles.specs.Candidates.{left_at, unread_at, end_at}
 use Rattle.clock2q_handles.specs.Slots.{sought}
 use Rattle.clock2q_handles.proofs.walks.Cursors.{begins_whole}
 use Rattle.clock2q_handles.proofs.shifts.Carrying.{walks_begin}
@@ -13,11 +12,9 @@ returns g c =
     let n = c.home-slot.result in
     let wanted = sought c.new.result in
     let home = c.home-slot.ensures.home (omega (arith, c.requires.some, ap (λ r. length r.slots) c.new-reader.ensures)) ∙ ap (λ r. x % length r.slots) c.new-reader.ensures in
-    let whole = begins_whole slots x n c.requires.tidy c.requires.near c.requires.some home in
-    record {
-      left = ap (λ r. left_at r.slots wanted n) c.new-reader.ensures ∙ ap (λ s. left_at slots s n) c.new.ensures ∙ whole.0;
-      reads = ap (λ r. r.reads) c.new-reader.ensures;
-      unread = ap (λ r. unread_at r.slots wanted n) c.new-reader.ensures ∙ ap (λ s. unread_at slots s n) c.new.ensures ∙ whole.1;
-      handles = ap (λ r. r.handles) c.new-reader.ensures;
-      end = ap (λ r. end_at r.slots wanted n) c.new-reader.ensures ∙ end_of slots x wanted n (walks_begin slots c.requires.tidy x wanted n c.requires.some home c.new.ensures);
-    }
+    grind (
+      arith,
+      begins_whole slots x n c.requires.tidy c.requires.near c.requires.some home,
+      end_of slots x wanted n (walks_begin slots c.requires.tidy x wanted n c.requires.some home c.new.ensures),
+      walks_begin slots c.requires.tidy x wanted n c.requires.some home c.new.ensures,
+    )

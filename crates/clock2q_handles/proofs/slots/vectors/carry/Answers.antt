@@ -1,4 +1,4 @@
-use Rattle.std.proofs.Common.{rules, ◌≡◌, ◌+◌, ◌<◌, ◌%◌, length, arith, ap, sym, ◌∙◌, subst, get_or, length-set}
+use Rattle.std.proofs.Common.{rules, ◌≡◌, ◌+◌, ◌<◌, ◌%◌, length, arith, ap, ◌∙◌, get_or, length-set}
 use Rattle.clock2q_handles.specs.Slots.{cell, cells, meaning}
 use Rattle.clock2q_handles.proofs.layout.Periods.{lap}
 use Rattle.clock2q_handles.proofs.shifts.Cells.{length-cells, mark_read_or, handle_read_at}
@@ -61,17 +61,7 @@ loop-there-smaller g c =
 pub loop-there-preserved : goal.loop-there-preserved
 loop-there-preserved g c =
     let before = goal.at.loop-there-preserved g c in
-    let next = more g before.After-after-slot (within g before.In-loop-there) in
-    record {
-      pair = c.write.ensures.pair;
-      len = c.write.ensures.len ∙ c.loop-there.invariant.len;
-      state =
-          subst (λ w. CarryState (cells c.args.metadata.now c.args.handles.now) (cells c.write.new.metadata c.write.new.handles) (cell (meaning c.args.word) c.args.handle)
-          (cell (meaning c.one_further-word.result) c.index-handles-slot.result) (meaning (get_or c.write.new.metadata c.after-slot.result (record { word = 0 })))
-          c.args.slot c.after-slot.result c.args.writes.now.total w) (sym c.write.ensures.counted) next;
-      counted = omega (arith, c.loop-there.invariant.counted, c.tick-in-loop-there.ensures.ticked);
-      reads = omega (arith, c.loop-there.invariant.reads, c.tick-in-loop-there.ensures.ticked, c.write.ensures.counted);
-    }
+    grind (arith, more g before.After-after-slot (within g before.In-loop-there), within g before.In-loop-there)
 
 pub returns-clause-puts : goal.returns-clause-puts
 returns-clause-puts g c = record {

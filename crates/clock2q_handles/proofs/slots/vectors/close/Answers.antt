@@ -29,13 +29,12 @@ more : (g : Over) (c : After-write g) → c.after-next.result < length c.loop-wo
     → CloseState (cells c.args.metadata.now c.args.handles.now) (cells c.write.new.metadata c.write.new.handles)
     c.args.slot c.after-next.result c.args.writes.now.total (c.loop-word.writes.total + 1)
 more g c here on =
-    close_goes (cells c.args.metadata.now c.args.handles.now) (cells c.loop-word.metadata c.loop-word.handles)
-    c.requires.tidy c.args.slot c.loop-word.hole _ _ c.loop-word.invariant.state c.after-next.result on (cells c.write.new.metadata c.write.new.handles)
-    (meaning (get_or c.loop-word.metadata c.after-next.result (record { word = 0 }))) (meaning c.one_nearer.result) c.index-handles-next.result
-    (mark_read_or c.loop-word.metadata c.loop-word.handles c.after-next.result (record { word = 0 }) c.loop-word.invariant.pair.same here)
-    (c.can_move_back.ensures.0 c.if-not-can_move_back.false) c.one_nearer.ensures
-    (handle_read_at c.loop-word.metadata c.loop-word.handles c.after-next.result c.index-handles-next.result c.loop-word.invariant.pair.same here c.index-handles-next.is)
-    c.write.ensures.written
+    grind (
+      arith,
+      close_goes (cells c.args.metadata.now c.args.handles.now) (cells c.loop-word.metadata c.loop-word.handles) c.requires.tidy c.args.slot c.loop-word.hole _ _ c.loop-word.invariant.state c.after-next.result on (cells c.write.new.metadata c.write.new.handles) (meaning (get_or c.loop-word.metadata c.after-next.result (record { word = 0 }))) (meaning c.one_nearer.result) c.index-handles-next.result (mark_read_or c.loop-word.metadata c.loop-word.handles c.after-next.result (record { word = 0 }) c.loop-word.invariant.pair.same here) (c.can_move_back.ensures.0 c.if-not-can_move_back.false) c.one_nearer.ensures (handle_read_at c.loop-word.metadata c.loop-word.handles c.after-next.result c.index-handles-next.result c.loop-word.invariant.pair.same here c.index-handles-next.is) c.write.ensures.written,
+      mark_read_or c.loop-word.metadata c.loop-word.handles c.after-next.result (record { word = 0 }) c.loop-word.invariant.pair.same here,
+      handle_read_at c.loop-word.metadata c.loop-word.handles c.after-next.result c.index-handles-next.result c.loop-word.invariant.pair.same here c.index-handles-next.is,
+    )
 
 pub loop-word-smaller : goal.loop-word-smaller
 loop-word-smaller g c =

@@ -1,8 +1,7 @@
-use Rattle.std.proofs.Common.{◌+◌, ◌^◌, ◌<◌, length, ap, sym, ◌∙◌, subst, arith}
-use Rattle.clock2q_handles.specs.Layout.{homes_of, walk}
+use Rattle.std.proofs.Common.{◌+◌, ◌^◌, ◌<◌, length, sym, subst, arith}
+use Rattle.clock2q_handles.specs.Layout.{homes_of}
 use Rattle.clock2q_handles.specs.Homes.{total, capacity}
 use Rattle.clock2q_handles.specs.Shifts.{HasRoomAt}
-use Rattle.clock2q_handles.specs.TableStep.{table_value}
 use Rattle.clock2q_handles.proofs.shifts.Insertions.{few_room}
 use Rattle.clock2q_handles.proofs.layout.TidyLayout.{length-homes_of}
 use Rattle.clock2q_handles.proofs.walks.Reads.{ends_reads}
@@ -11,9 +10,7 @@ use Rattle.clock2q_handles.proofs.table.Table.gap.Goals as goal
 pub returns-clause-reads : goal.returns-clause-reads
 returns-clause-reads g c =
     let slots = c.self.inside.slots.slots in
-    let all = ends_reads slots c.self.invariant.tidy c.args.hash c.gap.result.position c.gap.result.mark c.gap.ensures.ends in
-    ap (table_value (homes_of slots) slots c.self.inside.slots.writes) (c.gap.ensures.reads ∙ ap (λ k. c.self.inside.reads.total + k) all)
-    ∙ ap (λ t. table_value t.homes t.slots t.writes (t.reads + walk t.homes c.args.hash)) c.self.view_is
+    grind (arith, ends_reads slots c.self.invariant.tidy c.args.hash c.gap.result.position c.gap.result.mark c.gap.ensures.ends)
 
 pub returns-clause-few : goal.returns-clause-few
 returns-clause-few g c v few =

@@ -1,5 +1,5 @@
 -- An entry is put in at the gap, and another taken out of the slots that this leaves.
-use Rattle.std.proofs.Common.{◌≡◌, ℕ, ◌≤◌, ◌<◌, ◌+◌, ◌-◌, ◌^◌, ◌%◌, true, length, refl, sym, ap, ◌∙◌, subst, arith}
+use Rattle.std.proofs.Common.{◌≡◌, ℕ, ◌≤◌, ◌<◌, ◌+◌, ◌^◌, ◌%◌, true, length, refl, sym, ap, ◌∙◌, subst, arith}
 use Rattle.std.specs.List.{list_any}
 use Rattle.clock2q_handles.specs.Candidates.{EndsAt}
 use Rattle.clock2q_handles.specs.Homes.{capacity, is_entry_of, listed, removed, total}
@@ -85,9 +85,7 @@ taken g c table =
 
 -- as many entries are left as there were
 left : (g : Over) (c : After-take_out g) → IsTable c.put_at.new.self.slots (c.self.inside.len + 1) → IsTable c.take_out.new.self.slots c.self.inside.len
-left g c table =
-    let same : c.self.inside.len + 1 - 1 ≡ c.self.inside.len = omega arith in
-    subst (λ n. IsTable c.take_out.new.self.slots n) same (taken g c table).table
+left g c table = grind (arith, taken g c table)
 
 pub invariant_of-self : goal.invariant_of-self
 invariant_of-self g c =

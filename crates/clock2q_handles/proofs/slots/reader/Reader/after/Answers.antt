@@ -12,5 +12,4 @@ returns-clause-after g c =
 
 pub returns-clause-within : goal.returns-clause-within
 returns-clause-within g c =
-    let below = mod_below (c.args.slot + 1) (length c.args.self.now.slots) (omega (arith, c.requires)) in
-    omega (arith, returns-clause-after g c, below)
+    grind (arith, mod_below (c.args.slot + 1) (length c.args.self.now.slots) (omega (arith, c.requires)), returns-clause-after g c)

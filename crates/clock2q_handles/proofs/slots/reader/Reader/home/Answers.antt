@@ -10,6 +10,4 @@ returns-clause-home g c some =
     ap (bit_and c.args.hash) mask ∙ slot_mask c.args.hash (length c.self.inside.metadata.items.now) c.self.invariant.slot_count (omega (arith, some, len)) ∙ ap (λ m. c.args.hash % m) len
 
 pub returns-clause-within : goal.returns-clause-within
-returns-clause-within g c some =
-    let below = mod_below c.args.hash (length c.args.self.now.slots) some in
-    omega (arith, returns-clause-home g c some, below)
+returns-clause-within g c some = grind (arith, mod_below c.args.hash (length c.args.self.now.slots) some, returns-clause-home g c some)

@@ -1,8 +1,7 @@
 use Rattle.std.proofs.Common.{◌≡◌, ◌+◌, ◌%◌, [], ◌∷◌, ◌++◌, length, true, false, None, IfSome, refl, sym, ap, ◌∙◌, subst, arith}
 use Rattle.std.proofs.lemmas.List.{append_assoc}
 use Rattle.std.specs.Fn.{Called}
-use Rattle.std.specs.Prelude.{IsSome}
-use Rattle.clock2q_handles.specs.Candidates.{left_at, left_from, unread_at, IsLookup, IsWalkFor, EndsAt}
+use Rattle.clock2q_handles.specs.Candidates.{left_at, IsWalkFor, EndsAt}
 use Rattle.clock2q_handles.specs.Layout.{slot_at}
 use Rattle.clock2q_handles.specs.Offers.{Offers, TakesInTurn}
 use Rattle.clock2q_handles.specs.Slots.{sought, mark_of, mark_on}
@@ -19,21 +18,12 @@ loop-end-init g c =
     let slots = c.args.self.now.slots in
     let x = c.args.hash in
     let n = c.home-slot.result in
-    let whole = begins_whole slots x n c.requires.tidy c.requires.near c.requires.some (c.home-slot.ensures.home c.requires.some) in
-    let at = sym c.new-wanted.ensures in
-    let left : left_from slots x 0 ≡ left_at slots (sought c.new-wanted.result) n = sym whole.0 ∙ ap (λ s. left_at slots s n) at in
-    record {
-      same = refl;
-      lookup = subst (λ s. IsLookup slots s n) at (lookup_begins slots x n c.requires.tidy c.requires.near c.requires.some (c.home-slot.ensures.home c.requires.some));
-      some = subst IsSome at refl;
-      walk = walks_begin slots c.requires.tidy x (sought c.new-wanted.result) n c.requires.some (c.home-slot.ensures.home c.requires.some) c.new-wanted.ensures;
-      reads = omega arith;
-      read = ap (λ s. c.args.self.now.reads + unread_at slots s n) c.new-wanted.ensures ∙ ap (λ k. c.args.self.now.reads + k) whole.1;
-      handles = ap (λ hs. c.args.self.now.handles + length hs) (sym left);
-      rejected = ([], left, (refl, refl));
-      callable = subst (λ hs. TakesInTurn g.F.FnMut c.args.matches.now hs) left c.requires.callable.in_turn;
-      offers = λ found last given. subst (λ hs. Offers g.F.FnMut c.args.matches.now hs found last) (sym left) given;
-    }
+    grind (
+      arith,
+      begins_whole slots x n c.requires.tidy c.requires.near c.requires.some (c.home-slot.ensures.home c.requires.some),
+      lookup_begins slots x n c.requires.tidy c.requires.near c.requires.some (c.home-slot.ensures.home c.requires.some),
+      walks_begin slots c.requires.tidy x (sought c.new-wanted.result) n c.requires.some (c.home-slot.ensures.home c.requires.some) c.new-wanted.ensures,
+    )
 
 pub returns-in-Err-clause-ends : goal.returns-in-Err-clause-ends
 returns-in-Err-clause-ends g c =
@@ -48,9 +38,7 @@ found : (g : Over) (c : After-handle-handle g)
 found g c =
     let is = c.in-Ok.ensures in
     let handle = subst (λ s. IfSome (slot_at s c.in-Ok.here) (λ p. c.handle-handle.result ≡ p.entry.1)) c.candidate.ensures.same c.handle-handle.ensures.handle in
-    subst (λ s. HasFound s (sought c.loop-end.wanted) (sought c.in-Ok.found)
-    c.loop-end.slot c.in-Ok.here c.handle-handle.result c.loop-end.self.reads c.candidate.new.self.reads) c.loop-end.invariant.same
-    (has_found c.loop-end.self.slots c.handle-handle.result is.lookup is.some is.found is.left handle is.read)
+    grind (arith, has_found c.loop-end.self.slots c.handle-handle.result is.lookup is.some is.found is.left handle is.read)
 
 -- the walk reached it
 came : (g : Over) (c : After-handle-handle g) → IsWalkFor c.args.self.now.slots c.args.hash (sought c.in-Ok.found) c.in-Ok.here

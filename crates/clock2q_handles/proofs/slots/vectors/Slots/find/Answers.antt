@@ -86,15 +86,9 @@ loop-handle-preserved g c =
 pub returns-then-eq-clause-reads : goal.returns-then-eq-clause-reads
 returns-then-eq-clause-reads g c =
     let l = c.loop-handle.invariant.come in
-    let within = come_reads c.args.self.now.slots c.requires.tidy c.args.hash l.0 c.loop-handle.slot l.1 in (
-      omega (arith, c.loop-handle.invariant.reads, c.read-metadata.ensures.counted, ap mark_reach l.2),
-      omega (arith, c.loop-handle.invariant.reads, c.read-metadata.ensures.counted, ap mark_reach l.2, within),
-    )
+    grind (arith, come_reads c.args.self.now.slots c.requires.tidy c.args.hash l.0 c.loop-handle.slot l.1)
 
 pub returns-then-ends_walk_for-clause-reads : goal.returns-then-ends_walk_for-clause-reads
 returns-then-ends_walk_for-clause-reads g c =
     let l = c.loop-handle.invariant.come in
-    let within = come_reads c.args.self.now.slots c.requires.tidy c.args.hash l.0 c.loop-handle.slot l.1 in (
-      omega (arith, c.loop-handle.invariant.reads, c.read-metadata.ensures.counted, ap mark_reach l.2),
-      omega (arith, c.loop-handle.invariant.reads, c.read-metadata.ensures.counted, ap mark_reach l.2, within),
-    )
+    grind (arith, come_reads c.args.self.now.slots c.requires.tidy c.args.hash l.0 c.loop-handle.slot l.1)

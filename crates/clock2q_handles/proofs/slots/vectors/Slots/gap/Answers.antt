@@ -1,5 +1,4 @@
-use Rattle.std.proofs.Common.{◌≡◌, ◌%◌, suc, Some, length, arith, ap, sym, subst}
-use Rattle.clock2q_handles.specs.Candidates.{EndsAt}
+use Rattle.std.proofs.Common.{◌≡◌, ◌%◌, suc, Some, length, arith, ap}
 use Rattle.clock2q_handles.specs.Homes.{top}
 use Rattle.clock2q_handles.specs.Shifts.{HasCome}
 use Rattle.clock2q_handles.specs.Slots.{sought, mark_reach}
@@ -35,11 +34,7 @@ pub returns : goal.returns
 returns g c =
     let slots = c.args.self.now.slots in
     let l = c.loop-slot.invariant.come in
-    let near =
-    looks_end slots c.requires.tidy 0 (top c.args.hash) l.0 c.loop-slot.slot c.ends_walk_for.result
-    (sought c.loop-slot.wanted) _ l.2 c.ends_walk_for.ensures c.loop-slot-test.false c.read.ensures.meaning in
-    record {
-      ends = subst (λ e. EndsAt slots c.args.hash e.mark e.position) (sym c.new.ensures)
-          (record { walk = record { distance = l.0; come = l.1; mark = l.2 }; stop = omega (arith, near, ap mark_reach l.2) });
-      reads = omega (arith, c.loop-slot.invariant.reads, c.read.ensures.counted, ap (λ e. mark_reach e.mark) c.new.ensures);
-    }
+    grind (
+      arith,
+      looks_end slots c.requires.tidy 0 (top c.args.hash) l.0 c.loop-slot.slot c.ends_walk_for.result (sought c.loop-slot.wanted) _ l.2 c.ends_walk_for.ensures c.loop-slot-test.false c.read.ensures.meaning,
+    )

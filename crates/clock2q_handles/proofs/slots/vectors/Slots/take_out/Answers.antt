@@ -4,12 +4,11 @@ use Rattle.clock2q_handles.proofs.slots.vectors.Slots.take_out.Goals as goal
 
 pub returns : goal.returns
 returns g c =
-    let new = cells_back c.close.new.metadata c.self.inside.metadata.items c.close.new.handles c.self.inside.handles.items
-    c.self.inside.metadata.len c.self.inside.handles.len
-    (omega (arith, c.close.ensures.len, c.as_mut_slice.ensures.len, ap length c.as_mut_slice.ensures.value, c.self.inside.metadata.ok.0))
-    (omega (arith, c.close.ensures.len, c.close.ensures.pair.same, c.as_mut_slice.ensures.len, ap length c.as_mut_slice.ensures.value, c.self.invariant.same, c.self.inside.handles.ok.0)) in
+    let new = cells_back c.close.new.metadata c.self.inside.metadata.items c.close.new.handles c.self.inside.handles.items c.self.inside.metadata.len c.self.inside.handles.len (omega (arith, c.close.ensures.len, c.as_mut_slice.ensures.len, ap length c.as_mut_slice.ensures.value, c.self.inside.metadata.ok.0)) (omega (arith, c.close.ensures.len, c.close.ensures.pair.same, c.as_mut_slice.ensures.len, ap length c.as_mut_slice.ensures.value, c.self.invariant.same, c.self.inside.handles.ok.0)) in
     let old = cells_along c.as_mut_slice.ensures.value c.as_mut_slice-2.ensures.value ∙ ap (λ s. s.slots) c.self.view_is in
-    record {
-      taken = takes_at_along c.close.ensures.taken old new (ap (λ s. s.writes) c.self.view_is);
-      reads = omega (arith, c.close.ensures.reads, ap (λ s. s.writes) c.self.view_is);
-    }
+    grind (
+      arith,
+      cells_back c.close.new.metadata c.self.inside.metadata.items c.close.new.handles c.self.inside.handles.items c.self.inside.metadata.len c.self.inside.handles.len (omega (arith, c.close.ensures.len, c.as_mut_slice.ensures.len, ap length c.as_mut_slice.ensures.value, c.self.inside.metadata.ok.0)) (omega (arith, c.close.ensures.len, c.close.ensures.pair.same, c.as_mut_slice.ensures.len, ap length c.as_mut_slice.ensures.value, c.self.invariant.same, c.self.inside.handles.ok.0)),
+      cells_along c.as_mut_slice.ensures.value c.as_mut_slice-2.ensures.value,
+      takes_at_along c.close.ensures.taken old new (ap (λ s. s.writes) c.self.view_is),
+    )
