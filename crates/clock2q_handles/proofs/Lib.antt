@@ -1,4 +1,4 @@
--- Lemmas by subject, and each function's own proof in the folder of its path.
+-- Lemmas by subject, and each function's own proof in the folder of its path; where named lemmas suffice for it, its attribute names them.
 --
 -- Letters that all of them use:
 --   x y        a hash, or a slot number that wraps past the last slot
