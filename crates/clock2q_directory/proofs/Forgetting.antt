@@ -9,9 +9,9 @@ use Rattle.clock2q_directory.specs.Index.{IndexState, forgotten_at}
 use Rattle.clock2q_directory.specs.declared.keys.store.Entry.{Entry}
 use Rattle.clock2q_queues.specs.Rings.{has, without, AllBelow}
 use Rattle.clock2q_queues.specs.Order.{PlaceOrder, IsWholeOrder, used}
-use Rattle.clock2q_directory.specs.Keys.{KeyPlaces, hashed_at, entries_of, is_key_at}
+use Rattle.clock2q_directory.specs.Keys.{KeyPlaces, hash_at, hashed_at, entries_of, is_key_at}
 use Rattle.clock2q_directory.specs.Indexes.{IsIndex, AllDistinct, HasHash, has_key}
-use Rattle.clock2q_directory.specs.History.{IsHistory, forgotten, remembered, accesses_of, places_with, places_from, place_of, freed_place}
+use Rattle.clock2q_directory.specs.History.{Remembered, IsHistory, forgotten, remembered_from, accesses_of, places_with, places_from, place_of, freed_place}
 use Rattle.clock2q_queues.specs.Cells.{Rises}
 use Rattle.clock2q_queues.proofs.Rings.{has_first, has_later, below_of, AllApart-left, AllBelow-left}
 use Rattle.clock2q_queues.proofs.Joining.{length-without}
@@ -97,89 +97,83 @@ module _ {K V : Type 0} (eq : K → K → Bool) where
         | inr k ↦ rw (same, k) rest
       ]
 
-  -- a key that was there was forgotten
-  pub record Forgets (hash : ℕ) (key : K) (index : IndexState) (order : PlaceOrder)
-      (keys : KeyPlaces K V) (index' : IndexState) (order' : PlaceOrder) (keys' : KeyPlaces K V) : Type 0 where
-    pub whole : IsHistory eq index' order' keys'
-    pub shown : remembered (entries_of keys'.entries order'.places) order'.limit (places_from index' order') (accesses_of order' keys') keys'.comparisons
-        ≡ remembered (forgotten eq key (entries_of keys.entries order.places)) order.limit (places_from index' order') (accesses_of order' keys') keys'.comparisons
-    pub accesses : Rises 0 7 (accesses_of order keys) (accesses_of order' keys')
-    pub found : has_key eq key (entries_of keys.entries order.places) ≡ true
-    pub places : places_from index' order' ≡ freed_place hash (place_of (eq key) (map (λ (e : ℕ × K). e.1) (entries_of keys.entries order.places)) order.places) (places_from index order)
+  -- a key that this history had was forgotten
+  pub record Forgets (hash : ℕ) (key : K) (old : Remembered K) (index : IndexState) (order : PlaceOrder) (keys : KeyPlaces K V) : Type 0 where
+    pub whole : IsHistory eq index order keys
+    pub found : has_key eq key old.entries ≡ true
+    pub forgotten : remembered_from index order keys ≡ record old { entries = forgotten eq key old.entries; places = places_from index order; accesses = accesses_of order keys }
+    pub accesses : Rises 0 7 old.accesses (accesses_of order keys)
+    pub places : places_from index order ≡ freed_place hash (place_of (eq key) (map (λ (e : ℕ × K). e.1) old.entries) old.places.taken) old.places
 
-  module _ (laws : IsEquivalence eq) (hash : ℕ) (key : K) (index : IndexState) (order : PlaceOrder) (keys : KeyPlaces K V) (h : IsHistory eq index order keys)
-      (hashed : HasHash eq hash key (entries_of keys.entries order.places)) where
-    looked : find (is_key_at eq key keys.entries) (candidates (known.places index) hash) ≡ find (is_key_at eq key keys.entries) order.places
-    looked = lookup eq hash key (known.places index) keys.entries order.places h.indexed hashed laws h.distinct
+module _ {K V : Type 0} {eq : K → K → Bool} (laws : IsEquivalence eq) (hash : ℕ) (key : K) {index : IndexState} {order : PlaceOrder} {keys : KeyPlaces K V} (h : IsHistory eq index order keys)
+    (hashed : HasHash eq hash key (entries_of keys.entries order.places)) where
+  -- the place that the view has, and the one that a search finds
+  abbrev pub place_shown : Option ℕ
+  place_shown = place_of (eq key) (map (λ (e : ℕ × K). e.1) (entries_of keys.entries order.places)) order.places
 
-    pub placed : place_of (eq key) (map (λ (e : ℕ × K). e.1) (entries_of keys.entries order.places)) order.places ≡ find (is_key_at eq key keys.entries) (candidates (known.places index) hash)
-    placed = place_beside key keys.entries (used order) order.places (omega (arith, h.as_many)) (AllBelow-left (used order) order.places order.free h.whole.below) ∙ sym looked
+  beside : place_shown ≡ find (is_key_at eq key keys.entries) order.places
+  beside = place_beside eq key keys.entries (used order) order.places (omega (arith, h.as_many)) (AllBelow-left (used order) order.places order.free h.whole.below)
 
-    -- a key that isn't found isn't remembered
-    pub missed : None ≡ find (is_key_at eq key keys.entries) (candidates (known.places index) hash)
-        → (has_key eq key (entries_of keys.entries order.places) ≡ false) × (forgotten eq key (entries_of keys.entries order.places) ≡ entries_of keys.entries order.places)
-    missed none = forgets_none key keys.entries order.places (not_found (is_key_at eq key keys.entries) order.places (none ∙ looked))
+  pub placed : place_shown ≡ find (is_key_at eq key keys.entries) (candidates (known.places index) hash)
+  placed = beside ∙ sym (lookup eq hash key (known.places index) keys.entries order.places h.indexed hashed laws h.distinct)
 
-    module _ (place : ℕ) (found : Some place ≡ find (is_key_at eq key keys.entries) (candidates (known.places index) hash)) where
-      there : (has place order.places ≡ true) × (is_key_at eq key keys.entries place ≡ true)
-      there = found_there (is_key_at eq key keys.entries) order.places place (found ∙ looked)
+  -- a key that has no place isn't remembered
+  pub missed : None ≡ place_shown → (has_key eq key (entries_of keys.entries order.places) ≡ false) × (forgotten eq key (entries_of keys.entries order.places) ≡ entries_of keys.entries order.places)
+  missed none = forgets_none eq key keys.entries order.places (not_found (is_key_at eq key keys.entries) order.places (none ∙ beside))
 
-      pub place_there : has place order.places ≡ true
-      place_there = there.0
+  module _ {place : ℕ} (found : Some place ≡ place_shown) where
+    there : (has place order.places ≡ true) × (is_key_at eq key keys.entries place ≡ true)
+    there = found_there (is_key_at eq key keys.entries) order.places place (found ∙ beside)
 
-      pub place_short : place < 2 ^ 24
-      place_short = omega (arith, below_of (used order) order.places (AllBelow-left (used order) order.places order.free h.whole.below) place there.0, h.whole.within, h.short)
+    pub place_there : has place order.places ≡ true
+    place_there = there.0
 
-      pub place_held : has place (candidates (known.places index) hash) ≡ true
-      place_held =
-          let at = hash_there eq hash key (known.places index) keys.entries order.places h.indexed hashed place there.0 there.1 in
-          h.indexed.listed hash place ∙ rw (there.0, named-own (known.places index) keys.entries hash place at) refl
+    pub place_short : place < 2 ^ 24
+    place_short = omega (arith, below_of (used order) order.places (AllBelow-left (used order) order.places order.free h.whole.below) place there.0, h.whole.within, h.short)
 
-      others_differ : (t : ℕ) → has t order.places ≡ true → eqb t place ≡ false → is_key_at eq key keys.entries t ≡ false
-      others_differ t g d = elim (cases_Bool (is_key_at eq key keys.entries t)) [
-        | inl k ↦ absurd (both_ways (eqb t place) d (same_place eq laws key keys.entries order.places h.distinct t place g there.0 k there.1))
-        | inr k ↦ k
-      ]
+    hash_there_now : hash_at keys.entries place ≡ Some hash
+    hash_there_now = hash_there eq hash key (known.places index) keys.entries order.places h.indexed hashed place there.0 there.1
 
-      pub forgets : (index' : IndexState) (order' : PlaceOrder) (keys' : KeyPlaces K V) → index' ≡ forgotten_at hash place index → IsWholeOrder order'
-          → order' ≡ record order { places = without place order.places; free = place ∷ order.free; accesses = order.accesses + 7 }
-          → keys' ≡ record keys { comparisons = keys'.comparisons } → Forgets hash key index order keys index' order' keys'
-      forgets index' order' keys' is w ordered same =
-          let apart = AllApart-left order.places order.free h.whole.apart in
-          let at = hash_there eq hash key (known.places index) keys.entries order.places h.indexed hashed place there.0 there.1 in
-          let taken = IsIndex-removed (known.places index) keys.entries order.places place hash h.indexed apart at in
-          let places = ap (λ (z : PlaceOrder). z.places) ordered in
-          let limit = ap (λ (z : PlaceOrder). z.limit) ordered in
-          let entries' = ap (λ (z : KeyPlaces K V). z.entries) same in
-          let entries : entries_of keys'.entries order'.places ≡ forgotten eq key (entries_of keys.entries order.places) =
-          ap (λ z. entries_of z order'.places) entries' ∙ ap (λ z. entries_of keys.entries z) places ∙ forgets_one key keys.entries place order.places there.1 others_differ in
-          let e = key_there eq key keys.entries place there.1 in
-          let like = forgotten-like index hash place in
-          let shared : known.is_shared index' ≡ known.is_shared index = ap (λ z. known.is_shared z) is ∙ like.shared in
-          let slot_count : length (known.places index') ≡ length (known.places index) = ap (λ z. length (known.places z)) is ∙ like.places in
-          let count : used order' ≡ used order =
-          omega (arith, ap (λ (z : PlaceOrder). length z.places) ordered, ap (λ (z : PlaceOrder). length z.free) ordered, length-without place order.places apart there.0) in
-          record {
-            whole = record {
-              whole = w;
-              indexed =
-                  subst (λ z. IsIndex (known.places index') z order'.places) (sym entries')
-                  (subst (λ z. IsIndex (known.places index') keys.entries z) (sym places)
-                  (subst (λ z. IsIndex z keys.entries (without place order.places)) (sym (ap (λ z. known.places z) is ∙ places-forgotten index hash place)) taken));
-              distinct = subst (λ z. AllDistinct eq z) (sym entries) (distinct-forgotten eq key (entries_of keys.entries order.places) h.distinct);
-              as_many = ap (λ (z : List (Entry K V)). length z) entries' ∙ h.as_many ∙ sym count;
-              room = rw (limit, ap (λ (z : KeyPlaces K V). z.room) same) h.room;
-              some = rw (limit, slot_count) h.some;
-              own_room = λ own. rw (limit, slot_count) (h.own_room (sym shared ∙ own));
-              short = rw limit h.short;
-            };
-            shown = shown-as _ _ entries limit refl;
-            accesses =
-                let n = ap (λ (z : PlaceOrder). z.accesses) ordered in
-                let m = ap (λ (z : KeyPlaces K V). z.writes) same in
-                (omega (arith, n, m), omega (arith, n, m));
-            found = any_entry eq key keys.entries order.places place e.0 there.0 e.1 e.2;
-            places = ap (λ z. places_with z order'.places order'.free) is ∙ ap (λ z. places_with (forgotten_at hash place index) z order'.free) places
-                ∙ ap (λ z. places_with (forgotten_at hash place index) (without place order.places) z) (ap (λ (z : PlaceOrder). z.free) ordered)
-                ∙ ap (λ z. freed_place hash z (places_from index order)) (found ∙ sym placed);
-          }
+    pub place_held : has place (candidates (known.places index) hash) ≡ true
+    place_held = h.indexed.listed hash place ∙ rw (there.0, named-own (known.places index) keys.entries hash place hash_there_now) refl
+
+    others_differ : (t : ℕ) → has t order.places ≡ true → eqb t place ≡ false → is_key_at eq key keys.entries t ≡ false
+    others_differ t g d = elim (cases_Bool (is_key_at eq key keys.entries t)) [
+      | inl k ↦ absurd (both_ways (eqb t place) d (same_place eq laws key keys.entries order.places h.distinct t place g there.0 k there.1))
+      | inr k ↦ k
+    ]
+
+    pub forgets : {order' : PlaceOrder} → IsWholeOrder order' → order' ≡ record order { places = without place order.places; free = place ∷ order.free; accesses = order.accesses + 7 }
+        → Forgets eq hash key (remembered_from index order keys) (forgotten_at hash place index) order' keys
+    forgets {order'} w ordered =
+        let apart = AllApart-left order.places order.free h.whole.apart in
+        let taken = IsIndex-removed (known.places index) keys.entries order.places place hash h.indexed apart hash_there_now in
+        let places = ap (λ (z : PlaceOrder). z.places) ordered in
+        let limit = ap (λ (z : PlaceOrder). z.limit) ordered in
+        let spent = ap (λ (z : PlaceOrder). z.accesses) ordered in
+        let entries : entries_of keys.entries order'.places ≡ forgotten eq key (entries_of keys.entries order.places) =
+        ap (λ z. entries_of keys.entries z) places ∙ forgets_one eq key keys.entries place order.places there.1 others_differ in
+        let e = key_there eq key keys.entries place there.1 in
+        let like = forgotten-like index hash place in
+        let count : used order' ≡ used order =
+        omega (arith, ap (λ (z : PlaceOrder). length z.places) ordered, ap (λ (z : PlaceOrder). length z.free) ordered, length-without place order.places apart there.0) in
+        record {
+          whole = record {
+            whole = w;
+            indexed =
+                subst (λ z. IsIndex (known.places (forgotten_at hash place index)) keys.entries z) (sym places)
+                (subst (λ z. IsIndex z keys.entries (without place order.places)) (sym (places-forgotten index hash place)) taken);
+            distinct = subst (λ z. AllDistinct eq z) (sym entries) (distinct-forgotten eq key (entries_of keys.entries order.places) h.distinct);
+            as_many = h.as_many ∙ sym count;
+            room = rw limit h.room;
+            some = rw (limit, like.places) h.some;
+            own_room = λ own. rw (limit, like.places) (h.own_room (sym like.shared ∙ own));
+            short = rw limit h.short;
+          };
+          found = any_entry eq key keys.entries order.places place e.0 there.0 e.1 e.2;
+          forgotten = shown-as _ _ entries limit refl;
+          accesses = (omega (arith, spent), omega (arith, spent));
+          places = ap (λ z. places_with (forgotten_at hash place index) z order'.free) places
+              ∙ ap (λ z. places_with (forgotten_at hash place index) (without place order.places) z) (ap (λ (z : PlaceOrder). z.free) ordered)
+              ∙ ap (λ z. freed_place hash z (places_from index order)) found;
+        }

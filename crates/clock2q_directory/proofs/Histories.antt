@@ -7,9 +7,9 @@ use Rattle.clock2q_queues.specs.Order.{PlaceOrder, IsWholeOrder, unused, used}
 use Rattle.clock2q_directory.specs.Keys.{KeyPlaces, entries_of}
 use Rattle.clock2q_directory.specs.Indexes.{IsIndex, AllDistinct}
 use Rattle.clock2q_directory.specs.Index as known
-use Rattle.clock2q_directory.specs.Index.{IndexState, beside, emptied, index_for, is_shared, HasSlotRoom, HasRoomBeside}
+use Rattle.clock2q_directory.specs.Index.{IndexState, emptied, index_for, is_shared, HasSlotRoom, HasRoomBeside}
 use Rattle.clock2q_directory.specs.Directory.{IsWithinRoom}
-use Rattle.clock2q_directory.specs.History.{Places, Remembered, HasRoom, IsHistory, IsWholeHistory, remembered, places_from, accesses_of}
+use Rattle.clock2q_directory.specs.History.{Places, HasRoom, IsHistory, IsWholeHistory, remembered, remembered_from}
 use Rattle.clock2q_queues.proofs.Rings.{AllBelow-left}
 use Rattle.clock2q_directory.proofs.Entries.{length-entries}
 use Rattle.clock2q_directory.proofs.Emptied.{for-new, new-none, emptied-places, cleared_like}
@@ -35,13 +35,13 @@ module _ {K V : Type 0} (eq : K → K → Bool) where
         short = short;
       }
 
-  pub entries_counted : (index : IndexState) (order : PlaceOrder) (keys : KeyPlaces K V) → IsHistory eq index order keys → length (entries_of keys.entries order.places) ≡ length order.places
-  entries_counted index order keys h = length-entries keys.entries (used order) order.places (omega (arith, h.as_many)) (AllBelow-left (used order) order.places order.free h.whole.below)
+module _ {K V : Type 0} {eq : K → K → Bool} {index : IndexState} {order : PlaceOrder} {keys : KeyPlaces K V} (h : IsHistory eq index order keys) where
+  pub entries_counted : length (entries_of keys.entries order.places) ≡ length order.places
+  entries_counted = length-entries keys.entries (used order) order.places (omega (arith, h.as_many)) (AllBelow-left (used order) order.places order.free h.whole.below)
 
   -- an index in which the places are the same
-  pub IsHistory-index : (index index' : IndexState) (order : PlaceOrder) (keys : KeyPlaces K V) → IsHistory eq index order keys
-      → known.places index' ≡ known.places index → is_shared index' ≡ is_shared index → IsHistory eq index' order keys
-  IsHistory-index index index' order keys h same shared = record {
+  pub IsHistory-index : {index' : IndexState} → known.places index' ≡ known.places index → is_shared index' ≡ is_shared index → IsHistory eq index' order keys
+  IsHistory-index same shared = record {
     whole = h.whole;
     indexed = rw same h.indexed;
     distinct = h.distinct;
@@ -53,34 +53,21 @@ module _ {K V : Type 0} (eq : K → K → Bool) where
   }
 
   -- room beside the most places that there may be is room beside those that there are
-  pub slot-room : (index : IndexState) (order : PlaceOrder) (keys : KeyPlaces K V) (h : Remembered K) → IsHistory eq index order keys
-      → remembered (entries_of keys.entries order.places) order.limit (places_from index order) (accesses_of order keys) keys.comparisons ≡ h → HasRoom h → HasSlotRoom index
-  slot-room index order keys h i is room =
-      let r : HasRoom (remembered (entries_of keys.entries order.places) order.limit (places_from index order) (accesses_of order keys) keys.comparisons) = subst (λ z. HasRoom z) (sym is) room in
-      let most = beside_most (is_shared index) (total (known.places index)) order.limit (omega (arith, i.indexed.counted, i.whole.within)) in
-      record { room = omega (arith, r.room, most); few = omega (arith, r.few, most) }
+  beside-most : (if is_shared index then total (known.places index) else 0) ≤ (if is_shared index then order.limit + 1 else 0)
+  beside-most = beside_most (is_shared index) (total (known.places index)) order.limit (omega (arith, h.indexed.counted, h.whole.within))
 
-  -- so no run is too long
-  pub few-entries : (index : IndexState) (order : PlaceOrder) (keys : KeyPlaces K V) (h : Remembered K) → IsHistory eq index order keys
-      → remembered (entries_of keys.entries order.places) order.limit (places_from index order) (accesses_of order keys) keys.comparisons ≡ h → IsWithinRoom h
-      → total (known.slots index) + beside index < 2 ^ 24
-  few-entries index order keys h i is room =
-      let r : IsWithinRoom (remembered (entries_of keys.entries order.places) order.limit (places_from index order) (accesses_of order keys) keys.comparisons) = subst (λ z. IsWithinRoom z) (sym is) room in
-      omega (arith, r.few, beside_most (is_shared index) (total (known.places index)) order.limit (omega (arith, i.indexed.counted, i.whole.within)))
+  pub slot-room : HasRoom (remembered_from index order keys) → HasSlotRoom index
+  slot-room r = record { room = omega (arith, r.room, beside-most); few = omega (arith, r.few, beside-most) }
 
-  -- and one entry more fits if they share a table
-  pub beside-room : (index : IndexState) (order : PlaceOrder) (keys : KeyPlaces K V) (h : Remembered K) → IsHistory eq index order keys
-      → remembered (entries_of keys.entries order.places) order.limit (places_from index order) (accesses_of order keys) keys.comparisons ≡ h → IsWithinRoom h → HasRoomBeside index
-  beside-room index order keys h i is room =
-      let r : IsWithinRoom (remembered (entries_of keys.entries order.places) order.limit (places_from index order) (accesses_of order keys) keys.comparisons) = subst (λ z. IsWithinRoom z) (sym is) room in
-      let spare : is_shared index ≡ true → (if is_shared index then total (known.places index) else 0) < (if is_shared index then order.limit + 1 else 0) = (λ shared.
-      omega (arith, i.indexed.counted, i.whole.within, ap (λ b. if b then total (known.places index) else 0) shared, ap (λ b. if b then order.limit + 1 else 0) shared)) in
-      record { room = λ shared. omega (arith, r.room, spare shared); few = λ shared. omega (arith, r.few, spare shared) }
+  pub beside-room : IsWithinRoom (remembered_from index order keys) → HasRoomBeside index
+  beside-room r =
+      let less : is_shared index ≡ true → (if is_shared index then total (known.places index) else 0) < (if is_shared index then order.limit + 1 else 0) = (λ shared.
+      omega (arith, h.indexed.counted, h.whole.within, ap (λ b. if b then total (known.places index) else 0) shared, ap (λ b. if b then order.limit + 1 else 0) shared)) in
+      record { few = omega (arith, r.few, beside-most); spare = λ shared. record { room = omega (arith, r.room, less shared); few = omega (arith, r.few, less shared) } }
 
-  pub IsHistory-cleared : (index : IndexState) (order order' : PlaceOrder) (keys keys' : KeyPlaces K V) → IsHistory eq index order keys
-      → IsWholeOrder order' → order'.places ≡ [] → order'.free ≡ [] → order'.limit ≡ order.limit
+  pub IsHistory-cleared : {order' : PlaceOrder} {keys' : KeyPlaces K V} → IsWholeOrder order' → order'.places ≡ [] → order'.free ≡ [] → order'.limit ≡ order.limit
       → keys'.entries ≡ [] → keys'.room ≡ keys.room → IsHistory eq (emptied index) order' keys'
-  IsHistory-cleared index order order' keys keys' h w places free limit none room =
+  IsHistory-cleared {order'} {keys'} w places free limit none room =
       let l = cleared_like index in
       record {
         whole = w;
@@ -101,10 +88,10 @@ pub shown-as : {K : Type 0} {entries entries' : List (ℕ × K)} {limit limit' :
 shown-as {K} {entries} {entries'} {limit} {limit'} places accesses {comparisons} {comparisons'} e l q =
     ap (λ z. remembered z limit' places accesses comparisons') e ∙ ap (λ z. remembered entries z places accesses comparisons') l ∙ ap (λ z. remembered entries limit places accesses z) q
 
-pub IsWholeHistory-from : {K : Type 0} (eq : K → K → Bool) (index : IndexState) (order : PlaceOrder) (keys : KeyPlaces K Unit) (accesses comparisons : ℕ) → IsHistory eq index order keys
-    → IsWholeHistory eq (remembered (entries_of keys.entries order.places) order.limit (places_from index order) accesses comparisons)
-IsWholeHistory-from eq index order keys accesses comparisons h =
-    let n = entries_counted eq index order keys h in
+pub IsWholeHistory-from : {K : Type 0} {eq : K → K → Bool} {index : IndexState} {order : PlaceOrder} {keys : KeyPlaces K Unit} → IsHistory eq index order keys
+    → IsWholeHistory eq (remembered_from index order keys)
+IsWholeHistory-from {keys = keys} h =
+    let n = entries_counted h in
     record {
       distinct = h.distinct;
       within = omega (arith, n, h.whole.within);

@@ -11,9 +11,9 @@ use Rattle.clock2q_handles.specs.Positions.{GapValue, gap_of}
 use Rattle.clock2q_directory.specs.Index as known
 use Rattle.clock2q_directory.specs.Index.{IndexState, IsGapFor, first_remembered, unpacked, is_shared, slots_among, places_among}
 use Rattle.clock2q_queues.specs.Order.{PlaceOrder}
-use Rattle.clock2q_directory.specs.Keys.{KeyPlaces, entries_of, is_key_at}
+use Rattle.clock2q_directory.specs.Keys.{KeyPlaces, is_key_at}
 use Rattle.clock2q_directory.specs.Indexes.{HasHash}
-use Rattle.clock2q_directory.specs.History.{Remembered, IsHistory, remembered, places_from, accesses_of, place_of, found_slot, found_place, found_gap, first_known}
+use Rattle.clock2q_directory.specs.History.{Remembered, IsHistory, remembered_from, place_of, found_slot, found_place, found_gap, first_known}
 use Rattle.clock2q_directory.proofs.Indexes.{candidates_there}
 use Rattle.clock2q_directory.proofs.Lookups.{Asked, begins_with}
 use Rattle.clock2q_directory.proofs.Views.{candidates-slots, candidates-places, candidates-own}
@@ -167,7 +167,7 @@ module _ (a b : ℕ → Bool) (end : Option GapValue) where
 
 -- what the view of a history has in its index under a hash, and as a key's place
 module _ {K V : Type 0} (index : IndexState) (order : PlaceOrder) (keys : KeyPlaces K V) {s : Remembered K}
-    (is : remembered (entries_of keys.entries order.places) order.limit (places_from index order) (accesses_of order keys) keys.comparisons ≡ s) (x : ℕ) where
+    (is : remembered_from index order keys ≡ s) (x : ℕ) where
   pub slots-shown : {handles : List ℕ} → handles ≡ candidates index.shared x → slots_among handles ≡ candidates (known.slots s.places.index) x
   slots-shown at = ap slots_among at ∙ sym (candidates-slots index x) ∙ ap (λ (z : Remembered K). candidates (known.slots z.places.index) x) is
 
@@ -181,7 +181,7 @@ module _ {K V : Type 0} (index : IndexState) (order : PlaceOrder) (keys : KeyPla
       → place_of (eq key) (map (λ e. e.1) s.entries) s.places.taken ≡ find (is_key_at eq key keys.entries) (candidates (known.places index) x)
   place-shown {eq} laws h key hash =
       sym (ap (λ (z : Remembered K). place_of (eq key) (map (λ e. e.1) z.entries) z.places.taken) is)
-      ∙ placed eq laws x key index order keys h (rw (← is) at hash)
+      ∙ placed laws x key h (rw (← is) at hash)
 
 -- what a history's index has under a hash
 module _ {K V : Type 0} {eq : K → K → Bool} {index : IndexState} {order : PlaceOrder} {keys : KeyPlaces K V} (h : IsHistory eq index order keys) (x : ℕ) where

@@ -4,15 +4,15 @@ use Rattle.std.specs.Prelude.{if◌then◌else◌}
 use Rattle.std.specs.List.{last_or}
 use Rattle.std.proofs.lemmas.Bool.{both_ways, cases_Bool, eq-eqb, le-ltb}
 use Rattle.std.proofs.lemmas.List.{length-take}
-use Rattle.clock2q_handles.specs.Homes.{total, capacity, candidates, removed}
+use Rattle.clock2q_handles.specs.Homes.{total, capacity, removed}
 use Rattle.clock2q_directory.specs.Index as known
-use Rattle.clock2q_directory.specs.Index.{IndexState, first_remembered, left, remembered_at, forgotten_at, HasPlaceRoom}
+use Rattle.clock2q_directory.specs.Index.{IndexState, first_remembered, left, remembered_at, forgotten_at, HasPlaceRoom, IsHeld}
 use Rattle.clock2q_directory.specs.declared.keys.store.Entry.{Entry}
 use Rattle.clock2q_queues.specs.Rings.{has}
 use Rattle.clock2q_queues.specs.Order.{PlaceOrder, IsWholeOrder, used, place_for}
-use Rattle.clock2q_directory.specs.Keys.{KeyPlaces, entry, key_places, written, hash_at, hashed_at, entries_of}
+use Rattle.clock2q_directory.specs.Keys.{KeyPlaces, entry, written, hash_at, hashed_at, entries_of}
 use Rattle.clock2q_directory.specs.Indexes.{IsIndex, AllDistinct, has_key}
-use Rattle.clock2q_directory.specs.History.{Places, IsHistory, MakesPlace, remembered, accesses_of, places_with, places_from, pushed_places, freed_place, oldest_hash, taking_free, taking_oldest}
+use Rattle.clock2q_directory.specs.History.{Places, Remembered, IsHistory, MakesPlace, MayRetire, remembered_from, accesses_of, places_with, places_from, pushed_places, freed_place, oldest_hash, taking_free, taking_oldest}
 use Rattle.clock2q_queues.specs.Cells.{Rises}
 use Rattle.clock2q_queues.proofs.Rings.{differs, AllBelow-left}
 use Rattle.clock2q_directory.proofs.Entries.{slice_get-written, slice_get-written_other, length-written, entries-agree, entries-cons, entries-take}
@@ -74,22 +74,21 @@ pub shared-freed : (hash : ℕ) (o : Option ℕ) (p : Places) → known.is_share
 shared-freed hash None p = refl
 shared-freed hash (Some place) p = (forgotten-like p.index hash place).shared
 
--- a key was put at the front
-pub record Remembers {K V : Type 0} (eq : K → K → Bool) (hash slot : ℕ) (key : K) (index : IndexState) (order : PlaceOrder)
-    (keys : KeyPlaces K V) (index' : IndexState) (order' : PlaceOrder) (keys' : KeyPlaces K V) : Type 0 where
-  pub whole : IsHistory eq index' order' keys'
-  pub shown : remembered (entries_of keys'.entries order'.places) order'.limit (places_from index' order') (accesses_of order' keys') keys'.comparisons
-      ≡ remembered (take order.limit ((hash, key) ∷ entries_of keys.entries order.places)) order.limit (places_from index' order') (accesses_of order' keys') keys.comparisons
-  pub accesses : Rises 0 8 (accesses_of order keys) (accesses_of order' keys')
-  pub places : places_from index' order' ≡ pushed_places order.limit hash slot (oldest_hash (λ (e : ℕ × K). e.0) (entries_of keys.entries order.places)) (places_from index order)
+-- a key was put at the front of this history
+pub record Remembers {K : Type 0} (eq : K → K → Bool) (hash slot : ℕ) (key : K) (old : Remembered K) (index : IndexState) (order : PlaceOrder) (keys : KeyPlaces K Unit) : Type 0 where
+  pub whole : IsHistory eq index order keys
+  pub pushed : remembered_from index order keys
+      ≡ record old { entries = take old.limit ((hash, key) ∷ old.entries); places = places_from index order; accesses = accesses_of order keys }
+  pub accesses : Rises 0 8 old.accesses (accesses_of order keys)
+  pub places : places_from index order ≡ pushed_places old.limit hash slot (oldest_hash (λ (e : ℕ × K). e.0) old.entries) old.places
 
-module _ {K V : Type 0} (eq : K → K → Bool) (hash slot : ℕ) (key : K) (value : V) (index index1 index' : IndexState) (order order' : PlaceOrder) (keys keys' : KeyPlaces K V) (place : ℕ)
-    (h : IsHistory eq index order keys) (some : 0 < order.limit) (m : MakesPlace index index1 order order' keys.entries place) where
+module _ {K : Type 0} {eq : K → K → Bool} {index index1 : IndexState} {order order' : PlaceOrder} {keys : KeyPlaces K Unit} {place : ℕ}
+    (h : IsHistory eq index order keys) (m : MakesPlace index index1 order order' keys.entries place) where
   abbrev pub fewer : List ℕ
   fewer = take (order.limit - 1) order.places
 
   fewer_now : total (known.places index1) < order.limit
-  fewer_now = omega (arith, length-take (order.limit - 1) order.places, m.indexed.counted, some)
+  fewer_now = omega (arith, length-take (order.limit - 1) order.places, m.indexed.counted, m.below)
 
   -- a table of the places' own has room for the place
   pub place_room : HasPlaceRoom index1
@@ -102,27 +101,25 @@ module _ {K V : Type 0} (eq : K → K → Bool) (hash slot : ℕ) (key : K) (val
   place_below = omega (arith, m.below, h.short)
 
   -- the slot is still there
-  pub still_held : has slot (candidates (known.slots index) hash) ≡ true → has slot (candidates (known.slots index1) hash) ≡ true
-  still_held held = rw m.slots held
+  pub still_held : {hash slot : ℕ} → IsHeld hash slot index → IsHeld hash slot index1
+  still_held held = record { below = held.below; there = rw m.slots held.there }
 
-  module _ (write : keys' ≡ key_places (written place (entry hash key value) keys.entries) keys.room (keys.writes + 1) keys.comparisons)
-      (below : slot < first_remembered) (held : has slot (candidates (known.slots index) hash) ≡ true)
-      (put : index' ≡ remembered_at hash slot place index1) (w : IsWholeOrder order')
-      (absent : has_key eq key (entries_of keys.entries order.places) ≡ false) where
-    wrote : keys'.entries ≡ written place (entry hash key value) keys.entries
-    wrote = ap (λ (z : KeyPlaces K V). z.entries) write
+  module _ {hash slot : ℕ} {key : K} {keys' : KeyPlaces K Unit} (write : keys' ≡ record keys { entries = written place (entry hash key tt) keys.entries; writes = keys.writes + 1 })
+      (w : IsWholeOrder order') (may : MayRetire eq hash slot key (remembered_from index order keys)) where
+    wrote : keys'.entries ≡ written place (entry hash key tt) keys.entries
+    wrote = ap (λ (z : KeyPlaces K Unit). z.entries) write
 
-    at_place : slice_get keys'.entries place ≡ Some (entry hash key value)
-    at_place = ap (λ z. slice_get z place) wrote ∙ slice_get-written place (entry hash key value) keys.entries m.next
+    at_place : slice_get keys'.entries place ≡ Some (entry hash key tt)
+    at_place = ap (λ z. slice_get z place) wrote ∙ slice_get-written place (entry hash key tt) keys.entries m.next
 
     others_kept : (t : ℕ) → has t fewer ≡ true → slice_get keys'.entries t ≡ slice_get keys.entries t
     others_kept t g =
         let d : eqb t place ≡ false = differs t place fewer g m.absent in
-        ap (λ z. slice_get z t) wrote ∙ slice_get-written_other place t (entry hash key value) keys.entries m.next (λ e. both_ways (eqb t place) d (eq-eqb t place e))
+        ap (λ z. slice_get z t) wrote ∙ slice_get-written_other place t (entry hash key tt) keys.entries m.next (λ e. both_ways (eqb t place) d (eq-eqb t place e))
 
     entries_now : entries_of keys'.entries order'.places ≡ take order.limit ((hash, key) ∷ entries_of keys.entries order.places)
     entries_now =
-        let n : order.limit ≡ suc (order.limit - 1) = omega (arith, some) in
+        let n : order.limit ≡ suc (order.limit - 1) = omega (arith, m.below) in
         let below = AllBelow-left (used order) order.places order.free h.whole.below in
         let at : hashed_at keys'.entries place ≡ Some (hash, key) = ap (λ z. elim z [ None ↦ None | Some e ↦ Some (e.hash, e.key) ]) at_place in
         ap (λ z. entries_of keys'.entries z) m.places
@@ -134,27 +131,27 @@ module _ {K V : Type 0} (eq : K → K → Bool) (hash slot : ℕ) (key : K) (val
     counted : Rises 1 7 order.accesses order'.accesses → keys'.writes ≡ keys.writes + 1 → Rises 0 8 (accesses_of order keys) (accesses_of order' keys')
     counted rises n = (omega (arith, rises.0), omega (arith, rises.1))
 
-    pub remembers : Remembers eq hash slot key index order keys index' order' keys'
+    pub remembers : Remembers eq hash slot key (remembered_from index order keys) (remembered_at hash slot place index1) order' keys'
     remembers =
-        let some_slots : 0 < length (known.places index1) = rw m.as_many (elim h.some [ inl s ↦ s | inr none ↦ absurd (omega (arith, none, some)) ]) in
+        let some_slots : 0 < length (known.places index1) = rw m.as_many (elim h.some [ inl s ↦ s | inr none ↦ absurd (omega (arith, none, m.below)) ]) in
         let hashes = (λ (t : ℕ) (g : has t fewer ≡ true). ap (λ z. elim z [ None ↦ None | Some e ↦ Some e.hash ]) (others_kept t g)) in
         let at : hash_at keys'.entries place ≡ Some hash = ap (λ z. elim z [ None ↦ None | Some e ↦ Some e.hash ]) at_place in
-        let indexed = IsIndex-remembered index1 keys.entries keys'.entries fewer hash slot place below m.indexed some_slots (still_held held) m.absent hashes at in
+        let held = still_held may.held in
         let like = remembered-like index1 hash slot place in
-        let shared : known.is_shared index' ≡ known.is_shared index = ap (λ z. known.is_shared z) put ∙ like.shared ∙ m.shared in
-        let slot_count : length (known.places index') ≡ length (known.places index) = ap (λ z. length (known.places z)) put ∙ like.places ∙ m.as_many in
+        let slot_count : length (known.places (remembered_at hash slot place index1)) ≡ length (known.places index) = like.places ∙ m.as_many in
         record {
           whole = record {
             whole = w;
-            indexed = subst (λ z. IsIndex (known.places index') keys'.entries z) (sym m.places) (subst (λ z. IsIndex (known.places z) keys'.entries (place ∷ fewer)) (sym put) indexed);
-            distinct = subst (λ z. AllDistinct eq z) (sym entries_now) (distinct-take eq order.limit ((hash, key) ∷ entries_of keys.entries order.places) (absent, h.distinct));
-            as_many = ap (λ (z : List (Entry K V)). length z) wrote ∙ length-written place (entry hash key value) keys.entries m.next ∙ sym m.used_now;
-            room = rw (m.limit, ap (λ (z : KeyPlaces K V). z.room) write) h.room;
+            indexed = subst (λ z. IsIndex (known.places (remembered_at hash slot place index1)) keys'.entries z) (sym m.places)
+                (IsIndex-remembered index1 keys.entries keys'.entries fewer hash slot place held.below m.indexed some_slots held.there m.absent hashes at);
+            distinct = subst (λ z. AllDistinct eq z) (sym entries_now) (distinct-take eq order.limit ((hash, key) ∷ entries_of keys.entries order.places) (may.absent, h.distinct));
+            as_many = ap (λ (z : List (Entry K Unit)). length z) wrote ∙ length-written place (entry hash key tt) keys.entries m.next ∙ sym m.used_now;
+            room = rw (m.limit, ap (λ (z : KeyPlaces K Unit). z.room) write) h.room;
             some = rw (m.limit, slot_count) h.some;
-            own_room = λ own. rw (m.limit, slot_count) (h.own_room (sym shared ∙ own));
+            own_room = λ own. rw (m.limit, slot_count) (h.own_room (sym (like.shared ∙ m.shared) ∙ own));
             short = rw m.limit h.short;
           };
-          shown = shown-as _ _ entries_now m.limit (ap (λ (z : KeyPlaces K V). z.comparisons) write);
-          accesses = counted m.accesses (ap (λ (z : KeyPlaces K V). z.writes) write);
-          places = ap (λ z. places_with z order'.places order'.free) put ∙ m.placed hash slot;
+          pushed = shown-as _ _ entries_now m.limit (ap (λ (z : KeyPlaces K Unit). z.comparisons) write);
+          accesses = counted m.accesses (ap (λ (z : KeyPlaces K Unit). z.writes) write);
+          places = m.placed hash slot;
         }

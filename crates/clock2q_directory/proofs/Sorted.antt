@@ -9,7 +9,7 @@ use Rattle.clock2q_handles.specs.Positions.{GapValue, gap_of}
 use Rattle.clock2q_handles.specs.TableStep.{made_for, HasSpare}
 use Rattle.clock2q_handles.proofs.FewerEntries.{total-no_entries}
 use Rattle.clock2q_queues.specs.Rings.{has}
-use Rattle.clock2q_directory.specs.Index.{IndexState, index_state, IsSorted, HasSlotRoom, HasPlaceRoom, HasRoomBeside, IsGapFor, first_remembered, small_table, middle_table, index_room, is_shared, slots, places, beside, slot_entries, place_entries, slots_in, places_in}
+use Rattle.clock2q_directory.specs.Index.{IndexState, index_state, IsSorted, HasSlotRoom, HasPlaceRoom, IsGapFor, first_remembered, small_table, middle_table, index_room, is_shared, slots, places, beside, slot_entries, place_entries, slots_in, places_in}
 use Rattle.clock2q_directory.proofs.Indexes.{any-candidate, length-put, length-taken, fits_new, total_new}
 use Rattle.clock2q_directory.proofs.Views.{place_of, listed-view, others-entered, others-left}
 
@@ -33,7 +33,7 @@ total-parted (es ∷ homes) = omega (
   sum_by-cons length (place_entries es) (places_in homes),
 )
 
-total-both : (v : IndexState) → IsSorted v → total v.shared ≡ total (slots v) + beside v
+total-both : (v : IndexState) → IsSorted (index_state v.shared v.own) → total v.shared ≡ total (slots v) + beside v
 total-both v s = elim (cases_Bool (is_shared v)) [
   | inl h ↦ rw h (total-parted v.shared)
   | inr h ↦ rw h (omega (arith, total-parted v.shared, s.apart h))
@@ -51,25 +51,20 @@ shared_by_capacity v n s is = elim (cases_Bool (is_shared v)) [
   | inr h ↦ ne_eqb n 0 (λ q. omega (arith, q, is, s.takes h)) ∙ sym h
 ]
 
-pub slot_fits : (v : IndexState) → IsSorted v → HasSlotRoom v → total v.shared < capacity (length v.shared)
-slot_fits v s r = omega (arith, total-both v s, r.room, ap capacity (length-map v.shared slot_entries))
-
-pub slot_is_few : (v : IndexState) → IsSorted v → HasSlotRoom v → total v.shared + 1 < 2 ^ 24
-slot_is_few v s r = omega (arith, total-both v s, r.few)
-
 -- the entries of the table of the slots are few enough for no run to be too long
-pub shared-few : (v : IndexState) → IsSorted v → total (slots v) + beside v < 2 ^ 24 → total v.shared < 2 ^ 24
+pub shared-few : (v : IndexState) → IsSorted (index_state v.shared v.own) → total (slots v) + beside v < 2 ^ 24 → total v.shared < 2 ^ 24
 shared-few v s few = omega (arith, total-both v s, few)
 
--- one entry more fits beside the others
-pub spare-there : (v : IndexState) → IsSorted v → HasRoomBeside v → is_shared v ≡ true → HasSpare v.shared
-spare-there v s r shared = record { room = omega (arith, total-both v s, r.room shared, ap capacity (length-map v.shared slot_entries)); few = omega (arith, total-both v s, r.few shared) }
+-- one entry more fits in that table
+pub spare-there : (v : IndexState) → IsSorted (index_state v.shared v.own) → HasSlotRoom v → HasSpare v.shared
+spare-there v s r = record { room = omega (arith, total-both v s, r.room, ap capacity (length-map v.shared slot_entries)); few = omega (arith, total-both v s, r.few) }
 
-pub place_fits : (v : IndexState) → is_shared v ≡ false → HasPlaceRoom v → total v.own < capacity (length v.own)
-place_fits v h r = subst (λ b. total (if b then places_in v.shared else v.own) < capacity (length (if b then places_in v.shared else v.own))) h (r.room h)
-
-pub place_is_few : (v : IndexState) → is_shared v ≡ false → HasPlaceRoom v → total v.own + 1 < 2 ^ 24
-place_is_few v h r = subst (λ b. total (if b then places_in v.shared else v.own) + 1 < 2 ^ 24) h (r.few h)
+-- and in the places' own
+pub own-spare : (v : IndexState) → is_shared v ≡ false → HasPlaceRoom v → HasSpare v.own
+own-spare v h r = record {
+  room = subst (λ b. total (if b then places_in v.shared else v.own) < capacity (length (if b then places_in v.shared else v.own))) h (r.room h);
+  few = subst (λ b. total (if b then places_in v.shared else v.own) + 1 < 2 ^ 24) h (r.few h);
+}
 
 any-place : (x p : ℕ) (es : List (ℕ × ℕ)) → list_any (is_entry_of eqb x p) (place_entries es) ≡ true → list_any (is_entry_of eqb x (first_remembered + p)) es ≡ true
 any-place x p [] h = h

@@ -1,12 +1,10 @@
 -- A key that takes a place, with a value or with the one that the place had; and the room that a resident leaves in the
 -- index.
-use Rattle.std.proofs.Common.{◌≡◌, ℕ, ◌<◌, true, Some, None, List, length, refl, ap, ◌∙◌}
+use Rattle.std.proofs.Common.{◌≡◌, ℕ, ◌<◌, Some, None, List, length, refl, ap, ◌∙◌, arith}
 use Rattle.std.specs.Prelude.{slice_set}
-use Rattle.clock2q_handles.specs.Homes.{candidates}
-use Rattle.clock2q_queues.specs.Rings.{has}
 use Rattle.clock2q_directory.specs.declared.keys.store.Entry.{Entry}
 use Rattle.clock2q_directory.specs.Keys.{entry, written, with_key, hash_at, Writes}
-use Rattle.clock2q_directory.specs.Index.{slots}
+use Rattle.clock2q_directory.specs.Index.{slots, IsHeld}
 use Rattle.clock2q_directory.specs.Directory.{Known, IsResident}
 use Rattle.clock2q_directory.proofs.Entries.{slice_get_some, set-written, value-there}
 use Rattle.clock2q_directory.proofs.Indexes.{named-own}
@@ -23,5 +21,8 @@ module _ {K V : Type 0} where
       record { held = e.0.value; is = value-there es s ∙ ap (λ z. elim z [ None ↦ None | Some e ↦ Some e.value ]) e.1; becomes = is ∙ keyed ∙ set-written s (entry hash key e.0.value) es there }
 
 -- a resident's slot is in the index under the hash of its key
-pub resident-held : {K V : Type 0} {d : Known K V} {slot old : ℕ} → IsResident slot d → hash_at d.residents.entries slot ≡ Some old → has slot (candidates (slots d.history.places.index) old) ≡ true
-resident-held {d = d} {slot} {old} r at = r.indexed.listed old slot ∙ rw (r.there, named-own (slots d.history.places.index) d.residents.entries old slot at) refl
+pub resident-held : {K V : Type 0} {d : Known K V} {slot old : ℕ} → IsResident slot d → hash_at d.residents.entries slot ≡ Some old → IsHeld old slot d.history.places.index
+resident-held {d = d} {slot} {old} r at = record {
+  below = omega (arith, r.below);
+  there = r.indexed.listed old slot ∙ rw (r.there, named-own (slots d.history.places.index) d.residents.entries old slot at) refl;
+}

@@ -7,7 +7,7 @@ use Rattle.clock2q_handles.specs.Homes.{total, capacity, candidates}
 use Rattle.clock2q_handles.specs.Positions.{GapValue}
 use Rattle.clock2q_queues.specs.Rings.{has, without}
 use Rattle.clock2q_directory.specs.Index as known
-use Rattle.clock2q_directory.specs.Index.{IndexState, index_code, first_remembered, is_shared, entered_from, left, looked_up, remembered_at, forgotten_at}
+use Rattle.clock2q_directory.specs.Index.{IndexState, index_code, first_remembered, is_shared, entered_from, left, looked_up, remembered_at, forgotten_at, IsHeld}
 use Rattle.clock2q_directory.specs.declared.history.Found.{Found}
 use Rattle.clock2q_queues.specs.Cells.{Rises}
 use Rattle.clock2q_directory.specs.declared.keys.store.Entry.{Entry}
@@ -132,6 +132,11 @@ module _ {K : Type 0} (eq : K → K → Bool) where
   abbrev pub forgotten : K → List (ℕ × K) → List (ℕ × K)
   forgotten key entries = filter (λ e. not (eq key e.1)) entries
 
+  -- a resident that leaves its slot may be remembered: the index has the slot, and the history doesn't have the key yet
+  pub record MayRetire (hash slot : ℕ) (key : K) (h : Remembered K) : Type 0 where
+    pub held : IsHeld hash slot h.places.index
+    pub absent : is_remembered key h.entries ≡ false
+
 -- the invariant of a history: the keys are distinct, each place that was used has one, the index has the places in
 -- order, and there is room for as many keys as the limit allows
 pub record IsHistory {K V : Type 0} (eq : K → K → Bool) (index : IndexState) (order : PlaceOrder) (keys : KeyPlaces K V) : Type 0 where
@@ -172,6 +177,10 @@ pub record MakesPlace {K V : Type 0} (index index' : IndexState) (order order' :
 -- the number of accesses to links: to the records, and one for each key that was written to a place
 abbrev pub accesses_of : {K V : Type 0} → PlaceOrder → KeyPlaces K V → ℕ
 accesses_of order keys = order.accesses + keys.writes
+
+-- the history that contracts see
+abbrev pub remembered_from : {K V : Type 0} → IndexState → PlaceOrder → KeyPlaces K V → Remembered K
+remembered_from index order keys = remembered (entries_of keys.entries order.places) order.limit (places_from index order) (accesses_of order keys) keys.comparisons
 
 -- the first handle that has a key, as a resident or as a remembered key, or else the gap where the handles end
 module _ (resident remembered_key : ℕ → Bool) (end : Option GapValue) where

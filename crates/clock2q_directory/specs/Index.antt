@@ -190,10 +190,16 @@ pub record HasPlaceRoom (v : IndexState) : Type 0 where
   pub room : is_shared v ≡ false → total (places v) < capacity (length (places v))
   pub few : is_shared v ≡ false → total (places v) + 1 < 2 ^ 24
 
--- the table of the slots and places has room for one entry more, if they share it
+-- no run is too long, and a table that slots and places share has room for one entry more: a key that takes another's
+-- slot may enter before the other leaves
 pub record HasRoomBeside (v : IndexState) : Type 0 where
-  pub room : is_shared v ≡ true → total (slots v) + beside v < capacity (length (slots v))
-  pub few : is_shared v ≡ true → total (slots v) + beside v + 1 < 2 ^ 24
+  pub few : total (slots v) + beside v < 2 ^ 24
+  pub spare : is_shared v ≡ true → HasSlotRoom v
+
+-- the index has a resident's slot under the hash of its key
+pub record IsHeld (hash slot : ℕ) (v : IndexState) : Type 0 where
+  pub below : slot < 2 ^ 31
+  pub there : has slot (candidates (slots v) hash) ≡ true
 
 -- if a lookup of the hash found a gap, it is this one, and slots and places share a table
 abbrev pub IsGapFor : Option GapValue → ℕ → IndexState → Type 0
@@ -202,10 +208,6 @@ IsGapFor gap hash v = IfSome gap (λ g. (g ≡ gap_of v.shared hash) × (is_shar
 -- a key may take a slot, whose old key is remembered at a place: one that has no key, or that of the oldest key, whose
 -- hash this is
 pub record MaySucceed (slot old_hash place : ℕ) (oldest : Option ℕ) (v : IndexState) : Type 0 where
-  pub below : slot < 2 ^ 31
+  pub held : IsHeld old_hash slot v
   pub short : place < 2 ^ 31
-  pub few : total (slots v) + beside v < 2 ^ 24
-  pub beside : HasRoomBeside v
-  pub held : has slot (candidates (slots v) old_hash) ≡ true
   pub held_place : IfSome oldest (λ o. has place (candidates (places v) o) ≡ true)
-  pub room : HasPlaceRoom (forgotten_if oldest place v)

@@ -10,8 +10,8 @@ ghost use Rattle.clock2q_queues.specs.Order.{IsWholeOrder, used};
 ghost use Rattle.clock2q_directory.specs.Keys.{entry, is_key_at, comparisons_of, written};
 ghost use Rattle.clock2q_directory.specs.Indexes.{IsIndex, HasHash};
 ghost use Rattle.clock2q_directory.specs.Index as known;
-ghost use Rattle.clock2q_directory.specs.Index.{forgotten_if, emptied, index_for, is_shared, entered, entered_from, left, slots_among, places_among, IsGapFor, IsWithinCapacity};
-ghost use Rattle.clock2q_directory.specs.History.{IsWholeHistory, MakesPlace, Searches, HasRoom, places_with, places_looked_up, pushed_places, entering_places, freed_place, place_of, oldest_hash, remembered, is_remembered, forgotten, found_slot, found_place, found_gap, first_known};
+ghost use Rattle.clock2q_directory.specs.Index.{forgotten_if, emptied, index_for, is_shared, entered, entered_from, left, slots_among, places_among, IsGapFor, IsHeld, IsWithinCapacity};
+ghost use Rattle.clock2q_directory.specs.History.{IsWholeHistory, MakesPlace, MayRetire, Searches, HasRoom, places_with, places_looked_up, pushed_places, entering_places, freed_place, place_of, oldest_hash, remembered, is_remembered, forgotten, found_slot, found_place, found_gap, first_known};
 ghost use Rattle.clock2q_directory.specs.Directory.{IsWithinRoom};
 
 use crate::handle::Handle;
@@ -92,14 +92,13 @@ pub struct History<K: Eq, A: Allocator = Global> {
 }
 
 impl<K: Eq, A: Allocator> Model for History<K, A> {
-    ghost use Rattle.clock2q_directory.specs.Keys.{entries_of};
-    ghost use Rattle.clock2q_directory.specs.History.{Remembered, remembered_code, remembered, places_from, accesses_of, IsHistory};
+    ghost use Rattle.clock2q_directory.specs.History.{Remembered, remembered_code, remembered_from, IsHistory};
 
     ghost Value = { Remembered K };
 
     ghost coded = { remembered_code K.code };
 
-    ghost view = { λ h. remembered (entries_of h.keys.entries h.order.places) h.order.limit (places_from h.index h.order) (accesses_of h.order h.keys) h.keys.comparisons };
+    ghost view = { λ h. remembered_from h.index h.order h.keys };
 
     ghost invariant = { λ h. IsHistory K.eq h.index h.order h.keys };
 }
@@ -312,10 +311,9 @@ impl<K: Eq, A: Allocator> History<K, A> {
     /// Replaces the resident at a slot in the index with a key that becomes resident.
     #[inline(always)]
     pub fn renew(&mut self, gap: Option<Gap>, hash: u64, slot: u32, old_hash: u64)
-        requires below { slot < 2 ^ 31 }
+        requires held { IsHeld old_hash slot self.old.places.index }
         requires gap { IsGapFor gap hash self.old.places.index }
         requires room { IsWithinRoom self.old }
-        requires held { has slot (candidates (known.slots self.old.places.index) old_hash) ≡ true }
         ensures renewed { self.new ≡
             record self.old {
               places = record self.old.places {
@@ -330,8 +328,7 @@ impl<K: Eq, A: Allocator> History<K, A> {
     /// Removes a slot from the index, for a resident that leaves.
     #[inline(always)]
     pub fn leave(&mut self, hash: u64, slot: u32)
-        requires below { slot < 2 ^ 31 }
-        requires held { has slot (candidates (known.slots self.old.places.index) hash) ≡ true }
+        requires held { IsHeld hash slot self.old.places.index }
         ensures removed { self.new ≡
             record self.old { places = record self.old.places { index = left hash slot self.old.places.index } } }
     {
@@ -343,9 +340,7 @@ impl<K: Eq, A: Allocator> History<K, A> {
     pub fn retire(&mut self, hash: u64, slot: u32, key: K)
     where
         K: Drop,
-        requires below { slot < 2 ^ 31 }
-        requires held { has slot (candidates (known.slots self.old.places.index) hash) ≡ true }
-        requires absent { is_remembered K.eq key self.old.entries ≡ false }
+        requires may { MayRetire K.eq hash slot key self.old }
         ensures pushed { self.new ≡
             record self.old {
               entries = take self.old.limit ((hash, key) ∷ self.old.entries);
@@ -371,11 +366,9 @@ impl<K: Eq, A: Allocator> History<K, A> {
     pub fn remember(&mut self, gap: Option<Gap>, new: u64, slot: u32, hash: u64, key: K)
     where
         K: Drop,
-        requires below { slot < 2 ^ 31 }
+        requires may { MayRetire K.eq hash slot key self.old }
         requires gap { IsGapFor gap new self.old.places.index }
         requires room { IsWithinRoom self.old }
-        requires held { has slot (candidates (known.slots self.old.places.index) hash) ≡ true }
-        requires absent { is_remembered K.eq key self.old.entries ≡ false }
         ensures pushed { self.new ≡
             record self.old {
               entries = take self.old.limit ((hash, key) ∷ self.old.entries);

@@ -1,10 +1,10 @@
 //! The index of a cache: where each known key is, under the key's hash.
 ghost use Rattle.std.specs.Prelude.{◌≡◌, ◌+◌, ◌^◌, ◌<◌, true, Some, IfOk, IfSome, IfNone};
-ghost use Rattle.clock2q_handles.specs.Homes.{candidates, total};
+ghost use Rattle.clock2q_handles.specs.Homes.{candidates};
 ghost use Rattle.clock2q_queues.specs.Rings.{has};
 ghost use Rattle.clock2q_handles.specs.Layout.{walk};
 ghost use Rattle.clock2q_handles.specs.Positions.{gap_of};
-ghost use Rattle.clock2q_directory.specs.Index.{beside, emptied, index_for, index_room, is_shared, slots, places, entered, entered_from, left, looked_up, remembered_at, forgotten_at, HasSlotRoom, HasPlaceRoom, HasRoomBeside, IsGapFor, IsWithinCapacity, forgotten_if};
+ghost use Rattle.clock2q_directory.specs.Index.{emptied, index_for, index_room, is_shared, places, entered, entered_from, left, looked_up, remembered_at, forgotten_at, HasSlotRoom, HasPlaceRoom, HasRoomBeside, IsGapFor, IsHeld, IsWithinCapacity, forgotten_if};
 
 mod counted_table;
 mod succession;
@@ -149,11 +149,9 @@ impl<A: Allocator> Index<A> {
     /// Adds the slot of a key that becomes resident in place of another, which leaves.
     #[inline(always)]
     pub fn renew(&mut self, gap: Option<Gap>, hash: u64, slot: u32, old_hash: u64)
-        requires below { slot < 2 ^ 31 }
+        requires held { IsHeld old_hash slot self.old }
         requires gap { IsGapFor gap hash self.old }
-        requires few { total (slots self.old) + beside self.old < 2 ^ 24 }
-        requires beside { HasRoomBeside self.old }
-        requires held { has slot (candidates (slots self.old) old_hash) ≡ true }
+        requires room { HasRoomBeside self.old }
         ensures renewed { self.new ≡ entered_from self.old hash slot (left old_hash slot self.old) }
     {
         self.shared.exchange(gap, hash, slot, old_hash, slot);
@@ -162,8 +160,7 @@ impl<A: Allocator> Index<A> {
     /// Removes the slot of a resident that leaves.
     #[inline(always)]
     pub fn remove_slot(&mut self, hash: u64, slot: u32)
-        requires below { slot < 2 ^ 31 }
-        requires held { has slot (candidates (slots self.old) hash) ≡ true }
+        requires held { IsHeld hash slot self.old }
         ensures left { self.new ≡ left hash slot self.old }
     {
         self.shared.remove_existing(hash, slot);
@@ -172,9 +169,8 @@ impl<A: Allocator> Index<A> {
     /// Replaces the slot of a resident that leaves with the place at which it is remembered.
     #[inline(always)]
     pub fn remember(&mut self, hash: u64, slot: u32, place: Place)
-        requires below { slot < 2 ^ 31 }
+        requires held { IsHeld hash slot self.old }
         requires short { place < 2 ^ 31 }
-        requires held { has slot (candidates (slots self.old) hash) ≡ true }
         requires room { HasPlaceRoom self.old }
         ensures remembered { self.new ≡ remembered_at hash slot place self.old }
     {

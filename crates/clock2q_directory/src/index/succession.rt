@@ -6,8 +6,9 @@ use clock2q_handles::Gap;
 use std::alloc::Allocator;
 
 impl<A: Allocator> Index<A> {
-    ghost use Rattle.std.specs.Prelude.{◌≡◌, true, false, None, Some};
-    ghost use Rattle.clock2q_directory.specs.Index.{entered_from, forgotten_at, forgotten_if, is_shared, remembered_at, IsGapFor, MaySucceed};
+    ghost use Rattle.std.specs.Prelude.{◌≡◌, ◌+◌, ◌^◌, ◌<◌, true, false, None, Some};
+    ghost use Rattle.clock2q_handles.specs.Homes.{total};
+    ghost use Rattle.clock2q_directory.specs.Index.{beside, entered_from, forgotten_at, forgotten_if, is_shared, remembered_at, slots, HasPlaceRoom, HasRoomBeside, HasSlotRoom, IsGapFor, MaySucceed};
 
     /// Adds the slot of a key that becomes resident in place of another, which is remembered at a
     /// place: that of the oldest key, if one is forgotten.
@@ -22,6 +23,8 @@ impl<A: Allocator> Index<A> {
         oldest: Option<u64>,
     )
         requires may { MaySucceed slot old_hash place oldest self.old }
+        requires beside { HasRoomBeside self.old }
+        requires room { HasPlaceRoom (forgotten_if oldest place self.old) }
         requires gap { IsGapFor gap hash self.old }
         ensures renewed { self.new ≡ entered_from self.old hash slot
             (remembered_at old_hash slot place (forgotten_if oldest place self.old)) }
@@ -44,6 +47,8 @@ impl<A: Allocator> Index<A> {
         oldest: Option<u64>,
     )
         requires may { MaySucceed slot old_hash place oldest self.old }
+        requires beside { HasRoomBeside self.old }
+        requires room { HasPlaceRoom (forgotten_if oldest place self.old) }
         ensures renewed { self.new ≡ entered_from self.old hash slot
             (remembered_at old_hash slot place (forgotten_if oldest place self.old)) }
     {
@@ -70,6 +75,7 @@ impl<A: Allocator> Index<A> {
     )
         requires shared { is_shared self.old ≡ true }
         requires may { MaySucceed slot old_hash place oldest self.old }
+        requires room { HasSlotRoom self.old }
         requires gap { IsGapFor gap hash self.old }
         ensures renewed { self.new ≡ entered_from self.old hash slot
             (remembered_at old_hash slot place (forgotten_if oldest place self.old)) }
@@ -93,6 +99,7 @@ impl<A: Allocator> Index<A> {
     )
         requires shared { is_shared self.old ≡ true }
         requires may { MaySucceed slot old_hash place None self.old }
+        requires room { HasSlotRoom self.old }
         requires gap { IsGapFor gap hash self.old }
         ensures renewed { self.new ≡ entered_from self.old hash slot
             (remembered_at old_hash slot place self.old) }
@@ -118,6 +125,7 @@ impl<A: Allocator> Index<A> {
     )
         requires shared { is_shared self.old ≡ true }
         requires may { MaySucceed slot old_hash place (Some oldest) self.old }
+        requires room { HasSlotRoom self.old }
         requires gap { IsGapFor gap hash self.old }
         ensures renewed { self.new ≡ entered_from self.old hash slot
             (remembered_at old_hash slot place (forgotten_at oldest place self.old)) }
@@ -135,6 +143,8 @@ impl<A: Allocator> Index<A> {
     fn remember_split(&mut self, hash: u64, slot: u32, old_hash: u64, place: Place)
         requires apart { is_shared self.old ≡ false }
         requires may { MaySucceed slot old_hash place None self.old }
+        requires few { total (slots self.old) + beside self.old < 2 ^ 24 }
+        requires room { HasPlaceRoom self.old }
         ensures renewed { self.new ≡ entered_from self.old hash slot
             (remembered_at old_hash slot place self.old) }
     {
@@ -146,6 +156,8 @@ impl<A: Allocator> Index<A> {
     fn forget_split(&mut self, hash: u64, slot: u32, old_hash: u64, place: Place, oldest: u64)
         requires apart { is_shared self.old ≡ false }
         requires may { MaySucceed slot old_hash place (Some oldest) self.old }
+        requires few { total (slots self.old) + beside self.old < 2 ^ 24 }
+        requires room { HasPlaceRoom (forgotten_at oldest place self.old) }
         ensures renewed { self.new ≡ entered_from self.old hash slot
             (remembered_at old_hash slot place (forgotten_at oldest place self.old)) }
     {

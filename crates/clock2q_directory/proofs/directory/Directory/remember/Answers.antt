@@ -1,5 +1,4 @@
 -- The old key goes into the history, and its slot to the new one.
-use Rattle.std.proofs.Common.{arith}
 use Rattle.clock2q_directory.proofs.Taking.{resident-held}
 use Rattle.clock2q_directory.proofs.directory.Directory.remember.Goals as goal
 
@@ -11,11 +10,9 @@ remember-requires g c =
     let r = rw (← c.self.view_is) at c.requires.resident in
     let absent = rw (← c.self.view_is) at c.requires.absent in
     record {
-      below = omega (arith, r.below);
+      may = record { held = resident-held r c.refill-old_hash.ensures.hash; absent = absent _ c.refill-old_hash.ensures.key };
       gap = rw (← c.self.view_is) at c.requires.gap;
       room = rw (← c.self.view_is) at c.requires.room;
-      held = resident-held r c.refill-old_hash.ensures.hash;
-      absent = absent _ c.refill-old_hash.ensures.key;
     }
 
 pub returns-clause-index : goal.returns-clause-index

@@ -1,5 +1,4 @@
 -- The slot that leaves the index makes room for itself.
-use Rattle.std.proofs.Common.{arith}
 use Rattle.clock2q_directory.proofs.Taking.{resident-held}
 use Rattle.clock2q_directory.proofs.directory.Directory.renew.Goals as goal
 
@@ -9,7 +8,7 @@ refill-old-requires g c = let r = rw (← c.self.view_is) at c.requires.resident
 pub renew-requires : goal.renew-requires
 renew-requires g c =
     let r = rw (← c.self.view_is) at c.requires.resident in
-    record { below = omega (arith, r.below); gap = rw (← c.self.view_is) at c.requires.gap; room = rw (← c.self.view_is) at c.requires.room; held = resident-held r c.refill-old.ensures.hash }
+    record { held = resident-held r c.refill-old.ensures.hash; gap = rw (← c.self.view_is) at c.requires.gap; room = rw (← c.self.view_is) at c.requires.room }
 
 pub returns-clause-index : goal.returns-clause-index
 returns-clause-index g c = rw (← c.self.view_is) c.renew.ensures.renewed

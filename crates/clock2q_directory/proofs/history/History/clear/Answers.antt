@@ -6,8 +6,6 @@ use Rattle.clock2q_directory.proofs.history.History.clear.Goals as goal
 
 pub invariant_of-self : goal.invariant_of-self
 invariant_of-self g c =
-    let i = c.self.inside in
     let e = c.clear-2.ensures in
-    rw c.clear.ensures.cleared (IsHistory-cleared g.K.PartialEq.eq i.index i.order c.clear-2.new.self i.keys c.clear-3.new.self c.self.invariant
-    e.whole (ap (λ (z : PlaceOrder). z.places) e.order) (ap (λ (z : PlaceOrder). z.free) e.order) (ap (λ (z : PlaceOrder). z.limit) e.order)
+    rw c.clear.ensures.cleared (IsHistory-cleared c.self.invariant e.whole (ap (λ (z : PlaceOrder). z.places) e.order) (ap (λ (z : PlaceOrder). z.free) e.order) (ap (λ (z : PlaceOrder). z.limit) e.order)
     (ap (λ (z : KeyPlaces _ _). z.entries) c.clear-3.ensures.cleared) (ap (λ (z : KeyPlaces _ _). z.room) c.clear-3.ensures.cleared))

@@ -5,5 +5,5 @@ use Rattle.clock2q_directory.proofs.history.History.leave.Goals as goal
 pub invariant_of-self : goal.invariant_of-self
 invariant_of-self g c =
     let i = c.self.inside in
-    rw c.remove_slot.ensures.left (IsHistory-index g.K.PartialEq.eq i.index _ i.order i.keys c.self.invariant
-    (places-left i.index c.args.hash c.args.slot c.requires.below) (left-like i.index c.args.hash c.args.slot).shared)
+    rw c.remove_slot.ensures.left (IsHistory-index c.self.invariant
+    (places-left i.index c.args.hash c.args.slot c.requires.held.below) (left-like i.index c.args.hash c.args.slot).shared)

@@ -4,11 +4,7 @@ use Rattle.clock2q_directory.proofs.Histories.{entries_counted, IsWholeHistory-f
 use Rattle.clock2q_directory.proofs.history.History.len.Goals as goal
 
 pub returns-clause-len : goal.returns-clause-len
-returns-clause-len g c =
-    let i = c.self.inside in
-    c.len.ensures.len ∙ sym (entries_counted g.K.PartialEq.eq i.index i.order i.keys c.self.invariant) ∙ ap (λ (z : Remembered _). length z.entries) c.self.view_is
+returns-clause-len g c = c.len.ensures.len ∙ sym (entries_counted c.self.invariant) ∙ ap (λ (z : Remembered _). length z.entries) c.self.view_is
 
 pub returns-clause-whole : goal.returns-clause-whole
-returns-clause-whole g c =
-    let i = c.self.inside in
-    rw (← c.self.view_is) (IsWholeHistory-from g.K.PartialEq.eq i.index i.order i.keys _ _ c.self.invariant)
+returns-clause-whole g c = rw (← c.self.view_is) (IsWholeHistory-from c.self.invariant)

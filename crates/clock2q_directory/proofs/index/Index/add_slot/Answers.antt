@@ -1,19 +1,17 @@
-use Rattle.std.proofs.Common.{sym, ap, ◌∙◌, subst}
+use Rattle.std.proofs.Common.{ap, ◌∙◌}
 use Rattle.clock2q_handles.specs.Homes.{with_handle}
 use Rattle.clock2q_directory.specs.Accesses.{CountedTable, most_changed}
-use Rattle.clock2q_directory.specs.Index.{index_state, index_of, entered, HasSlotRoom, IsGapFor}
+use Rattle.clock2q_directory.specs.Index.{index_state, index_of, entered}
 use Rattle.clock2q_directory.proofs.Charging.{cost_first}
-use Rattle.clock2q_directory.proofs.Sorted.{only-gap, slot_fits, slot_is_few, sorted-entered}
+use Rattle.clock2q_directory.proofs.Sorted.{only-gap, spare-there, sorted-entered}
 use Rattle.clock2q_directory.proofs.index.Index.add_slot.Goals as goal
 
 pub insert-requires : goal.insert-requires
 insert-requires g c =
-    let i = c.self.inside in
-    let v = index_state i.shared.homes i.own.homes in
-    let room = subst (λ z. HasSlotRoom z) (sym c.self.view_is) c.requires.room in
-    let fits : HasSlotRoom v = record { room = room.room; few = room.few } in
-    let gap = subst (λ z. IsGapFor c.args.gap c.args.hash z) (sym c.self.view_is) c.requires.gap in
-    record { spare = record { room = slot_fits v c.self.invariant fits; few = slot_is_few v c.self.invariant fits }; gap = only-gap c.args.hash v c.args.gap gap }
+    let v = index_of c.self.inside.shared c.self.inside.own in
+    let room = rw (← c.self.view_is) at c.requires.room in
+    let gap = rw (← c.self.view_is) at c.requires.gap in
+    record { spare = spare-there v c.self.invariant room; gap = only-gap c.args.hash v c.args.gap gap }
 
 pub invariant_of-self : goal.invariant_of-self
 invariant_of-self g c =

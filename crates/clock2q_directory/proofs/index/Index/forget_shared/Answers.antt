@@ -1,18 +1,18 @@
-use Rattle.std.proofs.Common.{◌^◌, ◌≡◌, ℕ, ◌+◌, ◌<◌, true, length, refl, sym, ap, ◌∙◌, subst, arith}
+use Rattle.std.proofs.Common.{◌≡◌, ℕ, ◌+◌, ◌<◌, true, length, refl, sym, ap, ◌∙◌, arith}
 use Rattle.std.specs.Prelude.{nat_eq}
 use Rattle.std.specs.List.{list_any}
-use Rattle.clock2q_handles.specs.Homes.{top, candidates, is_entry_of, listed, removed, with_handle, total}
+use Rattle.clock2q_handles.specs.Homes.{top, candidates, is_entry_of, listed, removed, with_handle}
 use Rattle.clock2q_handles.specs.Layout.{walk}
 use Rattle.clock2q_handles.specs.Positions.{handle_replaced}
 use Rattle.clock2q_handles.proofs.MoreEntries.{walk-more}
 use Rattle.clock2q_handles.proofs.Removals.{held-still, replaced-homes}
 use Rattle.clock2q_queues.specs.Rings.{has}
 use Rattle.clock2q_directory.specs.Accesses.{CountedTable, most_changed}
-use Rattle.clock2q_directory.specs.Index.{IndexState, index_state, index_of, is_shared, slots, places, entered_from, remembered_at, forgotten_at, first_remembered, HasRoomBeside, IsGapFor, beside}
+use Rattle.clock2q_directory.specs.Index.{IndexState, index_state, index_of, is_shared, slots, entered_from, remembered_at, forgotten_at, first_remembered}
 use Rattle.clock2q_directory.proofs.Charging.{cost_forgetting}
 use Rattle.clock2q_directory.proofs.Views.{held_entry, slots-forgotten}
 use Rattle.clock2q_directory.proofs.Indexes.{length-taken}
-use Rattle.clock2q_directory.proofs.Sorted.{only-gap, spare-there, shared-few, held_place}
+use Rattle.clock2q_directory.proofs.Sorted.{only-gap, spare-there, held_place}
 use Rattle.clock2q_directory.proofs.index.Index.forget_shared.Goals as goal
 
 -- the slot is held once the place is gone
@@ -24,16 +24,17 @@ still_there v x s y p shared held =
 
 pub exchange-requires : goal.exchange-requires
 exchange-requires g c =
-    let i = c.self.inside in
-    let v = index_state i.shared.homes i.own.homes in
-    let shared : is_shared v ≡ true = ap is_shared c.self.view_is ∙ c.requires.shared in
-    let held = subst (λ z. has c.args.place (candidates (places z) c.args.oldest) ≡ true) (sym c.self.view_is) c.requires.may.held_place in
-    let gap = subst (λ z. IsGapFor c.args.gap c.args.hash z) (sym c.self.view_is) c.requires.gap in
-    let w = index_state i.shared.homes i.own.homes in
-    let few = subst (λ z. total (slots z) + beside z < 2 ^ 24) (sym c.self.view_is) c.requires.may.few in
-    let b = subst (λ z. HasRoomBeside z) (sym c.self.view_is) c.requires.may.beside in
-    let spare = spare-there w c.self.invariant (record { room = b.room; few = b.few }) shared in
-    record { few = shared-few w c.self.invariant few; gap = only-gap c.args.hash w c.args.gap gap; spare = λ _. spare; held = rw c.pack-handle.ensures.packed (held_place v c.args.oldest c.args.place shared held) }
+    let v = index_of c.self.inside.shared c.self.inside.own in
+    let shared = ap is_shared c.self.view_is ∙ c.requires.shared in
+    let may = rw (← c.self.view_is) at c.requires.may in
+    let gap = rw (← c.self.view_is) at c.requires.gap in
+    let spare = spare-there v c.self.invariant (rw (← c.self.view_is) at c.requires.room) in
+    record {
+      few = omega (arith, spare.few);
+      gap = only-gap c.args.hash v c.args.gap gap;
+      spare = λ _. spare;
+      held = rw c.pack-handle.ensures.packed (held_place v c.args.oldest c.args.place shared may.held_place);
+    }
 
 pub replace_handle_up_to-requires : goal.replace_handle_up_to-requires
 replace_handle_up_to-requires g c =
@@ -43,10 +44,10 @@ replace_handle_up_to-requires g c =
     let fewer = removed nat_eq i.shared.homes c.args.oldest (first_remembered + c.args.place) in
     let some : 0 < length fewer = omega (arith, length-taken i.shared.homes c.args.oldest (first_remembered + c.args.place), c.self.invariant.some) in
     let done = rw c.pack-handle.ensures.packed at c.exchange.ensures.exchanged in
-    let held = subst (λ z. has c.args.slot (candidates (slots z) c.args.old_hash) ≡ true) (sym c.self.view_is) c.requires.may.held in
+    let may = rw (← c.self.view_is) at c.requires.may in
     record {
       held = ap (λ (t : CountedTable). list_any (is_entry_of nat_eq c.args.old_hash c.args.slot) (listed t.homes c.args.old_hash)) done
-          ∙ held-still nat_eq fewer c.args.hash c.args.old_hash c.args.slot c.args.slot some (still_there v c.args.old_hash c.args.slot c.args.oldest c.args.place shared held);
+          ∙ held-still nat_eq fewer c.args.hash c.args.old_hash c.args.slot c.args.slot some (still_there v c.args.old_hash c.args.slot c.args.oldest c.args.place shared may.held.there);
       most = omega (
         arith,
         rw c.pack-handle.ensures.packed at c.most_after_exchange-most.ensures.picked,
@@ -67,14 +68,14 @@ returns g c =
     let n = most_changed fewer c.args.old_hash in
     let some : 0 < length fewer = omega (arith, length-taken a c.args.oldest handle, c.self.invariant.some) in
     let shared : is_shared (index_of i.shared i.own) ≡ true = ap is_shared c.self.view_is ∙ c.requires.shared in
-    let held = subst (λ z. has c.args.slot (candidates (slots z) c.args.old_hash) ≡ true) (sym c.self.view_is) c.requires.may.held in
+    let may = rw (← c.self.view_is) at c.requires.may in
     let homes = with_handle (handle_replaced nat_eq fewer c.args.old_hash c.args.slot handle) c.args.hash c.args.slot in
     let done = rw c.pack-handle.ensures.packed at c.exchange.ensures.exchanged in
     let lists : c.replace_handle_up_to.new.self.homes ≡ homes =
     ap (λ (t : CountedTable). t.homes) c.replace_handle_up_to.ensures.handle_replaced
     ∙ ap (λ (t : CountedTable). handle_replaced nat_eq t.homes c.args.old_hash c.args.slot c.pack-handle.result) done
     ∙ ap (λ h. handle_replaced nat_eq (with_handle fewer c.args.hash c.args.slot) c.args.old_hash c.args.slot h) c.pack-handle.ensures.packed
-    ∙ replaced-homes nat_eq fewer c.args.hash c.args.old_hash c.args.slot c.args.slot handle some (still_there v c.args.old_hash c.args.slot c.args.oldest c.args.place shared held) in
+    ∙ replaced-homes nat_eq fewer c.args.hash c.args.old_hash c.args.slot c.args.slot handle some (still_there v c.args.old_hash c.args.slot c.args.oldest c.args.place shared may.held.there) in
     let spent : c.replace_handle_up_to.new.self.accesses ≡ i.shared.accesses + (m c.args.hash + m c.args.oldest) + n =
     ap (λ (t : CountedTable). t.accesses) c.replace_handle_up_to.ensures.handle_replaced ∙ (rw c.pack-handle.ensures.packed at c.most_after_exchange-most.ensures.picked) in
     let is : entered_from (index_of i.shared i.own) c.args.hash c.args.slot (remembered_at c.args.old_hash c.args.slot c.args.place (forgotten_at c.args.oldest c.args.place (index_of i.shared i.own)))

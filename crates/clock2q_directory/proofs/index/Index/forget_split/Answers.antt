@@ -1,30 +1,26 @@
-use Rattle.std.proofs.Common.{◌^◌, ◌≡◌, ℕ, ◌+◌, ◌<◌, ◌==◌, true, false, length, refl, sym, ap, ◌∙◌, subst}
+use Rattle.std.proofs.Common.{◌≡◌, ℕ, ◌+◌, ◌==◌, false, length, refl, sym, ap, ◌∙◌}
 use Rattle.std.specs.Prelude.{nat_eq}
-use Rattle.clock2q_handles.specs.Homes.{candidates, removed, with_handle, total}
-use Rattle.clock2q_queues.specs.Rings.{has}
+use Rattle.clock2q_handles.specs.Homes.{removed, with_handle}
 use Rattle.clock2q_directory.specs.Accesses.{CountedTable, most_changed}
-use Rattle.clock2q_directory.specs.Index.{IndexState, index_state, index_of, is_shared, slots, places, entered_from, remembered_at, forgotten_at, HasPlaceRoom, beside}
+use Rattle.clock2q_directory.specs.Index.{IndexState, index_state, index_of, is_shared, entered_from, remembered_at, forgotten_at}
 use Rattle.clock2q_directory.proofs.Charging.{cost_forgetting_split}
 use Rattle.clock2q_directory.proofs.Views.{held_entry}
 use Rattle.clock2q_directory.proofs.Indexes.{length-taken}
-use Rattle.clock2q_directory.proofs.Sorted.{shared-few, held_own, place_fits, place_is_few, sorted-entered, sorted-remembered, sorted-own}
+use Rattle.clock2q_directory.proofs.Sorted.{shared-few, held_own, own-spare, sorted-entered, sorted-remembered, sorted-own}
 use Rattle.clock2q_directory.proofs.index.Index.forget_split.Goals as goal
 
 pub remove_existing-requires : goal.remove_existing-requires
 remove_existing-requires g c =
-    let i = c.self.inside in
-    let v = index_state i.shared.homes i.own.homes in
-    let own : is_shared v ≡ false = ap is_shared c.self.view_is ∙ c.requires.apart in
-    let held = subst (λ z. has c.args.place (candidates (places z) c.args.oldest) ≡ true) (sym c.self.view_is) c.requires.may.held_place in
-    rw c.number.ensures.number (record { held = held_own v c.args.oldest c.args.place own held })
+    let own = ap is_shared c.self.view_is ∙ c.requires.apart in
+    let may = rw (← c.self.view_is) at c.requires.may in
+    rw c.number.ensures.number (record { held = held_own (index_of c.self.inside.shared c.self.inside.own) c.args.oldest c.args.place own may.held_place })
 
 pub exchange-requires : goal.exchange-requires
 exchange-requires g c =
-    let i = c.self.inside in
-    let held = subst (λ z. has c.args.slot (candidates (slots z) c.args.old_hash) ≡ true) (sym c.self.view_is) c.requires.may.held in
-    let w = index_state i.shared.homes i.own.homes in
-    let few = subst (λ z. total (slots z) + beside z < 2 ^ 24) (sym c.self.view_is) c.requires.may.few in
-    record { few = shared-few w c.self.invariant few; gap = tt; spare = λ none. absurd (cc); held = held_entry (index_state i.shared.homes i.own.homes) c.args.old_hash c.args.slot held }
+    let v = index_of c.self.inside.shared c.self.inside.own in
+    let may = rw (← c.self.view_is) at c.requires.may in
+    let few = rw (← c.self.view_is) at c.requires.few in
+    record { few = shared-few v c.self.invariant few; gap = tt; spare = λ none. absurd (cc); held = held_entry v c.args.old_hash c.args.slot may.held.there }
 
 -- the places' own table, once the oldest key's place is gone
 still_own : (v : IndexState) (x p : ℕ) → is_shared v ≡ false → (length (removed nat_eq v.own x p) == 0) ≡ false
@@ -33,16 +29,11 @@ still_own v x p own = ap (λ n. n == 0) (length-taken v.own x p) ∙ own
 pub insert-requires : goal.insert-requires
 insert-requires g c =
     let i = c.self.inside in
-    let v = index_state i.shared.homes i.own.homes in
+    let v = index_of i.shared i.own in
     let own : is_shared v ≡ false = ap is_shared c.self.view_is ∙ c.requires.apart in
-    let fewer = removed nat_eq i.own.homes c.args.oldest c.args.place in
-    let w = index_state i.shared.homes fewer in
-    let own' = still_own v c.args.oldest c.args.place own in
-    let room = subst (λ z. HasPlaceRoom (forgotten_at c.args.oldest c.args.place z)) (sym c.self.view_is) c.requires.may.room in
-    let there = rw own at room in
-    let fits : HasPlaceRoom w = record { room = there.room; few = there.few } in
-    let done = rw c.number.ensures.number at c.remove_existing.ensures.removed in
-    rw done (record { spare = record { room = place_fits w own' fits; few = place_is_few w own' fits }; gap = tt })
+    let room = rw (← c.self.view_is, own) at c.requires.room in
+    let fewer : IndexState = record v { own = removed nat_eq i.own.homes c.args.oldest c.args.place; accesses = v.accesses + most_changed i.own.homes c.args.oldest } in
+    rw (rw c.number.ensures.number at c.remove_existing.ensures.removed) (record { spare = own-spare fewer (still_own v c.args.oldest c.args.place own) room; gap = tt })
 
 pub invariant_of-self : goal.invariant_of-self
 invariant_of-self g c =
@@ -54,8 +45,8 @@ invariant_of-self g c =
     let less = sorted-own v fewer (length-taken i.own.homes c.args.oldest c.args.place) c.self.invariant in
     let done = rw c.number.ensures.number at c.remove_existing.ensures.removed in
     let put = ap (λ (t : CountedTable). t.homes) (rw (done, c.number-2.ensures.number) at c.insert.ensures.put) in
-    let moved = sorted-remembered (index_state i.shared.homes fewer) homes own c.args.old_hash c.args.slot c.args.place c.requires.may.below less refl put in
-    sorted-entered (index_state homes own) c.exchange.new.self.homes c.args.hash c.args.slot c.requires.may.below moved (ap (λ (t : CountedTable). t.homes) c.exchange.ensures.exchanged)
+    let moved = sorted-remembered (index_state i.shared.homes fewer) homes own c.args.old_hash c.args.slot c.args.place c.requires.may.held.below less refl put in
+    sorted-entered (index_state homes own) c.exchange.new.self.homes c.args.hash c.args.slot c.requires.may.held.below moved (ap (λ (t : CountedTable). t.homes) c.exchange.ensures.exchanged)
 
 pub returns : goal.returns
 returns g c =

@@ -1,41 +1,34 @@
-use Rattle.std.proofs.Common.{◌≡◌, true, false, refl, sym, ap, ◌∙◌, subst}
+use Rattle.std.proofs.Common.{◌≡◌, true, false, refl, sym, ap, ◌∙◌}
 use Rattle.std.specs.Prelude.{nat_eq, ◌+◌}
-use Rattle.clock2q_handles.specs.Homes.{candidates, removed, with_handle}
+use Rattle.clock2q_handles.specs.Homes.{removed, with_handle}
 use Rattle.clock2q_handles.specs.Positions.{handle_replaced}
-use Rattle.clock2q_queues.specs.Rings.{has}
 use Rattle.clock2q_directory.specs.Accesses.{CountedTable, counted, most_changed}
-use Rattle.clock2q_directory.specs.Index.{index_state, index_of, is_shared, slots, remembered_at, first_remembered, HasPlaceRoom}
+use Rattle.clock2q_directory.specs.Index.{index_state, index_of, is_shared, remembered_at, first_remembered}
 use Rattle.clock2q_directory.proofs.Charging.{cost_first, cost_both}
 use Rattle.clock2q_directory.proofs.Views.{held_entry}
-use Rattle.clock2q_directory.proofs.Sorted.{place_fits, place_is_few, sorted-remembered}
+use Rattle.clock2q_directory.proofs.Sorted.{own-spare, sorted-remembered}
 use Rattle.clock2q_directory.proofs.index.Index.remember.Goals as goal
 
 pub replace_handle-requires : goal.replace_handle-requires
 replace_handle-requires g c =
-    let i = c.self.inside in
-    let held = subst (λ z. has c.args.slot (candidates (slots z) c.args.hash) ≡ true) (sym c.self.view_is) c.requires.held in
-    record { held = held_entry (index_state i.shared.homes i.own.homes) c.args.hash c.args.slot held }
+    let held = rw (← c.self.view_is) at c.requires.held in
+    record { held = held_entry (index_of c.self.inside.shared c.self.inside.own) c.args.hash c.args.slot held.there }
 
 pub remove_existing-requires : goal.remove_existing-requires
 remove_existing-requires g c =
-    let i = c.self.inside in
-    let held = subst (λ z. has c.args.slot (candidates (slots z) c.args.hash) ≡ true) (sym c.self.view_is) c.requires.held in
-    record { held = held_entry (index_state i.shared.homes i.own.homes) c.args.hash c.args.slot held }
+    let held = rw (← c.self.view_is) at c.requires.held in
+    record { held = held_entry (index_of c.self.inside.shared c.self.inside.own) c.args.hash c.args.slot held.there }
 
 pub insert-requires-clause-spare : goal.insert-requires-clause-spare
 insert-requires-clause-spare g c =
-    let i = c.self.inside in
-    let v = index_state i.shared.homes i.own.homes in
-    let own : is_shared v ≡ false = ap is_shared c.self.view_is ∙ sym c.is_shared.ensures.shared ∙ c.if-is_shared.false in
-    let b = subst (λ z. HasPlaceRoom z) (sym c.self.view_is) c.requires.room in
-    let room : HasPlaceRoom v = record { room = b.room; few = b.few } in
-    record { room = place_fits v own room; few = place_is_few v own room }
+    let own = ap is_shared c.self.view_is ∙ sym c.is_shared.ensures.shared ∙ c.if-is_shared.false in
+    own-spare (index_of c.self.inside.shared c.self.inside.own) own (rw (← c.self.view_is) at c.requires.room)
 
 pub invariant_of-self-else-is_shared : goal.invariant_of-self-else-is_shared
 invariant_of-self-else-is_shared g c =
     let i = c.self.inside in
     sorted-remembered (index_state i.shared.homes i.own.homes) c.remove_existing.new.self.homes c.insert.new.self.homes c.args.hash c.args.slot c.args.place
-    c.requires.below c.self.invariant (ap (λ (t : CountedTable). t.homes) c.remove_existing.ensures.removed) (ap (λ (t : CountedTable). t.homes) (rw c.number.ensures.number at c.insert.ensures.put))
+    c.requires.held.below c.self.invariant (ap (λ (t : CountedTable). t.homes) c.remove_existing.ensures.removed) (ap (λ (t : CountedTable). t.homes) (rw c.number.ensures.number at c.insert.ensures.put))
 
 pub returns-then-is_shared : goal.returns-then-is_shared
 returns-then-is_shared g c =

@@ -1,30 +1,24 @@
-use Rattle.std.proofs.Common.{◌^◌, ◌≡◌, ◌+◌, ◌<◌, true, false, refl, sym, ap, ◌∙◌, subst}
+use Rattle.std.proofs.Common.{◌≡◌, ◌+◌, false, refl, sym, ap, ◌∙◌}
 use Rattle.std.specs.Prelude.{nat_eq}
-use Rattle.clock2q_handles.specs.Homes.{candidates, removed, with_handle, total}
-use Rattle.clock2q_queues.specs.Rings.{has}
+use Rattle.clock2q_handles.specs.Homes.{removed, with_handle}
 use Rattle.clock2q_directory.specs.Accesses.{CountedTable, most_changed}
-use Rattle.clock2q_directory.specs.Index.{index_state, index_of, is_shared, slots, entered_from, remembered_at, HasPlaceRoom, beside}
+use Rattle.clock2q_directory.specs.Index.{index_state, index_of, is_shared, entered_from, remembered_at}
 use Rattle.clock2q_directory.proofs.Charging.{cost_split}
 use Rattle.clock2q_directory.proofs.Views.{held_entry}
-use Rattle.clock2q_directory.proofs.Sorted.{shared-few, place_fits, place_is_few, sorted-entered, sorted-remembered}
+use Rattle.clock2q_directory.proofs.Sorted.{shared-few, own-spare, sorted-entered, sorted-remembered}
 use Rattle.clock2q_directory.proofs.index.Index.remember_split.Goals as goal
 
 pub exchange-requires : goal.exchange-requires
 exchange-requires g c =
-    let i = c.self.inside in
-    let held = subst (λ z. has c.args.slot (candidates (slots z) c.args.old_hash) ≡ true) (sym c.self.view_is) c.requires.may.held in
-    let w = index_state i.shared.homes i.own.homes in
-    let few = subst (λ z. total (slots z) + beside z < 2 ^ 24) (sym c.self.view_is) c.requires.may.few in
-    record { few = shared-few w c.self.invariant few; gap = tt; spare = λ none. absurd (cc); held = held_entry (index_state i.shared.homes i.own.homes) c.args.old_hash c.args.slot held }
+    let v = index_of c.self.inside.shared c.self.inside.own in
+    let may = rw (← c.self.view_is) at c.requires.may in
+    let few = rw (← c.self.view_is) at c.requires.few in
+    record { few = shared-few v c.self.invariant few; gap = tt; spare = λ none. absurd (cc); held = held_entry v c.args.old_hash c.args.slot may.held.there }
 
 pub insert-requires : goal.insert-requires
 insert-requires g c =
-    let i = c.self.inside in
-    let v = index_state i.shared.homes i.own.homes in
-    let own : is_shared v ≡ false = ap is_shared c.self.view_is ∙ c.requires.apart in
-    let room = subst (λ z. HasPlaceRoom z) (sym c.self.view_is) c.requires.may.room in
-    let fits : HasPlaceRoom v = record { room = room.room; few = room.few } in
-    record { spare = record { room = place_fits v own fits; few = place_is_few v own fits }; gap = tt }
+    let own = ap is_shared c.self.view_is ∙ c.requires.apart in
+    record { spare = own-spare (index_of c.self.inside.shared c.self.inside.own) own (rw (← c.self.view_is) at c.requires.room); gap = tt }
 
 pub invariant_of-self : goal.invariant_of-self
 invariant_of-self g c =
@@ -33,8 +27,8 @@ invariant_of-self g c =
     let homes = removed nat_eq i.shared.homes c.args.old_hash c.args.slot in
     let own = c.insert.new.self.homes in
     let fewer = sorted-remembered v homes own c.args.old_hash c.args.slot c.args.place
-    c.requires.may.below c.self.invariant refl (ap (λ (t : CountedTable). t.homes) (rw c.number.ensures.number at c.insert.ensures.put)) in
-    sorted-entered (index_state homes own) c.exchange.new.self.homes c.args.hash c.args.slot c.requires.may.below fewer (ap (λ (t : CountedTable). t.homes) c.exchange.ensures.exchanged)
+    c.requires.may.held.below c.self.invariant refl (ap (λ (t : CountedTable). t.homes) (rw c.number.ensures.number at c.insert.ensures.put)) in
+    sorted-entered (index_state homes own) c.exchange.new.self.homes c.args.hash c.args.slot c.requires.may.held.below fewer (ap (λ (t : CountedTable). t.homes) c.exchange.ensures.exchanged)
 
 pub returns : goal.returns
 returns g c =

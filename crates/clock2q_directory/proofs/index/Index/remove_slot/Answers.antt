@@ -1,9 +1,8 @@
-use Rattle.std.proofs.Common.{◌≡◌, true, sym, ap, ◌∙◌, subst}
+use Rattle.std.proofs.Common.{ap, ◌∙◌}
 use Rattle.std.specs.Prelude.{nat_eq}
-use Rattle.clock2q_handles.specs.Homes.{candidates, removed}
-use Rattle.clock2q_queues.specs.Rings.{has}
+use Rattle.clock2q_handles.specs.Homes.{removed}
 use Rattle.clock2q_directory.specs.Accesses.{CountedTable, most_changed}
-use Rattle.clock2q_directory.specs.Index.{index_state, index_of, slots, left}
+use Rattle.clock2q_directory.specs.Index.{index_state, index_of, left}
 use Rattle.clock2q_directory.proofs.Charging.{cost_first}
 use Rattle.clock2q_directory.proofs.Views.{held_entry}
 use Rattle.clock2q_directory.proofs.Sorted.{sorted-left}
@@ -11,14 +10,13 @@ use Rattle.clock2q_directory.proofs.index.Index.remove_slot.Goals as goal
 
 pub remove_existing-requires : goal.remove_existing-requires
 remove_existing-requires g c =
-    let i = c.self.inside in
-    let held = subst (λ z. has c.args.slot (candidates (slots z) c.args.hash) ≡ true) (sym c.self.view_is) c.requires.held in
-    record { held = held_entry (index_state i.shared.homes i.own.homes) c.args.hash c.args.slot held }
+    let held = rw (← c.self.view_is) at c.requires.held in
+    record { held = held_entry (index_of c.self.inside.shared c.self.inside.own) c.args.hash c.args.slot held.there }
 
 pub invariant_of-self : goal.invariant_of-self
 invariant_of-self g c =
     let i = c.self.inside in
-    sorted-left (index_state i.shared.homes i.own.homes) c.remove_existing.new.self.homes c.args.hash c.args.slot c.requires.below c.self.invariant (ap (λ (t : CountedTable). t.homes) c.remove_existing.ensures.removed)
+    sorted-left (index_state i.shared.homes i.own.homes) c.remove_existing.new.self.homes c.args.hash c.args.slot c.requires.held.below c.self.invariant (ap (λ (t : CountedTable). t.homes) c.remove_existing.ensures.removed)
 
 pub returns : goal.returns
 returns g c =

@@ -1,9 +1,8 @@
-use Rattle.std.proofs.Common.{◌+◌, ◌^◌, ◌<◌, ◌≡◌, true, refl, sym, ap, ◌∙◌, subst}
+use Rattle.std.proofs.Common.{refl, ap, ◌∙◌}
 use Rattle.std.specs.Prelude.{nat_eq}
-use Rattle.clock2q_handles.specs.Homes.{candidates, removed, with_handle, total}
-use Rattle.clock2q_queues.specs.Rings.{has}
+use Rattle.clock2q_handles.specs.Homes.{removed, with_handle}
 use Rattle.clock2q_directory.specs.Accesses.{CountedTable, most_changed}
-use Rattle.clock2q_directory.specs.Index.{index_state, index_of, slots, left, entered_from, HasRoomBeside, IsGapFor, beside}
+use Rattle.clock2q_directory.specs.Index.{index_state, index_of, left, entered_from}
 use Rattle.clock2q_directory.proofs.Charging.{cost_exchanged}
 use Rattle.clock2q_directory.proofs.Views.{held_entry}
 use Rattle.clock2q_directory.proofs.Sorted.{gap-shared, only-gap, shared-few, spare-there, sorted-entered, sorted-left}
@@ -11,21 +10,24 @@ use Rattle.clock2q_directory.proofs.index.Index.renew.Goals as goal
 
 pub exchange-requires : goal.exchange-requires
 exchange-requires g c =
-    let i = c.self.inside in
-    let held = subst (λ z. has c.args.slot (candidates (slots z) c.args.old_hash) ≡ true) (sym c.self.view_is) c.requires.held in
-    let gap = subst (λ z. IsGapFor c.args.gap c.args.hash z) (sym c.self.view_is) c.requires.gap in
-    let w = index_state i.shared.homes i.own.homes in
-    let few = subst (λ z. total (slots z) + beside z < 2 ^ 24) (sym c.self.view_is) c.requires.few in
-    let b = subst (λ z. HasRoomBeside z) (sym c.self.view_is) c.requires.beside in
-    record { few = shared-few w c.self.invariant few; gap = only-gap c.args.hash w c.args.gap gap; spare = λ some. spare-there w c.self.invariant (record { room = b.room; few = b.few }) (gap-shared c.args.hash w c.args.gap gap some); held = held_entry (index_state i.shared.homes i.own.homes) c.args.old_hash c.args.slot held }
+    let v = index_of c.self.inside.shared c.self.inside.own in
+    let held = rw (← c.self.view_is) at c.requires.held in
+    let gap = rw (← c.self.view_is) at c.requires.gap in
+    let room = rw (← c.self.view_is) at c.requires.room in
+    record {
+      few = shared-few v c.self.invariant room.few;
+      gap = only-gap c.args.hash v c.args.gap gap;
+      spare = λ some. spare-there v c.self.invariant (room.spare (gap-shared c.args.hash v c.args.gap gap some));
+      held = held_entry v c.args.old_hash c.args.slot held.there;
+    }
 
 pub invariant_of-self : goal.invariant_of-self
 invariant_of-self g c =
     let i = c.self.inside in
     let v = index_state i.shared.homes i.own.homes in
     let homes = removed nat_eq i.shared.homes c.args.old_hash c.args.slot in
-    let fewer = sorted-left v homes c.args.old_hash c.args.slot c.requires.below c.self.invariant refl in
-    sorted-entered (index_state homes i.own.homes) c.exchange.new.self.homes c.args.hash c.args.slot c.requires.below fewer (ap (λ (t : CountedTable). t.homes) c.exchange.ensures.exchanged)
+    let fewer = sorted-left v homes c.args.old_hash c.args.slot c.requires.held.below c.self.invariant refl in
+    sorted-entered (index_state homes i.own.homes) c.exchange.new.self.homes c.args.hash c.args.slot c.requires.held.below fewer (ap (λ (t : CountedTable). t.homes) c.exchange.ensures.exchanged)
 
 pub returns : goal.returns
 returns g c =
