@@ -1,9 +1,10 @@
--- A table whose number of accesses is raised to its bound.
+-- A table whose number of accesses is raised to its bound, and an index of two such tables.
 use Rattle.std.proofs.Common.{◌≡◌, ℕ, ◌+◌, ◌-◌, ◌≤◌, ap, ◌∙◌, arith}
 use Rattle.clock2q_handles.specs.Changes.{ChangesAtMost}
 use Rattle.clock2q_handles.specs.Layout.{layout, walk, run}
 use Rattle.clock2q_handles.specs.TableStep.{TableValue}
 use Rattle.clock2q_directory.specs.Accesses.{CountedTable, counted, most_changed}
+use Rattle.clock2q_directory.specs.Index.{IndexState}
 
 -- once a change has read its walk and as many slots as it wrote, at most its run and one, it is at its bound
 pub at_bound : (t t' : TableValue ℕ) (old new : CountedTable) (k x most : ℕ) → t.slots ≡ layout t.homes → counted t.homes (t.reads + t.writes + k) ≡ old
@@ -28,27 +29,7 @@ at_both_bounds t t' old new k x y most laid view changes picked is =
     let runs' = ap (λ s. run s y) laid in
     is ∙ ap (counted t'.homes) (omega (arith, here, cost, cost', runs, runs', changes.1, picked))
 
--- the cost of a change to one of two tables, after what both had taken
-pub cost_first : (a m b : ℕ) → a + m + b ≡ a + b + m
-cost_first a m b = omega arith
-
-pub cost_second : (a b m : ℕ) → a + (b + m) ≡ a + b + m
-cost_second a b m = omega arith
-
-pub cost_both : (a m b n : ℕ) → a + m + (b + n) ≡ a + b + m + n
-cost_both a m b n = omega arith
-
-pub cost_reads : (a m b n : ℕ) → a + m + (b + n) ≡ a + b + (m + n)
-cost_reads a m b n = omega arith
-
-pub cost_exchanged : (a m n b : ℕ) → a + (m + n) + b ≡ a + b + n + m
-cost_exchanged a m n b = omega arith
-
-pub cost_split : (a m o b n : ℕ) → a + (m + o) + (b + n) ≡ a + b + o + n + m
-cost_split a m o b n = omega arith
-
-pub cost_forgetting : (a h o r b : ℕ) → a + (h + o) + r + b ≡ a + b + o + r + h
-cost_forgetting a h o r b = omega arith
-
-pub cost_forgetting_split : (a h s b o n : ℕ) → a + (h + s) + (b + o + n) ≡ a + b + o + s + n + h
-cost_forgetting_split a h s b o n = omega arith
+-- an index is another if its tables and its number of accesses are
+pub same-index : {v w : IndexState} → v.shared ≡ w.shared → v.own ≡ w.own → v.accesses ≡ w.accesses → v ≡ w
+same-index {v} {w} shared own accesses =
+    ap (λ z. record v { shared = z }) shared ∙ ap (λ z. record w { own = z; accesses = v.accesses }) own ∙ ap (λ n. record w { accesses = n }) accesses

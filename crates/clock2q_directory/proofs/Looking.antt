@@ -10,12 +10,13 @@ use Rattle.clock2q_handles.specs.Homes.{candidates}
 use Rattle.clock2q_handles.specs.Positions.{GapValue, gap_of}
 use Rattle.clock2q_directory.specs.Index as known
 use Rattle.clock2q_directory.specs.Index.{IndexState, IsGapFor, first_remembered, unpacked, is_shared, slots_among, places_among}
+use Rattle.clock2q_queues.specs.Cells.{Rises}
 use Rattle.clock2q_queues.specs.Order.{PlaceOrder}
-use Rattle.clock2q_directory.specs.Keys.{KeyPlaces, is_key_at}
+use Rattle.clock2q_directory.specs.Keys.{KeyPlaces, entries_of, is_key_at, comparisons_of}
 use Rattle.clock2q_directory.specs.Indexes.{HasHash}
-use Rattle.clock2q_directory.specs.History.{Remembered, IsHistory, remembered_from, place_of, found_slot, found_place, found_gap, first_known}
+use Rattle.clock2q_directory.specs.History.{IsHistory, place_of, found_slot, found_place, found_gap, first_known}
 use Rattle.clock2q_directory.proofs.Indexes.{candidates_there}
-use Rattle.clock2q_directory.proofs.Lookups.{Asked, begins_with}
+use Rattle.clock2q_directory.proofs.Lookups.{Asked, begins_with, comparisons-within}
 use Rattle.clock2q_directory.proofs.Views.{candidates-slots, candidates-places, candidates-own}
 use Rattle.clock2q_directory.proofs.Forgetting.{placed}
 
@@ -165,23 +166,18 @@ module _ (a b : ℕ → Bool) (end : Option GapValue) where
         omega (arith, on.comparisons_most, ap (λ (z : List ℕ). length z) places_still),
       )
 
--- what the view of a history has in its index under a hash, and as a key's place
-module _ {K V : Type 0} (index : IndexState) (order : PlaceOrder) (keys : KeyPlaces K V) {s : Remembered K}
-    (is : remembered_from index order keys ≡ s) (x : ℕ) where
-  pub slots-shown : {handles : List ℕ} → handles ≡ candidates index.shared x → slots_among handles ≡ candidates (known.slots s.places.index) x
-  slots-shown at = ap slots_among at ∙ sym (candidates-slots index x) ∙ ap (λ (z : Remembered K). candidates (known.slots z.places.index) x) is
+-- the slots that a lookup in the table of the slots finds
+pub slots-read : (index : IndexState) (x : ℕ) {handles : List ℕ} → handles ≡ candidates index.shared x → slots_among handles ≡ candidates (known.slots index) x
+slots-read index x at = ap slots_among at ∙ sym (candidates-slots index x)
 
-  pub places-shown : length (candidates (known.places index) x) ≡ length (candidates (known.places s.places.index) x)
-  places-shown = ap (λ (z : Remembered K). length (candidates (known.places z.places.index) x)) is
-
-  pub comparisons-shown : keys.comparisons ≡ s.comparisons
-  comparisons-shown = ap (λ (z : Remembered K). z.comparisons) is
-
-  pub place-shown : {eq : K → K → Bool} → IsEquivalence eq → IsHistory eq index order keys → (key : K) → HasHash eq x key s.entries
-      → place_of (eq key) (map (λ e. e.1) s.entries) s.places.taken ≡ find (is_key_at eq key keys.entries) (candidates (known.places index) x)
-  place-shown {eq} laws h key hash =
-      sym (ap (λ (z : Remembered K). place_of (eq key) (map (λ e. e.1) z.entries) z.places.taken) is)
-      ∙ placed laws x key h (rw (← is) at hash)
+-- a key that was searched for among the places under its hash
+pub searched : {K V : Type 0} {eq : K → K → Bool} (laws : IsEquivalence eq) (hash : ℕ) (key : K) {index : IndexState} {order : PlaceOrder} {keys : KeyPlaces K V} → IsHistory eq index order keys
+    → HasHash eq hash key (entries_of keys.entries order.places) → {among : List ℕ} {found : Option ℕ} {comparisons : ℕ} → among ≡ candidates (known.places index) hash
+    → found ≡ find (is_key_at eq key keys.entries) among → comparisons ≡ keys.comparisons + comparisons_of (is_key_at eq key keys.entries) among
+    → (found ≡ place_of (eq key) (map (λ (e : ℕ × K). e.1) (entries_of keys.entries order.places)) order.places) × Rises 0 (length (candidates (known.places index) hash)) keys.comparisons comparisons
+searched {eq = eq} laws hash key {keys = keys} h hashed among is counted =
+    let most = comparisons-within (is_key_at eq key keys.entries) _ among refl in
+    (is ∙ ap (λ z. find (is_key_at eq key keys.entries) z) among ∙ sym (placed laws hash key h hashed), (omega (arith, counted), omega (arith, counted, most)))
 
 -- what a history's index has under a hash
 module _ {K V : Type 0} {eq : K → K → Bool} {index : IndexState} {order : PlaceOrder} {keys : KeyPlaces K V} (h : IsHistory eq index order keys) (x : ℕ) where

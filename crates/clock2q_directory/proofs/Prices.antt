@@ -3,9 +3,8 @@ use Rattle.std.proofs.Common.{ℕ, ◌+◌, ◌≤◌, eqb, ltb, Option, Some, N
 use Rattle.std.specs.List.{last_or}
 use Rattle.std.proofs.lemmas.Bool.{cases_Bool}
 use Rattle.clock2q_handles.specs.Homes.{total, capacity, removed}
-use Rattle.clock2q_handles.specs.Positions.{handle_replaced}
 use Rattle.clock2q_handles.proofs.Removals.{removed-walk}
-use Rattle.clock2q_handles.proofs.Runs.{removed-room, removed-run, handle_replaced-run, handle_replaced-walk}
+use Rattle.clock2q_handles.proofs.Runs.{removed-room, removed-run}
 use Rattle.clock2q_queues.specs.Order.{place_for}
 use Rattle.clock2q_directory.specs.Accesses.{most_changed}
 use Rattle.clock2q_directory.specs.Index.{IndexState, IsWithinCapacity, is_shared, first_remembered, left, remembered_at, forgotten_at, most_reached}
@@ -15,10 +14,6 @@ module _ (homes : List (List (ℕ × ℕ))) (room : total homes ≤ capacity (le
   -- once an entry has left a table, no change reads and writes more slots than before
   pub removed-changed : (y : ℕ) → most_changed (removed eqb homes x h) y ≤ most_changed homes y
   removed-changed y = omega (arith, removed-walk eqb homes x h room y, removed-run eqb homes x h room y)
-
-  -- nor does one once an entry has another handle
-  pub handle_replaced-changed : (w y : ℕ) → most_changed (handle_replaced eqb homes x h w) y ≤ most_changed homes y
-  handle_replaced-changed w y = omega (arith, handle_replaced-walk eqb homes x h room w y, handle_replaced-run eqb homes x h room w y)
 
 -- no change of either table reads and writes more slots than before, and the entries fit
 pub record IsNoDearer (v w : IndexState) : Type 0 where
@@ -56,13 +51,7 @@ module _ (v : IndexState) (within : IsWithinCapacity v) where
   pub forgotten-accesses : (x p : ℕ) → (forgotten_at x p v).accesses ≤ v.accesses + most_reached v x
   forgotten-accesses x p = elim (cases_Bool (is_shared v)) [ inl h ↦ rw h (omega arith) | inr h ↦ rw h (omega arith) ]
 
-  -- the resident at a slot is remembered at a place: the places' own table may then cost more
-  pub remembered-shared : (x s p y : ℕ) → most_changed (remembered_at x s p v).shared y ≤ most_changed v.shared y
-  remembered-shared x s p y = elim (cases_Bool (is_shared v)) [
-    | inl h ↦ rw h (handle_replaced-changed v.shared within.shared x s (first_remembered + p) y)
-    | inr h ↦ rw h (removed-changed v.shared within.shared x s y)
-  ]
-
+  -- the resident at a slot is remembered at a place
   pub remembered-accesses : (x s p : ℕ) → (remembered_at x s p v).accesses ≤ v.accesses + most_reached v x
   remembered-accesses x s p = elim (cases_Bool (is_shared v)) [ inl h ↦ rw h (omega arith) | inr h ↦ rw h (omega arith) ]
 
@@ -83,18 +72,6 @@ module _ (p : Places) (within : IsWithinCapacity p.index) where
 
   -- the resident at a slot leaves for the history, whose oldest key may be forgotten for it
   module _ (limit hash slot oldest : ℕ) where
-    oldest_shared : (o : Option ℕ) (y : ℕ) → most_changed (taking_oldest hash slot oldest o p).index.shared y ≤ most_changed p.index.shared y
-    oldest_shared None y = (left-dear p.index within hash slot).shared y
-    oldest_shared (Some place) y =
-        let d = forgotten-dear p.index within oldest place in
-        omega (arith, remembered-shared (forgotten_at oldest place p.index) d.within hash slot place y, d.shared y)
-
-    pub pushed-shared : (y : ℕ) → most_changed (pushed_places limit hash slot oldest p).index.shared y ≤ most_changed p.index.shared y
-    pushed-shared y = elim (cases_Bool (ltb (length p.taken) limit)) [
-      | inl few ↦ rw few (remembered-shared p.index within hash slot (place_for (length p.taken) p.free) y)
-      | inr full ↦ rw full (oldest_shared (last_or None p.taken) y)
-    ]
-
     oldest_accesses : (o : Option ℕ) → (taking_oldest hash slot oldest o p).index.accesses ≤ p.index.accesses + most_reached p.index hash + reached_oldest p.index oldest o
     oldest_accesses None = omega arith
     oldest_accesses (Some place) =

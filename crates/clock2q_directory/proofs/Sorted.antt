@@ -111,22 +111,18 @@ sorted v w s shared own others =
       takes = λ h. subst (λ n. 0 < capacity n) (sym own) (s.takes (before h));
     }
 
-pub sorted-entered : (v : IndexState) (homes : List (List (ℕ × ℕ))) (x s : ℕ) → s < first_remembered → IsSorted v → homes ≡ with_handle v.shared x s → IsSorted (index_state homes v.own)
-sorted-entered v homes x s below sorts is =
-    sorted v (index_state homes v.own) sorts (ap (λ (z : List (List (ℕ × ℕ))). length z) is ∙ length-put v.shared x s) refl (λ _. ap (λ z. places_in z) is ∙ others-entered v.shared x s below)
+pub sorted-entered : {v : IndexState} (x s : ℕ) → s < first_remembered → IsSorted v → IsSorted (index_state (with_handle v.shared x s) v.own)
+sorted-entered {v} x s below sorts = sorted v (index_state (with_handle v.shared x s) v.own) sorts (length-put v.shared x s) refl (λ _. others-entered v.shared x s below)
 
-pub sorted-left : (v : IndexState) (homes : List (List (ℕ × ℕ))) (x s : ℕ) → s < first_remembered → IsSorted v → homes ≡ removed eqb v.shared x s → IsSorted (index_state homes v.own)
-sorted-left v homes x s below sorts is =
-    sorted v (index_state homes v.own) sorts (ap (λ (z : List (List (ℕ × ℕ))). length z) is ∙ length-taken v.shared x s) refl (λ _. ap (λ z. places_in z) is ∙ others-left v.shared x s below)
+pub sorted-left : {v : IndexState} (x s : ℕ) → s < first_remembered → IsSorted v → IsSorted (index_state (removed eqb v.shared x s) v.own)
+sorted-left {v} x s below sorts = sorted v (index_state (removed eqb v.shared x s) v.own) sorts (length-taken v.shared x s) refl (λ _. others-left v.shared x s below)
 
-pub sorted-remembered : (v : IndexState) (homes own : List (List (ℕ × ℕ))) (x s p : ℕ) → s < first_remembered → IsSorted v
-    → homes ≡ removed eqb v.shared x s → own ≡ with_handle v.own x p → IsSorted (index_state homes own)
-sorted-remembered v homes own x s p below sorts is own_is =
-    sorted v (index_state homes own) sorts (ap (λ (z : List (List (ℕ × ℕ))). length z) is ∙ length-taken v.shared x s) (ap (λ (z : List (List (ℕ × ℕ))). length z) own_is ∙ length-put v.own x p)
-    (λ _. ap (λ z. places_in z) is ∙ others-left v.shared x s below)
+pub sorted-remembered : {v : IndexState} (x s p : ℕ) → s < first_remembered → IsSorted v → IsSorted (index_state (removed eqb v.shared x s) (with_handle v.own x p))
+sorted-remembered {v} x s p below sorts =
+    sorted v (index_state (removed eqb v.shared x s) (with_handle v.own x p)) sorts (length-taken v.shared x s) (length-put v.own x p) (λ _. others-left v.shared x s below)
 
-pub sorted-own : (v : IndexState) (own : List (List (ℕ × ℕ))) → length own ≡ length v.own → IsSorted v → IsSorted (index_state v.shared own)
-sorted-own v own same sorts = sorted v (index_state v.shared own) sorts refl same (λ _. refl)
+pub sorted-own : {v : IndexState} (own : List (List (ℕ × ℕ))) → length own ≡ length v.own → IsSorted v → IsSorted (index_state v.shared own)
+sorted-own {v} own same sorts = sorted v (index_state v.shared own) sorts refl same (λ _. refl)
 
 pub sorted-cleared : (v : IndexState) → IsSorted v → IsSorted (index_state (no_entries (length v.shared)) (no_entries (length v.own)))
 sorted-cleared v s =

@@ -1,18 +1,17 @@
 use Rattle.std.proofs.Common.{◌≡◌, ℕ, ◌+◌, ◌<◌, true, length, refl, sym, ap, ◌∙◌, arith}
 use Rattle.std.specs.Prelude.{nat_eq}
 use Rattle.std.specs.List.{list_any}
-use Rattle.clock2q_handles.specs.Homes.{top, candidates, is_entry_of, listed, removed, with_handle}
+use Rattle.clock2q_handles.specs.Homes.{top, candidates, is_entry_of, listed, removed}
 use Rattle.clock2q_handles.specs.Layout.{walk}
-use Rattle.clock2q_handles.specs.Positions.{handle_replaced}
 use Rattle.clock2q_handles.proofs.MoreEntries.{walk-more}
 use Rattle.clock2q_handles.proofs.Removals.{held-still, replaced-homes}
 use Rattle.clock2q_queues.specs.Rings.{has}
-use Rattle.clock2q_directory.specs.Accesses.{CountedTable, most_changed}
-use Rattle.clock2q_directory.specs.Index.{IndexState, index_state, index_of, is_shared, slots, entered_from, remembered_at, forgotten_at, first_remembered}
-use Rattle.clock2q_directory.proofs.Charging.{cost_forgetting}
+use Rattle.clock2q_directory.specs.Accesses.{CountedTable}
+use Rattle.clock2q_directory.specs.Index.{IndexState, index_state, index_of, is_shared, slots, forgotten_at, first_remembered}
 use Rattle.clock2q_directory.proofs.Views.{held_entry, slots-forgotten}
 use Rattle.clock2q_directory.proofs.Indexes.{length-taken}
 use Rattle.clock2q_directory.proofs.Sorted.{only-gap, spare-there, held_place}
+use Rattle.clock2q_directory.proofs.Charging.{same-index}
 use Rattle.clock2q_directory.proofs.index.Index.forget_shared.Goals as goal
 
 -- the slot is held once the place is gone
@@ -60,29 +59,17 @@ replace_handle_up_to-requires g c =
 pub returns : goal.returns
 returns g c =
     let i = c.self.inside in
-    let a = i.shared.homes in
-    let v = index_state a i.own.homes in
-    let m = most_changed a in
+    let v = index_of i.shared i.own in
     let handle = first_remembered + c.args.place in
-    let fewer = removed nat_eq a c.args.oldest handle in
-    let n = most_changed fewer c.args.old_hash in
-    let some : 0 < length fewer = omega (arith, length-taken a c.args.oldest handle, c.self.invariant.some) in
-    let shared : is_shared (index_of i.shared i.own) ≡ true = ap is_shared c.self.view_is ∙ c.requires.shared in
+    let fewer = removed nat_eq i.shared.homes c.args.oldest handle in
+    let some : 0 < length fewer = omega (arith, length-taken i.shared.homes c.args.oldest handle, c.self.invariant.some) in
+    let shared : is_shared v ≡ true = ap is_shared c.self.view_is ∙ c.requires.shared in
     let may = rw (← c.self.view_is) at c.requires.may in
-    let homes = with_handle (handle_replaced nat_eq fewer c.args.old_hash c.args.slot handle) c.args.hash c.args.slot in
+    let homes = replaced-homes nat_eq fewer c.args.hash c.args.old_hash c.args.slot c.args.slot handle some
+    (still_there v c.args.old_hash c.args.slot c.args.oldest c.args.place shared may.held.there) in
     let done = rw c.pack-handle.ensures.packed at c.exchange.ensures.exchanged in
-    let lists : c.replace_handle_up_to.new.self.homes ≡ homes =
-    ap (λ (t : CountedTable). t.homes) c.replace_handle_up_to.ensures.handle_replaced
-    ∙ ap (λ (t : CountedTable). handle_replaced nat_eq t.homes c.args.old_hash c.args.slot c.pack-handle.result) done
-    ∙ ap (λ h. handle_replaced nat_eq (with_handle fewer c.args.hash c.args.slot) c.args.old_hash c.args.slot h) c.pack-handle.ensures.packed
-    ∙ replaced-homes nat_eq fewer c.args.hash c.args.old_hash c.args.slot c.args.slot handle some (still_there v c.args.old_hash c.args.slot c.args.oldest c.args.place shared may.held.there) in
-    let spent : c.replace_handle_up_to.new.self.accesses ≡ i.shared.accesses + (m c.args.hash + m c.args.oldest) + n =
-    ap (λ (t : CountedTable). t.accesses) c.replace_handle_up_to.ensures.handle_replaced ∙ (rw c.pack-handle.ensures.packed at c.most_after_exchange-most.ensures.picked) in
-    let is : entered_from (index_of i.shared i.own) c.args.hash c.args.slot (remembered_at c.args.old_hash c.args.slot c.args.place (forgotten_at c.args.oldest c.args.place (index_of i.shared i.own)))
-    ≡ record { shared = homes; own = i.own.homes; accesses = i.shared.accesses + i.own.accesses + m c.args.oldest + n + m c.args.hash } = rw (shared, shared) refl in
+    let spent = rw c.pack-handle.ensures.packed at c.most_after_exchange-most.ensures.picked in
     record {
-      renewed = ap (λ hs. record { shared = hs; own = i.own.homes; accesses = c.replace_handle_up_to.new.self.accesses + i.own.accesses }) lists
-          ∙ ap (λ k. record { shared = homes; own = i.own.homes; accesses = k + i.own.accesses }) spent
-          ∙ ap (λ k. record { shared = homes; own = i.own.homes; accesses = k }) (cost_forgetting i.shared.accesses (m c.args.hash) (m c.args.oldest) n i.own.accesses)
-          ∙ sym is ∙ ap (λ z. entered_from z c.args.hash c.args.slot (remembered_at c.args.old_hash c.args.slot c.args.place (forgotten_at c.args.oldest c.args.place z))) c.self.view_is;
+      renewed = rw (c.replace_handle_up_to.ensures.handle_replaced, done, c.pack-handle.ensures.packed, ← c.self.view_is, shared, shared)
+          (same-index homes refl (omega (arith, spent)));
     }

@@ -1,11 +1,8 @@
-use Rattle.std.proofs.Common.{ap, ◌∙◌}
-use Rattle.std.specs.Prelude.{nat_eq}
-use Rattle.clock2q_handles.specs.Homes.{removed}
-use Rattle.clock2q_directory.specs.Accesses.{CountedTable, most_changed}
-use Rattle.clock2q_directory.specs.Index.{index_state, index_of, left}
-use Rattle.clock2q_directory.proofs.Charging.{cost_first}
+use Rattle.std.proofs.Common.{refl, arith}
+use Rattle.clock2q_directory.specs.Index.{index_of}
 use Rattle.clock2q_directory.proofs.Views.{held_entry}
 use Rattle.clock2q_directory.proofs.Sorted.{sorted-left}
+use Rattle.clock2q_directory.proofs.Charging.{same-index}
 use Rattle.clock2q_directory.proofs.index.Index.remove_slot.Goals as goal
 
 pub remove_existing-requires : goal.remove_existing-requires
@@ -14,14 +11,7 @@ remove_existing-requires g c =
     record { held = held_entry (index_of c.self.inside.shared c.self.inside.own) c.args.hash c.args.slot held.there }
 
 pub invariant_of-self : goal.invariant_of-self
-invariant_of-self g c =
-    let i = c.self.inside in
-    sorted-left (index_state i.shared.homes i.own.homes) c.remove_existing.new.self.homes c.args.hash c.args.slot c.requires.held.below c.self.invariant (ap (λ (t : CountedTable). t.homes) c.remove_existing.ensures.removed)
+invariant_of-self g c = rw c.remove_existing.ensures.removed (sorted-left c.args.hash c.args.slot c.requires.held.below c.self.invariant)
 
 pub returns : goal.returns
-returns g c =
-    let i = c.self.inside in
-    record {
-      left = ap (λ t. index_of t i.own) c.remove_existing.ensures.removed ∙ ap (λ n. record { shared = removed nat_eq i.shared.homes c.args.hash c.args.slot; own = i.own.homes; accesses = n })
-          (cost_first i.shared.accesses (most_changed i.shared.homes c.args.hash) i.own.accesses) ∙ ap (λ z. left c.args.hash c.args.slot z) c.self.view_is;
-    }
+returns g c = record { left = rw (c.remove_existing.ensures.removed, ← c.self.view_is) (same-index refl refl (omega arith)) }

@@ -1,11 +1,8 @@
-use Rattle.std.proofs.Common.{refl, ap, ◌∙◌}
-use Rattle.std.specs.Prelude.{nat_eq}
-use Rattle.clock2q_handles.specs.Homes.{removed, with_handle}
-use Rattle.clock2q_directory.specs.Accesses.{CountedTable, most_changed}
-use Rattle.clock2q_directory.specs.Index.{index_state, index_of, left, entered_from}
-use Rattle.clock2q_directory.proofs.Charging.{cost_exchanged}
+use Rattle.std.proofs.Common.{refl, arith}
+use Rattle.clock2q_directory.specs.Index.{index_of}
 use Rattle.clock2q_directory.proofs.Views.{held_entry}
 use Rattle.clock2q_directory.proofs.Sorted.{gap-shared, only-gap, shared-few, spare-there, sorted-entered, sorted-left}
+use Rattle.clock2q_directory.proofs.Charging.{same-index}
 use Rattle.clock2q_directory.proofs.index.Index.renew.Goals as goal
 
 pub exchange-requires : goal.exchange-requires
@@ -23,19 +20,8 @@ exchange-requires g c =
 
 pub invariant_of-self : goal.invariant_of-self
 invariant_of-self g c =
-    let i = c.self.inside in
-    let v = index_state i.shared.homes i.own.homes in
-    let homes = removed nat_eq i.shared.homes c.args.old_hash c.args.slot in
-    let fewer = sorted-left v homes c.args.old_hash c.args.slot c.requires.held.below c.self.invariant refl in
-    sorted-entered (index_state homes i.own.homes) c.exchange.new.self.homes c.args.hash c.args.slot c.requires.held.below fewer (ap (λ (t : CountedTable). t.homes) c.exchange.ensures.exchanged)
+    let below = c.requires.held.below in
+    rw c.exchange.ensures.exchanged (sorted-entered c.args.hash c.args.slot below (sorted-left c.args.old_hash c.args.slot below c.self.invariant))
 
 pub returns : goal.returns
-returns g c =
-    let i = c.self.inside in
-    let m = most_changed i.shared.homes in
-    let homes = with_handle (removed nat_eq i.shared.homes c.args.old_hash c.args.slot) c.args.hash c.args.slot in
-    record {
-      renewed = ap (λ t. index_of t i.own) c.exchange.ensures.exchanged
-          ∙ ap (λ n. record { shared = homes; own = i.own.homes; accesses = n }) (cost_exchanged i.shared.accesses (m c.args.hash) (m c.args.old_hash) i.own.accesses)
-          ∙ ap (λ z. entered_from z c.args.hash c.args.slot (left c.args.old_hash c.args.slot z)) c.self.view_is;
-    }
+returns g c = record { renewed = rw (c.exchange.ensures.exchanged, ← c.self.view_is) (same-index refl refl (omega arith)) }

@@ -1,19 +1,16 @@
-use Rattle.std.proofs.Common.{◌≡◌, ◌+◌, ◌^◌, ◌<◌, true, IfSome, IsSome, sym, ap, ◌∙◌, subst}
+use Rattle.std.proofs.Common.{◌+◌, ap, ◌∙◌}
 use Rattle.std.specs.Prelude.{nat_eq}
-use Rattle.std.specs.List.{list_any}
-use Rattle.clock2q_handles.specs.Homes.{is_entry_of, listed, removed, total, with_handle}
-use Rattle.clock2q_handles.specs.Positions.{gap_of}
-use Rattle.clock2q_handles.specs.TableStep.{HasSpare}
+use Rattle.clock2q_handles.specs.Homes.{removed, with_handle}
 use Rattle.clock2q_directory.specs.Accesses.{CountedTable, counted, most_changed}
 use Rattle.clock2q_directory.proofs.Charging.{at_both_bounds}
 use Rattle.clock2q_directory.proofs.index.counted_table.CountedTable.exchange.Goals as goal
 
 pub exchange-requires : goal.exchange-requires
 exchange-requires g c = record {
-  few = subst (λ (z : CountedTable). total z.homes < 2 ^ 24) (sym c.self.view_is) c.requires.few;
-  spare = subst (λ (z : CountedTable). IsSome c.args.gap → HasSpare z.homes) (sym c.self.view_is) c.requires.spare;
-  gap = subst (λ (z : CountedTable). IfSome c.args.gap (λ gap. gap ≡ gap_of z.homes c.args.hash)) (sym c.self.view_is) c.requires.gap;
-  held = subst (λ (z : CountedTable). list_any (is_entry_of nat_eq c.args.old_hash c.args.old) (listed z.homes c.args.old_hash) ≡ true) (sym c.self.view_is) c.requires.held;
+  few = rw (← c.self.view_is) at c.requires.few;
+  spare = rw (← c.self.view_is) at c.requires.spare;
+  gap = rw (← c.self.view_is) at c.requires.gap;
+  held = rw (← c.self.view_is) at c.requires.held;
 }
 
 pub invariant_of-self : goal.invariant_of-self

@@ -1,15 +1,13 @@
-use Rattle.std.proofs.Common.{◌≡◌, ◌+◌, IfSome, sym, ap, ◌∙◌, subst}
+use Rattle.std.proofs.Common.{◌+◌, ap, ◌∙◌}
 use Rattle.clock2q_handles.specs.Homes.{with_handle}
-use Rattle.clock2q_handles.specs.Positions.{gap_of}
-use Rattle.clock2q_handles.specs.TableStep.{HasSpare}
 use Rattle.clock2q_directory.specs.Accesses.{CountedTable, counted, most_changed}
 use Rattle.clock2q_directory.proofs.Charging.{at_bound}
 use Rattle.clock2q_directory.proofs.index.counted_table.CountedTable.insert.Goals as goal
 
 pub insert_at_gap-requires : goal.insert_at_gap-requires
 insert_at_gap-requires g c = record {
-  spare = subst (λ (z : CountedTable). HasSpare z.homes) (sym c.self.view_is) c.requires.spare;
-  gap = subst (λ (z : CountedTable). IfSome c.args.gap (λ gap. gap ≡ gap_of z.homes c.args.hash)) (sym c.self.view_is) c.requires.gap;
+  spare = rw (← c.self.view_is) at c.requires.spare;
+  gap = rw (← c.self.view_is) at c.requires.gap;
 }
 
 pub invariant_of-self : goal.invariant_of-self

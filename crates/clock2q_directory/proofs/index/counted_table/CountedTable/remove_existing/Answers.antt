@@ -1,18 +1,12 @@
-use Rattle.std.proofs.Common.{◌≡◌, ◌+◌, true, sym, ap, ◌∙◌, subst, arith}
+use Rattle.std.proofs.Common.{◌+◌, ap, ◌∙◌, arith}
 use Rattle.std.specs.Prelude.{nat_eq}
-use Rattle.std.specs.List.{list_any}
-use Rattle.clock2q_handles.specs.Homes.{removed, is_entry_of, listed}
+use Rattle.clock2q_handles.specs.Homes.{removed}
 use Rattle.clock2q_directory.specs.Accesses.{CountedTable, counted, most_changed}
 use Rattle.clock2q_directory.proofs.Charging.{at_bound}
 use Rattle.clock2q_directory.proofs.index.counted_table.CountedTable.remove_existing.Goals as goal
 
 pub remove_existing-requires : goal.remove_existing-requires
-remove_existing-requires g c =
-    record {
-      held = subst
-          (λ (z : CountedTable). list_any (is_entry_of nat_eq c.args.hash c.args.handle) (listed z.homes c.args.hash) ≡ true)
-          (sym c.self.view_is) c.requires.held;
-    }
+remove_existing-requires g c = record { held = rw (← c.self.view_is) at c.requires.held }
 
 pub invariant_of-self : goal.invariant_of-self
 invariant_of-self g c = c.remove_existing.ensures.laid.laid

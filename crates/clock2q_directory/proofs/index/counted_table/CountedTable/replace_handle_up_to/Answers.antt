@@ -1,14 +1,12 @@
-use Rattle.std.proofs.Common.{◌≡◌, ◌+◌, ◌-◌, true, sym, ap, ◌∙◌, subst, arith}
+use Rattle.std.proofs.Common.{◌≡◌, ◌+◌, ◌-◌, ap, ◌∙◌, arith}
 use Rattle.std.specs.Prelude.{nat_eq}
-use Rattle.std.specs.List.{list_any}
-use Rattle.clock2q_handles.specs.Homes.{is_entry_of, listed}
 use Rattle.clock2q_handles.specs.Layout.{walk}
 use Rattle.clock2q_handles.specs.Positions.{handle_replaced}
 use Rattle.clock2q_directory.specs.Accesses.{CountedTable, counted}
 use Rattle.clock2q_directory.proofs.index.counted_table.CountedTable.replace_handle_up_to.Goals as goal
 
 pub replace_handle-requires : goal.replace_handle-requires
-replace_handle-requires g c = record { held = subst (λ (z : CountedTable). list_any (is_entry_of nat_eq c.args.hash c.args.handle) (listed z.homes c.args.hash) ≡ true) (sym c.self.view_is) c.requires.held }
+replace_handle-requires g c = record { held = rw (← c.self.view_is) at c.requires.held }
 
 pub invariant_of-self : goal.invariant_of-self
 invariant_of-self g c = c.replace_handle.ensures.laid.laid
