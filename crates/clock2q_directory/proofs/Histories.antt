@@ -65,17 +65,19 @@ module _ {K V : Type 0} {eq : K → K → Bool} {index : IndexState} {order : Pl
       omega (arith, h.indexed.counted, h.whole.within, ap (λ b. if b then total (known.places index) else 0) shared, ap (λ b. if b then order.limit + 1 else 0) shared)) in
       record { few = omega (arith, r.few, beside-most); spare = λ shared. record { room = omega (arith, r.room, less shared); few = omega (arith, r.few, less shared) } }
 
-  pub IsHistory-cleared : {order' : PlaceOrder} {keys' : KeyPlaces K V} → IsWholeOrder order' → order'.places ≡ [] → order'.free ≡ [] → order'.limit ≡ order.limit
-      → keys'.entries ≡ [] → keys'.room ≡ keys.room → IsHistory eq (emptied index) order' keys'
-  IsHistory-cleared {order'} {keys'} w places free limit none room =
+  pub IsHistory-cleared : {order' : PlaceOrder} {keys' : KeyPlaces K V} → IsWholeOrder order' → order' ≡ record order { places = []; free = [] } → keys' ≡ record keys { entries = [] }
+      → IsHistory eq (emptied index) order' keys'
+  IsHistory-cleared {order'} {keys'} w ordered cleared =
+      let places = ap (λ (z : PlaceOrder). z.places) ordered in
+      let limit = ap (λ (z : PlaceOrder). z.limit) ordered in
       let l = cleared_like index in
       record {
         whole = w;
         indexed = subst (λ z. IsIndex (known.places (emptied index)) keys'.entries z) (sym places)
             (emptied-places (length index.shared) (length index.own) keys'.entries);
         distinct = subst (λ z. AllDistinct eq (entries_of keys'.entries z)) (sym places) tt;
-        as_many = omega (arith, ap (λ (z : List (Entry K V)). length z) none, ap (λ (z : List ℕ). length z) places, ap (λ (z : List ℕ). length z) free);
-        room = rw (limit, room) h.room;
+        as_many = omega (arith, ap (λ (z : KeyPlaces K V). length z.entries) cleared, ap (λ (z : List ℕ). length z) places, ap (λ (z : PlaceOrder). length z.free) ordered);
+        room = rw (limit, ap (λ (z : KeyPlaces K V). z.room) cleared) h.room;
         some = rw (limit, l.places) h.some;
         own_room = λ o. rw (limit, l.places) (h.own_room (sym l.shared ∙ o));
         short = rw limit h.short;

@@ -59,11 +59,21 @@ module _ {K V : Type 0} (keys : List (Entry K V)) where
       let same : e.0.0 ≡ hash = let q = hash_of_hashed keys p e.0 e.1 in cc in
       ap (λ z. elim z [ None ↦ 0 | Some k ↦ k.0 ]) (last-entry None s ps p e.0 e.1 last) ∙ same
 
-module _ {K V : Type 0} (index : IndexState) (order order' : PlaceOrder) (keys : List (Entry K V)) (place : ℕ)
+module _ {K V : Type 0} {order : PlaceOrder} {keys : List (Entry K V)} {place : ℕ} (w : IsWholeOrder order) where
+  -- the index has the oldest place under the hash of its key
+  pub oldest_held : {homes : List (List (ℕ × ℕ))} {hash : ℕ} → IsIndex homes keys order.places → last_or None order.places ≡ Some place → hash_at keys place ≡ Some hash → has place (candidates homes hash) ≡ true
+  oldest_held {homes} {hash} i last at =
+      let there = (last_taken order.places place last (AllApart-left order.places order.free w.apart)).1 in
+      i.listed hash place ∙ rw (there, named-own homes keys hash place at) refl
+
+module _ {K V : Type 0} {index : IndexState} {order order' : PlaceOrder} {keys : List (Entry K V)} {place : ℕ}
     (i : IsIndex (known.places index) keys order.places) (as_many : length keys ≡ used order) (w : IsWholeOrder order) where
-  pub MakesPlace-new : length order.places < order.limit → place ≡ next_place order → order'.places ≡ place ∷ order.places → order'.free ≡ drop 1 order.free → order'.limit ≡ order.limit
+  pub MakesPlace-new : length order.places < order.limit → place ≡ next_place order
+      → order' ≡ record order { places = place ∷ order.places; free = drop 1 order.free; accesses = order'.accesses }
       → Rises 1 7 order.accesses order'.accesses → MakesPlace index index order order' keys place
-  MakesPlace-new room is places free limit accesses =
+  MakesPlace-new room is ordered accesses =
+      let places = ap (λ (z : PlaceOrder). z.places) ordered in
+      let free = ap (λ (z : PlaceOrder). z.free) ordered in
       let n : FitsNext order.limit place order.places order.free =
       subst (λ z. FitsNext order.limit z order.places order.free) (sym is) (FitsNext-from order.limit order.places order.free w.apart w.below w.within room) in
       let u = used_next order.places order.free (subst (λ z. z < suc (length order.places) + length (drop 1 order.free)) is n.below.0) in
@@ -80,7 +90,7 @@ module _ {K V : Type 0} (index : IndexState) (order order' : PlaceOrder) (keys :
         next = rw is (rw as_many u.0);
         below = n.fits;
         used_now = counts ∙ u.1 ∙ ap (λ z. max z (place_for (length order.places) order.free + 1)) (sym as_many) ∙ ap (λ z. max (length keys) (z + 1)) (sym is);
-        limit = limit;
+        limit = ap (λ (z : PlaceOrder). z.limit) ordered;
         accesses = accesses;
         placed = λ hash slot.
             let p = places_from index order in
@@ -91,18 +101,16 @@ module _ {K V : Type 0} (index : IndexState) (order order' : PlaceOrder) (keys :
             ∙ sym (ap (λ b. if b then taking_free hash slot p else taking_oldest hash slot oldest (last_or None order.places) p) (lt-ltb (length order.places) order.limit room));
       }
 
-  pub oldest_there : last_or None order.places ≡ Some place → place < length keys
-  oldest_there last =
-      let there = (last_taken order.places place last (AllApart-left order.places order.free w.apart)).1 in
-      rw as_many (below_of (used order) order.places (AllBelow-left (used order) order.places order.free w.below) place there)
-
-  pub MakesPlace-oldest : (index' : IndexState) (hash : ℕ) → order.limit ≤ length order.places → last_or None order.places ≡ Some place
-      → order'.places ≡ place ∷ take (length order.places - 1) order.places → order'.free ≡ order.free → order'.limit ≡ order.limit → order'.accesses ≡ order.accesses + 1
-      → hash_at keys place ≡ Some hash → index' ≡ forgotten_at hash place index → MakesPlace index index' order order' keys place
-  MakesPlace-oldest index' hash full last places free limit accesses at is =
+  pub MakesPlace-oldest : {hash : ℕ} → order.limit ≤ length order.places → last_or None order.places ≡ Some place
+      → order' ≡ record order { places = place ∷ take (length order.places - 1) order.places; accesses = order.accesses + 1 }
+      → hash_at keys place ≡ Some hash → MakesPlace index (forgotten_at hash place index) order order' keys place
+  MakesPlace-oldest {hash} full last ordered at =
+      let places = ap (λ (z : PlaceOrder). z.places) ordered in
+      let free = ap (λ (z : PlaceOrder). z.free) ordered in
+      let spent = ap (λ (z : PlaceOrder). z.accesses) ordered in
       let apart = AllApart-left order.places order.free w.apart in
       let l = last_taken order.places place last apart in
-      let there = oldest_there last in
+      let there : place < length keys = rw as_many (below_of (used order) order.places (AllBelow-left (used order) order.places order.free w.below) place l.1) in
       let n : order.limit ≡ length order.places = omega (arith, full, w.within) in
       let front : without place order.places ≡ take (order.limit - 1) order.places = l.0 ∙ ap (λ z. take (z - 1) order.places) (sym n) in
       let counts : used order' ≡ suc (length (take (order.limit - 1) order.places)) + length order.free = ap (λ (z : List ℕ). length z + length order'.free) places
@@ -113,30 +121,23 @@ module _ {K V : Type 0} (index : IndexState) (order order' : PlaceOrder) (keys :
         places = places ∙ ap (λ z. place ∷ take (z - 1) order.places) (sym n);
         absent = ap (λ zs. has place zs) (sym front) ∙ gone place order.places;
         indexed =
-            subst (λ z. IsIndex z keys (take (order.limit - 1) order.places)) (sym (ap (λ z. known.places z) is ∙ places-forgotten index hash place))
+            subst (λ z. IsIndex z keys (take (order.limit - 1) order.places)) (sym (places-forgotten index hash place))
             (subst (λ zs. IsIndex (removed eqb (known.places index) hash place) keys zs) front (IsIndex-removed (known.places index) keys order.places place hash i apart at));
-        slots = ap (λ z. known.slots z) is ∙ slots-forgotten index hash place;
-        shared = ap (λ z. known.is_shared z) is ∙ like.shared;
-        as_many = ap (λ z. length (known.places z)) is ∙ like.places;
+        slots = slots-forgotten index hash place;
+        shared = like.shared;
+        as_many = like.places;
         next = omega (arith, there);
         below = omega (arith, there, as_many, w.within);
         used_now = omega (arith, counts, left, as_many, there);
-        limit = limit;
-        accesses = (omega (arith, accesses), omega (arith, accesses));
+        limit = ap (λ (z : PlaceOrder). z.limit) ordered;
+        accesses = (omega (arith, spent), omega (arith, spent));
         placed = λ new slot.
             let p = places_from index order in
             let oldest = oldest_hash (λ (e : ℕ × K). e.0) (entries_of keys order.places) in
             let front' = take (length order.places - 1) order.places in
-            ap (λ z. places_with (remembered_at new slot place z) order'.places order'.free) is
-            ∙ ap (λ z. places_with (remembered_at new slot place (forgotten_at hash place index)) z order'.free) places
+            ap (λ z. places_with (remembered_at new slot place (forgotten_at hash place index)) z order'.free) places
             ∙ ap (λ z. places_with (remembered_at new slot place (forgotten_at hash place index)) (place ∷ front') z) free
             ∙ ap (λ z. places_with (remembered_at new slot place (forgotten_at z place index)) (place ∷ front') order.free) (sym (oldest-is keys order.places place hash last there at))
             ∙ ap (λ z. taking_oldest new slot oldest z p) (sym last)
             ∙ sym (ap (λ b. if b then taking_free new slot p else taking_oldest new slot oldest (last_or None order.places) p) (le-ltb (length order.places) order.limit full));
       }
-
-  -- the index has the oldest place under the hash of its key
-  pub oldest_held : (hash : ℕ) → last_or None order.places ≡ Some place → hash_at keys place ≡ Some hash → has place (candidates (known.places index) hash) ≡ true
-  oldest_held hash last at =
-      let there = (last_taken order.places place last (AllApart-left order.places order.free w.apart)).1 in
-      i.listed hash place ∙ rw (there, named-own (known.places index) keys hash place at) refl
