@@ -46,16 +46,6 @@ module _ {E : Type 0} where
   slice_get_some (x ∷ xs) zero h = (x, refl)
   slice_get_some (x ∷ xs) (suc i) h = slice_get_some xs i (omega arith)
 
-  get_set : (place : ℕ) (d : E) (xs : List E) → place < length xs → slice_get (slice_set xs place d) place ≡ Some d
-  get_set place d [] h = absurd (omega arith)
-  get_set zero d (x ∷ xs) h = refl
-  get_set (suc place) d (x ∷ xs) h = get_set place d xs (omega arith)
-
-  set_twice : (place : ℕ) (d e : E) (xs : List E) → place < length xs → slice_set (slice_set xs place d) place e ≡ written place e xs
-  set_twice place d e [] h = absurd (omega arith)
-  set_twice zero d e (x ∷ xs) h = refl
-  set_twice (suc place) d e (x ∷ xs) h = ap (λ zs. x ∷ zs) (set_twice place d e xs (omega arith))
-
   -- what holds of all and of the one that is written holds of all afterwards
   pub all-written : (P : E → Type 0) (s : ℕ) (e : E) (es : List E) → AllByRecursion P es → P e → AllByRecursion P (written s e es)
   all-written P s e [] a p = (p, tt)

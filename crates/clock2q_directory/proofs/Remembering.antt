@@ -12,7 +12,7 @@ use Rattle.clock2q_queues.specs.Rings.{has}
 use Rattle.clock2q_queues.specs.Order.{PlaceOrder, IsWholeOrder, used, place_for}
 use Rattle.clock2q_directory.specs.Keys.{KeyPlaces, entry, written, hash_at, hashed_at, entries_of}
 use Rattle.clock2q_directory.specs.Indexes.{IsIndex, AllDistinct, has_key}
-use Rattle.clock2q_directory.specs.History.{Places, Remembered, IsHistory, MakesPlace, MayRetire, remembered_from, accesses_of, places_with, places_from, pushed_places, freed_place, oldest_hash, taking_free, taking_oldest}
+use Rattle.clock2q_directory.specs.History.{Places, Remembered, IsHistory, MakesPlace, MayRetire, remembered_from, accesses_of, places_from, pushed_places, freed_place, oldest_hash, taking_free, taking_oldest}
 use Rattle.clock2q_queues.specs.Cells.{Rises}
 use Rattle.clock2q_queues.proofs.Rings.{differs, AllBelow-left}
 use Rattle.clock2q_directory.proofs.Entries.{slice_get-written, slice_get-written_other, length-written, entries-agree, entries-cons, entries-take}
@@ -34,10 +34,13 @@ module _ {K : Type 0} (eq : K → K → Bool) where
   distinct-take (suc k) (e ∷ es) d = (key_absent-take e.1 k es d.0, distinct-take k es d.1)
 
 -- if the limit is zero, the resident only leaves
-pub pushed-nowhere : (limit hash slot oldest : ℕ) (p : Places) → length p.taken ≤ limit → limit ≡ 0 → pushed_places limit hash slot oldest p ≡ places_with (left hash slot p.index) p.taken p.free
-pushed-nowhere limit hash slot oldest p h none =
-    ap (λ b. if b then taking_free hash slot p else taking_oldest hash slot oldest (last_or None p.taken) p) (le-ltb (length p.taken) limit (omega (arith, none)))
-    ∙ ap (λ z. taking_oldest hash slot oldest (last_or None z) p) (empty p.taken (omega (arith, h, none)))
+pub pushed-nowhere : {K V : Type 0} {eq : K → K → Bool} {index : IndexState} {order : PlaceOrder} {keys : KeyPlaces K V} (hash slot oldest : ℕ) → IsHistory eq index order keys → order.limit ≡ 0
+    → pushed_places order.limit hash slot oldest (places_from index order) ≡ places_from (left hash slot index) order
+pushed-nowhere {index = index} {order} hash slot oldest h none =
+    let p = places_from index order in
+    let within : length order.places ≤ 0 = omega (arith, h.whole.within, none) in
+    ap (λ b. if b then taking_free hash slot p else taking_oldest hash slot oldest (last_or None order.places) p) (le-ltb (length order.places) order.limit (omega (arith, none)))
+    ∙ ap (λ z. taking_oldest hash slot oldest (last_or None z) p) (empty order.places (omega (arith, within)))
   where
     empty : (ps : List ℕ) → length ps ≡ 0 → ps ≡ []
     empty [] e = refl

@@ -1,4 +1,4 @@
-use Rattle.std.proofs.Common.{◌≡◌, ◌≤◌, length, ap, sym, ◌∙◌, arith}
+use Rattle.std.proofs.Common.{◌≡◌, ap, sym, ◌∙◌, arith}
 use Rattle.clock2q_directory.specs.Index.{forgotten_if, left, remembered_at}
 use Rattle.clock2q_directory.specs.History.{Remembered, entering_places, places_from}
 use Rattle.clock2q_directory.proofs.Histories.{IsHistory-index, beside-room}
@@ -54,6 +54,5 @@ pub returns-then-limit-eq0-clause-places : goal.returns-then-limit-eq0-clause-pl
 returns-then-limit-eq0-clause-places g c =
     let i = c.self.inside in
     let none : i.order.limit ≡ 0 = omega (arith, c.if-limit-eq0.true, c.limit.ensures) in
-    let within : length i.order.places ≤ i.order.limit = omega (arith, c.self.invariant.whole.within) in
-    rw (← c.self.view_is) (ap (λ z. places_from z i.order) c.renew.ensures.renewed
-    ∙ ap (λ q. entering_places c.args.new c.args.slot (places_from i.index i.order) q) (sym (pushed-nowhere i.order.limit c.args.hash c.args.slot _ (places_from i.index i.order) within none)))
+    rw (← c.self.view_is, c.renew.ensures.renewed)
+    (ap (λ q. entering_places c.args.new c.args.slot (places_from i.index i.order) q) (sym (pushed-nowhere c.args.hash c.args.slot _ c.self.invariant none)))

@@ -1,5 +1,4 @@
-use Rattle.std.proofs.Common.{◌≡◌, ◌≤◌, length, ap, sym, ◌∙◌, arith}
-use Rattle.clock2q_directory.specs.History.{places_from}
+use Rattle.std.proofs.Common.{◌≡◌, sym, arith}
 use Rattle.clock2q_directory.proofs.Histories.{IsHistory-index}
 use Rattle.clock2q_directory.proofs.Remembering.{remembers, place_room, place_below, still_held, pushed-nowhere}
 use Rattle.clock2q_directory.proofs.Views.{places-left, left-like}
@@ -31,7 +30,5 @@ returns g c =
 
 pub returns-then-limit-eq0-clause-places : goal.returns-then-limit-eq0-clause-places
 returns-then-limit-eq0-clause-places g c =
-    let i = c.self.inside in
-    let none : i.order.limit ≡ 0 = omega (arith, c.if-limit-eq0.true, c.limit.ensures) in
-    let within : length i.order.places ≤ i.order.limit = omega (arith, c.self.invariant.whole.within) in
-    rw (← c.self.view_is) (ap (λ z. places_from z i.order) c.remove_slot.ensures.left ∙ sym (pushed-nowhere i.order.limit c.args.hash c.args.slot _ (places_from i.index i.order) within none))
+    let none : c.self.inside.order.limit ≡ 0 = omega (arith, c.if-limit-eq0.true, c.limit.ensures) in
+    rw (← c.self.view_is, c.remove_slot.ensures.left) (sym (pushed-nowhere c.args.hash c.args.slot _ c.self.invariant none))
