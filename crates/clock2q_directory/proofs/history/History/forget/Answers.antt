@@ -1,4 +1,5 @@
-use Rattle.std.proofs.Common.{ap, sym, ◌∙◌, arith}
+use Rattle.std.proofs.Common.{◌≡◌, ap, sym, ◌∙◌, arith}
+use Rattle.clock2q_directory.specs.Index.{forgotten_at}
 use Rattle.clock2q_directory.specs.History.{remembered_from, places_from, freed_place}
 use Rattle.clock2q_directory.proofs.Forgetting.{forgets, missed, place_there, place_held, place_short}
 use Rattle.clock2q_directory.proofs.history.History.forget.Goals as goal
@@ -40,7 +41,8 @@ invariant_of-self g c =
 
 pub returns : goal.returns
 returns g c =
+    let gone : c.forget.new.self ≡ forgotten_at c.args.hash c.in-Some.place c.self.inside.index = c.forget.ensures.forgotten in
     let hashed = rw (← c.self.view_is) at c.requires.hash in
     let placed = rw (← c.self.view_is) at c.requires.place in
     let f = forgets g.met.K.Eq.laws c.args.hash c.args.key.now c.self.invariant hashed (sym c.in-Some.is ∙ placed) c.unlink.ensures.whole (rw c.number.ensures.number at c.unlink.ensures.order) in
-    rw (← c.self.view_is, c.forget.ensures.forgotten) (record { found = sym f.found; forgotten = f.forgotten; places = f.places; accesses = f.accesses })
+    rw (← c.self.view_is, gone) (record { found = sym f.found; forgotten = f.forgotten; places = f.places; accesses = f.accesses })
