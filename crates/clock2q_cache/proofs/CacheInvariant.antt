@@ -1,6 +1,6 @@
 -- A cache's fields keep their invariant after each change of the layers, and the machine becomes what it should.
-use Rattle.std.proofs.Common.{◌≡◌, ℕ, suc, ◌+◌, ◌^◌, ◌<◌, ◌≤◌, Bool, true, false, Option, Some, None, List, [], ◌∷◌, ◌++◌, map, length, drop, reverse, refl, sym, ap, ◌∙◌, subst, arith, ne_eqb, length-append, eqb}
-use Rattle.clock2q_cache.proofs.Names.{Entry, length-written, made_below, key_at-own, key_at-others, values-written, length-values, if◌then◌else◌, IfNone, IsEquivalence, last_or, AllByRecursion, total, capacity, candidates, with_handle, has, KeyPlaces, entry, written, hash_at, key_at, admitted, QueueState, slots_of, IndexState, is_shared, slots, Remembered, most_beside, has-append, length-put, named-own, or_parts, Shares, main_share, Machine, Placement, vacancy, vacant_slot, into_main, into_small, into_small_at, joining_main, replacing_victim, stored, IsWhole, known_count, IsValueFor, Fills, Writes, machine_of, places_of, with_keys_small, with_keys_main, IsStored, IsSized, IsKept, IsPlaced, whole-stored, placed-admitted, placed-joining, slots-entered, slots-left, removed, left}
+use Rattle.std.proofs.Common.{◌≡◌, ℕ, suc, ◌+◌, ◌^◌, ◌<◌, ◌≤◌, Bool, true, false, Option, Some, None, List, [], ◌∷◌, ◌++◌, map, length, drop, reverse, refl, sym, ap, ◌∙◌, subst, arith, length-append, eqb}
+use Rattle.clock2q_cache.proofs.Names.{Entry, length-written, made_below, key_at-own, key_at-others, values-written, length-values, if◌then◌else◌, IfNone, IsEquivalence, last_or, AllByRecursion, total, capacity, candidates, with_handle, has, KeyPlaces, entry, written, hash_at, key_at, admitted, QueueState, slots_of, IndexState, is_shared, slots, Remembered, most_beside, has-append, length-put, named-own, or_parts, Shares, main_share, Machine, Placement, vacancy, vacant_slot, into_main, into_small, into_small_at, joining_main, stored, IsWhole, known_count, IsValueFor, Fills, Writes, machine_of, places_of, with_keys_small, with_keys_main, IsStored, IsSized, IsKept, IsPlaced, whole-stored, placed-admitted, placed-joining, slots-entered, slots-left, removed, left}
 use Rattle.clock2q_directory.specs.Index as known
 use Rattle.clock2q_machine.specs.Entries as machine
 use Rattle.clock2q_cache.proofs.WithKeys.{small-admitted, main-behind, small_with, main_with, keys-agree, length-small, length-main}
@@ -51,13 +51,8 @@ sized-same s slots window limit beside homes keys_room free_room = record {
 
 pub kept-reindexed : {K V : Type 0} {eq : K → K → Bool} {hash : K → ℕ} {shares : Shares} {q : QueueState} {h h' : Remembered K} {index : List (List (ℕ × ℕ))} {keys : KeyPlaces K V}
     {free : List ℕ} {room : ℕ} → IsReindexed h h' → IsKept eq hash shares q h index keys free room → IsKept eq hash shares q h' index keys free room
-kept-reindexed {eq = eq} {hash} {shares} {q} {keys = keys} {free} moved kept = record {
-  whole = subst (λ z. IsWhole eq (machine_of shares q keys.entries z free)) (sym moved.entries) kept.whole;
-  stored = kept.stored;
-  hashed = subst (λ z. AllByRecursion (λ e. e.0 ≡ hash e.1) z) (sym moved.entries) kept.hashed;
-  linked = kept.linked;
-  sized = sized-same kept.sized refl refl moved.limit moved.beside refl refl refl;
-}
+kept-reindexed {eq = eq} {hash} {shares} {q} {keys = keys} {free} moved kept =
+    grind (arith, kept.whole, kept.stored, kept.hashed, kept.linked, sized-same, kept.sized)
 
 module _ {K V : Type 0} {eq : K → K → Bool} {hash : K → ℕ} {shares : Shares} {q : QueueState} {h : Remembered K} {index : List (List (ℕ × ℕ))} {keys : KeyPlaces K V} {free : List ℕ} {room : ℕ}
     (laws : IsEquivalence eq) (kept : IsKept eq hash shares q h index keys free room) where
@@ -160,9 +155,7 @@ module _ {K V : Type 0} {eq : K → K → Bool} {hash : K → ℕ} {shares : Sha
   into-small key taken = ap (λ v. into_small_at key v (last_or None m.small) m) taken
 
   into-main : {slot : ℕ} (key : K) → vacancy m ≡ Some slot → length m.main < main_share shares → into_main key m ≡ joining_main key (Some slot) m
-  into-main key taken some =
-      ap (λ b. if b then replacing_victim key (machine.from_victim m.main) m else joining_main key (vacancy m) m)
-      (ne_eqb (length m.main) (main_share shares) (λ e. omega (arith, e, some))) ∙ ap (λ v. joining_main key v m) taken
+  into-main key taken some = grind arith
 
   pub made-small : {slot : ℕ} (key : K) (value : Option V) → vacancy m ≡ Some slot → IfNone value ((into_small key m).slot < length m.values) → IfNone value (slot < length keys.entries)
   made-small key value taken = made-there value (ap (λ (p : Placement K V). p.slot) (into-small key taken))

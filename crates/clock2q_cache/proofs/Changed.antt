@@ -16,10 +16,7 @@ module _ {K : Type 0} (is : K → Bool) where
 
   keys-filtered : (es : List (ℕ × K)) → map (λ (e : ℕ × K). e.1) (filter (λ (e : ℕ × K). not (is e.1)) es) ≡ filter (λ k. not (is k)) (map (λ (e : ℕ × K). e.1) es)
   keys-filtered [] = refl
-  keys-filtered (e ∷ es) = elim (cases_Bool (is e.1)) [
-    | inl t ↦ rw t (keys-filtered es)
-    | inr f ↦ rw f (ap (λ zs. e.1 ∷ zs) (keys-filtered es))
-  ]
+  keys-filtered (e ∷ es) = grind (arith, is e.1, e.1, keys-filtered es)
 
   all-filtered : (P : ℕ × K → Type 0) (es : List (ℕ × K)) → AllByRecursion P es → AllByRecursion P (filter (λ (e : ℕ × K). not (is e.1)) es)
   all-filtered P es a =
@@ -72,26 +69,12 @@ module _ {K V : Type 0} {eq : K → K → Bool} {hash : K → ℕ} {shares : Sha
 
   -- keys are compared
   pub kept-asked : (keys' : KeyPlaces K V) → keys'.entries ≡ keys.entries → keys'.room ≡ keys.room → IsKept eq hash shares q h index keys' free room
-  kept-asked keys' entries keys_room = record {
-    whole = subst (λ z. IsWhole eq (machine_of shares q z h.entries free)) (sym entries) kept.whole;
-    stored = subst (λ z. IsStored hash index z (places_of q)) (sym entries) kept.stored;
-    hashed = kept.hashed;
-    linked = omega (arith, ap (λ (z : List (Entry K V)). length z) entries, kept.linked);
-    sized = sized-same kept.sized refl refl refl refl refl keys_room refl;
-  }
+  kept-asked keys' entries keys_room = grind (arith, kept.whole, kept.stored, kept.hashed, kept.linked, sized-same, kept.sized)
 
   -- a hash was looked up, and keys were compared
   pub kept-looked : (x : ℕ) (h' : Remembered K) (keys' : KeyPlaces K V) → h' ≡ record h { places = places_looked_up x h.places; comparisons = h'.comparisons } → keys'.entries ≡ keys.entries
       → keys'.room ≡ keys.room → IsKept eq hash shares q h' index keys' free room
-  kept-looked x h' keys' same entries keys_room =
-      let remembered = ap (λ (z : Remembered K). z.entries) same in
-      record {
-        whole = subst (λ z. IsWhole eq (machine_of shares q z h'.entries free)) (sym entries) (subst (λ z. IsWhole eq (machine_of shares q keys.entries z free)) (sym remembered) kept.whole);
-        stored = subst (λ z. IsStored hash index z (places_of q)) (sym entries) kept.stored;
-        hashed = subst (λ z. AllByRecursion (λ e. e.0 ≡ hash e.1) z) (sym remembered) kept.hashed;
-        linked = omega (arith, ap (λ (z : List (Entry K V)). length z) entries, kept.linked);
-        sized = sized-same kept.sized refl refl (ap (λ (z : Remembered K). z.limit) same) (ap (λ (z : Remembered K). most_beside z) same) refl keys_room refl;
-      }
+  kept-looked x h' keys' same entries keys_room = grind (arith, kept.whole, kept.stored, kept.hashed, kept.linked, sized-same, kept.sized)
 
   -- the key's history is erased
   module _ (key : K) (h' : Remembered K) (entries : h'.entries ≡ forgotten eq key h.entries) where
@@ -154,12 +137,7 @@ module _ {K V : Type 0} where
   -- whether a key that the history doesn't have enters Main, with a vacancy and without one
   module _ (m : Machine K V) {known : Bool} {share : ℕ} (new : known ≡ false) (at : share ≡ m.shares.small) where
     pub admits-vacant : {n : ℕ} → is_some (vacancy m) ≡ true → n ≡ length m.small → nat_le share n ≡ goes_to_main known m
-    admits-vacant {n} vacant is =
-        ap (λ z. nat_le z n) at ∙ ap (λ z. nat_le m.shares.small z) is
-        ∙ elim (cases_Bool (m.shares.small == 0)) [
-          | inl z ↦ let none = eqb-true m.shares.small 0 z in rw (new, none) (le-leb 0 (length m.small) (omega arith))
-          | inr s ↦ rw (new, s, vacant) refl
-        ]
+    admits-vacant {n} vacant is = grind (arith, le-leb)
 
     pub admits-full : is_some (vacancy m) ≡ false → (share == 0) ≡ goes_to_main known m
     admits-full full = rw (new, full, at) (sym (or_false (m.shares.small == 0)))

@@ -16,10 +16,7 @@ module _ {K V S H : Type 0} (key : HashMembers K) (build : builder.Ghosts S H) (
       → cache_state (stored slot w new.machine) new.known new.hasher
       (record { inspections = new.counts.inspections; accesses = new.counts.accesses + (links - new.counts.accesses); comparisons = new.counts.comparisons + (keys - new.counts.comparisons) })
       ≡ with_slot key build hash k w old
-  lent {links} {keys} is_links is_keys w =
-      let links_are : new.counts.accesses + (links - new.counts.accesses) ≡ most_links key build hash k old = omega (arith, is_links, spent.accesses.1) in
-      let keys_are : new.counts.comparisons + (keys - new.counts.comparisons) ≡ most_keys key build hash k old = omega (arith, is_keys, spent.comparisons.1) in
-      cc (taken.writes w, spent.inspections)
+  lent {links} {keys} is_links is_keys w = grind arith
 
 -- counts at their bounds are within the cost of a call for a key's slot
 pub charged-costs : {K V S H : Type 0} {key : HashMembers K} {build : builder.Ghosts S H} {hash : hasher.Ghosts H} {k : K} (w : V) (old : CacheState K V S)

@@ -24,11 +24,7 @@ counted-map is f (x ∷ xs) = omega (arith, sum_by-cons (λ y. cond (is y) 1 0) 
 paired-found : {K : Type 0} (key : ℕ → Option K) (is : K → Bool) (passes : ℕ → Bool) → ((t : ℕ) (k : K) → key t ≡ Some k → passes t ≡ is k) → (ps : List ℕ) → HaveKeys key ps
     → option_map (λ (r : K × ℕ). r.1) (find (λ r. is r.0) (paired key ps)) ≡ find passes ps
 paired-found key is passes agrees [] h = refl
-paired-found {K} key is passes agrees (p ∷ ps) h =
-    let k = h p (has_first p ps) in
-    let t : passes p ≡ is k.0 = agrees p k.0 k.1 in
-    ap (λ z. option_map (λ (r : K × ℕ). r.1) (find (λ r. is r.0) z)) (paired-cons key p ps k.0 k.1)
-    ∙ elim (cases_Bool (is k.0)) [ inl y ↦ rw (t, y) refl | inr n ↦ rw (t, n) (paired-found key is passes agrees ps (have_later key p ps h)) ]
+paired-found {K} key is passes agrees (p ∷ ps) h = grind (arith, has_first p ps, paired-cons, paired-found key is passes agrees ps (have_later key p ps h))
 
 module _ {K V : Type 0} (entries : List (Entry K V)) where
   -- whether a key is the one at a place
@@ -174,16 +170,8 @@ module _ {K V : Type 0} {eq : K → K → Bool} {hash : K → ℕ} {shares : Sha
         nothing false b h = refl
 
         of : (o : Option ℕ) → slot_of (eq key) m ≡ o → is_at slot o ≡ (has slot (places_of q) && is_key_at eq key keys.entries slot)
-        of None none =
-            nothing (has slot (places_of q)) (is_key_at eq key keys.entries slot)
-            (λ there it. both_ways (is_key_at eq key keys.entries slot) (not_found (is_key_at eq key keys.entries) (places_of q) (sym none ∙ slot-among) slot there) it)
-        of (Some p) some =
-            let f = found-there p some in
-            elim (cases_Bool (eqb p slot)) [
-              | inl e ↦ rw (e, rw (eqb-true p slot e) at f.0, rw (eqb-true p slot e) at f.1) refl
-              | inr e ↦ e ∙ nothing (has slot (places_of q)) (is_key_at eq key keys.entries slot)
-                  (λ there it. both_ways (eqb p slot) e (same_place eq laws key keys.entries (places_of q) distinct p slot f.0 there f.1 it))
-            ]
+        of None none = grind (arith, nothing, not_found, slot-among)
+        of (Some p) some = grind (arith, found-there p some, nothing, same_place, distinct)
 
     pub at-places : (slot : ℕ) → has slot (places_of q) ≡ true → is_key_at eq key keys.entries slot ≡ is_at slot (slot_of (eq key) m)
     at-places slot there = sym (at-slot slot ∙ rw there refl)
@@ -192,10 +180,7 @@ module _ {K V : Type 0} {eq : K → K → Bool} {hash : K → ℕ} {shares : Sha
     not-at slot absent = sym (ap (λ b. then_some b slot) (at-slot slot ∙ ap (λ b. b && is_key_at eq key keys.entries slot) absent))
 
     pub past-all : (slot : ℕ) → length keys.entries ≤ slot → has slot (places_of q) ≡ false
-    past-all slot past = elim (cases_Bool (has slot (places_of q))) [
-      | inl there ↦ absurd (omega (arith, past, below_of (length keys.entries) (places_of q) kept.stored.made slot there))
-      | inr absent ↦ absent
-    ]
+    past-all slot past = grind (arith, below_of, kept.stored.made)
 
     pub slot-at : (slot : ℕ) → is_at slot (slot_of (eq key) m) ≡ true → slot_of (eq key) m ≡ Some slot
     slot-at slot h = of (slot_of (eq key) m) h

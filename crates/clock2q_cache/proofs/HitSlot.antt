@@ -1,6 +1,6 @@
 -- The key of the resident at a slot, and that it is found there.
-use Rattle.std.proofs.Common.{◌≡◌, ℕ, ◌≤◌, Bool, true, false, Option, Some, None, List, length, inl, inr, refl, sym, ap, ◌∙◌, arith}
-use Rattle.clock2q_cache.proofs.Names.{IfSome, IsSome, is_some, some_is, IsEquivalence, KeyPlaces, has, key_at, is_key_at, QueueState, Remembered, Shares, Machine, resident_at, slot_of, machine_of, places_of, IsKept, below_of, cases_Bool}
+use Rattle.std.proofs.Common.{◌≡◌, ℕ, ◌≤◌, Bool, true, false, Option, Some, None, List, length, refl, sym, ap, ◌∙◌, arith}
+use Rattle.clock2q_cache.proofs.Names.{IfSome, IsSome, is_some, some_is, IsEquivalence, KeyPlaces, has, key_at, is_key_at, QueueState, Remembered, Shares, Machine, resident_at, slot_of, machine_of, places_of, IsKept, below_of}
 use Rattle.clock2q_cache.proofs.Finding.{key-compares, at-slot, slot-at}
 use Rattle.clock2q_cache.proofs.Places.{resident-none}
 use Rattle.clock2q_cache.proofs.Stored.{have_keys}
@@ -32,10 +32,7 @@ module _ {K V : Type 0} {eq : K → K → Bool} {hash : K → ℕ} {shares : Sha
   past-residents slot past = resident-none laws kept slot absent
     where
       absent : has slot (places_of q) ≡ false
-      absent = elim (cases_Bool (has slot (places_of q))) [
-        | inl stays ↦ absurd (omega (arith, past, below_of (length keys.entries) (places_of q) kept.stored.made slot stays))
-        | inr gone ↦ gone
-      ]
+      absent = grind (arith, below_of, kept.stored.made)
 
   -- whether there is a resident at a slot past those that were made
   pub past-none : (slot : ℕ) → length keys.entries ≤ slot → false ≡ is_some (resident_at m slot)

@@ -1,15 +1,14 @@
 -- What a call that may insert a key costs the index at most.
-use Rattle.std.proofs.Common.{◌≡◌, ℕ, ◌+◌, ◌*◌, ◌≤◌, ◌==◌, ◌||◌, ◌&&◌, Bool, true, false, not, Option, Some, None, List, [], ◌∷◌, length, inl, inr, refl, sym, ap, ◌∙◌, subst, arith}
+use Rattle.std.proofs.Common.{◌≡◌, ℕ, ◌+◌, ◌*◌, ◌≤◌, ◌||◌, Bool, true, false, not, Option, Some, None, List, [], ◌∷◌, length, inl, inr, refl, sym, ap, ◌∙◌, subst, arith}
 use Rattle.std.specs.declared.hash.Hasher as hasher
 use Rattle.std.specs.declared.hash.BuildHasher as builder
-use Rattle.clock2q_cache.proofs.Names.{cases_Bool, or_parts, filter, list_any, last_or, last_some, option_map, is_some, none_is, if◌then◌else◌, nat_le, IfSome, IsEquivalence, HashMembers, Places, place_of, oldest_hash, pushed_places, is_promoted, SmallEntry, MainEntry, Machine, placement, inserted, forgotten, slot_of, resident_at, resident_made, vacancy, goes_to_main, history_share, get-within, replaced, after, Put, IsWhole, CacheState, hash_of, key_out, left_by, discarded, hash_in, looked_for, known_at, known_with, known_taken}
+use Rattle.clock2q_cache.proofs.Names.{cases_Bool, or_parts, filter, list_any, last_or, last_some, option_map, is_some, none_is, if◌then◌else◌, IfSome, IsEquivalence, HashMembers, Places, place_of, oldest_hash, is_promoted, SmallEntry, MainEntry, Machine, placement, inserted, forgotten, slot_of, resident_at, resident_made, goes_to_main, get-within, replaced, after, Put, IsWhole, CacheState, hash_of, key_out, left_by, discarded, hash_in, looked_for, known_at, known_with, known_taken}
 use Rattle.clock2q_machine.specs.Entries.{first_of, from_victim}
-use Rattle.clock2q_machine.specs.Leaving.{leaves_for, leaves_for_main, leaves_for_small, leaver}
+use Rattle.clock2q_machine.specs.Leaving.{leaves_for, leaves_for_small, leaver}
 use Rattle.clock2q_machine.proofs.MachineInvariant.{lasting-inserted}
 use Rattle.clock2q_machine.proofs.Entering.{slots_apart, differs, entered_there}
 use Rattle.clock2q_machine.proofs.Victims.{others_stay}
 use Rattle.clock2q_directory.specs.Index.{IndexState, IsWithinCapacity, looked_up, most_reached}
-use Rattle.clock2q_directory.specs.History.{freed_place}
 use Rattle.clock2q_directory.proofs.Prices.{reached_oldest, freed-dear, freed-accesses, pushed-accesses}
 use Rattle.clock2q_cache.specs.Costs.{reached, reached_if, walked, slots_for, slots_to_take}
 use Rattle.clock2q_cache.specs.Places.{vacated_for, out_of}
@@ -127,29 +126,12 @@ module _ {K V S H : Type 0} (key : HashMembers K) (build : builder.Ghosts S H) (
   -- by that resident, or by Small's tail, which is remembered
   vacated_by : slot_of (key.eq k) c.machine ≡ None → (o : Option K) → out_of (goes_to_main known c.machine) rest ≡ o → (vacated_for hashed o slot rest before).index.accesses ≤ most_vacated
   vacated_by absent None is = vacated_there absent (resident_at c.machine slot) refl
-  vacated_by absent (Some tail) is =
-      let share = history_share c.machine.shares in
-      let oldest = oldest_hash hashed c.machine.history in
-      let t = tail_leaves known (c.machine.shares.small == 0) (is_some (vacancy c.machine) && nat_le c.machine.shares.small (length c.machine.small)) (vacancy c.machine)
-      (last_or None c.machine.small) c.machine.main (leaves_for_main c.machine) tail is in
-      let forgets : rest.history ≡ c.machine.history = none-forgotten (key.eq k) c.machine.history t.0 in
-      let frees : before ≡ c.known = ap (λ o. freed_place (hashed k) o c.known) (place-none (key.eq k) c.machine.history c.known.taken t.0) in
-      let becomes : vacated_for hashed (Some tail) slot rest before ≡ pushed_places share (hashed tail) slot oldest c.known =
-      ap (λ ks. pushed_places share (hashed tail) slot (oldest_hash hashed ks) before) forgets ∙ ap (pushed_places share (hashed tail) slot oldest) frees in
-      omega (
-        arith,
-        ap (λ (p : Places). p.index.accesses) becomes,
-        pushed-accesses c.known within share (hashed tail) slot oldest,
-        oldest_reached c.machine.history c.known.taken as_many,
-        ap (reached_if key build hash c) t.1,
-      )
+  vacated_by absent (Some tail) is = grind (arith, hashed, tail_leaves, known, none-forgotten, before, place-none, slot, rest, pushed-accesses, oldest_reached)
 
   -- once the key has its slot
   known_price : slot_of (key.eq k) c.machine ≡ None → (known_at key build hash k slot c).index.accesses
       ≤ c.known.index.accesses + (2 * reached key build hash c k + reached_if key build hash c leaving + reached_if key build hash c (last_or None c.machine.history))
-  known_price absent =
-      let place = place_of (key.eq k) c.machine.history c.known.taken in
-      omega (arith, vacated_by absent (out_of (goes_to_main known c.machine) rest) refl, (freed-dear c.known within (hashed k) place).shared (hashed k))
+  known_price absent = grind (arith, place_of, vacated_by, known, rest, freed-dear, hashed)
 
 -- a lookup changes no entry
 pub within-looked : {v : IndexState} (x : ℕ) → IsWithinCapacity v → IsWithinCapacity (looked_up x v)

@@ -54,30 +54,10 @@ module _ {K V : Type 0} (hash : K → ℕ) (entries : List (Entry K V)) where
     named : (x place : ℕ) (places : List ℕ) → AllByRecursion IsHashed places
         → (has place places && is_named index entries x place) ≡ list_any (λ e. (place == e.1) && is_alike index x (hash e.0)) (paired (key_at entries) places)
     named x place [] a = refl
-    named x place (s ∷ ss) a =
-        let k = a.0.0 in
-        let there = ap (λ zs. list_any (λ e. (place == e.1) && is_alike index x (hash e.0)) zs) (paired-cons (key_at entries) s ss k (key-of s (hash k) k a.0.1)) in
-        let later = named x place ss a.1 in
-        elim (cases_Bool (eqb place s)) [
-          | inl is ↦
-              let e : place ≡ s = eqb-true place s is in
-              let n : is_named index entries x place ≡ is_alike index x (hash k) =
-              ap (λ z. elim (hash_at entries z) [ None ↦ false | Some y ↦ is_alike index x y ]) e ∙ ap (λ o. elim o [ None ↦ false | Some y ↦ is_alike index x y ]) (hash-of s (hash k) k a.0.1) in
-              let rest = list_any (λ e. (place == e.1) && is_alike index x (hash e.0)) (paired (key_at entries) ss) in
-              ap (λ b. (b || has place ss) && is_named index entries x place) is ∙ n ∙ absorb (is_alike index x (hash k)) (has place ss)
-              ∙ ap (λ z. is_alike index x (hash k) || (has place ss && z)) (sym n) ∙ ap (λ z. is_alike index x (hash k) || z) later
-              ∙ ap (λ b. (b && is_alike index x (hash k)) || rest) (sym is) ∙ sym there
-          | inr differ ↦
-              let rest = list_any (λ e. (place == e.1) && is_alike index x (hash e.0)) (paired (key_at entries) ss) in
-              ap (λ b. (b || has place ss) && is_named index entries x place) differ ∙ later ∙ ap (λ b. (b && is_alike index x (hash k)) || rest) (sym differ) ∙ sym there
-        ]
+    named x place (s ∷ ss) a = grind (arith, a.0.0, paired-cons, key-of, a.0.1, named x place ss a.1, a.1, hash-of, absorb)
 
     pub has-places : (places : List ℕ) → AllByRecursion IsHashed places → IsIndex index entries places → HasPlaces hash index (paired (key_at entries) places)
-    has-places places a is = record {
-      found = λ x place. is.listed x place ∙ named x place places a;
-      once = is.once;
-      counted = is.counted ∙ sym (length-paired (key_at entries) places (hashed_have places a));
-    }
+    has-places places a is = grind (arith, named, is.counted, length-paired, hashed_have)
 
   -- if a list of places has as many keys as places, each place has its key with the key's hash
   entries_within : (places : List ℕ) → length (entries_of entries places) ≤ length places

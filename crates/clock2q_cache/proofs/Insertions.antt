@@ -16,15 +16,7 @@ module _ {K V : Type 0} (q : QueueState) (h : Remembered K) (keys : KeyPlaces K 
   pub joined-spends : {small : List (ℕ × Age)} {main : List (ℕ × Bool)} {made unmade : ℕ} (least most : ℕ) → q' ≡ record q { small = small; main = main; made = made; accesses = q'.accesses }
       → Rises least (unmade + most) q.accesses q'.accesses → unmade ≡ 0 → most ≤ 28 → {places : Places} {h' : Remembered K} → h' ≡ record h { places = places } → keys' ≡ record keys { entries = es; writes = n }
       → Spends 0 28 0 (counts_of q h keys) (counts_of q' h' keys')
-  joined-spends least most queues links none few moved renewed =
-      let asked = ap (λ (z : KeyPlaces K V). z.comparisons) renewed in
-      let kept_count = ap (λ (z : Remembered K). z.comparisons) moved in
-      let same = ap (λ (z : Remembered K). z.accesses) moved in
-      record {
-        inspections = omega (arith, ap (λ (z : QueueState). z.inspections) queues);
-        accesses = (omega (arith, links.0, same), omega (arith, links.1, none, few, same));
-        comparisons = (omega (arith, asked, kept_count), omega (arith, asked, kept_count));
-      }
+  joined-spends least most queues links none few moved renewed = grind (arith, inspections, links.0, links.1)
 
   -- a key that takes the slot of Small's tail, which is evicted
   pub evicted-spends : {small : List (ℕ × Age)} {main : List (ℕ × Bool)} {kept : List
@@ -32,14 +24,7 @@ module _ {K V : Type 0} (q : QueueState) (h : Remembered K) (keys : KeyPlaces K 
       Rises 5 8 q.accesses q'.accesses
       → h' ≡ record h { entries = kept; places = places; accesses = h'.accesses } → Rises 0 8 h.accesses h'.accesses
       → keys' ≡ record keys { entries = es; writes = n } → Spends 0 28 0 (counts_of q h keys) (counts_of q' h' keys')
-  evicted-spends queues reused pushed remembered renewed =
-      let asked = ap (λ (z : KeyPlaces K V). z.comparisons) renewed in
-      let kept_count = ap (λ (z : Remembered K). z.comparisons) pushed in
-      record {
-        inspections = omega (arith, ap (λ (z : QueueState). z.inspections) queues);
-        accesses = (omega (arith, reused.0, remembered.0), omega (arith, reused.1, remembered.1));
-        comparisons = (omega (arith, asked, kept_count), omega (arith, asked, kept_count));
-      }
+  evicted-spends queues reused pushed remembered renewed = grind (arith, inspections, reused.0, remembered.0, reused.1, remembered.1)
 
 module _ {K V : Type 0} {eq : K → K → Bool} {hash : K → ℕ} {shares : Shares} {q : QueueState} {h : Remembered K} {index : List (List (ℕ × ℕ))} {keys : KeyPlaces K V} {free : List ℕ} {room : ℕ}
     (laws : IsEquivalence eq) (kept : IsKept eq hash shares q h index keys free room) where
@@ -50,15 +35,7 @@ module _ {K V : Type 0} {eq : K → K → Bool} {hash : K → ℕ} {shares : Sha
       → {places : Places} {h' : Remembered K} → h' ≡ record h { places = places } → keys' ≡ record keys { entries = es; writes = n }
       → let m = machine_of shares q keys.entries h.entries free in Spends (machine.inspections m.main) (machine.inspections m.main + 28) 0 (counts_of q h keys) (counts_of q' h' keys')
   victim-spends looks links queues moved renewed =
-      let looked = main-inspections (key_at keys.entries) q.main (main_have laws kept) in
-      let asked = ap (λ (z : KeyPlaces K V). z.comparisons) renewed in
-      let kept_count = ap (λ (z : Remembered K). z.comparisons) moved in
-      let same = ap (λ (z : Remembered K). z.accesses) moved in
-      record {
-        inspections = omega (arith, looked, looks, ap (λ (z : QueueState). z.inspections) queues);
-        accesses = (omega (arith, looked, links.0, same), omega (arith, looked, links.1, same));
-        comparisons = (omega (arith, asked, kept_count), omega (arith, asked, kept_count));
-      }
+      grind (arith, main-inspections (key_at keys.entries) q.main (main_have laws kept), inspections, links.0, links.1)
 
 pub no_last : {X : Type 0} (xs : List X) → 0 < length xs → last_or None xs ≡ None → ⊥
 no_last [] some none = omega (arith, some)
@@ -132,14 +109,8 @@ forgotten-spends before after = spends-both before after (omega arith) (omega ar
 -- A key is looked up, and is hit or inserted.
 module _ {K V : Type 0} (is : K → Bool) (m : Machine K V) {r n : ℕ} {old found new : Counts} (asked : Spends 0 0 r old found) where
   pub hit-spends : {slot : ℕ} → Some slot ≡ slot_of is m → new ≡ found → r ≤ n → Spends (inspections_for is m) (accesses_for is m) n old new
-  hit-spends there same few =
-      let none : inspections_for is m ≡ 0 = sym (ap (λ o. if is_some o then 0 else (if takes_victim is m then machine.inspections m.main else 0)) there) in
-      let no_link : accesses_for is m ≡ 0 = sym (ap (λ o. if is_some o then 0 else inspections_for is m + 36) there) in
-      rw (same, no_link, none) (spends-more asked (omega arith) few)
+  hit-spends there same few = grind (arith, spends-more)
 
   pub insert-spends : {m1 : Machine K V} {p : ℕ} → None ≡ slot_of is m → m1 ≡ m
       → Spends (inspections_for is m1) (inspections_for is m1 + 36) p found new → r + p ≤ n → Spends (inspections_for is m) (accesses_for is m) n old new
-  insert-spends absent same spent few =
-      let links : accesses_for is m ≡ inspections_for is m + 36 = sym (ap (λ o. if is_some o then 0 else inspections_for is m + 36) absent) in
-      let looks = ap (λ z. inspections_for is z) same in
-      spends-both asked spent (omega (arith, looks)) (omega (arith, looks, links)) few
+  insert-spends absent same spent few = grind (arith, spends-both)

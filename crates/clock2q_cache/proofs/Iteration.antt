@@ -1,5 +1,5 @@
 -- What an iterator over the residents has left: slot by slot, and the number.
-use Rattle.std.proofs.Common.{◌≡◌, ℕ, zero, suc, ◌+◌, ◌-◌, ◌<◌, ◌≤◌, ◌==◌, Bool, true, false, cond, Option, Some, None, List, [], ◌∷◌, map, length, inl, inr, refl, sym, ap, ◌∙◌, arith, eq-eqb, ne_eqb}
+use Rattle.std.proofs.Common.{◌≡◌, ℕ, zero, suc, ◌+◌, ◌<◌, ◌≤◌, ◌==◌, Bool, true, false, cond, Option, Some, None, List, [], ◌∷◌, map, length, inl, inr, refl, sym, ap, ◌∙◌, arith, eq-eqb, ne_eqb}
 use Rattle.std.specs.Prelude.{is_some, IsSome, slice_get, nat_lt, if◌then◌else◌}
 use Rattle.std.specs.List.{filter_map, range_with_len, cons_option, find, sum_by, count_by}
 use Rattle.std.specs.Option.{option_map, option_and_then}
@@ -16,9 +16,7 @@ use Rattle.clock2q_cache.specs.Iteration.{entry_at, entries_from, entries, key_a
 
 module _ {K V : Type 0} (m : Machine K V) where
   one_more : (slot : ℕ) → slot < length m.values → (o : Option (K × ℕ × V)) → entry_at m slot ≡ o → entries_from m slot ≡ cons_option o (entries_from m (slot + 1))
-  one_more slot made o at =
-      let e : length m.values - slot ≡ suc (length m.values - (slot + 1)) = omega (arith, made) in
-      ap (λ n. filter_map (entry_at m) (range_with_len slot n)) e ∙ ap (λ z. cons_option z (entries_from m (slot + 1))) at
+  one_more slot made o at = grind arith
 
   -- a slot without a resident yields nothing
   pub entries-past : (slot : ℕ) → slot < length m.values → is_some (resident_at m slot) ≡ false → entries_from m slot ≡ entries_from m (slot + 1)
@@ -31,9 +29,7 @@ module _ {K V : Type 0} (m : Machine K V) where
   -- a slot with a resident yields it
   pub entries-there : (slot : ℕ) → slot < length m.values → (key : K) (value : V) → resident_at m slot ≡ Some (key, slot) → slice_get m.values slot ≡ Some value
       → entries_from m slot ≡ (key, slot, value) ∷ entries_from m (slot + 1)
-  entries-there slot made key value there has =
-      one_more slot made (Some (key, slot, value))
-      (ap (option_and_then {U = K × ℕ × V} (λ (r : K × ℕ). option_map (λ value. (r.0, r.1, value)) (slice_get m.values slot))) there ∙ ap (option_map (λ value. (key, slot, value))) has)
+  entries-there slot made key value there has = grind (arith, one_more)
 
   -- so there is something left
   pub some-left : (slot : ℕ) → slot < length m.values → IsSome (resident_at m slot) → 1 ≤ length (entries_from m slot)
@@ -59,16 +55,10 @@ module _ {K V : Type 0} (m : Machine K V) where
           (filter_map (entry_at m) (range_with_len (from + 1) n)))
           ≡ cons_option o (filter_map (resident_at m) (range_with_len (from + 1) n))
       each None rest = rest
-      each (Some r) rest =
-          let v = get-within m.values from (omega (arith, within)) in
-          ap (λ (z : Option V). map key_and_slot
-          (cons_option (option_map {U = K × ℕ × V} (λ value. (r.0, r.1, value)) z)
-          (filter_map (entry_at m) (range_with_len (from + 1) n)))) v.1 ∙ ap (λ zs. r ∷ zs) rest
+      each (Some r) rest = grind (arith, get-within m.values from (omega (arith, within)), within, r.0, r.1)
 
   pub entries-by_slot : map key_and_slot (entries m) ≡ by_slot m
-  entries-by_slot =
-      let e : length m.values - 0 ≡ length m.values = omega arith in
-      ap (λ n. map key_and_slot (filter_map (entry_at m) (range_with_len 0 n))) e ∙ keys_and_slots 0 (length m.values) (omega arith)
+  entries-by_slot = grind (arith, keys_and_slots)
 
   -- the keys of the entries are those of the residents by slot
   pub entries-keys : map key_of (entries m) ≡ keys m
@@ -77,13 +67,7 @@ module _ {K V : Type 0} (m : Machine K V) where
 -- a slot occurs once in a range that has it, and not in one above it
 none_above : (s from n : ℕ) → s < from → sum_by (λ slot. one_if (s == slot)) (range_with_len from n) ≡ 0
 none_above s from zero above = refl
-none_above s from (suc n) above =
-    omega (
-      arith,
-      sum_by-cons (λ slot. one_if (s == slot)) from (range_with_len (from + 1) n),
-      ap one_if (ne_eqb s from (λ e. omega (arith, e, above))),
-      none_above s (from + 1) n (omega (arith, above)),
-    )
+none_above s from (suc n) above = grind (arith, sum_by-cons, none_above s (from + 1) n (omega (arith, above)))
 
 once_within : (s from n : ℕ) → from ≤ s → s < from + n → sum_by (λ slot. one_if (s == slot)) (range_with_len from n) ≡ 1
 once_within s from zero low high = absurd (omega (arith, low, high))

@@ -1,5 +1,5 @@
 -- A closure may be called this number of times in turn if each call keeps what it needs.
-use Rattle.std.proofs.Common.{◌≡◌, ℕ, zero, suc, ◌+◌, ◌-◌, ◌<◌, [], ◌∷◌, length, refl, subst, arith}
+use Rattle.std.proofs.Common.{ℕ, zero, suc, ◌+◌, ◌-◌, ◌<◌, [], ◌∷◌, length, refl, arith}
 use Rattle.clock2q_cache.proofs.Names.{Mut, Called, always_mut, mut_next, Machine, TakesTimes, MayMake}
 use Rattle.std.specs.Fn.{Takes}
 
@@ -21,6 +21,4 @@ module _ {F V : Type 0} (g : Mut F Unit V) where
   -- if calls are left, one may be made, and after it the ones that are then left
   pub next_call : (many counter : ℕ) (f : F) → counter < many → TakesTimes g (many - counter) f
       → Takes g f tt × ((value : V) (next : F) → Called g f tt value next → TakesTimes g (many - (counter + 1)) next)
-  next_call many counter f less takes =
-      let one_more : many - counter ≡ suc (many - (counter + 1)) = omega (arith, less) in
-      subst (λ n. TakesTimes g n f) one_more takes
+  next_call many counter f less takes = grind arith

@@ -1,6 +1,6 @@
 -- When a key that is placed makes a slot, and when it finds a value in one.
 use Rattle.std.proofs.Common.{◌≡◌, ℕ, ◌<◌, ◌==◌, Bool, true, false, not, ◌&&◌, List, [], ◌∷◌, length, inl, inr, Option, Some, None, refl, sym, ap, ◌∙◌, subst, arith, eq-eqb, eqb-true, ne_eqb}
-use Rattle.clock2q_cache.proofs.Names.{if◌then◌else◌, nat_lt, is_some, slice_get, IfSome, IfNone, IsEquivalence, count_by, last_or, UnwrapsOrElse, cases_lt, lt-ltb, le-ltb, eqb-false, ltb-true, ltb-false, slice_get_within, slice_get_past, sum_by-cons, and_true, and_false, main_share, MainEntry, Machine, Placement, vacancy, vacant_slot, goes_to_main, into_main, into_small, into_small_at, joining_main, replacing_victim, placement, forgotten, slot_of, stored, reused, inserted, hit, slotted_at, fetched_value, replaced_at, IsWhole, Reuses, Takes, IsValueFor, Fills, placed, next_is_vacant, makes_slot, one_if, some_is, none_is, counted_made, victim_made, no_vacancy, all_resident, placed-main, placed-small, length-from_victim, resident_made, get-within, slot_at_most, reused_value, stored_again, stored_same}
+use Rattle.clock2q_cache.proofs.Names.{if◌then◌else◌, nat_lt, is_some, IfSome, IfNone, IsEquivalence, count_by, last_or, UnwrapsOrElse, lt-ltb, le-ltb, eqb-false, ltb-true, ltb-false, slice_get_past, sum_by-cons, and_true, and_false, main_share, MainEntry, Machine, Placement, vacancy, vacant_slot, goes_to_main, into_main, into_small, into_small_at, joining_main, replacing_victim, placement, forgotten, slot_of, stored, reused, inserted, hit, fetched_value, IsWhole, Reuses, Takes, Fills, placed, next_is_vacant, makes_slot, one_if, some_is, none_is, counted_made, victim_made, no_vacancy, all_resident, placed-main, placed-small, length-from_victim, resident_made, get-within, slot_at_most, reused_value, stored_again, stored_same}
 use Rattle.clock2q_machine.specs.Entries.{from_victim}
 use Rattle.clock2q_cache.proofs.Insertions.{IsSent, goes-there}
 
@@ -10,12 +10,7 @@ module _ {K V : Type 0} (eq : K → K → Bool) (m : Machine K V) (h : IsWhole e
   vacant-made slot is = by m.free refl is where
     by : (free : List ℕ) → m.free ≡ free → vacant_slot free (length m.values) m.shares.capacity ≡ Some slot
         → nat_lt slot (length m.values) ≡ not ((length free == 0) && nat_lt (length m.values) m.shares.capacity)
-    by [] e v = elim (cases_lt (length m.values) m.shares.capacity) [
-      | inl below ↦
-          let at : length m.values ≡ slot = some_is (length m.values) slot (sym (ap (λ b. if b then Some (length m.values) else None) (lt-ltb (length m.values) m.shares.capacity below)) ∙ v) in
-          le-ltb slot (length m.values) (omega (arith, at)) ∙ ap (λ b. not (true && b)) (sym (lt-ltb (length m.values) m.shares.capacity below))
-      | inr above ↦ absurd (none_is slot (sym (ap (λ b. if b then Some (length m.values) else None) (le-ltb (length m.values) m.shares.capacity above)) ∙ v))
-    ]
+    by [] e v = grind (arith, some_is, none_is)
     by (f ∷ fs) e v =
         let at : f ≡ slot = some_is f slot v in
         let counted : 0 < count_by (λ s. s == slot) m.free = omega (arith, sum_by-cons (λ s. one_if (s == slot)) f fs, ap (count_by (λ s. s == slot)) e, ap one_if (eq-eqb f slot at)) in
@@ -67,9 +62,7 @@ module _ {K V : Type 0} (eq : K → K → Bool) (key : K) {m m1 : Machine K V} {
   placed-there = ap (placed main key) s.erased ∙ ap (λ b. placed b key (forgotten (eq key) m)) (goes-there s)
 
   pub fills-there : (value : Option V) (new : Machine K V) → Fills value (placed main key m1) m1 new → Fills value (placement (eq key) key m) m new
-  fills-there value new f =
-      let g = subst (λ p. Fills value p m1 new) placed-there f in
-      record { held = g.held; is = subst (λ (z : Machine K V). IsValueFor value (placement (eq key) key m).slot z.values g.held) s.erased g.is; becomes = g.becomes }
+  fills-there value new f = grind (arith, placed-there)
 
   -- whether a slot is made for it
   module _ (whole : IsWhole eq m1) (makes : Bool) (is : makes ≡ makes_slot main m1) where
@@ -92,14 +85,7 @@ made-or-none (Some v) slot made is = tt
 module _ {K V : Type 0} (is : K → Bool) (key : K) (made : V → Type 0) (m : Machine K V) (values : (placement is key m).machine.values ≡ m.values) where
   pub reuses : (value : Option V) (new : Machine K V) → nat_lt (placement is key m).slot (length m.values) ≡ not (is_some value)
       → IfSome value made → Fills value (placement is key m) m new → Reuses is key made m new
-  reuses None new has gave f =
-      let p = placement is key m in
-      record {
-        value = f.held;
-        had = subst (λ o. UnwrapsOrElse o made f.held) (sym f.is) refl;
-        becomes = f.becomes ∙ stored_same p.machine p.slot f.held (ap (λ vs. slice_get vs p.slot) values ∙ f.is)
-            ∙ sym (ap (λ b. if b then p.machine else stored p.slot f.held p.machine) (lt-ltb p.slot (length m.values) (slice_get_within m.values p.slot f.held f.is)));
-      }
+  reuses None new has gave f = grind (arith, f.is, stored_same)
   reuses (Some v) new has gave f =
       let p = placement is key m in
       record {
@@ -124,24 +110,8 @@ module _ {K V : Type 0} (eq : K → K → Bool) (laws : IsEquivalence eq) (m : M
       of false = stored_again p.machine p.slot v w (slot_at_most eq laws m h key absent)
 
     pub new-takes : (slot : ℕ) (new : Machine K V) → slot ≡ p.slot → Reuses (eq key) key made m new → Takes (eq key) key made m slot new
-    new-takes slot new at r = record {
-      value = r.value;
-      at = at ∙ ap (λ o. slotted_at o (eq key) key m) (sym absent);
-      had = rw at r.had;
-      there = rw (at, r.becomes) (reused_value eq laws m h key absent r.value ∙ ap Some (taken-value (slice_get m.values p.slot) r.value r.had));
-      becomes = r.becomes ∙ sym (ap (λ o. if is_some o then hit (eq key) m else reused (eq key) key r.value m) absent);
-      writes = λ w. rw (at, r.becomes) (taken-writes r.value w) ∙ sym (ap (λ o. if is_some o then replaced_at (eq key) w o m else inserted (eq key) key w m) absent);
-    }
+    new-takes slot new at r = grind (arith, reused_value, taken-value, taken-writes)
 
   -- a resident keeps its slot and its value
   pub hit-takes : (slot : ℕ) → slot_of (eq key) m ≡ Some slot → Takes (eq key) key made m slot (hit (eq key) m)
-  hit-takes slot found =
-      let v = get-within m.values slot (resident_made eq laws (eq key) m h slot found) in
-      record {
-        value = v.0;
-        at = ap (λ o. slotted_at o (eq key) key m) (sym found);
-        had = subst (λ o. UnwrapsOrElse o made v.0) (sym v.1) refl;
-        there = v.1;
-        becomes = sym (ap (λ o. if is_some o then hit (eq key) m else reused (eq key) key v.0 m) found);
-        writes = λ w. sym (ap (λ o. if is_some o then replaced_at (eq key) w o m else inserted (eq key) key w m) found);
-      }
+  hit-takes slot found = grind (arith, get-within m.values slot (resident_made eq laws (eq key) m h slot found), resident_made eq laws (eq key) m h slot found)

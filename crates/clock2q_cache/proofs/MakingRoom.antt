@@ -1,6 +1,6 @@
 -- What a cache's fields become when a resident is evicted though no key comes.
 use Rattle.std.proofs.Common.{◌≡◌, ℕ, ◌+◌, ◌-◌, ◌<◌, ◌≤◌, ◌==◌, Bool, true, false, not, ◌&&◌, cond, eqb, Option, Some, None, List, [], ◌∷◌, ◌++◌, map, length, take, reverse, inl, inr, refl, sym, ap, ◌∙◌, subst, arith, eq-eqb, eqb-true, length-append}
-use Rattle.clock2q_cache.proofs.Names.{if◌then◌else◌, nat_lt, slice_get, IfSome, IsEquivalence, last_or, count_by, filter, find, option_map, AllByRecursion, cases_Bool, lt-ltb, Age, sum_by-cons, take-map, All-from_recursion, recursion_from_All, All-take, inspections, counts_of, Spends, has, without, has-without_test, and_true, and_false, eqb_swap, KeyPlaces, hash_at, key_at, removed, length-taken, QueueState, slots_of, from_victim, set_front, Remembered, most_beside, Places, oldest_hash, pushed_places, Shares, main_share, history_share, SmallEntry, MainEntry, Machine, is_promoted, resident_at, vacated, IsWhole, some_is, none_is, one_if, weight-last, length-from_victim, machine_of, places_of, with_keys_small, with_keys_main, IsStored, IsKept, remembering}
+use Rattle.clock2q_cache.proofs.Names.{if◌then◌else◌, nat_lt, slice_get, IfSome, IsEquivalence, last_or, count_by, filter, find, option_map, AllByRecursion, cases_Bool, lt-ltb, Age, sum_by-cons, take-map, All-from_recursion, recursion_from_All, All-take, inspections, counts_of, Spends, has, without, has-without_test, and_true, and_false, eqb_swap, KeyPlaces, hash_at, key_at, removed, length-taken, QueueState, slots_of, from_victim, set_front, Remembered, most_beside, Places, oldest_hash, pushed_places, Shares, main_share, history_share, SmallEntry, MainEntry, Machine, is_promoted, resident_at, vacated, IsWhole, some_is, none_is, one_if, weight-last, length-from_victim, machine_of, places_of, with_keys_small, IsStored, IsKept, remembering}
 use Rattle.std.proofs.lemmas.List.{length-reverse}
 use Rattle.clock2q_queues.proofs.Joining.{length-without}
 use Rattle.clock2q_machine.specs.Entries as machine
@@ -66,16 +66,7 @@ one_at_most false = omega arith
 module _ {K V : Type 0} (eq : K → K → Bool) (m : Machine K V) (whole : IsWhole eq m) where
   -- the hand moves on
   pub whole-turned : IsWhole eq (turned m)
-  whole-turned = record {
-    small_below = whole.small_below;
-    small_within = whole.small_within;
-    main_within = omega (arith, whole.main_within, length-from_victim m.main);
-    history_within = whole.history_within;
-    made_within = whole.made_within;
-    slots_counted = omega (arith, whole.slots_counted, length-from_victim m.main);
-    slots_once = λ slot. omega (arith, weight-from_victim (λ e. one_if (e.slot == slot)) (λ e bit. refl) m.main) ∙ whole.slots_once slot;
-    keys_once = λ key. omega (arith, whole.keys_once key, weight-from_victim (λ e. one_if (eq key e.key)) (λ e bit. refl) m.main);
-  }
+  whole-turned = grind (arith, length-from_victim, weight-from_victim)
 
   -- Small's tail moves on to Main
   pub whole-promoted : (tail : SmallEntry K) → last_or None m.small ≡ Some tail → length m.main < main_share m.shares → IsWhole eq (promoted (Some tail) m)
@@ -228,11 +219,7 @@ module _ {K V : Type 0} {eq : K → K → Bool} {hash : K → ℕ} {shares : Sha
     promoted-is : machine_of shares
         (record q { small = front laws kept tail last; main = q.main ++ (tail, false) ∷ []; accesses = links }) keys.entries
         h.entries free ≡ promoted (Some (tail_entry laws kept tail last)) m
-    promoted-is =
-        let key = tail_key laws kept tail last in
-        let s : with_keys_small (key_at keys.entries) (front laws kept tail last) ≡ take (length m.small - 1) m.small = front_entries laws kept tail last in
-        let t : with_keys_main (key_at keys.entries) (q.main ++ (tail, false) ∷ []) ≡ behind_hand key.0 tail m.main = main-behind (key_at keys.entries) tail key.0 q.main key.1 in
-        cc
+    promoted-is = grind (arith, tail_key laws kept tail last, front laws kept tail last, front_entries laws kept tail last, main-behind)
 
     pub promoted-machine : machine_of shares q' keys.entries h.entries free ≡ promoted (last_or None m.small) m
     promoted-machine =
@@ -263,9 +250,7 @@ module _ {K V : Type 0} {eq : K → K → Bool} {hash : K → ℕ} {shares : Sha
 
     module _ {q' : QueueState} {links : ℕ} (is : q' ≡ record q { small = take (length q.small - 1) q.small; accesses = links }) where
       pub unmoved-machine : machine_of shares q' keys.entries h.entries free ≡ m
-      unmoved-machine =
-          ap (λ (z : QueueState). machine_of shares z keys.entries h.entries free) is
-          ∙ ap (λ (z : List (ℕ × Age)). record m { small = with_keys_small (key_at keys.entries) z }) taken
+      unmoved-machine = grind (arith, taken)
 
       pub unpromoted-machine : machine_of shares q' keys.entries h.entries free ≡ promoted (last_or None m.small) m
       unpromoted-machine = unmoved-machine ∙ ap (λ t. promoted t m) (sym last_none)
@@ -274,10 +259,7 @@ module _ {K V : Type 0} {eq : K → K → Bool} {hash : K → ℕ} {shares : Sha
       unretired-machine = unmoved-machine ∙ ap (λ t. tail_evicted t m) (sym last_none)
 
       pub kept-unmoved : IsKept eq hash shares q' h index keys free room
-      kept-unmoved =
-          let q1 : QueueState = record q { accesses = links } in
-          subst (λ z. IsKept eq hash shares z h index keys free room) (sym (is ∙ ap (λ (z : List (ℕ × Age)). record q { small = z; accesses = links }) taken))
-          (kept-moved q1 kept.whole (λ s. refl) refl refl refl refl)
+      kept-unmoved = grind (arith, room, taken, kept-moved, kept.whole)
 
   -- there is room for the tail's slot among the free ones
   pub room-for-free : (tail : ℕ) → last_or None (slots_of q.small) ≡ Some tail → length free < room
@@ -316,10 +298,7 @@ module _ {K V : Type 0} {eq : K → K → Bool} {hash : K → ℕ} {shares : Sha
     left-retired = ap (λ k. let r : Option (K × ℕ) = Some (k, tail) in r) (sym tail_is) ∙ ap (option_map (λ (t : SmallEntry K). (t.key, t.slot))) (sym (last_entry laws kept tail last))
 
     pub retired-machine : machine_of shares q' keys.entries h'.entries free' ≡ tail_evicted (last_or None m.small) m
-    retired-machine =
-        ap (λ (z : QueueState). machine_of shares z keys.entries h'.entries free') is
-        ∙ ap (λ (z : Remembered K). machine_of shares q1 keys.entries z.entries free') pushed
-        ∙ retired-is ∙ ap (λ t. tail_evicted t m) (sym (last_entry laws kept tail last))
+    retired-machine = grind (arith, retired-is, last_entry)
 
     places_left : (t : ℕ) → has t (places_of q1) ≡ has t (without tail (places_of q))
     places_left t = elim (cases_Bool (eqb t tail)) [

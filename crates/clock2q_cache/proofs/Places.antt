@@ -1,5 +1,5 @@
 -- Which resident is at a slot, and what an insertion does to the index.
-use Rattle.std.proofs.Common.{◌≡◌, ℕ, ◌==◌, Bool, true, false, eqb, Option, Some, None, List, [], ◌∷◌, map, inl, inr, refl, sym, ap, ◌∙◌, eqb-true, eq-eqb}
+use Rattle.std.proofs.Common.{arith, ◌≡◌, ℕ, ◌==◌, Bool, true, false, eqb, Option, Some, None, List, [], ◌∷◌, map, inl, inr, refl, sym, ap, ◌∙◌, eqb-true, eq-eqb}
 use Rattle.clock2q_cache.proofs.Names.{find, last_or, AllByRecursion, IsEquivalence, cases_Bool, has, KeyPlaces, key_at, hash_at, QueueState, slots_of, Remembered, Places, oldest_hash, pushed_places, has_first, eqb_swap, Shares, history_share, Machine, resident_at, machine_of, places_of, IsKept, if◌then◌else◌, IfSome, option_map, is_promoted, SmallEntry, remembering, left_by, entered, key_out}
 use Rattle.clock2q_directory.specs.Index as known
 use Rattle.clock2q_cache.proofs.WithKeys.{HaveKeys, have_later, paired, paired-cons}
@@ -65,9 +65,7 @@ module _ {K V : Type 0} {eq : K → K → Bool} {hash : K → ℕ} {shares : Sha
   module _ (p : Places) (key : K) (slot : ℕ) {hsh : ℕ} {p' : Places} (is : hsh ≡ hash key) where
     -- a key enters at a slot that has no resident
     pub entered-vacant : has slot (places_of q) ≡ false → p' ≡ record p { index = known.entered hsh slot p.index } → p' ≡ entered hash key slot None m p
-    entered-vacant absent indexed =
-        indexed ∙ ap (λ x. record p { index = known.entered x slot p.index }) is
-        ∙ sym (ap (λ z. let r = left_by hash z slot p in record r { index = known.entered_from p.index (hash key) slot r.index }) (resident-none slot absent))
+    entered-vacant absent indexed = grind (arith, resident-none)
 
     -- a key takes the slot of a resident, which leaves
     pub entered-renewed : {old : ℕ} → has slot (places_of q) ≡ true → hash_at keys.entries slot ≡ Some old

@@ -35,16 +35,7 @@ module _ {K V S H : Type 0} (key : HashMembers K) (build : builder.Ghosts S H) (
     -- a key was looked up, and its history is erased
     pub reaches-discarded : IsWithinCapacity old.known.index → (x : ℕ) → x ≡ hash_of build hash old.hasher (key.hash_input k) → new.known ≡ discarded (key.eq k) x (looked_for key build hash k old)
         → Reaches (walked key build hash old k + reached key build hash old k) old new
-    reaches-discarded within x same is =
-        let looked = looked_for key build hash k old in
-        record {
-          accesses = omega (
-            arith,
-            ap (λ (p : Places). p.index.accesses) is,
-            freed-accesses looked.known (within-looked (hash_in key build hash old k) within) x (place_of (key.eq k) old.machine.history old.known.taken),
-            ap (λ z. most_reached old.known.index z) same,
-          );
-        }
+    reaches-discarded within x same is = grind (arith, freed-accesses, within-looked, hash_in, place_of)
 
     -- a key was looked up, and the resident that was found leaves
     pub reaches-left : IsEquivalence key.eq → IsWhole key.eq old.machine → ((x y : K) → key.eq x y ≡ true → key.hash_input x ≡ key.hash_input y)
@@ -65,9 +56,7 @@ module _ {K V S H : Type 0} (key : HashMembers K) (build : builder.Ghosts S H) (
 
   -- the resident at a slot leaves, whose key is this one
   pub reaches-gone : (r : K × ℕ) (slot : ℕ) {old new : CacheState K V S} → new.known ≡ left_by (hash_in key build hash old) (Some r) slot old.known → Reaches (reached key build hash old r.0) old new
-  reaches-gone r slot {old} is = record {
-    accesses = omega (arith, ap (λ (p : Places). p.index.accesses) is, left-reaches (hash_in key build hash old) (hash_in key build hash old r.0) (Some r) slot old.known refl);
-  }
+  reaches-gone r slot {old} is = grind (arith, left-reaches, hash_in, r.0)
 
   -- so it is within the bound of a removal by the key, which looks it up first
   pub reaches-own : (r : K × ℕ) (slot : ℕ) {old new : CacheState K V S} →
@@ -112,6 +101,4 @@ module _ {K V S H : Type 0} {key : HashMembers K} {build : builder.Ghosts S H} {
     left-more cache new here same later is = subst (LeftBelow key build hash (n + 1) old) (sym (ap (λ (p : Places). p.index) is)) (by (resident_at cache.machine n) (sym later)) where
       by : (o : Option (K × ℕ)) → resident_at old.machine n ≡ o → LeftBelow key build hash (n + 1) old (left_by (hash_in key build hash cache) o n cache.known).index
       by None at = subst (LeftBelow key build hash (n + 1) old) (sym here) left-stays
-      by (Some r) at =
-          let hashed : hash_in key build hash cache r.0 ≡ hash_in key build hash old r.0 = ap (λ z. hash_of build hash z (key.hash_input r.0)) same in
-          subst (LeftBelow key build hash (n + 1) old) (sym (ap (λ x. known.left x n cache.known.index) hashed ∙ ap (λ v. known.left (hash_in key build hash old r.0) n v) here)) (left-one r at)
+      by (Some r) at = grind (arith, hash_in, r.0, left-one)

@@ -7,7 +7,6 @@ use Rattle.clock2q_cache.proofs.Finding.{none-has, counted-map}
 use Rattle.clock2q_cache.proofs.Insertions.{no_last}
 use Rattle.clock2q_machine.specs.Entries as machine
 use Rattle.clock2q_machine.specs.Entries.{first_of}
-use Rattle.clock2q_machine.specs.Leaving.{leaves_for_small}
 use Rattle.clock2q_cache.specs.Insertions.{leaves_placed}
 use Rattle.clock2q_cache.proofs.WithKeys.{keys-cons, small-admitted, main-behind, small_with, main_with, keys-agree, small-take, small-last, main-from_victim}
 use Rattle.clock2q_cache.proofs.Stored.{stored-renewed, hash-of-key}
@@ -65,9 +64,7 @@ module _ {K V : Type 0} {eq : K → K → Bool} {hash : K → ℕ} {shares : Sha
 
   -- a resident's slot was made, and is below the capacity
   pub slot-below : (slot : ℕ) → has slot (places_of q) ≡ true → (slot < length keys.entries) × (slot < shares.capacity) × (slot < 2 ^ 24)
-  slot-below slot there =
-      let b : slot < length keys.entries = below_of (length keys.entries) (places_of q) kept.stored.made slot there in
-      (b, omega (arith, b, kept.whole.made_within, length-values keys.entries), omega (arith, b, kept.whole.made_within, length-values keys.entries, kept.sized.short))
+  slot-below slot there = grind (arith, below_of, kept.stored.made, kept.whole.made_within, length-values, kept.sized.short)
 
   -- Main's victim
   module _ (victim : ℕ) (first : slice_get (from_victim q.main) 0 ≡ Some (victim, false)) where
@@ -192,10 +189,7 @@ module _ {K V : Type 0} {eq : K → K → Bool} {hash : K → ℕ} {shares : Sha
     -- who leaves for a key that enters a full Small
     leaves-by : vacancy m ≡ None → (b : Bool) → IfSome (last_or None m.small) (λ tail. is_promoted tail.age ≡ b)
         → leaves_placed false m ≡ (if b then first_of (machine.from_victim m.main) else Some (tail_key.0, tail))
-    leaves-by none b at =
-        let goes : is_promoted tail_at.0 ≡ b = subst (λ z. IfSome z (λ tail. is_promoted tail.age ≡ b)) last_entry at in
-        ap (λ v. leaves_for_small v (last_or None m.small) m.main) none ∙ ap (λ t. leaves_for_small None t m.main) last_entry
-        ∙ ap (λ z. if z then first_of (machine.from_victim m.main) else Some (tail_key.0, tail)) goes
+    leaves-by none b at = grind (arith, last_entry, first_of)
 
     pub tail-goes_on : vacancy m ≡ None → IfSome (last_or None m.small) (λ tail. is_promoted tail.age ≡ true) → leaves_placed false m ≡ first_of (machine.from_victim m.main)
     tail-goes_on none on = leaves-by none true on
@@ -337,10 +331,7 @@ module _ {K V : Type 0} {eq : K → K → Bool} {hash : K → ℕ} {shares : Sha
 module _ {K V : Type 0} {eq : K → K → Bool} {hash : K → ℕ} {shares : Shares} {q : QueueState} (d : Known K V) {free : List ℕ} {room : ℕ}
     (laws : IsEquivalence eq) (kept : IsKept eq hash shares q d.history (slots d.history.places.index) d.residents free room) where
   pub is-resident : (slot : ℕ) → has slot (places_of q) ≡ true → IsResident slot d
-  is-resident slot there =
-      let r = resident-there laws kept slot there in
-      let b = slot-below laws kept slot there in
-      record { taken = r.0; indexed = r.1; apart = r.2; there = r.3; made = b.0; below = b.2 }
+  is-resident slot there = grind (arith, resident-there laws kept slot there, slot-below laws kept slot there, apart)
 
   pub within-room : IsWithinRoom d.history
   within-room = let r = room-there laws kept in record { room = r.0; few = r.1 }

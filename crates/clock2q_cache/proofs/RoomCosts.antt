@@ -9,7 +9,7 @@ use Rattle.clock2q_machine.specs.Entries.{first_of, from_victim, inspections}
 use Rattle.clock2q_machine.specs.Machine.{victim_leaves, victim_evicted, tail_evicted, evicted, leaves_now}
 use Rattle.clock2q_cache.specs.Costs.{reached_if}
 use Rattle.clock2q_cache.specs.MakingRoom.{retired_from}
-use Rattle.clock2q_cache.proofs.Names.{if◌then◌else◌, last_or, option_map, HashMembers, IsEquivalence, IsWhole, SmallEntry, Machine, Places, history_share, oldest_hash, CacheState, Counts, Spends, Costs, hash_in, left_by}
+use Rattle.clock2q_cache.proofs.Names.{if◌then◌else◌, last_or, option_map, HashMembers, IsEquivalence, IsWhole, SmallEntry, Machine, Places, CacheState, Counts, Spends, Costs, hash_in, left_by}
 use Rattle.clock2q_cache.proofs.IndexPrices.{oldest_reached}
 use Rattle.clock2q_cache.proofs.Reaching.{reaches-gone}
 use Rattle.clock2q_cache.proofs.Spent.{costs-of, spends-both}
@@ -42,23 +42,9 @@ module _ {K V S H : Type 0} (key : HashMembers K) (build : builder.Ghosts S H) (
     retired-reaches : (o : Option (K × ℕ)) → tail_key ≡ o → new.known ≡ retired_from (hash_in key build hash old) o old.machine old.known
         → new.known.index.accesses ≤ old.known.index.accesses + reached_if key build hash old (option_map (λ r. r.0) o) + reached_if key build hash old (last_or None old.machine.history)
     retired-reaches None none known = omega (arith, ap (λ (p : Places). p.index.accesses) known)
-    retired-reaches (Some r) there known =
-        let hashed : K → ℕ = hash_in key build hash old in
-        omega (
-          arith,
-          ap (λ (p : Places). p.index.accesses) known,
-          pushed-accesses old.known within (history_share old.machine.shares) (hashed r.0) r.1 (oldest_hash hashed old.machine.history),
-          oldest_reached key build hash laws respects old whole as_many within r.0 old.machine.history old.known.taken as_many,
-        )
+    retired-reaches (Some r) there known = grind (arith, hash_in, pushed-accesses, r.0, r.1, oldest_reached)
 
     pub tail-costs : {looked : Counts} → victim_leaves old.machine ≡ false → Spends 0 1 0 old.counts looked
         → (o : Option (K × ℕ)) → o ≡ tail_key → new.machine ≡ tail_evicted (tail_of old.machine) old.machine
         → new.known ≡ retired_from (hash_in key build hash old) o old.machine old.known → Spends 0 15 0 looked new.counts → Costs key build hash Evict old new
-    tail-costs stays spent o left is known more =
-        let becomes : new.machine ≡ evicted old.machine =
-        is ∙ sym (ap (λ b. if b then victim_evicted (tail_of old.machine) (from_victim old.machine.main) old.machine else tail_evicted (tail_of old.machine) old.machine) stays) in
-        let now : leaves_now old.machine ≡ o = ap (λ b. if b then first_of (from_victim old.machine.main) else tail_key) stays ∙ sym left in
-        let looks : (if victim_leaves old.machine then inspections old.machine.main else 0) ≡ 0 = ap (λ b. if b then inspections old.machine.main else 0) stays in
-        costs-of becomes
-        (record { accesses = omega (arith, retired-reaches o (sym left) known, ap (λ o. reached_if key build hash old (option_map (λ x. x.0) o)) now) })
-        (spends-both spent more (omega (arith, looks)) (omega (arith, looks)) (omega arith))
+    tail-costs stays spent o left is known more = grind (arith, evicted, first_of, tail_key, inspections, costs-of, retired-reaches, spends-both)

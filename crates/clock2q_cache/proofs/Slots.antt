@@ -1,6 +1,6 @@
 -- How often a slot occurs in a cache's queues, and which slots are distinct.
-use Rattle.std.proofs.Common.{◌≡◌, ℕ, zero, suc, ◌+◌, ◌<◌, ◌≤◌, ◌==◌, Bool, true, false, cond, eqb, Option, Some, None, List, [], ◌∷◌, ◌++◌, map, length, take, drop, reverse, inl, inr, refl, sym, ap, ◌∙◌, subst, arith, eqb-true, eq-eqb, length-append}
-use Rattle.clock2q_cache.proofs.Names.{length-values, if◌then◌else◌, nat_lt, is_some, count_by, cases_Bool, cases_lt, both_ways, lt-ltb, le-ltb, length-map, sum_by-cons, sum_by-append, slots_of-mapped, some_is, none_is, or_true, or_parts, Entry, has, AllApart, KeyPlaces, key_at, Remembered, IsEquivalence, Age, grown, admitted, set_front, from_victim, QueueState, slots_of, has-append, eqb_self, eqb_swap, Shares, Machine, vacancy, vacant_slot, standings, machine_of, places_of, IsStored, IsKept}
+use Rattle.std.proofs.Common.{◌≡◌, ℕ, zero, suc, ◌+◌, ◌<◌, ◌≤◌, ◌==◌, Bool, true, false, cond, eqb, Some, List, [], ◌∷◌, ◌++◌, map, length, take, drop, reverse, inl, inr, refl, sym, ap, ◌∙◌, arith, eqb-true, eq-eqb, length-append}
+use Rattle.clock2q_cache.proofs.Names.{length-values, if◌then◌else◌, nat_lt, is_some, count_by, cases_Bool, cases_lt, both_ways, le-ltb, length-map, sum_by-cons, sum_by-append, slots_of-mapped, some_is, none_is, or_true, or_parts, Entry, has, AllApart, KeyPlaces, key_at, Remembered, IsEquivalence, Age, grown, admitted, set_front, from_victim, QueueState, slots_of, has-append, eqb_self, eqb_swap, Shares, Machine, vacancy, vacant_slot, standings, machine_of, places_of, IsStored, IsKept}
 use Rattle.clock2q_cache.proofs.WithKeys.{HaveKeys, standing-keyed, length-small, length-main}
 use Rattle.clock2q_cache.proofs.Stored.{have_keys, stored-same}
 
@@ -13,10 +13,7 @@ times-cons t x xs = sum_by-cons (λ s. cond (s == t) 1 0) x xs
 
 pub times-none : (t : ℕ) (xs : List ℕ) → times t xs ≡ 0 → has t xs ≡ false
 times-none t [] h = refl
-times-none t (x ∷ xs) h = elim (cases_Bool (eqb t x)) [
-  | inl e ↦ absurd (omega (arith, h, times-cons t x xs, ap {B = ℕ} (λ b. cond b 1 0) (eq-eqb x t (sym (eqb-true t x e)))))
-  | inr e ↦ rw e (times-none t xs (omega (arith, h, times-cons t x xs)))
-]
+times-none t (x ∷ xs) h = grind (arith, times-cons t x xs, times-none t xs (omega (arith, h, times-cons t x xs)))
 
 pub times-some : (t : ℕ) (xs : List ℕ) → has t xs ≡ true → 0 < times t xs
 times-some t [] h = absurd (both_ways false refl h)
@@ -38,13 +35,7 @@ times-absent t (x ∷ xs) h =
     omega (arith, times-cons t x xs, times-absent t xs p.1, ap {B = ℕ} (λ b. cond b 1 0) (eqb_swap t x p.0))
 
 pub has-times : (t : ℕ) (xs ys : List ℕ) → times t xs ≡ times t ys → has t xs ≡ has t ys
-has-times t xs ys e = elim (cases_Bool (has t ys)) [
-  | inl there ↦ elim (cases_Bool (has t xs)) [
-    | inl here ↦ here ∙ sym there
-    | inr absent ↦ absurd (omega (arith, e, times-some t ys there, times-absent t xs absent))
-  ]
-  | inr absent ↦ times-none t xs (e ∙ times-absent t ys absent) ∙ sym absent
-]
+has-times t xs ys e = grind (arith, times-some, times-absent, times-none)
 
 -- how often a slot occurs in both queues, and after one entered at the end or at the front
 pub times-both : (t : ℕ) (q : QueueState) → times t (places_of q) ≡ times t (slots_of q.small) + times t (slots_of q.main)
@@ -131,12 +122,7 @@ module _ {K V : Type 0} {eq : K → K → Bool} {hash : K → ℕ} {shares : Sha
           let same : s ≡ slot = some_is s slot e in
           let f = free_slot slot (omega (arith, ap (λ z. times slot z) at, times-cons slot s fs, ap {B = ℕ} (λ b. cond b 1 0) (eq-eqb s slot same))) in
           record { absent = f.0; next = omega (arith, f.1); below = omega (arith, f.1, kept.whole.made_within, length-values keys.entries) }
-      of [] at e = elim (cases_lt (length m.values) shares.capacity) [
-        | inl below ↦
-            let same : length m.values ≡ slot = some_is (length m.values) slot (sym (ap (λ b. if b then Some (length m.values) else None) (lt-ltb (length m.values) shares.capacity below)) ∙ e) in
-            record { absent = subst (λ z. has z (places_of q) ≡ false) same next_slot; next = omega (arith, same, length-values keys.entries); below = omega (arith, same, below) }
-        | inr above ↦ absurd (none_is slot (sym (ap (λ b. if b then Some (length m.values) else None) (le-ltb (length m.values) shares.capacity above)) ∙ e))
-      ]
+      of [] at e = grind (arith, some_is, next_slot, length-values, none_is)
 
   -- the slot that is taken is the vacancy, if there is one
   pub vacancy-taken : (slot : ℕ) → is_some (vacancy m) ≡ true → vacant_slot (reverse free) (length keys.entries) (length keys.entries + 1) ≡ Some slot → vacancy m ≡ Some slot
@@ -145,14 +131,7 @@ module _ {K V : Type 0} {eq : K → K → Bool} {hash : K → ℕ} {shares : Sha
       of : (fs : List ℕ) → is_some (vacant_slot fs (length m.values) shares.capacity) ≡ true
           → vacant_slot fs (length keys.entries) (length keys.entries + 1) ≡ Some slot → vacant_slot fs (length m.values) shares.capacity ≡ Some slot
       of (s ∷ fs) some e = e
-      of [] some e = elim (cases_lt (length m.values) shares.capacity) [
-        | inl below ↦
-            ap (λ b. if b then Some (length m.values) else None) (lt-ltb (length m.values) shares.capacity below)
-            ∙ ap Some (length-values keys.entries)
-            ∙ sym (ap (λ b. if b then Some (length keys.entries) else None) (lt-ltb (length keys.entries) (length keys.entries + 1) (omega arith))) ∙ e
-        | inr above ↦ absurd (both_ways false refl
-            (sym (ap (λ (z : Option ℕ). is_some z) (ap (λ b. if b then Some (length m.values) else None) (le-ltb (length m.values) shares.capacity above))) ∙ some))
-      ]
+      of [] some e = grind (arith, length-values)
 
   -- if fewer slots than the capacity have a resident, there is a vacancy
   pub vacancy-there : length q.small + length q.main < shares.capacity → is_some (vacancy m) ≡ true
@@ -161,9 +140,7 @@ module _ {K V : Type 0} {eq : K → K → Bool} {hash : K → ℕ} {shares : Sha
       of : (fs : List ℕ) → reverse free ≡ fs → is_some (vacant_slot fs (length m.values) shares.capacity) ≡ true
       of (s ∷ fs) at = refl
       of [] at =
-          let below : length m.values < shares.capacity =
-          omega (arith, few, kept.whole.slots_counted, length-small (key_at keys.entries) q.small small_have, length-main (key_at keys.entries) q.main main_have, ap (λ (z : List ℕ). length z) at) in
-          ap (λ (z : Option ℕ). is_some z) (ap (λ b. if b then Some (length m.values) else None) (lt-ltb (length m.values) shares.capacity below))
+          grind (arith, kept.whole.slots_counted, length-small (key_at keys.entries) q.small small_have, length-main (key_at keys.entries) q.main main_have)
 
 -- the same places in another order
 pub stored-moved : {K V : Type 0} {hash : K → ℕ} {index : List (List (ℕ × ℕ))} {entries : List (Entry K V)} {places : List ℕ} (q : QueueState) → IsStored hash index entries places

@@ -1,6 +1,6 @@
 -- What the parts of a call cost.
-use Rattle.std.proofs.Common.{◌-◌, ◌≡◌, ℕ, ◌+◌, ◌*◌, ◌≤◌, Bool, true, false, List, length, Some, None, refl, ap, sym, ◌∙◌, subst, arith}
-use Rattle.clock2q_cache.proofs.Names.{HashMembers, candidates, KeyPlaces, comparisons_of, Remembered, QueueState, comparisons-most, set_bits, inspections_for, inspections_of, accesses_for, alike, Call, Put, Get, GetAt, Set, Remove, Retain, Prefill, counts_of, Places, CacheState, Counts, residents_in, Spends, Reaches, Costs, Becomes, most_accesses, most_comparisons, most_slots, walked, hash_of, looked_for, slot_of, hit, put, stored, prefilled, vacated, removed_at, then_some, is_at, after, hit_at, retained, replaced, replaced_at, hit-absent}
+use Rattle.std.proofs.Common.{◌-◌, ◌≡◌, ℕ, ◌+◌, ◌*◌, ◌≤◌, Bool, true, false, List, length, Some, None, refl, ap, ◌∙◌, subst, arith}
+use Rattle.clock2q_cache.proofs.Names.{HashMembers, candidates, KeyPlaces, comparisons_of, Remembered, QueueState, comparisons-most, set_bits, inspections_for, inspections_of, accesses_for, alike, Call, Put, Get, GetAt, Set, Remove, Retain, Prefill, counts_of, Places, CacheState, Counts, residents_in, Spends, Reaches, Costs, Becomes, most_accesses, most_comparisons, most_slots, walked, hash_of, looked_for, slot_of, hit, put, stored, prefilled, vacated, removed_at, then_some, is_at, after, hit_at, retained, replaced, hit-absent}
 use Rattle.std.specs.declared.hash.Hasher as hasher
 use Rattle.std.specs.declared.hash.BuildHasher as builder
 use Rattle.clock2q_machine.specs.Calls.{SlotFor}
@@ -16,20 +16,13 @@ spends-both before after looks links keys = record {
 
 -- a cost within a larger bound
 pub spends-more : {i l k l' k' : ℕ} {a b : Counts} → Spends i l k a b → l ≤ l' → k ≤ k' → Spends i l' k' a b
-spends-more spent links keys = record {
-  inspections = spent.inspections;
-  accesses = (spent.accesses.0, omega (arith, spent.accesses.1, links));
-  comparisons = (spent.comparisons.0, omega (arith, spent.comparisons.1, keys));
-}
+spends-more spent links keys = grind (arith, spent.accesses.0, spent.accesses.1, spent.comparisons.0, spent.comparisons.1)
 
 module _ {K V : Type 0} (q : QueueState) (h : Remembered K) (keys keys' : KeyPlaces K V) where
   -- a lookup makes at most as many comparisons as there are places
   pub asked-spends : (test : ℕ → Bool) {places all : List ℕ} → places ≡ all
       → keys' ≡ record keys { comparisons = keys.comparisons + comparisons_of test places } → Spends 0 0 (length all) (counts_of q h keys) (counts_of q h keys')
-  asked-spends test {places} same is =
-      let asked = ap (λ (z : KeyPlaces K V). z.comparisons) is in
-      let most = ap (λ (z : List ℕ). length z) same in
-      record { inspections = omega arith; accesses = (omega arith, omega arith); comparisons = (omega (arith, asked), omega (arith, asked, most, comparisons-most test places)) }
+  asked-spends test {places} same is = grind (arith, comparisons-most)
 
   -- new keys cost no comparison, and an access for each link record that is made
   pub made-spends : {q' : QueueState} {made more most : ℕ} → q' ≡ record q { made = made; accesses = q.accesses + more } → more ≤ most
@@ -91,14 +84,7 @@ module _ {K V S H : Type 0} {key : HashMembers K} {build : builder.Ghosts S H} {
   pub missed-becomes : {k : K} {x : ℕ} {old new : CacheState K V S} → x ≡ hash_of build hash old.hasher (key.hash_input k) → slot_of (key.eq k) old.machine ≡ None
       → new ≡ record (looked_for key build hash k old) { counts = new.counts } → Spends 0 0 (length (candidates (residents_in old.known) x)) old.counts new.counts
       → Becomes key build hash (Get k) (hit (key.eq k) old.machine) old new
-  missed-becomes {k} {old = old} same absent kept spent =
-      let m = ap (λ (z : CacheState K V S). z.machine) kept ∙ sym (hit-absent (key.eq k) old.machine absent) in
-      let asked = ap (λ y. length (candidates (residents_in old.known) y)) same in (
-        m,
-        ap (λ (z : CacheState K V S). z.hasher) kept,
-        costs-of m (reaches-looked key build hash k (ap (λ (z : CacheState K V S). z.known) kept) (omega arith))
-            (spends-more spent (omega arith) (omega (arith, asked))),
-      )
+  missed-becomes {k} {old = old} same absent kept spent = grind (arith, hit-absent, costs-of, reaches-looked, spends-more)
 
   pub unhit-becomes : {k : K} {old new : CacheState K V S} → slot_of (key.eq k) old.machine ≡ None
       → Becomes key build hash (Get k) (hit (key.eq k) old.machine) old new → Becomes key build hash (Get k) old.machine old new
@@ -134,26 +120,19 @@ module _ {K V S H : Type 0} {key : HashMembers K} {build : builder.Ghosts S H} {
   pub lent-becomes : {k : K} {slot : ℕ} {value : V} {old new : CacheState K V S} → Some slot ≡ slot_of (key.eq k) old.machine
       → Becomes key build hash (Get k) (hit (key.eq k) old.machine) old new
       → Becomes key build hash (Set k value) (replaced (key.eq k) value old.machine) old (record new { machine = stored slot value new.machine })
-  lent-becomes {k} {slot} {value} {old} there found =
-      let m = ap (λ z. stored slot value z) found.0 ∙ ap (λ o. replaced_at (key.eq k) value o old.machine) there in
-      (m, found.1, costs-of m (record { accesses = found.2.index.accesses }) found.2.counts)
+  lent-becomes {k} {slot} {value} {old} there found = grind (arith, found.0, found.1, costs-of, found.2.index.accesses, found.2.counts)
 
   -- none is lent
   pub unlent-becomes : {k : K} {value : V} {old new : CacheState K V S} → slot_of (key.eq k) old.machine ≡ None
       → Becomes key build hash (Get k) (hit (key.eq k) old.machine) old new
       → Becomes key build hash (Set k value) (replaced (key.eq k) value old.machine) old new
-  unlent-becomes {k} {value} {old} absent missed =
-      let m = missed.0 ∙ hit-absent (key.eq k) old.machine absent ∙ ap (λ o. replaced_at (key.eq k) value o old.machine) (sym absent) in
-      (m, missed.1, costs-of m missed.2.index missed.2.counts)
+  unlent-becomes {k} {value} {old} absent missed = grind (arith, missed.0, hit-absent, missed.1, costs-of, missed.2.index, missed.2.counts)
 
   -- the same at a slot
   pub missed_at-becomes : {slot : ℕ} {k : K} {old new : CacheState K V S} → None ≡ then_some (is_at slot (slot_of (key.eq k) old.machine)) slot
       → new ≡ record old { counts = new.counts } → Spends 0 0 1 old.counts new.counts
       → Becomes key build hash (GetAt slot k) (hit_at slot (key.eq k) old.machine) old new
-  missed_at-becomes {slot} {k} {old} {new} absent kept spent =
-      let m : new.machine ≡ hit_at slot (key.eq k) old.machine =
-      rw (none-some (is_at slot (slot_of (key.eq k) old.machine)) slot absent) (ap (λ (z : CacheState K V S). z.machine) kept) in
-      (m, ap (λ (z : CacheState K V S). z.hasher) kept, costs-of m (reaches-none (ap (λ (z : CacheState K V S). z.known) kept)) spent)
+  missed_at-becomes {slot} {k} {old} {new} absent kept spent = grind (arith, none-some, is_at, slot_of, costs-of, reaches-none)
 
   pub hit_at-becomes : {slot resident : ℕ} {k : K} {old found new : CacheState K V S} → Some resident ≡ then_some (is_at slot (slot_of (key.eq k) old.machine)) slot
       → found ≡ record old { counts = found.counts } → Spends 0 0 1 old.counts found.counts

@@ -1,6 +1,6 @@
 -- The keys by slot and their index, after a key enters or replaces another.
-use Rattle.std.proofs.Common.{◌≡◌, ℕ, zero, suc, ◌<◌, ◌≤◌, true, false, ◌&&◌, eqb, Some, None, List, [], ◌∷◌, length, inl, inr, refl, sym, ap, ◌∙◌, subst, arith, eqb-true}
-use Rattle.clock2q_cache.proofs.Names.{AllByRecursion, cases_Bool, with_handle, removed, Entry, has, without, AllApart, AllBelow, entry, written, hash_at, key_at, is_named, eqb_self, below_of, has-without, has-without_test, below-has, below-more, and_true, and_false, some_is, length-written, slice_get_some, all-written, hash_at-own, hash_at-others, IsIndex-put, IsIndex-taken, length-taken, IsStored}
+use Rattle.std.proofs.Common.{◌≡◌, ℕ, zero, suc, ◌<◌, ◌≤◌, true, false, eqb, Some, None, List, [], ◌∷◌, length, refl, sym, ap, ◌∙◌, arith}
+use Rattle.clock2q_cache.proofs.Names.{AllByRecursion, with_handle, removed, Entry, has, without, AllApart, AllBelow, entry, written, hash_at, key_at, eqb_self, below_of, has-without, has-without_test, below-has, below-more, and_true, and_false, some_is, length-written, slice_get_some, all-written, hash_at-own, hash_at-others, IsIndex-put, IsIndex-taken, length-taken, IsStored}
 use Rattle.clock2q_queues.proofs.Joining.{length-without}
 use Rattle.clock2q_cache.proofs.WithKeys.{HaveKeys}
 
@@ -14,15 +14,7 @@ module _ {K V : Type 0} (hash : K → ℕ) where
   -- the same places in another order
   pub stored-same : (index : List (List (ℕ × ℕ))) (entries : List (Entry K V)) (places places' : List ℕ) → IsStored hash index entries places
       → ((t : ℕ) → has t places' ≡ has t places) → length places' ≡ length places → IsStored hash index entries places'
-  stored-same index entries places places' i same as_many = record {
-    made = below-has (length entries) places' (λ t g. below_of (length entries) places i.made t (sym (same t) ∙ g));
-    indexed = record {
-      listed = λ x place. i.indexed.listed x place ∙ ap (λ b. b && is_named index entries x place) (sym (same place));
-      once = i.indexed.once;
-      counted = i.indexed.counted ∙ sym as_many;
-    };
-    hashed = i.hashed;
-  }
+  stored-same index entries places places' i same as_many = grind (arith, below-has, below_of, i.made, i.indexed.counted, i.hashed)
 
   -- a key enters at a slot
   pub stored-entered : (index : List (List (ℕ × ℕ))) (entries : List (Entry K V)) (places : List ℕ) (slot : ℕ) (key : K) (value : V)
@@ -42,11 +34,8 @@ module _ {K V : Type 0} (hash : K → ℕ) where
   pub stored-left : (index : List (List (ℕ × ℕ))) (entries : List (Entry K V)) (places : List ℕ) (slot old : ℕ)
       → IsStored hash index entries places → 0 < length index → AllApart places → hash_at entries slot ≡ Some old
       → IsStored hash (removed eqb index old slot) entries (without slot places)
-  stored-left index entries places slot old i some apart at = record {
-    made = below-has (length entries) (without slot places) (λ t g. below_of (length entries) places i.made t (has-without t slot places g).0);
-    indexed = IsIndex-taken index entries places slot old i.indexed some apart at;
-    hashed = i.hashed;
-  }
+  stored-left index entries places slot old i some apart at =
+      grind (arith, below-has, below_of, i.made, has-without, IsIndex-taken index entries places slot old i.indexed some apart, i.hashed)
 
   -- a key takes the place of a resident
   pub stored-renewed : (index : List (List (ℕ × ℕ))) (entries : List (Entry K V)) (places : List ℕ) (slot old : ℕ) (key : K) (value : V)
@@ -61,10 +50,7 @@ module _ {K V : Type 0} (hash : K → ℕ) where
       (slot ∷ without slot places) places e again (sym (omega (arith, length-without slot places apart there)))
     where
       again : (t : ℕ) → has t places ≡ has t (slot ∷ without slot places)
-      again t = elim (cases_Bool (eqb t slot)) [
-        | inl e ↦ subst (λ z. has z places ≡ true) (sym (eqb-true t slot e)) there ∙ rw e refl
-        | inr e ↦ rw (e, has-without_test t slot places, e) (sym (and_true (has t places)))
-      ]
+      again t = grind (arith, has-without_test, and_true)
 
 -- what holds of all entries holds of the one at a place
 module _ {K V : Type 0} (hash : K → ℕ) where

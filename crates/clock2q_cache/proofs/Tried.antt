@@ -1,6 +1,6 @@
 -- What `try_get_or_insert_with` ensures, from what its two calls ensure: the search for the slot, and the loan of the
 -- value there.
-use Rattle.std.proofs.Common.{◌≡◌, ℕ, ◌<◌, length, Some, None, Result, Ok, Err, MatchResult, IsOkAnd, IfErr, IfOk, OnErr, OnOk, sym, subst, ◌∙◌}
+use Rattle.std.proofs.Common.{arith, ◌≡◌, ℕ, ◌<◌, length, Some, None, Result, Ok, Err, MatchResult, IsOkAnd, IfErr, IfOk, OnErr, OnOk, sym, ◌∙◌}
 use Rattle.std.specs.Borrow.{RattleType, Bor}
 use Rattle.std.specs.declared.alloc.Allocator as alloc
 use Rattle.std.specs.declared.hash.Hasher as hasher
@@ -76,6 +76,4 @@ module _ (K V S A H : RattleType) (key : HashMembers K.Denot) (build : builder.G
       let becomes = rw same at f.becomes in
       record { tries = (becomes, s.hasher, costs-of becomes s.index s.counts); value = rw same at f.had; err = tt; absent = tt }
   fetches (Ok slot) (Err e) s lent = absurd lent
-  fetches (Err e) result s lent =
-      let is = s.machine ∙ sym (hit-absent (key.eq k) old.machine s.absent) in
-      subst Fetched (sym lent) (record { tries = (s.machine, s.hasher, costs-of is s.index s.asked); value = tt; err = s.err; absent = s.absent })
+  fetches (Err e) result s lent = grind (arith, hit-absent, costs-of)

@@ -1,5 +1,5 @@
 -- The slots whose keys have one hash are those of the residents whose keys have it, each once.
-use Rattle.std.proofs.Common.{◌≡◌, ℕ, zero, suc, ◌<◌, ◌/◌, ◌%◌, ◌^◌, Bool, true, false, ◌==◌, ◌&&◌, eqb, eqb-true, Option, Some, None, slice_get, List, [], ◌∷◌, length, inl, inr, refl, sym, ap, ◌∙◌, subst, arith}
+use Rattle.std.proofs.Common.{◌≡◌, ℕ, zero, suc, ◌<◌, ◌/◌, ◌%◌, ◌^◌, Bool, true, false, ◌==◌, ◌&&◌, eqb-true, Option, Some, None, slice_get, List, [], ◌∷◌, length, inl, inr, refl, sym, ap, ◌∙◌, subst, arith}
 use Rattle.clock2q_cache.proofs.Names.{and_false, IfNone, IfSome, length-values, IsEquivalence, AllApart, AllByRecursion, both_ways, is_alike, is_named, eqb_self, find, is_key_at, slot_of, filter, cases_Bool, candidates, Entry, KeyPlaces, has, has_first, hash_at, below_of, candidate_there, slice_get_some, some_is, QueueState, Remembered, Shares, Machine, machine_of, places_of, IsKept}
 use Rattle.std.proofs.lemmas.Bool.{eq-eqb}
 use Rattle.clock2q_queues.proofs.Rings.{has_later}
@@ -65,12 +65,7 @@ module _ {K V : Type 0} {eq : K → K → Bool} {hash : K → ℕ} {shares : Sha
       ∙ none-kept (has_hash keys.entries x) (is_key_at eq key keys.entries) (candidates index x) none alike
     where
       alike : (t : ℕ) → has t (candidates index x) ≡ true → is_key_at eq key keys.entries t ≡ true → has_hash keys.entries x t ≡ true
-      alike t there it =
-          let in-use = (candidate_there index keys.entries (places_of q) x t kept.stored.indexed there).0 in
-          let e = slice_get_some keys.entries t (below_of (length keys.entries) (places_of q) kept.stored.made t in-use) in
-          let equal : eq key e.0.key ≡ true = sym (ap (λ (z : Option (Entry K V)). elim z [ None ↦ false | Some e ↦ eq key e.key ]) e.1) ∙ it in
-          ap (λ (z : Option (Entry K V)). elim z [ None ↦ false | Some e ↦ e.hash == x ]) e.1
-          ∙ eq-eqb e.0.hash x (hash-there hash keys.entries t e.0 e.1 kept.stored.hashed ∙ sym (respects key e.0.key equal) ∙ sym is)
+      alike t there it = grind (arith, candidate_there, kept.stored.indexed, slice_get_some, below_of, kept.stored.made, eq-eqb, hash-there, kept.stored.hashed)
 
   -- of what the walk finds
   pub absent-unless : (key : K) → ((x y : K) → eq x y ≡ true → hash x ≡ hash y) → (x : ℕ) → x ≡ hash key → (o : Option ℕ)
@@ -81,24 +76,12 @@ module _ {K V : Type 0} {eq : K → K → Bool} {hash : K → ℕ} {shares : Sha
 -- what is in a list and passes is what is kept of it
 has-kept : (p : ℕ → Bool) (cs : List ℕ) (t : ℕ) → has t (filter p cs) ≡ (has t cs && p t)
 has-kept p [] t = refl
-has-kept p (c ∷ cs) t = elim (cases_Bool (p c)) [
-  | inl y ↦ rw y (elim (cases_Bool (eqb t c)) [
-    | inl is ↦ rw is (sym (subst (λ z. p z ≡ true) (sym (eqb-true t c is)) y))
-    | inr differ ↦ rw differ (has-kept p cs t)
-  ])
-  | inr n ↦ rw n (elim (cases_Bool (eqb t c)) [
-    | inl is ↦ let no = subst (λ z. p z ≡ false) (sym (eqb-true t c is)) n in rw (is, no) (has-kept p cs t ∙ ap (λ b. has t cs && b) no ∙ and_false (has t cs))
-    | inr differ ↦ rw differ (has-kept p cs t)
-  ])
-]
+has-kept p (c ∷ cs) t = grind (arith, has-kept p cs t, and_false (has t cs))
 
 -- no slot is kept twice
 apart-kept : (p : ℕ → Bool) (cs : List ℕ) → AllApart cs → AllApart (filter p cs)
 apart-kept p [] apart = tt
-apart-kept p (c ∷ cs) apart = elim (cases_Bool (p c)) [
-  | inl y ↦ rw y (has-kept p cs c ∙ ap (λ b. b && p c) apart.0, apart-kept p cs apart.1)
-  | inr n ↦ rw n (apart-kept p cs apart.1)
-]
+apart-kept p (c ∷ cs) apart = grind (arith, has-kept p cs c, apart.0, apart-kept p cs apart.1, apart.1)
 
 module _ {K V : Type 0} {eq : K → K → Bool} {hash : K → ℕ} {shares : Shares} {q : QueueState} {h : Remembered K} {index : List (List (ℕ × ℕ))} {keys : KeyPlaces K V} {free : List ℕ} {room : ℕ}
     (laws : IsEquivalence eq) (kept : IsKept eq hash shares q h index keys free room) where

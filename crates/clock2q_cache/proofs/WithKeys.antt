@@ -1,7 +1,6 @@
 -- The queues' lists of slots, with the keys at the slots, change as the machine's lists do.
 use Rattle.std.proofs.Common.{◌≡◌, ℕ, zero, suc, ◌+◌, ◌==◌, Bool, true, false, not, cond, eqb, Option, Some, None, List, [], ◌∷◌, ◌++◌, map, length, take, drop, inl, inr, refl, sym, ap, ◌∙◌, subst, arith}
 use Rattle.clock2q_cache.proofs.Names.{if◌then◌else◌, last_or, count_by, cons_option, filter, filter_map, option_map, cases_Bool, filter_map-append, sum_by-cons, Age, grown, touched, has, admitted, small_hit_at, set_front, inspections, from_victim, main_hit_at, slots_of, without_slot, has_first, has_later, SmallEntry, MainEntry, with_keys_small, with_keys_main}
-use Rattle.clock2q_machine.specs.Ages as ages
 use Rattle.clock2q_machine.specs.Entries as machine
 
 -- an entry of Small or of Main, and its key
@@ -150,9 +149,7 @@ module _ {K : Type 0} (key : ℕ → Option K) where
 
   pub small-admitted : (window slot : ℕ) (k : K) (es : List (ℕ × Age)) → key slot ≡ Some k
       → with_keys_small key (admitted window slot es) ≡ machine.small_admitted window k slot (with_keys_small key es)
-  small-admitted window slot k es h =
-      keys-cons small_with key (slot, ages.Young 0) (map {B = ℕ × Age} (λ (e : ℕ × Age). (e.0, grown window e.1)) es) k h
-      ∙ ap (λ zs. small_with (slot, ages.Young 0) k ∷ zs) (sym (small-grown window es))
+  small-admitted window slot k es h = grind (arith, keys-cons, small-grown)
 
   -- a slot that is put at the end, behind the hand
   pub main-behind : (slot : ℕ) (k : K) (es : List (ℕ × Bool)) → key slot ≡ Some k → with_keys_main key (es ++ (slot, false) ∷ []) ≡ machine.behind_hand k slot (with_keys_main key es)

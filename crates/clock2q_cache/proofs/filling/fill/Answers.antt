@@ -1,5 +1,5 @@
 -- One more entry, with the next value.
-use Rattle.std.proofs.Common.{◌≡◌, ◌+◌, ◌-◌, arith, refl, sym, ap, ◌∙◌, subst}
+use Rattle.std.proofs.Common.{◌+◌, ◌-◌, arith, refl, sym, ap, ◌∙◌, subst}
 use Rattle.clock2q_cache.proofs.Names.{KeyPlaces, FillsUp, hash_of, TakesTimes}
 use Rattle.clock2q_cache.proofs.Filled.{FillsUp-none, FillsUp-more, FillsUp-length}
 use Rattle.clock2q_cache.proofs.Makers.{next_call}
@@ -26,9 +26,4 @@ loop-preserved g c =
     )
 
 pub returns-clause-filled : goal.returns-clause-filled
-returns-clause-filled g c =
-    let same : c.loop.counter ≡ c.args.many = omega (arith, c.loop-test.false, c.loop.auto.counter-end) in (
-      c.loop.make,
-      subst (λ n. FillsUp g.F.FnMut c.args.make (λ k. hash_of g.S.BuildHasher g.S.Hasher.Hasher c.args.hasher.now (g.K.Hash.hash_input k))
-          n c.args.directory.now.residents.entries c.loop.directory.residents.entries c.loop.make) same c.loop.invariant.1,
-    )
+returns-clause-filled g c = grind (arith, c.loop-test.false, c.loop.invariant.1)

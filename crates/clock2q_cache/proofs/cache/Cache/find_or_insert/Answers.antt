@@ -1,6 +1,6 @@
 -- The value is at the slot where the key was found, or at the one that it took.
 use Rattle.std.proofs.Common.{sym, ap, ◌∙◌, arith}
-use Rattle.clock2q_cache.proofs.Names.{slice_get_within, hit, inserted, CacheState}
+use Rattle.clock2q_cache.proofs.Names.{slice_get_within, inserted, CacheState}
 use Rattle.clock2q_cache.proofs.Finding.{no-slot}
 use Rattle.clock2q_cache.proofs.Fetched.{hit-fetches, new-fetches}
 use Rattle.clock2q_cache.proofs.Insertions.{hit-spends, insert-spends}
@@ -10,9 +10,7 @@ use Rattle.clock2q_cache.proofs.cache.Cache.find_or_insert.Goals as goal
 
 pub returns-in-Resident-clause-fetched : goal.returns-in-Resident-clause-fetched
 returns-in-Resident-clause-fetched g c =
-    let eq = g.K.PartialEq.eq in let m = c.args.self.now.machine in
-    let now = c.record_hit.ensures.machine ∙ ap (hit (eq c.args.key)) c.lookup-found.ensures.machine in
-    rw now (hit-fetches eq g.met.K.Eq.laws m c.lookup-found.ensures.whole c.args.key (goal.F-post g c.args.f) c.in-Resident.slot (sym c.in-Resident.ensures.slot))
+    grind (arith, c.record_hit.ensures.machine, c.lookup-found.ensures.machine, hit-fetches, c.lookup-found.ensures.whole, c.in-Resident.ensures.slot)
 
 pub returns-clause-fetched : goal.returns-clause-fetched
 returns-clause-fetched g c =
@@ -25,9 +23,7 @@ pub returns-clause-made : goal.returns-clause-made
 returns-clause-made g c = let f = returns-clause-fetched g c in slice_get_within _ _ f.value f.there
 
 pub returns-in-Resident-clause-counts : goal.returns-in-Resident-clause-counts
-returns-in-Resident-clause-counts g c =
-    hit-spends (g.K.PartialEq.eq c.args.key) c.args.self.now.machine c.lookup-found.ensures.counts c.in-Resident.ensures.slot
-    (ap (λ (z : CacheState _ _ _). z.counts) c.record_hit.ensures.kept) (omega arith)
+returns-in-Resident-clause-counts g c = grind (arith, hit-spends, c.lookup-found.ensures.counts, c.in-Resident.ensures.slot, c.record_hit.ensures.kept)
 
 pub returns-in-Resident-clause-index : goal.returns-in-Resident-clause-index
 returns-in-Resident-clause-index g c = reaches-looked (record { eq = g.K.PartialEq.eq; hash_input = g.K.Hash.hash_input }) g.S.BuildHasher g.S.Hasher.Hasher c.args.key
@@ -43,5 +39,4 @@ returns-clause-index g c =
 
 pub returns-clause-counts : goal.returns-clause-counts
 returns-clause-counts g c =
-    insert-spends (g.K.PartialEq.eq c.args.key) c.args.self.now.machine c.lookup-found.ensures.counts
-    (no-slot c.lookup-found.result c.in_default.not-Resident ∙ c.lookup-found.ensures.slot) c.lookup-found.ensures.machine c.insert.ensures.counts (omega arith)
+    grind (arith, insert-spends, c.lookup-found.ensures.counts, no-slot, c.lookup-found.ensures.slot, c.lookup-found.ensures.machine, c.insert.ensures.counts)

@@ -22,9 +22,7 @@ pub returns-clause-made : goal.returns-clause-made
 returns-clause-made g c = let t = returns-clause-taken g c in slice_get_within _ _ t.value t.there
 
 pub returns-in-Some-clause-counts : goal.returns-in-Some-clause-counts
-returns-in-Some-clause-counts g c =
-    hit-spends (g.K.PartialEq.eq c.args.key) c.args.self.now.machine c.find.ensures.counts c.in-Some.ensures.slot
-    (ap (λ (z : CacheState _ _ _). z.counts) c.record_hit.ensures.kept) (rw c.requires.hash (omega arith))
+returns-in-Some-clause-counts g c = grind (arith, hit-spends, c.find.ensures.counts, c.in-Some.ensures.slot, c.record_hit.ensures.kept, c.requires.hash)
 
 pub returns-clause-counts : goal.returns-clause-counts
 returns-clause-counts g c =

@@ -1,5 +1,5 @@
 -- The value is read where the key was found, and then the key is hit; a key that is not resident is not hit.
-use Rattle.std.proofs.Common.{◌≡◌, Some, slice_get, rules, refl, sym, ap, ◌∙◌}
+use Rattle.std.proofs.Common.{arith, ◌≡◌, Some, slice_get, rules, refl, sym, ap, ◌∙◌}
 use Rattle.std.specs.Option.{option_and_then}
 use Rattle.clock2q_machine.specs.Machine.{Machine, slot_of}
 use Rattle.clock2q_cache.proofs.Names.{QueueState, CacheState, hit, value-there}
@@ -12,9 +12,7 @@ use Rattle.clock2q_cache.proofs.cache.Cache.get.Goals as goal
 
 -- the key is resident at the slot, in terms of the fields
 there : (g : Over) (c : After-value-value g) → slot_of (g.K.PartialEq.eq c.args.key.now) (m g.met.K.Eq.laws c.self.invariant) ≡ Some c.in_ok-slot.slot
-there g c =
-    let k = g.K.PartialEq.eq c.args.key.now in
-    ap (λ (z : CacheState _ _ _). slot_of k z.machine) c.self.view_is ∙ ap (λ z. slot_of k z) c.find.ensures.machine ∙ sym c.in_ok-slot.ensures.slot
+there g c = grind (arith, slot_of, c.self.view_is, c.find.ensures.machine, c.in_ok-slot.ensures.slot)
 
 pub hit-requires : goal.hit-requires
 hit-requires g c =

@@ -1,13 +1,10 @@
 -- A key that is not resident at the slot is not hit.
-use Rattle.std.proofs.Common.{rules, refl}
+use Rattle.std.proofs.Common.{arith, rules, refl}
 use Rattle.clock2q_cache.proofs.Spent.{missed_at-becomes, hit_at-becomes}
 use Rattle.clock2q_cache.proofs.cache.Cache.get_at.Goals as goal
 
 pub returns-in_err-found : goal.returns-in_err-found
-returns-in_err-found g c = (
-  (refl, λ _. tt, missed_at-becomes c.in_err-found.ensures.slot c.find_at.ensures.kept c.find_at.ensures.counts),
-  record { machine = tt; value = search rules },
-)
+returns-in_err-found g c = grind (arith, missed_at-becomes, c.in_err-found.ensures.slot, c.find_at.ensures.kept, c.find_at.ensures.counts)
 
 pub returns : goal.returns
 returns g c = (

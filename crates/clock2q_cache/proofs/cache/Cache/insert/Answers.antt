@@ -1,5 +1,5 @@
 -- A key that is not resident is not known once its history is erased.
-use Rattle.std.proofs.Common.{ap, ◌∙◌}
+use Rattle.std.proofs.Common.{arith, ap, ◌∙◌}
 use Rattle.clock2q_cache.proofs.Names.{known_count, Placement, placement, stored, unknown_once_forgotten}
 use Rattle.clock2q_cache.proofs.Insertions.{IsSent, gap-still, goes-there, placed-inspections, forgotten-spends}
 use Rattle.clock2q_cache.proofs.Making.{small-unknown, placed-there}
@@ -40,5 +40,4 @@ returns-clause-known g c =
 
 pub returns-clause-counts : goal.returns-clause-counts
 returns-clause-counts g c =
-    let s = sent g (goal.at.returns-clause-counts g c).After-admits_to_main-main in
-    rw (← placed-inspections s c.requires.absent.absent) (forgotten-spends c.forget-known.ensures.counts c.insert_unknown.ensures.entered.counts)
+    grind (arith, sent, placed-inspections, c.requires.absent.absent, forgotten-spends, c.forget-known.ensures.counts, c.insert_unknown.ensures.entered.counts)

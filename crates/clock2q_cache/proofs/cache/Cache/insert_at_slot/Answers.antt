@@ -1,6 +1,6 @@
 -- The key is where it was placed, and the resident that was there left.
-use Rattle.std.proofs.Common.{ap, ◌∙◌}
-use Rattle.clock2q_cache.proofs.Names.{known_count, list_any, forgotten, CacheState, unknown_once_forgotten}
+use Rattle.std.proofs.Common.{arith, ap, ◌∙◌}
+use Rattle.clock2q_cache.proofs.Names.{known_count, forgotten, CacheState, unknown_once_forgotten}
 use Rattle.clock2q_cache.proofs.Insertions.{IsSent}
 use Rattle.clock2q_cache.proofs.Making.{small-unknown}
 use Rattle.clock2q_cache.proofs.cache.Cache.insert_at_slot.Given.{Over}
@@ -10,13 +10,7 @@ use Rattle.clock2q_cache.proofs.cache.Cache.insert_at_slot.Goals as goal
 -- where the key goes
 sent : (g : Over) (c : After-admits_to_main-main g) → IsSent (g.K.PartialEq.eq c.args.key) c.args.self.now.machine c.forget-known.new.self.machine c.admits_to_main-main.result
 sent g c =
-    let is = g.K.PartialEq.eq c.args.key in
-    record {
-      known = c.forget-known.result;
-      had = c.forget-known.ensures.known ∙ ap (λ (z : CacheState _ _ _). list_any is z.machine.history) c.find_place-place.ensures.kept;
-      erased = c.forget-known.ensures.machine ∙ ap (λ (z : CacheState _ _ _). forgotten is z.machine) c.find_place-place.ensures.kept;
-      goes = c.admits_to_main-main.ensures;
-    }
+    grind (arith, c.forget-known.ensures.known, c.find_place-place.ensures.kept, c.forget-known.ensures.machine, forgotten, c.admits_to_main-main.ensures)
 
 pub insert_unknown-slot-requires-clause-unknown : goal.insert_unknown-slot-requires-clause-unknown
 insert_unknown-slot-requires-clause-unknown g c =

@@ -1,5 +1,5 @@
 -- A key that takes the slot of another: the other comes back with the value of the slot.
-use Rattle.std.proofs.Common.{Some, None, false, sym, ap, ◌∙◌, rules}
+use Rattle.std.proofs.Common.{arith, Some, None, false, ap, ◌∙◌, rules}
 use Rattle.clock2q_cache.proofs.Names.{ltb-true, known_count, Placement, CacheState, placement, stored, unknown_once_forgotten}
 use Rattle.clock2q_cache.proofs.Insertions.{IsSent, gap-still, goes-there, placed-inspections, forgotten-spends}
 use Rattle.clock2q_cache.proofs.Making.{small-unknown, placed-there, makes-here}
@@ -25,9 +25,7 @@ pub insert_unknown-requires-clause-small : goal.insert_unknown-requires-clause-s
 insert_unknown-requires-clause-small g c = small-unknown g.K.PartialEq.eq c.args.key (sent g (goal.at.insert_unknown-requires-clause-small g c).After-admits_to_main-main)
 
 pub returns-then-makes_slot-clause-evicted : goal.returns-then-makes_slot-clause-evicted
-returns-then-makes_slot-clause-evicted g c =
-    let s = sent g (goal.at.returns-then-makes_slot-clause-evicted g c).After-admits_to_main-main in
-    hands-none c.args.self.now.machine (sym (leaver-there s) ∙ maker-leaves c.forget-known.new.self.machine c.admits_to_main-main.result (sym c.if-makes_slot.ensures.makes))
+returns-then-makes_slot-clause-evicted g c = grind (arith, sent, hands-none, leaver-there, maker-leaves, c.if-makes_slot.ensures.makes)
 
 pub returns-then-makes_slot-clause-machine : goal.returns-then-makes_slot-clause-machine
 returns-then-makes_slot-clause-machine g c =
@@ -43,8 +41,7 @@ returns-then-makes_slot-clause-known g c =
 
 pub returns-then-makes_slot-clause-counts : goal.returns-then-makes_slot-clause-counts
 returns-then-makes_slot-clause-counts g c =
-    let s = sent g (goal.at.returns-then-makes_slot-clause-counts g c).After-admits_to_main-main in
-    rw (← placed-inspections s c.requires.absent.absent) (forgotten-spends c.forget-known.ensures.counts c.insert_unknown.ensures.entered.counts)
+    grind (arith, sent, placed-inspections, c.requires.absent.absent, forgotten-spends, c.forget-known.ensures.counts, c.insert_unknown.ensures.entered.counts)
 
 pub insert_unknown-slot-requires-clause-unknown : goal.insert_unknown-slot-requires-clause-unknown
 insert_unknown-slot-requires-clause-unknown g c =

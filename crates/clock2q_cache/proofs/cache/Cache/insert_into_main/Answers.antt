@@ -1,5 +1,5 @@
 -- Main has as many entries as slots.
-use Rattle.std.proofs.Common.{◌≡◌, ◌<◌, length, arith}
+use Rattle.std.proofs.Common.{◌<◌, length, arith}
 use Rattle.clock2q_cache.proofs.Names.{main_share}
 use Rattle.clock2q_cache.proofs.CacheInvariant.{length_in_main}
 use Rattle.clock2q_cache.proofs.Insertions.{full-inspections, room-inspections}
@@ -14,9 +14,7 @@ join_main-requires-clause-room g c = rw (← c.self.view_is) (omega (arith, leng
 
 pub returns-then-main_len-main-clause-entered : goal.returns-then-main_len-main-clause-entered
 returns-then-main_len-main-clause-entered g c =
-    let m = c.args.self.now.machine in
-    let full : length m.main ≡ main_share m.shares = rw (← c.self.view_is) (omega (arith, length_in_main g.met.K.Eq.laws c.self.invariant)) in
-    rw (full-inspections m full) c.replace_victim.ensures.entered
+    grind (arith, c.self.view_is, length_in_main g.met.K.Eq.laws c.self.invariant, c.self.invariant, full-inspections, c.replace_victim.ensures.entered)
 
 pub returns-else-main_len-main-clause-entered : goal.returns-else-main_len-main-clause-entered
 returns-else-main_len-main-clause-entered g c =
@@ -26,6 +24,4 @@ returns-else-main_len-main-clause-entered g c =
 
 pub returns-else-main_len-main-clause-left : goal.returns-else-main_len-main-clause-left
 returns-else-main_len-main-clause-left g c =
-    let m = c.args.self.now.machine in
-    let room : length m.main < main_share m.shares = rw (← c.self.view_is) (omega (arith, length_in_main g.met.K.Eq.laws c.self.invariant, c.self.invariant.whole.main_within)) in
-    record { noted = room-leaver m room }
+    grind (arith, c.self.view_is, length_in_main g.met.K.Eq.laws c.self.invariant, c.self.invariant, c.self.invariant.whole.main_within, room-leaver)

@@ -1,6 +1,6 @@
 -- A slot is made if none is free and no other key's is taken.
 use Rattle.std.proofs.Common.{not, arith, sym, ap, ◌∙◌}
-use Rattle.clock2q_cache.proofs.Names.{slice_get_past, ltb-false, known_count, list_any, Placement, forgotten, CacheState, unknown_once_forgotten}
+use Rattle.clock2q_cache.proofs.Names.{slice_get_past, ltb-false, known_count, Placement, forgotten, CacheState, unknown_once_forgotten}
 use Rattle.clock2q_cache.proofs.Spent.{spends-both}
 use Rattle.clock2q_cache.proofs.Insertions.{IsSent, goes-there, placed-inspections, forgotten-spends}
 use Rattle.clock2q_cache.proofs.Making.{small-unknown, placed-there, fills-there, makes-here, makes-there, values-there, reuses, made-or-none}
@@ -12,13 +12,7 @@ use Rattle.clock2q_cache.proofs.cache.Cache.insert_reusing.Goals as goal
 -- where the key goes
 sent : (g : Over) (c : After-admits_to_main-main g) → IsSent (g.K.PartialEq.eq c.args.key) c.args.self.now.machine c.forget-known.new.self.machine c.admits_to_main-main.result
 sent g c =
-    let is = g.K.PartialEq.eq c.args.key in
-    record {
-      known = c.forget-known.result;
-      had = c.forget-known.ensures.known ∙ ap (λ (z : CacheState _ _ _). list_any is z.machine.history) c.find_place-place.ensures.kept;
-      erased = c.forget-known.ensures.machine ∙ ap (λ (z : CacheState _ _ _). forgotten is z.machine) c.find_place-place.ensures.kept;
-      goes = c.admits_to_main-main.ensures;
-    }
+    grind (arith, c.forget-known.ensures.known, c.find_place-place.ensures.kept, c.forget-known.ensures.machine, forgotten, c.admits_to_main-main.ensures)
 
 pub then-value-requires : goal.then-value-requires
 then-value-requires g c made =
@@ -76,6 +70,4 @@ returns-clause-counts g c =
     (spends-both c.find_place-place.ensures.counts (forgotten-spends c.forget-known.ensures.counts c.insert_unknown-slot.ensures.entered.counts) (omega arith) (omega arith) (omega arith))
 
 pub returns-clause-evicted : goal.returns-clause-evicted
-returns-clause-evicted g c =
-    let s = sent g (goal.at.returns-clause-evicted g c).After-admits_to_main-main in
-    c.is_some.ensures ∙ some-left c.insert_unknown-slot.ensures.left (leaver-there s)
+returns-clause-evicted g c = grind (arith, sent, c.is_some.ensures, some-left, c.insert_unknown-slot.ensures.left, leaver-there)

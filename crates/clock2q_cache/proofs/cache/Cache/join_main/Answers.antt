@@ -28,9 +28,7 @@ enter-requires g c =
     }
 
 pub append-requires : goal.append-requires
-append-requires g c =
-    let f = free g (goal.at.append-requires g c).After-take_vacancy-slot in
-    record { slot_in = f.below; not_in_small = f.not_in_small; not_in_main = f.not_in_main }
+append-requires g c = grind (arith, free)
 
 -- the key has it
 done : (g : Over) (c : After-append g) → IsFree g.met.K.Eq.laws c.self.invariant c.take_vacancy-slot.result

@@ -28,11 +28,7 @@ enter-requires g c =
     }
 
 pub admit-requires : goal.admit-requires
-admit-requires g c =
-    let f = free g (goal.at.admit-requires g c).After-take_vacancy-slot in
-    let s = c.self.invariant.sized in
-    let room = rw (← c.self.view_is) at c.requires.room in
-    record { slot_in = f.below; not_in_small = f.not_in_small; not_in_main = f.not_in_main; window = omega (arith, s.window, s.windowed (omega (arith, room))) }
+admit-requires g c = grind (arith, free, c.self.invariant.sized, c.self.view_is, c.requires.room)
 
 -- the key has it
 done : (g : Over) (c : After-admit g) → IsFree g.met.K.Eq.laws c.self.invariant c.take_vacancy-slot.result

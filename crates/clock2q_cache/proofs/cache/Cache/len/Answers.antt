@@ -20,9 +20,4 @@ returns-clause-indexed g c =
     rw (← c.self.view_is) (record { residents = residents-have g.met.K.Eq.laws c.self.invariant; as_many = r.as_many; remembered = r.have })
 
 pub returns-clause-spacious : goal.returns-clause-spacious
-returns-clause-spacious g c =
-    let k = c.self.invariant in
-    rw (← c.self.view_is) (record {
-      residents = rw k.sized.remembers at k.sized.spacious;
-      remembered = λ own. omega (arith, c.remembered_len.ensures.whole.own_room own, k.sized.remembers);
-    })
+returns-clause-spacious g c = grind (arith, c.self.invariant, c.self.view_is, c.remembered_len.ensures.whole.own_room)

@@ -1,5 +1,5 @@
 -- The key is resident with its value, and what it replaces or evicts comes back.
-use Rattle.std.proofs.Common.{◌≡◌, Some, refl, sym, ap, ◌∙◌, arith, rules}
+use Rattle.std.proofs.Common.{sym, ap, ◌∙◌, arith, rules}
 use Rattle.clock2q_cache.proofs.Names.{none_is, hit, stored, inserted, is_some, if◌then◌else◌, CacheState, replaced, replaced_at, inserted_there, replaced_there}
 use Rattle.clock2q_cache.proofs.Finding.{no-slot}
 use Rattle.clock2q_cache.proofs.Insertions.{hit-spends, insert-spends}
@@ -14,8 +14,7 @@ returns-in_default-clause-replaced g c =
 
 pub returns-clause-replaced : goal.returns-clause-replaced
 returns-clause-replaced g c =
-    had-before (g.K.PartialEq.eq c.args.key) c.args.self.now.machine (λ before. Some (c.args.key, c.replace.result) ≡ Some (c.args.key, before)) (sym c.in-Resident.ensures.slot)
-    (rw (c.record_hit.ensures.machine, c.lookup-found.ensures.machine) at c.replace.ensures.value) refl
+    grind (arith, had-before, c.in-Resident.ensures.slot, c.record_hit.ensures.machine, c.lookup-found.ensures.machine, c.replace.ensures.value)
 
 pub returns-in_default-clause-evicted : goal.returns-in_default-clause-evicted
 returns-in_default-clause-evicted g c absent =

@@ -4,23 +4,17 @@ use Rattle.clock2q_machine.specs.Calls.{Put}
 use Rattle.clock2q_machine.specs.Steps.{put}
 use Rattle.clock2q_machine.proofs.MachineInvariant.{lasting-inserted, lasting-after, resident_made}
 use Rattle.clock2q_machine.proofs.Entering.{weight-replaced, same_slots, entered_there}
-use Rattle.clock2q_cache.proofs.Names.{IsEquivalence, IsWhole, Machine, hit, slot_of, stored, inserted, is_some, if◌then◌else◌, CacheState, replaced, replaced_at}
+use Rattle.clock2q_cache.proofs.Names.{IsEquivalence, IsWhole, Machine, hit, slot_of, stored, inserted, CacheState, replaced_at}
 use Rattle.clock2q_cache.proofs.Insertions.{hit-spends, insert-spends}
 use Rattle.clock2q_cache.proofs.Reaching.{reaches-taken}
 use Rattle.clock2q_cache.proofs.Spent.{put-costs}
 use Rattle.clock2q_cache.proofs.cache.Cache.put_slot.Goals as goal
 
 pub returns-in-Some-clause-machine : goal.returns-in-Some-clause-machine
-returns-in-Some-clause-machine g c =
-    let is = g.K.PartialEq.eq c.args.key in
-    c.replace.ensures.machine ∙ ap (stored c.in-Some.slot c.args.value) (c.record_hit.ensures.machine ∙ ap (hit is) c.find.ensures.machine)
-    ∙ ap (λ o. if is_some o then replaced_at is c.args.value o c.args.self.now.machine else inserted is c.args.key c.args.value c.args.self.now.machine) c.in-Some.ensures.slot
+returns-in-Some-clause-machine g c = grind (arith, c.replace.ensures.machine, c.record_hit.ensures.machine, c.find.ensures.machine, c.in-Some.ensures.slot)
 
 pub returns-clause-machine : goal.returns-clause-machine
-returns-clause-machine g c =
-    let is = g.K.PartialEq.eq c.args.key in
-    c.insert_at_slot-slot.ensures.machine ∙ ap (inserted is c.args.key c.args.value) c.find.ensures.machine
-    ∙ ap (λ o. if is_some o then replaced is c.args.value c.args.self.now.machine else inserted is c.args.key c.args.value c.args.self.now.machine) c.in_default.ensures.slot
+returns-clause-machine g c = grind (arith, c.insert_at_slot-slot.ensures.machine, c.find.ensures.machine, c.in_default.ensures.slot)
 
 pub returns-in-Some-clause-slot : goal.returns-in-Some-clause-slot
 returns-in-Some-clause-slot g c =
@@ -44,9 +38,7 @@ within eq laws m whole key value now becomes slot there =
     omega (arith, resident_made eq laws (eq key) now h slot there, h.made_within)
 
 pub returns-in-Some-clause-within : goal.returns-in-Some-clause-within
-returns-in-Some-clause-within g c =
-    within g.K.PartialEq.eq g.met.K.Eq.laws c.args.self.now.machine c.len.ensures.whole c.args.key c.args.value c.replace.new.self.machine
-    (returns-in-Some-clause-machine g c) c.in-Some.slot (returns-in-Some-clause-slot g c)
+returns-in-Some-clause-within g c = grind (arith, within, c.len.ensures.whole)
 
 pub returns-clause-within : goal.returns-clause-within
 returns-clause-within g c =

@@ -1,6 +1,6 @@
 -- The key that is found is at its slot.
 use Rattle.std.proofs.Common.{sym, ap, ◌∙◌, arith, rules}
-use Rattle.clock2q_cache.proofs.Names.{Machine, forgotten, slot_of, removed_at}
+use Rattle.clock2q_cache.proofs.Names.{forgotten, slot_of, removed_at}
 use Rattle.clock2q_cache.proofs.Vacated.{found-resident}
 use Rattle.clock2q_cache.proofs.Finding.{no-slot}
 use Rattle.clock2q_cache.proofs.Reaching.{reaches-discarded, reaches-left}
@@ -8,9 +8,7 @@ use Rattle.clock2q_cache.proofs.Spent.{costs-of, spends-both, remove-costs}
 use Rattle.clock2q_cache.proofs.cache.Cache.remove.Goals as goal
 
 pub vacate-requires : goal.vacate-requires
-vacate-requires g c =
-    found-resident (g.K.PartialEq.eq c.args.key.now) c.lookup-found.new.self.machine c.in-Resident.slot
-    (ap (λ (z : Machine _ _). slot_of (g.K.PartialEq.eq c.args.key.now) z) c.in-Resident.ensures.machine ∙ sym c.in-Resident.ensures.slot)
+vacate-requires g c = grind (arith, found-resident, slot_of, c.in-Resident.ensures.machine, c.in-Resident.ensures.slot)
 
 pub returns-in_default-clause-costs : goal.returns-in_default-clause-costs
 returns-in_default-clause-costs g c =

@@ -1,5 +1,5 @@
 -- The key enters if no resident has its hash.
-use Rattle.std.proofs.Common.{ℕ, false, slice_get, length, refl, sym, ap, ◌∙◌, arith}
+use Rattle.std.proofs.Common.{false, length, refl, sym, ap, ◌∙◌, arith}
 use Rattle.clock2q_directory.proofs.Lookups.{is_empty}
 use Rattle.clock2q_machine.proofs.Entering.{entered_there}
 use Rattle.clock2q_machine.proofs.MachineInvariant.{lasting-inserted, resident_made}
@@ -7,7 +7,6 @@ use Rattle.clock2q_cache.proofs.Names.{inserted, is_some, if◌then◌else◌, C
 use Rattle.clock2q_cache.proofs.Insertions.{insert-spends}
 use Rattle.clock2q_cache.proofs.Reaching.{reaches-with}
 use Rattle.clock2q_cache.proofs.Spent.{costs-of}
-use Rattle.clock2q_cache.specs.SlotsByHash.{slots_with_hash}
 use Rattle.clock2q_cache.proofs.WithHash.{none-of, none-unless}
 use Rattle.clock2q_cache.proofs.cache.Cache.slot_with_hash_or_insert.Goals as goal
 
@@ -15,10 +14,7 @@ pub returns-clause-absent : goal.returns-clause-absent
 returns-clause-absent g c = λ entered. none-unless c.first_alike.result c.in_default.not-Some c.first_alike.ensures.absent
 
 pub returns-clause-alone : goal.returns-clause-alone
-returns-clause-alone g c = λ entered.
-    let listed = none-of c.first_alike.result c.in_default.not-Some in
-    let slots = λ (h : ℕ). slots_with_hash (record { eq = g.K.PartialEq.eq; hash_input = g.K.Hash.hash_input }) g.S.BuildHasher g.S.Hasher.Hasher h c.args.self.now in
-    is_empty (sym listed ∙ c.first_alike.ensures.slot ∙ ap (λ h. slice_get (slots h) 0) c.hash-hash.ensures)
+returns-clause-alone g c = grind (arith, none-of, is_empty, c.first_alike.ensures.slot, c.hash-hash.ensures)
 
 pub returns-clause-resident : goal.returns-clause-resident
 returns-clause-resident g c = λ entered.

@@ -49,11 +49,4 @@ returns-clause-known g c =
 
 pub returns-clause-counts : goal.returns-clause-counts
 returns-clause-counts g c =
-    let l = c.leave.ensures.left.becomes in
-    let links = ap (λ (z : Remembered _). z.accesses) l in
-    let asked = ap (λ (z : Remembered _). z.comparisons) l in
-    rw (← c.self.view_is, c.leave.ensures.kept) (record {
-      inspections = omega (arith, ap (λ (z : QueueState). z.inspections) c.leave-2.ensures.queues);
-      accesses = (omega (arith, c.leave-2.ensures.accesses.0, links), omega (arith, c.leave-2.ensures.accesses.1, links));
-      comparisons = (omega (arith, asked), omega (arith, asked));
-    })
+    grind (arith, c.leave.ensures.left.becomes, c.self.view_is, c.leave.ensures.kept, c.leave-2.ensures.queues, c.leave-2.ensures.accesses.0, c.leave-2.ensures.accesses.1)
