@@ -12,3 +12,4 @@ pub mod Insertions
 pub mod FewEntries
 pub mod Replacement
 pub mod Exchanges
+pub mod Calls

@@ -1,8 +1,7 @@
 -- What a call that changes a table results in, and how many slots it reads and writes.
-use Rattle.std.specs.Prelude.{◌≡◌, ℕ, suc, ◌+◌, ◌*◌, ◌^◌, ◌%◌, ◌<◌, ◌≤◌, Bool, List, length, Result, MatchResult, IsOk, OnOk, OnErr}
-use Rattle.clock2q_handles.specs.Found.{TakesOut}
-use Rattle.clock2q_handles.specs.Homes.{with_handle, removed, is_entry_of, count, total, IsNew}
-use Rattle.clock2q_handles.specs.Layout.{layout, run, walk, spill_of, slot_at, reach, homes_of, IsTidy, IsTooLong, IsBestPlaced}
+use Rattle.std.specs.Prelude.{◌≡◌, ℕ, ◌+◌, ◌*◌, ◌^◌, ◌<◌, ◌≤◌, Bool, List, Result, MatchResult, IsOk, OnOk, OnErr}
+use Rattle.clock2q_handles.specs.Homes.{with_handle, removed, count, total, IsNew}
+use Rattle.clock2q_handles.specs.Layout.{layout, run, walk, spill_of, IsTooLong, IsBestPlaced}
 use Rattle.clock2q_handles.specs.TableStep.{TableValue}
 use Rattle.clock2q_handles.specs.declared.error.TableError.{TableError}
 use Rattle.clock2q_handles.specs.declared.error.TableError.TheVariants.{RunTooLong}
@@ -45,34 +44,14 @@ module _ {H : Type 0} where
     pub laid : t.slots ≡ layout t.homes
     pub best : IsBestPlaced t.homes
 
-  -- no slot lets an entry be more than one slot further past its home than the slot before it did
-  pub record IsOneFurther (old new : TableValue H) : Type 0 where
-    pub tidy : IsTidy new.slots
-    pub lists : new.homes ≡ homes_of new.slots
-    pub same : length new.slots ≡ length old.slots
-    pub on : (k : ℕ) → reach (slot_at new.slots (suc k)) ≤ suc (reach (slot_at old.slots k))
-
-  -- v is put in under x, and no run is too long
-  pub record PutsUnder (eq : H → H → Bool) (x : ℕ) (v : H) (old new : TableValue H) : Type 0 where
+  -- v is put in under x, and no run is too long; n slots are read, and as many more as are written
+  pub record PutsUnder (eq : H → H → Bool) (x : ℕ) (v : H) (n : ℕ) (old new : TableValue H) : Type 0 where
     pub put : new.homes ≡ with_handle old.homes x v
     pub short : IsTooLong (with_handle old.homes x v) → ⊥
     pub writes : WritesAtMost (run old.slots x + 1) old new
-    pub reads : ReadsWalk 0 old new
+    pub reads : ReadsWalk n old new
     pub restores : Restores eq x v old new
     pub laid : IsLaidOut new
-    pub further : IsOneFurther old new
-
-  -- v is taken out under x, where it was found
-  pub record TakesUnder (eq : H → H → Bool) (x : ℕ) (v : H) (old new : TableValue H) : Type 0 where
-    pub removed : new.homes ≡ removed eq old.homes x v
-    pub fewer : total new.homes + 1 ≡ total old.homes
-    pub found : TakesOut (is_entry_of eq x v) old.slots new.slots (x % length old.slots) old.writes new.writes
-    pub writes : WritesAtMost (run old.slots x) old new
-    pub reads : ReadsAtMost (walk old.homes x) old new
-    pub laid : IsLaidOut new
-    pub shorter : (y : ℕ) → walk new.homes y ≤ walk old.homes y
-    pub tidy : IsTidy new.slots
-    pub lists : new.homes ≡ homes_of new.slots
 
   -- v is put in under x, and w is taken out under y
   pub record Exchanges (eq : H → H → Bool) (x : ℕ) (v : H) (y : ℕ) (w : H) (old new : TableValue H) : Type 0 where

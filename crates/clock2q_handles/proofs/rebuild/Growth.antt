@@ -3,7 +3,7 @@ use Rattle.std.proofs.Common.{◌≡◌, ℕ, suc, ◌*◌, ◌<◌, ◌≤◌, 
 use lib.Dec.{T, eqb→eq}
 use Rattle.std.proofs.lemmas.Bool.{cases_lt}
 use Rattle.std.proofs.Math.Nat.{two-pow-succ}
-use Rattle.clock2q_handles.specs.Homes.{capacity, total, count}
+use Rattle.clock2q_handles.specs.Homes.{capacity, total}
 use Rattle.clock2q_handles.specs.TableStep.{rebuilt, grown, doubled, IsFull, IsHashOf}
 use Rattle.clock2q_handles.specs.Changes.{IsNearer}
 use Rattle.clock2q_handles.specs.Slots.{IsSlotCount}

@@ -72,14 +72,14 @@ module _ {F H : Type 0} (g : Mut F (H × Unit {0}) ℕ) where
           moving_room ends =
               let key = may.asked.0 in
               let gives = may.asked.1 in
-              short_room r v so_far.table room ends
+              short_room so_far.table (record { fits = room; ends = ends }) v
               (step_short (come i within) holds (length from) key gives.hashes (so_far.built key gives) (answered key gives) may.fits
               (λ some. let k = may.multiple (omega (arith, some, length-homes_of old)) in (k.0, k.1 ∙ ap (λ m. k.0 * m) (sym (length-homes_of old)))))
 
           pub moving_on : {mark : Mark} {s : ℕ} {others : List (Option (Placed (ℕ × H)))} {before after : ℕ}
               → EndsAt new r mark s → PutsAt new others mark s v before after → MovedSo f next old from others (i + 1)
           moving_on {mark} {s} {others} {before} {after} ends puts =
-              let done : Insertion r v new others (total (homes_of new)) before after = inserted r v so_far.table room ends (moving_room ends) puts in
+              let done : Insertion r v new others (total (homes_of new)) before after = inserted so_far.table (record { fits = room; ends = ends }) (moving_room ends) puts in
               record {
                 table = subst (IsTable others) done.table.counted done.table;
                 len = puts.len ∙ so_far.len;

@@ -1,19 +1,17 @@
--- A removal that follows an insertion: no walk is more than one slot longer than before both, and the removal writes at most one slot more than the run was long.
+-- A removal that follows an insertion: it writes at most one slot more than the run was long before both.
 use Rattle.std.proofs.Common.{◌≡◌, ℕ, suc, ◌+◌, ◌%◌, ◌<◌, ◌≤◌, refl, sym, ap, ◌∙◌, arith, Bool, List, length, Option, Some, None}
 use Rattle.clock2q_handles.specs.Candidates.{IsWalkFor}
 use Rattle.clock2q_handles.specs.Found.{TakesOut}
 use Rattle.clock2q_handles.specs.Homes.{top}
-use Rattle.clock2q_handles.specs.Layout.{Placed, slot_at, reach, homes_of, walk, run, IsOrdered, IsTidy}
+use Rattle.clock2q_handles.specs.Layout.{Placed, slot_at, reach, run, IsOrdered, IsTidy}
 use Rattle.clock2q_handles.specs.Shifts.{Opens, PutsAt, moved_on}
 use Rattle.clock2q_handles.specs.Slots.{Mark}
 use Rattle.clock2q_handles.proofs.layout.Periods.{lap, lap-lt, lap-same}
 use Rattle.clock2q_handles.proofs.layout.Reaching.{occupied-is}
 use Rattle.clock2q_handles.proofs.layout.Reading.{slot-again}
-use Rattle.clock2q_handles.proofs.layout.TidyLayout.{tidy-vacant}
 use Rattle.clock2q_handles.proofs.layout.TooLong.{first-vacant}
-use Rattle.clock2q_handles.proofs.layout.Walk.{after as after_stop, stop}
+use Rattle.clock2q_handles.proofs.layout.Walk.{after as after_stop}
 use Rattle.clock2q_handles.proofs.shifts.Steps.{past_home}
-use Rattle.clock2q_handles.proofs.walks.Yields.{walk-at}
 
 module _ {E : Type 0} where
   moved_reach : (o : Option (Placed E)) → reach (moved_on o) ≤ suc (reach o)
@@ -52,16 +50,7 @@ module _ {E : Type 0} (slots more : List (Option (Placed E))) (tidy : IsTidy slo
   further : (h j : ℕ) → reach (slot_at more (h + suc j)) ≤ suc (reach (slot_at slots (h + j)))
   further h j = grind arith
 
-  -- have walks that are at most one slot longer
-  pub walk_on : (x : ℕ) → walk (homes_of more) x ≤ walk (homes_of slots) x + 1
-  walk_on x =
-      let v = tidy-vacant slots tidy some in
-      let w = tidy-vacant more tidy' (omega (arith, some, same)) in
-      let s = stop (slot_at slots) tidy.ordered (length slots) (slot-again slots) some v.0 v.1 x 0 in
-      let t = stop (slot_at more) tidy'.ordered (length more) (slot-again more) (omega (arith, some, same)) w.0 w.1 x 0 in
-      grind (arith, walk-at slots tidy x s.0, walk-at more tidy' x t.0, s.2.before, s.2.stop, t.2.before, t.2.stop, further x s.0)
-
-  -- and a removal from them writes at most one slot more than the run was long
+  -- a removal from them writes at most one slot more than the run was long
   pub taken_within : {test : E → Bool} {less : List (Option (Placed E))} (x : ℕ) {before after : ℕ} → TakesOut test more less (x % length more) before after → after ≤ before + (run slots x + 1)
   taken_within {test} {less} x {before} {after} taken =
       let v = first-vacant slots tidy some x in

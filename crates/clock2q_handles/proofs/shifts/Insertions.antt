@@ -11,7 +11,7 @@ use Rattle.clock2q_handles.proofs.shifts.Changes.{IsMovedOn, inserted-run, inser
 use Rattle.clock2q_handles.proofs.layout.TooLong.{long-by-new, long-by-moved}
 use Rattle.clock2q_handles.proofs.layout.Tables.{table-short}
 use Rattle.clock2q_handles.proofs.shifts.Steps.{past_home, opens-moved, near_by_lap, reach-moved_on}
-use Rattle.clock2q_handles.proofs.shifts.Carrying.{come_here, slot_from_plus}
+use Rattle.clock2q_handles.proofs.shifts.Carrying.{come_here, come_slot, slot_from_plus}
 use Rattle.clock2q_handles.proofs.shifts.FewEntries.{near_total}
 
 module _ {E : Type 0} where
@@ -32,9 +32,19 @@ pub record Insertion {H : Type 0} (x : ℕ) (v : H) (slots others : List (Option
   pub counted : before ≤ after
   pub writes : after ≤ before + run slots x + 1
 
+-- a walk for x ends in slot s, of slots where one more entry fits
+pub record IsEnd {H : Type 0} (slots : List (Option (Placed (ℕ × H)))) (x : ℕ) (mark : Mark) (s : ℕ) : Type 0 where
+  pub fits : total (homes_of slots) < capacity (length slots)
+  pub ends : EndsAt slots x mark s
+
 -- what an insertion at the slot where a walk ended results in
-module _ {H : Type 0} (x : ℕ) (v : H) {slots : List (Option (Placed (ℕ × H)))} {len : ℕ} (table : IsTable slots len)
-    (fits : total (homes_of slots) < capacity (length slots)) {mark : Mark} {s : ℕ} (ends : EndsAt slots x mark s) where
+module _ {H : Type 0} {x : ℕ} {slots : List (Option (Placed (ℕ × H)))} {len : ℕ} (table : IsTable slots len) {mark : Mark} {s : ℕ} (end : IsEnd slots x mark s) where
+  ends : EndsAt slots x mark s
+  ends = end.ends
+
+  fits : total (homes_of slots) < capacity (length slots)
+  fits = end.fits
+
   abbrev g : ℕ
   g = x % length slots
 
@@ -54,23 +64,27 @@ module _ {H : Type 0} (x : ℕ) (v : H) {slots : List (Option (Placed (ℕ × H)
   further : (k : ℕ) → slot_at slots (s + k) ≡ slot_at slots (x + (n + k))
   further k = slot_from_plus slots g n s k ends.walk.come.slot ∙ past (n + k)
 
-  -- if there is no room for it, some entry would be too far past its home
-  pub refusal : LacksRoomAt slots mark s → IsTooLong (with_handle (homes_of slots) x v)
-  refusal (inl far) = long-by-new slots table.tidy x n (top x, v) stops fits (omega (arith, far, ap mark_reach ends.walk.mark))
-  refusal (inr far) = long-by-moved slots table.tidy x n (top x, v) stops fits (n + far.0) (omega arith)
-      (λ i from upto. grind (arith, far.1 (i - n) (omega (arith, upto, from)), further (i - n), from)) (omega (arith, far.2, ap reach (further far.0)))
-
-  -- so if none would, there is room
-  pub short_room : (IsTooLong (with_handle (homes_of slots) x v) → ⊥) → HasRoomAt slots mark s
-  short_room short = grind (arith, refusal)
-
-  -- and there is among few entries
+  -- there is room among few entries
   pub few_room : len ≤ 16777214 → HasRoomAt slots mark s
   few_room few =
       let near : (k : ℕ) → reach (slot_at slots k) ≤ 16777214 = λ k. omega (arith, few, table.counted, near_total slots table.tidy k) in
       record { own = grind (arith, ends.walk.mark, ends.walk.come.passed (n - 1), near (g + (n - 1))); others = λ k occupied. omega (arith, near (s + k)) }
 
-  module _ {others : List (Option (Placed (ℕ × H)))} {before after : ℕ} (room : HasRoomAt slots mark s) (puts : PutsAt slots others mark s v before after) where
+  pub end_within : s < length slots
+  end_within = come_slot slots g n s ends.walk.come
+
+  module _ (v : H) where
+    -- if there is no room for it, some entry would be too far past its home
+    pub refusal : LacksRoomAt slots mark s → IsTooLong (with_handle (homes_of slots) x v)
+    refusal (inl far) = long-by-new slots table.tidy x n (top x, v) stops fits (omega (arith, far, ap mark_reach ends.walk.mark))
+    refusal (inr far) = long-by-moved slots table.tidy x n (top x, v) stops fits (n + far.0) (omega arith)
+        (λ i from upto. grind (arith, far.1 (i - n) (omega (arith, upto, from)), further (i - n), from)) (omega (arith, far.2, ap reach (further far.0)))
+
+    -- so if none would, there is room
+    pub short_room : (IsTooLong (with_handle (homes_of slots) x v) → ⊥) → HasRoomAt slots mark s
+    short_room short = grind (arith, refusal)
+
+  module _ {v : H} {others : List (Option (Placed (ℕ × H)))} {before after : ℕ} (room : HasRoomAt slots mark s) (puts : PutsAt slots others mark s v before after) where
     put : (w : ℕ) × IsVacancy (slot_at slots) g w × Opens (slot_at slots) (slot_at others) (length slots) g n w (top x, v) × (after + n ≡ before + w + 1)
     put = puts.opens g n (top x) ends.walk.come ends.walk.mark
 

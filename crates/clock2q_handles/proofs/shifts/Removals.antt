@@ -9,7 +9,7 @@ use Rattle.clock2q_handles.specs.Positions.{with_first, handle_replaced}
 use Rattle.clock2q_handles.specs.Layout.{Placed, placed, slot_at, walk, layout, homes_of, met, IsTidy}
 use Rattle.clock2q_handles.proofs.layout.TidyLayout.{tidy-layout, length-homes_of}
 use Rattle.clock2q_handles.proofs.layout.FewerEntries.{shorter-walk}
-use Rattle.clock2q_handles.proofs.shifts.Changes.{list_without, read-split, length-with_list, listed-with_same, listed-with_other}
+use Rattle.clock2q_handles.proofs.shifts.Changes.{list_without, read-split, length-with_list, listed-with_same, listed-with_other, total-with_list}
 
 module _ {E : Type 0} (test : E → Bool) where
   -- if no element passes, none is left out
@@ -30,6 +30,10 @@ module _ {E : Type 0} (test : E → Bool) where
   pub length-without_first : (es : List E) → length (without_first test es) ≤ length es
   length-without_first [] = omega arith
   length-without_first (e ∷ es) = grind (arith, length-without_first es)
+
+  length-without_some : (es : List E) → list_any test es ≡ true → suc (length (without_first test es)) ≡ length es
+  length-without_some [] some = absurd (cc)
+  length-without_some (e ∷ es) some = grind (arith, length-without_some es)
 
 module _ {E : Type 0} (test : E → Bool) (new : E) where
   with_first-append : (es ys : List E) → list_any test es ≡ true → with_first test new (es ++ ys) ≡ with_first test new es ++ ys
@@ -73,6 +77,14 @@ module _ {H : Type 0} (eq : H → H → Bool) where
       → handle_replaced eq (with_handle homes x v) y w w' ≡ with_handle (handle_replaced eq homes y w w') x v
   replaced-homes homes x y v w w' some held =
       changed-after (with_first (is_entry_of eq y w) (top y, w')) homes x y (top x, v) some (with_first-append (is_entry_of eq y w) (top y, w') (listed homes y) ((top x, v) ∷ []) held)
+
+  -- one entry fewer is left
+  pub removed-fewer : (homes : List (List (ℕ × H))) (x : ℕ) (v : H) → list_any (is_entry_of eq x v) (listed homes x) ≡ true → suc (total (removed eq homes x v)) ≡ total homes
+  removed-fewer [] x v held = absurd (cc)
+  removed-fewer (es ∷ homes) x v held =
+      let test = is_entry_of eq x v in
+      let less = without_first test (listed (es ∷ homes) x) in
+      omega (arith, total-with_list (es ∷ homes) x less (omega arith), length-without_some test (listed (es ∷ homes) x) held)
 
   -- no walk becomes longer
   pub removed-walk : (homes : List (List (ℕ × H))) (x : ℕ) (v : H) → total homes ≤ capacity (length homes) → (y : ℕ) → walk (removed eq homes x v) y ≤ walk homes y

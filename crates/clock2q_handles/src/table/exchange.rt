@@ -26,11 +26,10 @@ impl<H: Copy + Eq + Default, A: Allocator> Table<H, A> {
         ensures laid { IsLaidOut self.new }
     {
         let Some(gap) = gap else {
-            self.insert_infallible(hash, handle);
-            return;
+            return self.insert_infallible(hash, handle);
         };
-        self.know(&gap, hash, handle);
-        self.put_at(gap, hash, handle);
+        self.slots.put_at(&gap, handle, &mut self.reads);
+        self.len += 1;
     }
 
     /// Inserts `handle` under `hash`, at the gap for it if a lookup found that, and removes the first
@@ -56,22 +55,9 @@ impl<H: Copy + Eq + Default, A: Allocator> Table<H, A> {
         ensures longer { (x : ℕ) → walk self.new.homes x ≤ walk self.old.homes x + 1 }
         ensures laid { IsLaidOut self.new }
     {
-        match gap {
-            Some(gap) => self.insert_then_take(gap, hash, handle, old_hash, old),
-            None => self.take_then_insert(hash, handle, old_hash, old),
-        }
-    }
-
-    /// Exchanges an entry in a table that has room for one more.
-    #[inline(always)]
-    fn insert_then_take(&mut self, gap: Gap, hash: u64, handle: H, old_hash: u64, old: H)
-        requires spare { HasSpare self.old.homes }
-        requires gap { gap ≡ gap_of self.old.homes hash }
-        requires held { list_any (is_entry_of H.PartialEq.eq old_hash old)
-            (listed self.old.homes old_hash) ≡ true }
-        ensures { Exchanges H.PartialEq.eq hash handle old_hash old self.old self.new }
-    {
-        let _ = hash;
+        let Some(gap) = gap else {
+            return self.take_then_insert(hash, handle, old_hash, old);
+        };
         self.slots.put_at(&gap, handle, &mut self.reads);
         let held = self.slots.find_existing(old_hash, old, &mut self.reads);
         self.slots.take_out(held, &mut self.reads);
@@ -86,19 +72,7 @@ impl<H: Copy + Eq + Default, A: Allocator> Table<H, A> {
         ensures { Exchanges H.PartialEq.eq hash handle old_hash old self.old self.new }
     {
         let _ = self.len(); // whose contract says that the table is whole
-        self.take_existing(old_hash, old);
-        let gap = self.gap(hash);
-        self.put_at(gap, hash, handle);
-    }
-
-    /// Does nothing: its contract says what holds of the gap for a hash.
-    #[inline(always)]
-    fn know(&self, gap: &Gap, hash: u64, handle: H)
-        requires spare { HasSpare self.now.homes }
-        requires gap { gap.now ≡ gap_of self.now.homes hash }
-        ensures ends { EndsAt self.now.slots hash gap.now.mark gap.now.position }
-        ensures free { HasRoomAt self.now.slots gap.now.mark gap.now.position }
-    {
-        let _ = (self.len, gap.slot(), hash, handle);
+        self.remove_existing(old_hash, old);
+        self.insert_infallible(hash, handle);
     }
 }

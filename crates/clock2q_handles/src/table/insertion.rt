@@ -1,12 +1,10 @@
 //! Insertion of entries into a table.
-ghost use Rattle.clock2q_handles.specs.Changes.{PutIn, Inserts, PutsUnder, WritesAtMost, ReadsWalk, ReadsAtMost, OnlyReads, Restores, IsLaidOut};
+ghost use Rattle.clock2q_handles.specs.Changes.{PutIn, Inserts, WritesAtMost, ReadsWalk, ReadsAtMost, OnlyReads, Restores, IsLaidOut};
 ghost use Rattle.clock2q_handles.specs.Candidates.{EndsAt};
 ghost use Rattle.clock2q_handles.specs.Homes.{candidates, total, with_handle};
 ghost use Rattle.clock2q_handles.specs.Layout.{run, walk, IsTooLong};
 ghost use Rattle.clock2q_handles.specs.Offers.{FindsOrPuts, MayBeOffered, Offers, handle_in};
-ghost use Rattle.clock2q_handles.specs.Shifts.{HasRoomAt};
 ghost use Rattle.clock2q_handles.specs.TableStep.{IsBelowCapacity};
-ghost use Rattle.std.specs.Bool.{OnTrue, OnFalse};
 ghost use Rattle.std.specs.Prelude.{false, ◌≡◌, ◌≢◌, Err, ◌^◌, ◌<◌, ◌≤◌, ◌+◌, IsTrue, IsOk, OnOk, OnErr, IfOk, IfErr, length};
 
 use crate::error::TableError;
@@ -135,7 +133,7 @@ impl<H: Copy + Eq + Default, A: Allocator> Table<H, A> {
     ///
     /// It writes the slots from the new entry's to the end of its run.
     #[inline(always)]
-    #[tactic(auto, using(crate::proofs::Promises::on_err))]
+    #[tactic(auto, using(crate::proofs::Promises::on_err, crate::proofs::layout::TidyLayout::homes_length))]
     pub fn insert_within_capacity(&mut self, hash: u64, handle: H) -> Result<(), TableError>
         requires room { IsBelowCapacity self.old.homes }
         ensures put { PutIn self.old.homes hash handle result self.new.homes }
@@ -148,7 +146,7 @@ impl<H: Copy + Eq + Default, A: Allocator> Table<H, A> {
         ensures restores { OnOk result (Restores H.PartialEq.eq hash handle self.old self.new) }
         ensures laid { IsLaidOut self.new }
     {
-        let gap = self.gap(hash);
+        let gap = self.slots.gap(hash, &mut self.reads);
         self.insert_at(gap, hash, handle)
     }
 
@@ -167,8 +165,9 @@ impl<H: Copy + Eq + Default, A: Allocator> Table<H, A> {
         ensures restores { Restores H.PartialEq.eq hash handle self.old self.new }
         ensures laid { IsLaidOut self.new }
     {
-        let gap = self.gap(hash);
-        self.put_at(gap, hash, handle);
+        let gap = self.slots.gap(hash, &mut self.reads);
+        self.slots.put_at(&gap, handle, &mut self.reads);
+        self.len += 1;
     }
 
     /// Returns the first candidate that is accepted, or inserts the handle if none is.
@@ -224,20 +223,6 @@ impl<H: Copy + Eq + Default, A: Allocator> Table<H, A> {
         offered
     }
 
-    /// Returns the gap for a hash: where its walk ends.
-    #[inline(always)]
-    #[tactic(auto, using(crate::proofs::layout::TidyLayout::homes_length))]
-    pub(super) fn gap(&mut self, hash: u64) -> Gap
-        requires below { IsBelowCapacity self.old.homes }
-        ensures ends { EndsAt self.old.slots hash result.mark result.position }
-        ensures few { H → total self.old.homes + 1 < 2 ^ 24
-            → HasRoomAt self.old.slots result.mark result.position }
-        ensures reads { self.new
-            ≡ record self.old { reads = self.old.reads + walk self.old.homes hash } }
-    {
-        self.slots.gap(hash, &mut self.reads)
-    }
-
     /// Inserts an entry at the gap for its hash, unless a run would be too long.
     #[inline(always)]
     #[tactic(auto, using(crate::proofs::layout::TidyLayout::homes_length))]
@@ -249,7 +234,8 @@ impl<H: Copy + Eq + Default, A: Allocator> Table<H, A> {
         if self.len > MAX_DISPLACEMENT {
             return self.insert_among_many(end, hash, handle);
         }
-        self.put_at(end, hash, handle);
+        self.slots.put_at(&end, handle, &mut self.reads);
+        self.len += 1;
         Ok(())
     }
 
@@ -263,38 +249,12 @@ impl<H: Copy + Eq + Default, A: Allocator> Table<H, A> {
         requires many { 2 ^ 24 ≤ total self.old.homes + 1 }
         ensures { Inserts H.PartialEq.eq hash handle result self.old self.new }
     {
-        if !self.has_room(&end, hash, handle) {
+        let _ = hash;
+        if !self.slots.has_room(&end, &mut self.reads) {
             return Err(TableError::RunTooLong);
         }
-        self.put_at(end, hash, handle);
-        Ok(())
-    }
-
-    /// Returns true if inserting an entry at the gap for its hash makes no run too long.
-    #[tactic(auto, using(crate::proofs::layout::TidyLayout::homes_length, crate::proofs::shifts::Carrying::come_slot, crate::proofs::Promises::on_true))]
-    fn has_room(&mut self, gap: &Gap, hash: u64, handle: H) -> bool
-        requires below { IsBelowCapacity self.old.homes }
-        requires ends { EndsAt self.old.slots hash gap.now.mark gap.now.position }
-        ensures room { OnTrue result (HasRoomAt self.old.slots gap.now.mark gap.now.position) }
-        ensures long { OnFalse result (IsTooLong (with_handle self.old.homes hash handle)) }
-        ensures kept { self.new ≡ record self.old { reads = self.new.reads } }
-        ensures counted { self.old.reads ≤ self.new.reads }
-        ensures laid { IsLaidOut self.new }
-    {
-        let _ = (hash, handle);
-        self.slots.has_room(gap, &mut self.reads)
-    }
-
-    /// Inserts an entry at the gap for its hash, given that there is room.
-    #[inline(always)]
-    #[tactic(auto, using(crate::proofs::layout::TidyLayout::homes_length, crate::proofs::shifts::Carrying::come_slot))]
-    pub(super) fn put_at(&mut self, gap: Gap, hash: u64, handle: H)
-        requires below { IsBelowCapacity self.old.homes }
-        requires ends { EndsAt self.old.slots hash gap.mark gap.position }
-        requires room { HasRoomAt self.old.slots gap.mark gap.position }
-        ensures { PutsUnder H.PartialEq.eq hash handle self.old self.new }
-    {
-        self.slots.put_at(&gap, handle, &mut self.reads);
+        self.slots.put_at(&end, handle, &mut self.reads);
         self.len += 1;
+        Ok(())
     }
 }

@@ -1,5 +1,5 @@
 //! Removal of entries from a table.
-ghost use Rattle.clock2q_handles.specs.Changes.{WritesAtMost, ReadsAtMost, OnlyReads, TakesUnder, IsLaidOut};
+ghost use Rattle.clock2q_handles.specs.Changes.{WritesAtMost, ReadsAtMost, OnlyReads, IsLaidOut};
 ghost use Rattle.clock2q_handles.specs.Homes.{listed, removed, is_entry_of};
 ghost use Rattle.clock2q_handles.specs.Layout.{run, walk};
 ghost use Rattle.std.specs.Bool.{OnFalse};
@@ -42,7 +42,10 @@ impl<H: Copy + Eq + Default, A: Allocator> Table<H, A> {
     /// # Cost
     ///
     /// That of [remove](Table::remove).
-    #[inline(always)]
+    // Out of line, so that a caller that removes one entry to insert another has fewer registers to
+    // save.
+    #[inline(never)]
+    #[tactic(auto, using(crate::proofs::shifts::Steps::home_lists))]
     pub fn remove_existing(&mut self, hash: u64, handle: H)
         requires held { list_any (is_entry_of H.PartialEq.eq hash handle)
             (listed self.old.homes hash) ≡ true }
@@ -51,18 +54,6 @@ impl<H: Copy + Eq + Default, A: Allocator> Table<H, A> {
         ensures reads { ReadsAtMost (walk self.old.homes hash) self.old self.new }
         ensures laid { IsLaidOut self.new }
         ensures shorter { (x : ℕ) → walk self.new.homes x ≤ walk self.old.homes x }
-    {
-        self.take_existing(hash, handle);
-    }
-
-    /// Does what [`remove_existing`](Table::remove_existing) does, out of line, so that a caller that
-    /// removes one entry to insert another has fewer registers to save.
-    #[inline(never)]
-    #[tactic(auto, using(crate::proofs::shifts::Steps::home_lists))]
-    pub(super) fn take_existing(&mut self, hash: u64, handle: H)
-        requires held { list_any (is_entry_of H.PartialEq.eq hash handle)
-            (listed self.old.homes hash) ≡ true }
-        ensures taken { TakesUnder H.PartialEq.eq hash handle self.old self.new }
     {
         let held = self.slots.find_existing(hash, handle, &mut self.reads);
         self.slots.take_out(held, &mut self.reads);

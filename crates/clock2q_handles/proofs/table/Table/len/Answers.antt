@@ -1,5 +1,4 @@
 use Rattle.std.proofs.Common.{subst}
-use Rattle.clock2q_handles.specs.Homes.{total}
 use Rattle.clock2q_handles.specs.Table.{IsWhole}
 use Rattle.clock2q_handles.proofs.layout.Tables.{table-whole}
 use Rattle.clock2q_handles.proofs.table.Table.len.Goals as goal
