@@ -63,7 +63,7 @@ impl<'a, H: Copy + Eq + Default> Candidates<'a, H> {
     {
         if slots.count() == 0 {
             return Candidates {
-                reader: Reader::new(slots),
+                reader: slots.reader(),
                 slot: 0,
                 wanted: Wanted::nothing(),
             };
@@ -84,7 +84,7 @@ impl<'a, H: Copy + Eq + Default> Candidates<'a, H> {
         ensures handles { result.handles ≡ 0 }
         ensures end { result.end ≡ Some (gap_of (homes_of slots.now.slots) hash) }
     {
-        let reader = Reader::new(slots);
+        let reader = slots.reader();
         let slot = reader.home(hash);
         Candidates {
             reader,

@@ -6,15 +6,13 @@ ghost use Rattle.clock2q_handles.specs.Changes.{RisesAtMost};
 ghost use Rattle.clock2q_handles.specs.Layout.{IsTidy, homes_of, walk, AreNear};
 ghost use Rattle.clock2q_handles.specs.Moves.{MayMove, Moves};
 ghost use Rattle.clock2q_handles.specs.Shifts.{HasRoomAt, LacksRoomAt};
-ghost use Rattle.clock2q_handles.specs.Slots.{cells, mark_reach};
+ghost use Rattle.clock2q_handles.specs.Slots.{mark_reach};
 ghost use Rattle.std.specs.Bool.{OnTrue, OnFalse};
 ghost use Rattle.std.specs.List.{list_any};
 ghost use Rattle.std.specs.Prelude.{true, false, ◌≡◌, ◌+◌, ◌%◌, ◌^◌, ◌<◌, ◌≤◌, IfSome, IfNone, length};
 
-mod counted_slice;
 mod reader;
 mod vectors;
-mod view;
 
 use crate::gap::Gap;
 use crate::metadata::Wanted;
@@ -23,7 +21,6 @@ pub(super) use reader::Reader;
 use std::alloc::Allocator;
 pub(super) use vectors::Slots;
 use vectors::after;
-pub(super) use view::SlotsRef;
 
 impl<H: Copy + Default, A: Allocator> Slots<H, A> {
     /// Returns the home slot of a hash, if there are slots.
@@ -156,19 +153,17 @@ impl<H: Copy + Default, A: Allocator> Slots<H, A> {
     /// returns for its handle.
     pub(super) fn put_all<F: FnMut(H) -> u64>(
         &mut self,
-        old: SlotsRef<'_, H>,
+        old: &Slots<H, A>,
         rehash: &mut F,
         reads: &mut Count,
     )
-        requires same { length old.handles.now ≡ length old.metadata.now }
-        requires movable { MayMove F.FnMut rehash.old (cells old.metadata.now old.handles.now)
-            self.old.slots }
-        ensures moved { Moves F.FnMut rehash.old rehash.new
-            (cells old.entry.metadata.now old.entry.handles.now) self.old.slots self.new.slots }
+        requires movable { MayMove F.FnMut rehash.old old.now.slots self.old.slots }
+        ensures moved { Moves F.FnMut rehash.old rehash.new old.now.slots self.old.slots
+            self.new.slots }
         ensures counted { reads.old.total ≤ reads.new.total }
     {
         for slot in 0..old.count() {
-            if old.metadata(slot).is_empty() {
+            if old.read(slot, reads).is_empty() {
                 continue;
             }
             let handle = old.handle(slot);

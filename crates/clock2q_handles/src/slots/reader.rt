@@ -3,19 +3,19 @@ ghost use Rattle.clock2q_handles.specs.Layout.{slot_at};
 ghost use Rattle.std.specs.Prelude.{◌≡◌, ◌+◌, ◌%◌, ◌<◌, IfSome, length};
 
 use crate::metadata::Metadata;
-use crate::slots::Slots;
-use crate::slots::counted_slice::CountedSlice;
 use clock2q_count::Count;
-use std::alloc::Allocator;
 use std::marker::Model;
 
-/// A table's slots, as a lookup sees them: both vectors, whose reads are counted, and the number of
-/// slots minus one.
+/// A table's slots, as a lookup sees them: both vectors, the number of slots minus one, and the
+/// numbers of reads of either vector. The vectors are only accessible through
+/// [read](Reader::read) and [handle](Reader::handle), which count each read.
 #[derive(Drop)]
 pub(crate) struct Reader<'a, H> {
-    metadata: CountedSlice<'a, Metadata>,
-    handles: CountedSlice<'a, H>,
+    metadata: &'a [Metadata],
+    handles: &'a [H],
     mask: usize,
+    reads: Count,
+    handle_reads: Count,
 }
 
 impl<'a, H> Model for Reader<'a, H> {
@@ -26,25 +26,26 @@ impl<'a, H> Model for Reader<'a, H> {
 
     ghost coded = { reader_code H.code };
 
-    ghost view = { λ r. reader_value (cells r.metadata.items.now r.handles.items.now) r.metadata.reads.total r.handles.reads.total };
+    ghost view = { λ r. reader_value (cells r.metadata.now r.handles.now) r.reads.total r.handle_reads.total };
 
-    ghost invariant = { λ r. IsReader r.metadata.items.now r.handles.items.now r.mask };
+    ghost invariant = { λ r. IsReader r.metadata.now r.handles.now r.mask };
 }
 
 impl<'a, H: Copy + Default> Reader<'a, H> {
-    ghost use Rattle.clock2q_handles.specs.Readers.{reader_value};
-    ghost use Rattle.clock2q_handles.specs.Slots.{meaning, mark_of};
+    ghost use Rattle.clock2q_handles.specs.Readers.{reader_value, IsReader};
+    ghost use Rattle.clock2q_handles.specs.Slots.{cells, meaning, mark_of};
 
     /// Returns a reader that has read nothing yet.
-    #[tactic(auto, using(crate::proofs::shifts::Wrapping::cells_along))]
-    pub(crate) fn new<A: Allocator>(slots: &'a Slots<H, A>) -> Reader<'a, H>
-        ensures { result ≡ reader_value slots.now.slots 0 0 }
+    pub(super) fn new(metadata: &'a [Metadata], handles: &'a [H], mask: usize) -> Reader<'a, H>
+        requires reader { IsReader metadata.now handles.now mask }
+        ensures { result ≡ reader_value (cells metadata.now handles.now) 0 0 }
     {
-        let view = slots.view();
         Reader {
-            metadata: CountedSlice::new(view.metadata),
-            handles: CountedSlice::new(view.handles),
-            mask: slots.mask(),
+            metadata,
+            handles,
+            mask,
+            reads: Count::new(),
+            handle_reads: Count::new(),
         }
     }
 
@@ -57,7 +58,7 @@ impl<'a, H: Copy + Default> Reader<'a, H> {
     }
 
     /// Reads the metadata of a slot.
-    #[tactic(auto, using(crate::proofs::shifts::Cells::counted_cells, crate::proofs::shifts::Cells::mark_read_at))]
+    #[tactic(auto, using(crate::proofs::shifts::Cells::counted_cells, crate::proofs::shifts::Cells::mark_read_or))]
     pub(crate) fn read(&mut self, slot: usize) -> Metadata
         requires { slot < length self.old.slots }
         ensures meaning { meaning result ≡ mark_of (slot_at self.old.slots slot) }
@@ -65,7 +66,8 @@ impl<'a, H: Copy + Default> Reader<'a, H> {
         ensures counted { self.new.reads ≡ self.old.reads + 1 }
         ensures handles { self.new.handles ≡ self.old.handles }
     {
-        self.metadata.read(slot)
+        self.reads.tick();
+        self.metadata[slot]
     }
 
     /// Reads the handle of an entry that was found.
@@ -77,14 +79,15 @@ impl<'a, H: Copy + Default> Reader<'a, H> {
         ensures counted { self.new.handles ≡ self.old.handles + 1 }
         ensures reads { self.new.reads ≡ self.old.reads }
     {
-        self.handles.read(slot)
+        self.handle_reads.tick();
+        self.handles[slot]
     }
 
     /// Returns the count of metadata reads.
     pub(crate) fn reads(&self) -> &Count
         ensures { result.now.total ≡ self.now.reads }
     {
-        self.metadata.reads()
+        &self.reads
     }
 
     /// Returns the slot after `slot`: slot 0 after the last.

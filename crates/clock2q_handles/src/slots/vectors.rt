@@ -8,7 +8,7 @@ ghost use Rattle.std.specs.Prelude.{◌≡◌, ◌+◌, ◌%◌, ◌^◌, ◌<�
 
 use crate::gap::Gap;
 use crate::metadata::Metadata;
-use crate::slots::SlotsRef;
+use crate::slots::Reader;
 use clock2q_count::Count;
 use std::alloc::{AllocError, Allocator};
 use std::marker::Model;
@@ -36,6 +36,7 @@ impl<H, A: Allocator> Model for Slots<H, A> {
 }
 
 impl<H: Copy + Default, A: Allocator> Slots<H, A> {
+    ghost use Rattle.clock2q_handles.specs.Readers.{reader_value};
     ghost use Rattle.clock2q_handles.specs.Slots.{slots_value, mark_of};
 
     /// Returns no slots, without allocating.
@@ -87,15 +88,13 @@ impl<H: Copy + Default, A: Allocator> Slots<H, A> {
         self.writes.raise(&replaced.writes);
     }
 
-    /// Returns a view that reads the slots.
+    /// Returns a reader of the slots that has read nothing yet.
     #[inline(always)]
     #[tactic(auto, using(crate::proofs::shifts::Cells::counted_cells, crate::proofs::shifts::Wrapping::cells_along))]
-    pub(crate) fn view(&self) -> SlotsRef<'_, H>
-        ensures shown { cells result.metadata.now result.handles.now ≡ self.now.slots }
-        ensures count { length result.metadata.now ≡ length self.now.slots }
-        ensures same { length result.handles.now ≡ length result.metadata.now }
+    pub(crate) fn reader(&self) -> Reader<'_, H>
+        ensures { result ≡ reader_value self.now.slots 0 0 }
     {
-        SlotsRef::new(self.metadata.as_slice(), self.handles.as_slice())
+        Reader::new(self.metadata.as_slice(), self.handles.as_slice(), self.mask)
     }
 
     /// Returns the number of slots.

@@ -164,7 +164,7 @@ impl<H: Copy + Eq + Default, A: Allocator + Copy> Table<H, A> {
         };
         let mut reads = Count::new();
         reads.raise(&self.reads);
-        slots.put_all(self.slots.view(), rehash, &mut reads);
+        slots.put_all(&self.slots, rehash, &mut reads);
         slots.take_over_writes(&self.slots);
         Ok(Table {
             slots,

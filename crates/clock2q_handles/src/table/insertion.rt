@@ -10,7 +10,6 @@ ghost use Rattle.std.specs.Prelude.{false, ◌≡◌, ◌≢◌, Err, ◌^◌, �
 use crate::error::TableError;
 use crate::gap::Gap;
 use crate::metadata::MAX_DISPLACEMENT;
-use crate::slots::Reader;
 use crate::table::Table;
 use std::alloc::Allocator;
 
@@ -217,7 +216,7 @@ impl<H: Copy + Eq + Default, A: Allocator> Table<H, A> {
             (λ _. self.new.reads ≡ self.old.reads + walk self.old.homes hash) }
         ensures laid { IsLaidOut self.new }
     {
-        let mut reader = Reader::new(&self.slots);
+        let mut reader = self.slots.reader();
         let offered = reader.offer(hash, matches);
         self.reads.raise(reader.reads());
         offered

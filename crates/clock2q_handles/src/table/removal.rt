@@ -42,8 +42,6 @@ impl<H: Copy + Eq + Default, A: Allocator> Table<H, A> {
     /// # Cost
     ///
     /// That of [remove](Table::remove).
-    // Out of line, so that a caller that removes one entry to insert another has fewer registers to
-    // save.
     #[inline(never)]
     #[tactic(auto, using(crate::proofs::shifts::Steps::home_lists))]
     pub fn remove_existing(&mut self, hash: u64, handle: H)
@@ -55,6 +53,8 @@ impl<H: Copy + Eq + Default, A: Allocator> Table<H, A> {
         ensures laid { IsLaidOut self.new }
         ensures shorter { (x : ℕ) → walk self.new.homes x ≤ walk self.old.homes x }
     {
+        // Out of line, so that a caller that removes one entry to insert another saves fewer
+        // registers.
         let held = self.slots.find_existing(hash, handle, &mut self.reads);
         self.slots.take_out(held, &mut self.reads);
         self.len -= 1;

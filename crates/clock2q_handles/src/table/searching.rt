@@ -5,7 +5,6 @@ ghost use Rattle.clock2q_handles.specs.Positions.{IsEntryAt, gap_of};
 ghost use Rattle.std.specs.Prelude.{◌≡◌, ◌<◌, ℕ, IfOk, IfErr, length};
 
 use crate::gap::Gap;
-use crate::slots::Reader;
 use crate::table::Table;
 use std::alloc::Allocator;
 
@@ -30,7 +29,7 @@ impl<H: Copy + Eq + Default, A: Allocator> Table<H, A> {
             × AcceptsNext M.FnMut matches (candidates_before self.now.homes hash i) found.0) }
         ensures gap { IfErr result (λ gap. gap ≡ gap_of self.now.homes hash) }
     {
-        let mut reader = Reader::new(&self.slots);
+        let mut reader = self.slots.reader();
         reader.offer(hash, &mut matches)
     }
 }

@@ -11,7 +11,7 @@ returns g c =
     let x = c.args.hash in
     let n = c.home-slot.result in
     let wanted = sought c.new.result in
-    let home = c.home-slot.ensures.home (omega (arith, c.requires.some, ap (λ r. length r.slots) c.new-reader.ensures)) ∙ ap (λ r. x % length r.slots) c.new-reader.ensures in
+    let home = c.home-slot.ensures.home (omega (arith, c.requires.some, ap (λ r. length r.slots) c.reader-reader.ensures)) ∙ ap (λ r. x % length r.slots) c.reader-reader.ensures in
     grind (
       arith,
       begins_whole slots x n c.requires.tidy c.requires.near c.requires.some home,

@@ -5,9 +5,9 @@ use Rattle.clock2q_handles.proofs.slots.reader.Reader.home.Goals as goal
 
 pub returns-clause-home : goal.returns-clause-home
 returns-clause-home g c some =
-    let len = read_words c.self.inside.metadata.items.now c.self.inside.handles.items.now c.self.invariant.same c.self.view_is in
-    let mask : c.self.inside.mask ≡ length c.self.inside.metadata.items.now - 1 = omega (arith, c.self.invariant.mask_of (omega (arith, some, len))) in
-    ap (bit_and c.args.hash) mask ∙ slot_mask c.args.hash (length c.self.inside.metadata.items.now) c.self.invariant.slot_count (omega (arith, some, len)) ∙ ap (λ m. c.args.hash % m) len
+    let len = read_words c.self.inside.metadata.now c.self.inside.handles.now c.self.invariant.same c.self.view_is in
+    let mask : c.self.inside.mask ≡ length c.self.inside.metadata.now - 1 = omega (arith, c.self.invariant.mask_of (omega (arith, some, len))) in
+    ap (bit_and c.args.hash) mask ∙ slot_mask c.args.hash (length c.self.inside.metadata.now) c.self.invariant.slot_count (omega (arith, some, len)) ∙ ap (λ m. c.args.hash % m) len
 
 pub returns-clause-within : goal.returns-clause-within
 returns-clause-within g c some = grind (arith, mod_below c.args.hash (length c.args.self.now.slots) some, returns-clause-home g c some)
