@@ -143,7 +143,7 @@ impl<'a, H: Copy + Eq + Default> Candidates<'a, H> {
         ensures no_handle { IfErr result (λ _. self.new.handles ≡ self.old.handles) }
     {
         match self.reader.candidate(self.slot, self.wanted) {
-            Err(end) => Err(Gap::new(end.0, end.1)),
+            Err(gap) => Err(gap),
             Ok((slot, wanted)) => {
                 let handle = self.reader.handle(slot);
                 self.slot = slot;
@@ -176,14 +176,10 @@ impl<'a, H: Copy + Default> Reader<'a, H> {
     ghost use Rattle.clock2q_handles.specs.Offers.{Offers, MayBeOffered, handle_in};
     ghost use Rattle.std.specs.Prelude.{ℕ, ◌≤◌, IfOk, IfErr};
 
-    /// Advances a walk to its next candidate, and returns the candidate's slot, or else the slot
-    /// where the walk ends, each with what the walk looks for there.
+    /// Advances a walk to its next candidate, and returns the candidate's slot with what the walk
+    /// looks for there, or else the gap where the walk ends.
     #[inline(always)]
-    fn candidate(
-        &mut self,
-        mut slot: usize,
-        mut wanted: Wanted,
-    ) -> Result<(usize, Wanted), (usize, Wanted)>
+    fn candidate(&mut self, mut slot: usize, mut wanted: Wanted) -> Result<(usize, Wanted), Gap>
         requires lookup { IsLookup self.old.slots (sought wanted) slot }
         requires some { IsSome (sought wanted) }
         ensures same { self.new.slots ≡ self.old.slots }
@@ -206,7 +202,7 @@ impl<'a, H: Copy + Default> Reader<'a, H> {
         ensures walks { (x : ℕ) → IsWalkFor self.old.slots x (sought wanted) slot
             → IfOk result (λ next. IsWalkFor self.old.slots x (sought next.1) next.0) }
         ensures ends { (x : ℕ) → IsWalkFor self.old.slots x (sought wanted) slot
-            → IfErr result (λ end. EndsAt self.old.slots x (sought end.1) end.0) }
+            → IfErr result (λ gap. EndsAt self.old.slots x gap.mark gap.position) }
     {
         loop {
             let metadata = self.read(slot);
@@ -214,7 +210,7 @@ impl<'a, H: Copy + Default> Reader<'a, H> {
                 return Ok((slot, wanted));
             }
             if metadata.ends_walk_for(wanted) {
-                return Err((slot, wanted));
+                return Err(Gap { slot, wanted });
             }
             slot = self.after(slot);
             wanted = wanted.next();
@@ -250,7 +246,7 @@ impl<'a, H: Copy + Default> Reader<'a, H> {
         let mut wanted = Wanted::new(hash);
         loop {
             match self.candidate(slot, wanted) {
-                Err(end) => return Err(Gap::new(end.0, end.1)),
+                Err(gap) => return Err(gap),
                 Ok((here, found)) => {
                     let handle = self.handle(here);
                     if matches(handle) {

@@ -9,8 +9,10 @@ use std::marker::Model;
 /// A gap stays valid until an entry is inserted or removed, or the table grows.
 #[derive(Drop)]
 pub struct Gap {
-    slot: usize,
-    wanted: Wanted,
+    pub(super) slot: usize,
+
+    /// What the lookup looked for in the slot.
+    pub(super) wanted: Wanted,
 }
 
 impl Model for Gap {
@@ -22,29 +24,4 @@ impl Model for Gap {
     ghost coded = { gap_code };
 
     ghost view = { λ g. gap_value g.slot (sought g.wanted) };
-}
-
-impl Gap {
-    ghost use Rattle.clock2q_handles.specs.Positions.{gap_value};
-    ghost use Rattle.clock2q_handles.specs.Slots.{sought};
-    ghost use Rattle.std.specs.Prelude.{◌≡◌};
-
-    pub(super) fn new(slot: usize, wanted: Wanted) -> Gap
-        ensures { result ≡ gap_value slot (sought wanted) }
-    {
-        Gap { slot, wanted }
-    }
-
-    pub(super) fn slot(&self) -> usize
-        ensures { result ≡ self.now.position }
-    {
-        self.slot
-    }
-
-    /// Returns what the lookup looked for in the slot.
-    pub(super) fn wanted(&self) -> Wanted
-        ensures { sought result ≡ self.now.mark }
-    {
-        self.wanted
-    }
 }

@@ -57,7 +57,7 @@ impl<H: Copy + Default, A: Allocator> Slots<H, A> {
             slot = self.after(slot);
             wanted = wanted.next();
         }
-        Gap::new(slot, wanted)
+        Gap { slot, wanted }
     }
 
     /// Returns true if an entry can be inserted at the gap: neither it nor an entry that has to
@@ -70,10 +70,10 @@ impl<H: Copy + Default, A: Allocator> Slots<H, A> {
         ensures far { OnFalse result (LacksRoomAt self.now.slots gap.now.mark gap.now.position) }
         ensures counted { reads.old.total ≤ reads.new.total }
     {
-        if !gap.wanted().is_near() {
+        if !gap.wanted.is_near() {
             return false;
         }
-        let mut slot = gap.slot();
+        let mut slot = gap.slot;
         loop {
             let metadata = self.read(slot, reads);
             if metadata.is_empty() {

@@ -170,8 +170,8 @@ impl<H: Copy + Default, A: Allocator> Slots<H, A> {
             self.mask,
             &mut self.writes,
             reads,
-            gap.slot(),
-            gap.wanted().metadata(),
+            gap.slot,
+            gap.wanted.metadata(),
             handle,
         );
     }
@@ -251,7 +251,8 @@ fn carry<H: Copy>(
 }
 
 /// Empties a slot, once the entries after it have moved back by one slot, up to an empty slot or an
-/// entry at its home. It reads as many slots as it writes.
+/// entry at its home. It reads as many slots as it writes. The handle of the slot that is left empty
+/// stays in memory, but no lookup reaches it.
 #[inline(always)]
 #[tactic(auto, using(crate::proofs::shifts::Cells::counted_cells, crate::proofs::shifts::Carrying::close_begins, crate::proofs::shifts::Carrying::close_slot))]
 fn close<H: Copy>(
@@ -285,7 +286,8 @@ fn close<H: Copy>(
         write(metadata, handles, writes, hole, word.one_nearer(), handle);
         hole = next;
     }
-    erase(metadata, handles, writes, hole);
+    metadata[hole] = Metadata::empty();
+    writes.tick();
 }
 
 /// Writes a slot in both vectors, and counts the write.
@@ -308,22 +310,6 @@ fn write<H: Copy>(
 {
     metadata[slot] = word;
     handles[slot] = handle;
-    writes.tick();
-}
-
-/// Empties a slot, and counts the write. Its handle stays in memory, but no lookup reaches it.
-#[tactic(auto, using(crate::proofs::shifts::Cells::written_cells))]
-fn erase<H: Copy>(metadata: &mut [Metadata], handles: &[H], writes: &mut Count, slot: usize)
-    requires pair { ArePaired metadata.old handles.now }
-    requires within { slot < length (cells metadata.old handles.now) }
-    ensures erased { cells metadata.new handles.now
-        ≡ set (cells metadata.old handles.now) slot None }
-    ensures counted { writes.new.total ≡ writes.old.total + 1 }
-    ensures pair { ArePaired metadata.new handles.now }
-    ensures len { length metadata.new ≡ length metadata.old }
-{
-    let _ = handles;
-    metadata[slot] = Metadata::empty();
     writes.tick();
 }
 

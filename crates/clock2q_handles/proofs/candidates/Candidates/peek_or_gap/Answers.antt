@@ -1,4 +1,4 @@
-use Rattle.std.proofs.Common.{◌≡◌, ◌+◌, ◌%◌, length, arith, sym, ap, ◌∙◌, subst, refl, Some, IfSome, slice_get}
+use Rattle.std.proofs.Common.{◌≡◌, ◌+◌, ◌%◌, length, arith, sym, ap, ◌∙◌, subst, refl, IfSome, slice_get}
 use Rattle.std.specs.Prelude.{IsSome}
 use Rattle.clock2q_handles.specs.Layout.{slot_at}
 use Rattle.clock2q_handles.specs.Candidates.{end_at}
@@ -35,7 +35,7 @@ returns-in-Err-clause-gap g c =
     let slots = c.self.inside.reader.slots in
     let some = looks g (goal.at.returns-in-Err-clause-gap g c).After-candidate in
     ap (λ t. t.end) (sym c.self.view_is)
-    ∙ end_is slots (sought c.self.inside.wanted) (sought c.in-Err.end.1) c.self.inside.slot c.in-Err.end.0 some c.self.invariant c.in-Err.ensures.ends ∙ ap Some (sym c.new.ensures)
+    ∙ end_is slots (sought c.self.inside.wanted) c.in-Err.gap.mark c.self.inside.slot c.in-Err.gap.position some c.self.invariant c.in-Err.ensures.ends
 
 pub returns-in-Ok-clause-within : goal.returns-in-Ok-clause-within
 returns-in-Ok-clause-within g c =

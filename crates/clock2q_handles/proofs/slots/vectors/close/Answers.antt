@@ -2,7 +2,7 @@ use Rattle.std.proofs.Common.{rules, ◌≡◌, ◌+◌, ◌<◌, ◌%◌, lengt
 use Rattle.clock2q_handles.specs.Layout.{slot_at}
 use Rattle.clock2q_handles.specs.Slots.{cells, meaning}
 use Rattle.clock2q_handles.proofs.layout.Periods.{lap}
-use Rattle.clock2q_handles.proofs.shifts.Cells.{length-cells, mark_read_or, handle_read_at}
+use Rattle.clock2q_handles.proofs.shifts.Cells.{length-cells, mark_read_or, handle_read_at, set_empty}
 use Rattle.clock2q_handles.proofs.shifts.Moves.{near_of_meaning}
 use Rattle.clock2q_handles.proofs.shifts.Carrying.{CloseState, close_lap, close_goes, close_ends}
 use Rattle.clock2q_handles.proofs.slots.vectors.close.Given.{Over}
@@ -52,7 +52,7 @@ loop-word-preserved g c = grind (arith, more, inside, next)
 pub returns-clause-taken : goal.returns-clause-taken
 returns-clause-taken g c =
     let now = cells c.loop-word.metadata c.loop-word.handles in
-    let written = c.erase.ensures.erased in
+    let written = set_empty c.loop-word.metadata c.loop-word.handles c.loop-word.hole c.empty.result c.empty.ensures c.loop-word.invariant.pair.same in
     let on = next g (goal.at.returns-clause-taken g c).After-after-next in
     let here = inside g (goal.at.returns-clause-taken g c).After-after-next in
     let near = near_of_meaning c.can_move_back.result _ (slot_at now c.after-next.result) c.can_move_back.ensures c.if-not-can_move_back.true
@@ -61,7 +61,7 @@ returns-clause-taken g c =
       closes = λ h n e come was.
           let ended =
           close_ends (cells c.args.metadata.now c.args.handles.now) now c.requires.tidy c.args.slot c.loop-word.hole _ _
-          c.loop-word.invariant.state c.after-next.result on (cells c.erase.new.metadata c.loop-word.handles) near written h n e come was in
-          (ended.0, ended.1, omega (arith, ended.2, c.erase.ensures.counted));
+          c.loop-word.invariant.state c.after-next.result on _ near written h n e come was in
+          (ended.0, ended.1, omega (arith, ended.2, c.tick-2.ensures.ticked));
       len = ap length written ∙ length-set now c.loop-word.hole None ∙ c.loop-word.invariant.state.len;
     }

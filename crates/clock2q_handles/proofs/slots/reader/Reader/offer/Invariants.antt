@@ -5,8 +5,8 @@ use Rattle.clock2q_handles.specs.Offers.{Offers, TakesInTurn}
 use Rattle.clock2q_handles.specs.Slots.{sought}
 use Rattle.clock2q_handles.proofs.slots.reader.Reader.offer.Given as goal
 
-abbrev pub invariant-loop-end : goal.invariant-loop-end
-invariant-loop-end g l = record {
+abbrev pub invariant-loop-gap : goal.invariant-loop-gap
+invariant-loop-gap g l = record {
   same : l.self.slots ≡ l.initial.self.slots;
   lookup : IsLookup l.initial.self.slots (sought l.wanted) l.slot;
   some : IsSome (sought l.wanted);
@@ -21,5 +21,5 @@ invariant-loop-end g l = record {
       → Offers g.F.FnMut l.initial.matches (left_from l.initial.self.slots l.hash 0) found last;
 }
 
-abbrev pub decreases-loop-end : goal.decreases-loop-end
-decreases-loop-end g l = unread_at l.initial.self.slots (sought l.wanted) l.slot
+abbrev pub decreases-loop-gap : goal.decreases-loop-gap
+decreases-loop-gap g l = unread_at l.initial.self.slots (sought l.wanted) l.slot
