@@ -6,8 +6,7 @@ ghost use Rattle.std.specs.Prelude.{◌≡◌, ◌+◌, ◌<◌, [], IsSome, len
 
 use crate::gap::Gap;
 use crate::metadata::Wanted;
-use crate::slots::{Reader, Slots};
-use std::alloc::Allocator;
+use crate::slots::Reader;
 use std::marker::Model;
 
 /// An iterator over the candidates of a hash, in the order of their slots. It reads one word of
@@ -25,9 +24,9 @@ use std::marker::Model;
 /// ```
 #[derive(Drop)]
 pub struct Candidates<'a, H: Copy + Eq + Default> {
-    reader: Reader<'a, H>,
-    slot: usize,
-    wanted: Wanted,
+    pub(super) reader: Reader<'a, H>,
+    pub(super) slot: usize,
+    pub(super) wanted: Wanted,
 }
 
 impl<'a, H: Copy + Eq + Default> Model for Candidates<'a, H> {
@@ -44,54 +43,7 @@ impl<'a, H: Copy + Eq + Default> Model for Candidates<'a, H> {
 }
 
 impl<'a, H: Copy + Eq + Default> Candidates<'a, H> {
-    ghost use Rattle.clock2q_handles.specs.Candidates.{left_from, unread_from};
-    ghost use Rattle.clock2q_handles.specs.Layout.{homes_of, IsTidy, AreNear};
-    ghost use Rattle.clock2q_handles.specs.Positions.{gap_of};
     ghost use Rattle.std.specs.Prelude.{ℕ, ◌≤◌, Some, true, drop, slice_get, IfSome, IfNone, IfOk, IfErr};
-
-    /// Returns a lookup that has read nothing yet. If there are no slots, it yields nothing.
-    #[tactic(auto, using(crate::proofs::walks::Cursors::begins_empty))]
-    pub(super) fn new<A: Allocator>(slots: &'a Slots<H, A>, hash: u64) -> Candidates<'a, H>
-        requires tidy { IsTidy slots.now.slots }
-        requires near { AreNear slots.now.slots }
-        ensures left { result.left ≡ left_from slots.now.slots hash 0 }
-        ensures reads { result.reads ≡ 0 }
-        ensures unread { result.unread ≡ unread_from slots.now.slots hash 0 }
-        ensures handles { result.handles ≡ 0 }
-        ensures end { 0 < length slots.now.slots
-            → result.end ≡ Some (gap_of (homes_of slots.now.slots) hash) }
-    {
-        if slots.count() == 0 {
-            return Candidates {
-                reader: slots.reader(),
-                slot: 0,
-                wanted: Wanted::nothing(),
-            };
-        }
-        Candidates::in_slots(slots, hash)
-    }
-
-    /// Returns a lookup that has read nothing yet, given that there are slots.
-    #[inline(always)]
-    #[tactic(auto, using(crate::proofs::walks::Cursors::lookup_begins))]
-    pub(super) fn in_slots<A: Allocator>(slots: &'a Slots<H, A>, hash: u64) -> Candidates<'a, H>
-        requires tidy { IsTidy slots.now.slots }
-        requires near { AreNear slots.now.slots }
-        requires some { 0 < length slots.now.slots }
-        ensures left { result.left ≡ left_from slots.now.slots hash 0 }
-        ensures reads { result.reads ≡ 0 }
-        ensures unread { result.unread ≡ unread_from slots.now.slots hash 0 }
-        ensures handles { result.handles ≡ 0 }
-        ensures end { result.end ≡ Some (gap_of (homes_of slots.now.slots) hash) }
-    {
-        let reader = slots.reader();
-        let slot = reader.home(hash);
-        Candidates {
-            reader,
-            slot,
-            wanted: Wanted::new(hash),
-        }
-    }
 
     /// Returns the next candidate and stays at it until [`advance`](Candidates::advance) or
     /// [`next`](Iterator::next) moves on. It is for callers that mostly accept the first candidate:

@@ -13,6 +13,7 @@ mod searching;
 
 use crate::candidates::Candidates;
 use crate::error::TableError;
+use crate::metadata::Wanted;
 use crate::slots::Slots;
 use crate::table::growth::slots_for;
 use clock2q_count::Count;
@@ -142,7 +143,7 @@ impl<H: Copy + Eq + Default, A: Allocator> Table<H, A> {
     ///
     /// The iterator reads slots as it is advanced. Once drained, it has read those from the home of
     /// `hash` to the first that is empty or whose entry is nearer to its own home.
-    #[tactic(auto, using(crate::proofs::walks::Yields::left_at_start, crate::proofs::layout::TidyLayout::homes_length))]
+    #[tactic(auto, using(crate::proofs::walks::Cursors::begins_empty, crate::proofs::walks::Yields::left_at_start, crate::proofs::layout::TidyLayout::homes_length))]
     pub fn get(&self, hash: u64) -> Candidates<'_, H>
         ensures candidates { result.left ≡ candidates self.now.homes hash }
         ensures reads { result.reads ≡ 0 }
@@ -150,12 +151,19 @@ impl<H: Copy + Eq + Default, A: Allocator> Table<H, A> {
         ensures handles { result.handles ≡ 0 }
         ensures end { 0 < length self.now.homes → result.end ≡ Some (gap_of self.now.homes hash) }
     {
-        Candidates::new(&self.slots, hash)
+        if self.slots.count() == 0 {
+            return Candidates {
+                reader: self.slots.reader(),
+                slot: 0,
+                wanted: Wanted::nothing(),
+            };
+        }
+        self.get_in_slots(hash)
     }
 
     /// Returns what [`get`](Table::get) does, given that the table has slots. It doesn't test for that.
     #[inline(always)]
-    #[tactic(auto, using(crate::proofs::walks::Yields::left_at_start, crate::proofs::layout::TidyLayout::homes_length))]
+    #[tactic(auto, using(crate::proofs::walks::Cursors::lookup_begins, crate::proofs::walks::Yields::left_at_start, crate::proofs::layout::TidyLayout::homes_length))]
     pub fn get_in_slots(&self, hash: u64) -> Candidates<'_, H>
         requires slots { 0 < length self.now.homes }
         ensures candidates { result.left ≡ candidates self.now.homes hash }
@@ -164,7 +172,13 @@ impl<H: Copy + Eq + Default, A: Allocator> Table<H, A> {
         ensures handles { result.handles ≡ 0 }
         ensures end { result.end ≡ Some (gap_of self.now.homes hash) }
     {
-        Candidates::in_slots(&self.slots, hash)
+        let reader = self.slots.reader();
+        let slot = reader.home(hash);
+        Candidates {
+            reader,
+            slot,
+            wanted: Wanted::new(hash),
+        }
     }
 
     /// Hints that `hash` will be looked up next. It changes nothing, and does nothing yet.
