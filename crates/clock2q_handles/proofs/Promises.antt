@@ -1,6 +1,5 @@
 -- What users of a table rely on over single insertions: few entries are never refused, and removing an entry again restores the slots.
-use Rattle.std.proofs.Common.{◌≡◌, ℕ, ◌+◌, ◌^◌, ◌<◌, subst, arith, Bool, true, false, List, length, Option}
-use Rattle.std.specs.Bool.{OnTrue, OnFalse}
+use Rattle.std.proofs.Common.{◌≡◌, ℕ, ◌+◌, ◌^◌, ◌<◌, subst, arith, Bool, true, List, length, Option}
 use Rattle.std.specs.Prelude.{Result, Ok, Err, IsOk, OnOk, OnErr, IfOk, IfErr}
 use Rattle.clock2q_handles.specs.Homes.{total, capacity, with_handle, removed, IsNew}
 use Rattle.clock2q_handles.specs.Layout.{Placed, layout, homes_of, IsTidy, IsTooLong}
@@ -32,15 +31,6 @@ if_ok (Err e) gives p = tt
 pub if_err : {T E : Type 0} {P Q : E → Type 0} (r : Result T E) → ((e : E) → P e → Q e) → IfErr r P → IfErr r Q
 if_err (Ok x) gives p = tt
 if_err (Err e) gives p = gives e p
-
--- what follows from what is so if a test succeeds, or fails
-pub on_true : {P Q : Type 0} (b : Bool) → (P → Q) → OnTrue b P → OnTrue b Q
-on_true true gives p = gives p
-on_true false gives p = p
-
-pub on_false : {P Q : Type 0} (b : Bool) → (P → Q) → OnFalse b P → OnFalse b Q
-on_false true gives p = p
-on_false false gives p = gives p
 
 -- a call that returned `Ok` returned no error
 pub no_error : {T E : Type 0} (r : Result T E) (e : E) → IsOk r → r ≡ Err e → ⊥

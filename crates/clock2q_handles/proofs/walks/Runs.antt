@@ -1,15 +1,14 @@
 -- Runs of occupied slots: fewer entries in the homes lengthen none, and as many in each home change none. The same of walks.
-use Rattle.std.proofs.Common.{◌≡◌, ℕ, zero, suc, ◌+◌, ◌<◌, ◌≤◌, refl, ap, sym, ◌∙◌, arith, Bool, List, [], ◌∷◌, length, Option, None}
-use Rattle.clock2q_handles.specs.Homes.{top, capacity, listed, count, total, with_list, without_first, is_entry_of, removed}
+use Rattle.std.proofs.Common.{◌≡◌, ℕ, zero, suc, ◌+◌, ◌<◌, ◌≤◌, ap, sym, ◌∙◌, arith, Bool, List, length, Option, None}
+use Rattle.clock2q_handles.specs.Homes.{capacity, listed, count, total, without_first, is_entry_of, removed}
 use Rattle.clock2q_handles.specs.Layout.{Placed, spill, spill_of, slot_at, layout, walk, occupied, run}
-use Rattle.clock2q_handles.specs.Positions.{with_first, handle_replaced}
 use Rattle.clock2q_handles.proofs.layout.Spill.{Roomy, window-le, spill-lt}
 use Rattle.clock2q_handles.proofs.layout.Tiles.{IsGap}
 use Rattle.clock2q_handles.proofs.layout.Laid.{none-gap}
 use Rattle.clock2q_handles.proofs.layout.Reading.{slots_again, length-layout, layout-laid}
 use Rattle.clock2q_handles.proofs.layout.TidyLayout.{capacity-lt, sum-window, roomy-of}
 use Rattle.clock2q_handles.proofs.layout.FewerEntries.{spill-fewer, walk-is, walk-none, count-with_list}
-use Rattle.clock2q_handles.proofs.shifts.Changes.{length-with_list, listed-with_same, listed-with_other}
+use Rattle.clock2q_handles.proofs.shifts.Changes.{length-with_list}
 use Rattle.clock2q_handles.proofs.shifts.Removals.{length-without_first}
 
 module _ {E : Type 0} where
@@ -54,13 +53,6 @@ module _ {E : Type 0} where
     pub walk-fewer : (y : ℕ) → walk fewer y ≤ walk homes y
     walk-fewer y = grind (arith, walk-is, spills, walk-none)
 
-  count-with_same : (homes : List (List E)) (x n : ℕ) (es : List E) → 0 < length homes → length es ≡ count homes x → count (with_list homes x es) n ≡ count homes n
-  count-with_same homes x n es some l = grind (arith, listed-with_same, listed-with_other)
-
-  pub length-with_first : (test : E → Bool) (e : E) (es : List E) → length (with_first test e es) ≡ length es
-  length-with_first test e [] = refl
-  length-with_first test e (y ∷ ys) = grind (arith, length-with_first test e ys)
-
 module _ {H : Type 0} (eq : H → H → Bool) (homes : List (List (ℕ × H))) (x : ℕ) (v : H) (room : total homes ≤ capacity (length homes)) where
   abbrev less : List (ℕ × H)
   less = without_first (is_entry_of eq x v) (listed homes x)
@@ -75,34 +67,3 @@ module _ {H : Type 0} (eq : H → H → Bool) (homes : List (List (ℕ × H))) (
   -- and lengthens no run
   pub removed-run : (y : ℕ) → run (layout (removed eq homes x v)) y ≤ run (layout homes) y
   removed-run = run-fewer homes (removed eq homes x v) room (length-with_list homes x less) removed_count
-
-  -- replacement an entry
-  module _ (w : H) where
-    abbrev as_long : List (ℕ × H)
-    as_long = with_first (is_entry_of eq x v) (top x, w) (listed homes x)
-
-    abbrev others : List (List (ℕ × H))
-    others = handle_replaced eq homes x v w
-
-    as_many : length others ≡ length homes
-    as_many = length-with_list homes x as_long
-
-    same_count : 0 < length homes → (n : ℕ) → count others n ≡ count homes n
-    same_count some n = count-with_same homes x n as_long some (length-with_first (is_entry_of eq x v) (top x, w) (listed homes x))
-
-    no_more : 0 < length homes → (n : ℕ) → count others n ≤ count homes n
-    no_more some n = omega (arith, same_count some n)
-
-    no_fewer : 0 < length others → (n : ℕ) → count homes n ≤ count others n
-    no_fewer some n = omega (arith, same_count (omega (arith, some, as_many)) n)
-
-    pub handle_replaced-room : total others ≤ capacity (length others)
-    handle_replaced-room = room-fewer homes others room as_many no_more
-
-    -- changes no run
-    pub handle_replaced-run : (y : ℕ) → run (layout others) y ≡ run (layout homes) y
-    handle_replaced-run y = omega (arith, run-fewer homes others room as_many no_more y, run-fewer others homes handle_replaced-room (sym as_many) no_fewer y)
-
-    -- nor a walk
-    pub handle_replaced-walk : (y : ℕ) → walk others y ≡ walk homes y
-    handle_replaced-walk y = omega (arith, walk-fewer homes others room as_many no_more y, walk-fewer others homes handle_replaced-room (sym as_many) no_fewer y)

@@ -44,6 +44,7 @@ impl<H: Copy + Eq + Default, A: Allocator + Copy> Table<H, A> {
     /// # Cost
     ///
     /// Constant if there is room already, and otherwise linear in the number of slots.
+    #[tactic(auto, using(crate::proofs::Promises::whole_laid))]
     pub fn reserve<F: FnMut(H) -> u64>(
         &mut self,
         additional: usize,

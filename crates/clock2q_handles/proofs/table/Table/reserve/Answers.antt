@@ -1,7 +1,6 @@
 use Rattle.std.proofs.Common.{◌≡◌, ◌<◌, ◌≤◌, ◌+◌, ◌*◌, length, ℕ, refl, sym, subst, arith, rules}
 use Rattle.clock2q_handles.specs.Homes.{total, capacity, count}
 use Rattle.clock2q_handles.specs.Layout.{spill_of}
-use Rattle.clock2q_handles.proofs.Promises.{whole_laid}
 use Rattle.clock2q_handles.proofs.layout.TidyLayout.{capacity-lt}
 use Rattle.clock2q_handles.proofs.layout.TooLong.{rebuilt-reach}
 use Rattle.clock2q_handles.proofs.rebuild.Growth.{larger_multiple}
@@ -26,23 +25,8 @@ multiple g c =
     larger_multiple c.args.self.now.homes _ refl c.len.ensures.whole.slot_count c.in-Some-slots_for.count c.in-Some-slots_for.ensures.power
     (omega (arith, c.in-Some-slots_for.ensures.enough, c.if-entries-capacity.false, c.capacity.ensures.capacity))
 
-pub returns-in_default-clause-laid : goal.returns-in_default-clause-laid
-returns-in_default-clause-laid g c = whole_laid _ c.len.ensures.whole
-
-pub returns-then-entries-capacity-clause-laid : goal.returns-then-entries-capacity-clause-laid
-returns-then-entries-capacity-clause-laid g c = whole_laid _ c.len.ensures.whole
-
-pub returns-in_default-slots_for-clause-laid : goal.returns-in_default-slots_for-clause-laid
-returns-in_default-slots_for-clause-laid g c = whole_laid _ c.len.ensures.whole
-
 pub rebuilt-requires-clause-multiple : goal.rebuilt-requires-clause-multiple
 rebuilt-requires-clause-multiple g c = multiple g (goal.at.rebuilt-requires-clause-multiple g c).In-Some-slots_for
-
-pub returns-in_err-self-clause-laid : goal.returns-in_err-self-clause-laid
-returns-in_err-self-clause-laid g c = whole_laid _ c.len.ensures.whole
-
-pub returns-clause-laid : goal.returns-clause-laid
-returns-clause-laid g c = c.in_ok-self.ensures.laid
 
 pub returns-clause-nearer : goal.returns-clause-nearer
 returns-clause-nearer g c x =
