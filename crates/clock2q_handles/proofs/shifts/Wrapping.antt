@@ -3,7 +3,7 @@ use Rattle.std.proofs.Common.{◌≡◌, ℕ, ◌++◌, ap, sym, ◌∙◌, subs
 use Rattle.clock2q_handles.specs.Found.{TakesOutAt}
 use Rattle.clock2q_handles.specs.Layout.{Placed}
 use Rattle.clock2q_handles.specs.Shifts.{PutsAt}
-use Rattle.clock2q_handles.specs.Slots.{Mark, cells}
+use Rattle.clock2q_handles.specs.Slots.{Mark, cells, AreMasked}
 use Rattle.clock2q_handles.specs.declared.metadata.Metadata.{Metadata}
 use Rattle.clock2q_handles.proofs.shifts.Cells.{kept_whole}
 
@@ -16,6 +16,11 @@ module _ {H : Type 0} where
       → cells ms vs ≡ cells (take m (ms ++ drop (length ms) before)) (take n (vs ++ drop (length vs) held))
   cells_back ms before vs held m n e f =
       cells_along (sym (kept_whole ms (drop (length ms) before) m e)) (sym (kept_whole vs (drop (length vs) held) n f))
+
+  -- and what holds of these holds of the vectors
+  pub masked_back : (ms before : List Metadata) (vs held : List H) (m n k : ℕ) → length ms ≡ m → length vs ≡ n → AreMasked ms vs k
+      → AreMasked (take m (ms ++ drop (length ms) before)) (take n (vs ++ drop (length vs) held)) k
+  masked_back ms before vs held m n k e f masked = rw (kept_whole ms (drop (length ms) before) m e, kept_whole vs (drop (length vs) held) n f) masked
 
   pub puts_at_along : {old old' new new' : List (Option (Placed (ℕ × H)))} {s : Mark} {n : ℕ} {v : H} {b b' a : ℕ}
       → PutsAt old new s n v b a → old ≡ old' → new ≡ new' → b ≡ b' → PutsAt old' new' s n v b' a

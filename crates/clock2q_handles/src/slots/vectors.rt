@@ -151,9 +151,10 @@ impl<H: Copy + Default, A: Allocator> Slots<H, A> {
         self.writes.tick();
     }
 
-    /// Inserts an entry at a gap. The rest of the run moves on by one slot.
+    /// Inserts an entry at a gap. The rest of the run moves on by one slot, and each slot that is
+    /// written is read.
     #[inline(always)]
-    #[tactic(auto, using(crate::proofs::shifts::Cells::counted_cells, crate::proofs::shifts::Wrapping::cells_along, crate::proofs::shifts::Wrapping::cells_back, crate::proofs::shifts::Wrapping::puts_at_along))]
+    #[tactic(auto, using(crate::proofs::shifts::Cells::counted_cells, crate::proofs::shifts::Wrapping::cells_along, crate::proofs::shifts::Carrying::carry_begins, crate::proofs::shifts::Cells::mark_read_or, crate::proofs::shifts::Carrying::carry_slot))]
     pub(crate) fn put_at(&mut self, gap: &Gap, handle: H, reads: &mut Count)
         requires tidy { IsTidy self.old.slots }
         requires within { gap.now.position < length self.old.slots }
@@ -164,21 +165,32 @@ impl<H: Copy + Default, A: Allocator> Slots<H, A> {
         ensures reads { reads.new.total + self.old.writes ≡ reads.old.total + self.new.writes }
         ensures small { length self.old.slots < 2 ^ 63 }
     {
-        carry(
-            self.metadata.as_mut_slice(),
-            self.handles.as_mut_slice(),
-            self.mask,
-            &mut self.writes,
-            reads,
-            gap.slot,
-            gap.wanted.metadata(),
-            handle,
-        );
+        let metadata = self.metadata.as_mut_slice();
+        let handles = self.handles.as_mut_slice();
+        let writes = &mut self.writes;
+        let mask = self.mask;
+        let mut slot = gap.slot;
+        let mut word = gap.wanted.metadata();
+        let mut handle = handle;
+        reads.tick();
+        let mut there = metadata[slot];
+        while !there.is_empty() {
+            let held = handles[slot];
+            write(metadata, handles, writes, slot, word, handle);
+            word = there.one_further();
+            handle = held;
+            slot = after(slot, mask);
+            reads.tick();
+            there = metadata[slot];
+        }
+        write(metadata, handles, writes, slot, word, handle);
     }
 
     /// Removes the entry in a slot. The entries after it move back by one slot, up to an empty slot
-    /// or an entry at its home.
+    /// or an entry at its home. It reads as many slots as it writes. The handle of the slot that is
+    /// left empty stays in memory, but no lookup reaches it.
     #[inline(always)]
+    #[tactic(auto, using(crate::proofs::shifts::Cells::counted_cells, crate::proofs::shifts::Wrapping::cells_along, crate::proofs::shifts::Carrying::close_begins, crate::proofs::shifts::Carrying::close_slot))]
     pub(crate) fn take_out(&mut self, slot: usize, reads: &mut Count)
         requires tidy { IsTidy self.old.slots }
         requires within { slot < length self.old.slots }
@@ -187,14 +199,24 @@ impl<H: Copy + Default, A: Allocator> Slots<H, A> {
             self.new.writes }
         ensures reads { reads.new.total + self.old.writes ≡ reads.old.total + self.new.writes }
     {
-        close(
-            self.metadata.as_mut_slice(),
-            self.handles.as_mut_slice(),
-            self.mask,
-            &mut self.writes,
-            reads,
-            slot,
-        );
+        let metadata = self.metadata.as_mut_slice();
+        let handles = self.handles.as_mut_slice();
+        let writes = &mut self.writes;
+        let mask = self.mask;
+        let mut hole = slot;
+        loop {
+            let next = after(hole, mask);
+            reads.tick();
+            let word = metadata[next];
+            if !word.can_move_back() {
+                break;
+            }
+            let handle = handles[next];
+            write(metadata, handles, writes, hole, word.one_nearer(), handle);
+            hole = next;
+        }
+        metadata[hole] = Metadata::empty();
+        writes.tick();
     }
 
     /// Empties every slot. The handles stay in memory, but no lookup reaches them.
@@ -208,86 +230,6 @@ impl<H: Copy + Default, A: Allocator> Slots<H, A> {
             &mut self.writes,
         );
     }
-}
-
-/// Writes an entry to a slot, and moves the entries from there on by one slot, up to an empty slot.
-/// It reads each slot that it writes.
-#[inline(always)]
-#[tactic(auto, using(crate::proofs::shifts::Cells::counted_cells, crate::proofs::shifts::Carrying::carry_begins, crate::proofs::shifts::Cells::mark_read_or, crate::proofs::shifts::Carrying::carry_slot))]
-fn carry<H: Copy>(
-    metadata: &mut [Metadata],
-    handles: &mut [H],
-    mask: usize,
-    writes: &mut Count,
-    reads: &mut Count,
-    mut slot: usize,
-    mut word: Metadata,
-    mut handle: H,
-)
-    requires pair { ArePaired metadata.old handles.old }
-    requires mask { mask + 1 ≡ length metadata.old }
-    requires tidy { IsTidy (cells metadata.old handles.old) }
-    requires within { slot < length (cells metadata.old handles.old) }
-    requires room { HasRoomAt (cells metadata.old handles.old) (meaning word) slot }
-    ensures puts { PutsAt (cells metadata.old handles.old) (cells metadata.new handles.new)
-        (meaning word) slot handle writes.old.total writes.new.total }
-    ensures counted { reads.old.total ≤ reads.new.total }
-    ensures reads { reads.new.total + writes.old.total ≡ reads.old.total + writes.new.total }
-    ensures pair { ArePaired metadata.new handles.new }
-    ensures len { length metadata.new ≡ length metadata.old }
-{
-    reads.tick();
-    let mut there = metadata[slot];
-    while !there.is_empty() {
-        let held = handles[slot];
-        write(metadata, handles, writes, slot, word, handle);
-        word = there.one_further();
-        handle = held;
-        slot = after(slot, mask);
-        reads.tick();
-        there = metadata[slot];
-    }
-    write(metadata, handles, writes, slot, word, handle);
-}
-
-/// Empties a slot, once the entries after it have moved back by one slot, up to an empty slot or an
-/// entry at its home. It reads as many slots as it writes. The handle of the slot that is left empty
-/// stays in memory, but no lookup reaches it.
-#[inline(always)]
-#[tactic(auto, using(crate::proofs::shifts::Cells::counted_cells, crate::proofs::shifts::Carrying::close_begins, crate::proofs::shifts::Carrying::close_slot))]
-fn close<H: Copy>(
-    metadata: &mut [Metadata],
-    handles: &mut [H],
-    mask: usize,
-    writes: &mut Count,
-    reads: &mut Count,
-    slot: usize,
-)
-    requires pair { ArePaired metadata.old handles.old }
-    requires mask { mask + 1 ≡ length metadata.old }
-    requires tidy { IsTidy (cells metadata.old handles.old) }
-    requires within { slot < length (cells metadata.old handles.old) }
-    requires occupied { 0 < reach (slot_at (cells metadata.old handles.old) slot) }
-    ensures taken { TakesOutAt (cells metadata.old handles.old) (cells metadata.new handles.new)
-        slot writes.old.total writes.new.total }
-    ensures reads { reads.new.total + writes.old.total ≡ reads.old.total + writes.new.total }
-    ensures pair { ArePaired metadata.new handles.new }
-    ensures len { length metadata.new ≡ length metadata.old }
-{
-    let mut hole = slot;
-    loop {
-        let next = after(hole, mask);
-        reads.tick();
-        let word = metadata[next];
-        if !word.can_move_back() {
-            break;
-        }
-        let handle = handles[next];
-        write(metadata, handles, writes, hole, word.one_nearer(), handle);
-        hole = next;
-    }
-    metadata[hole] = Metadata::empty();
-    writes.tick();
 }
 
 /// Writes a slot in both vectors, and counts the write.

@@ -2,7 +2,7 @@ use Rattle.std.proofs.Common.{◌≡◌, ◌+◌, ◌-◌, ◌≤◌, length}
 use Rattle.clock2q_handles.specs.Slots.{cell, cells, meaning, ArePaired}
 use Rattle.clock2q_handles.proofs.layout.Periods.{lap}
 use Rattle.clock2q_handles.proofs.shifts.Carrying.{CarryState}
-use Rattle.clock2q_handles.proofs.slots.vectors.carry.Given as goal
+use Rattle.clock2q_handles.proofs.slots.vectors.Slots.put_at.Given as goal
 
 abbrev pub invariant-loop-there : goal.invariant-loop-there
 invariant-loop-there g l = record {
