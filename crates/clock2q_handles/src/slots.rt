@@ -20,27 +20,8 @@ use clock2q_count::Count;
 pub(super) use reader::Reader;
 use std::alloc::Allocator;
 pub(super) use vectors::Slots;
-use vectors::after;
 
 impl<H: Copy + Default, A: Allocator> Slots<H, A> {
-    /// Returns the home slot of a hash, if there are slots.
-    #[tactic(auto, using(crate::proofs::shifts::Cells::slot_mask, std::proofs::lemmas::Nat::mod_below))]
-    pub(super) fn home(&self, hash: u64) -> usize
-        ensures home { 0 < length self.now.slots → result ≡ hash % length self.now.slots }
-        ensures within { 0 < length self.now.slots → result < length self.now.slots }
-    {
-        hash as usize & self.mask()
-    }
-
-    /// Returns the slot after `slot`: slot 0 after the last.
-    fn after(&self, slot: usize) -> usize
-        requires { slot < length self.now.slots }
-        ensures after { result ≡ (slot + 1) % length self.now.slots }
-        ensures within { result < length self.now.slots }
-    {
-        after(slot, self.mask())
-    }
-
     /// Returns where a walk for `hash` ends.
     #[inline(always)]
     #[tactic(auto, using(crate::proofs::shifts::Carrying::come_home, crate::proofs::shifts::Carrying::looks_room))]

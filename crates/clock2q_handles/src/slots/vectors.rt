@@ -107,14 +107,22 @@ impl<H: Copy + Default, A: Allocator> Slots<H, A> {
         self.metadata.len()
     }
 
-    /// Returns the number of slots minus one, if there are slots.
-    #[tactic(auto, using(crate::proofs::shifts::Cells::counted_cells))]
-    pub(crate) fn mask(&self) -> usize
-        ensures mask { 0 < length self.now.slots → result + 1 ≡ length self.now.slots }
-        ensures power { IsSlotCount (length self.now.slots) }
-        ensures small { length self.now.slots < 2 ^ 63 }
+    /// Returns the home slot of a hash, if there are slots.
+    pub(crate) fn home(&self, hash: u64) -> usize
+        ensures home { 0 < length self.now.slots → result ≡ hash % length self.now.slots }
+        ensures within { 0 < length self.now.slots → result < length self.now.slots }
     {
-        self.mask
+        hash as usize & self.mask
+    }
+
+    /// Returns the slot after `slot`: slot 0 after the last.
+    #[tactic(auto, using(crate::proofs::shifts::Cells::counted_cells))]
+    pub(crate) fn after(&self, slot: usize) -> usize
+        requires { slot < length self.now.slots }
+        ensures after { result ≡ (slot + 1) % length self.now.slots }
+        ensures within { result < length self.now.slots }
+    {
+        after(slot, self.mask)
     }
 
     /// Reads the metadata of a slot, and counts the read.
@@ -257,7 +265,7 @@ fn write<H: Copy>(
 
 /// Returns the slot after `slot`, of `mask + 1` slots: slot 0 after the last.
 #[tactic(auto, using(crate::proofs::shifts::Cells::slot_mask, std::proofs::lemmas::Nat::mod_below))]
-pub(super) fn after(slot: usize, mask: usize) -> usize
+fn after(slot: usize, mask: usize) -> usize
     requires count { IsSlotCount (mask + 1) }
     requires small { mask + 1 < 2 ^ 64 }
     requires within { slot < mask + 1 }
