@@ -143,14 +143,16 @@ impl<H: Copy + Default, A: Allocator> Slots<H, A> {
             self.new.slots }
         ensures counted { reads.old.total ≤ reads.new.total }
     {
+        let mut reader = old.reader();
         for slot in 0..old.count() {
-            if old.read(slot, reads).is_empty() {
+            if reader.read(slot).is_empty() {
                 continue;
             }
-            let handle = old.handle(slot);
+            let handle = reader.handle(slot);
             let hash = rehash(handle);
             let gap = self.gap(hash, reads);
             self.put_at(&gap, handle, reads);
         }
+        reads.raise(reader.reads());
     }
 }
