@@ -10,8 +10,9 @@ mod flags;
 mod records;
 
 use crate::link::Link;
-use cells::Bits;
 pub(crate) use cells::Cells;
+use clock2q_count::Count;
+use flags::Flags;
 use records::Records;
 use std::alloc::{AllocError, Allocator, Global};
 use std::marker::Model;
@@ -63,23 +64,19 @@ pub(crate) const VACANT: Record = Record {
 pub(crate) struct Links<A: Allocator = Global> {
     records: Records<A>,
     window: Cells<Link, A>,
-    bits: Bits<A>,
+    flags: Vec<Flags, A>,
+    inspections: Count,
 }
 
 impl<A: Allocator> Model for Links<A> {
-    ghost use Rattle.clock2q_queues.specs.Flags.{AreLinks};
+    ghost use Rattle.clock2q_queues.specs.Flags.{AreLinks, links_shown};
     ghost use Rattle.clock2q_queues.specs.Links.{LinkState};
 
     ghost Value = { LinkState };
 
-    ghost view = { λ a. record {
-      records = a.records.cells;
-      made = a.records.made;
-      window = a.window;
-      bits = a.bits.bits;
-    } };
+    ghost view = { λ a. links_shown a.records a.window a.flags.items a.inspections.total };
 
-    ghost invariant = { λ a. AreLinks a.records.cells.items a.bits a.window.items };
+    ghost invariant = { λ a. AreLinks a.records.cells.items a.flags.items a.window.items };
 }
 
 impl<A: Allocator> Links<A> {
@@ -91,11 +88,12 @@ impl<A: Allocator> Links<A> {
     {
         let records = Records::new(alloc.clone()?, slots)?;
         let positions = Vec::from_elem(alloc.clone()?, Link::nowhere(), window as usize)?;
-        let bits = Bits::new(alloc, slots)?;
+        let flags = Vec::from_elem(alloc, Flags::clear(), slots as usize)?;
         Ok(Links {
             records,
             window: Cells::new(positions),
-            bits,
+            flags,
+            inspections: Count::new(),
         })
     }
 
@@ -144,7 +142,8 @@ impl<A: Allocator> Links<A> {
         ensures rest { self.new
             ≡ record self.old { records = self.new.records; made = self.new.made } }
     {
-        self.bits.set_linked(slot, content.location.is_linked());
+        let flags = self.flags[slot as usize];
+        self.flags[slot as usize] = flags.with_linked(content.location.is_linked());
         self.records.write(slot, content);
     }
 
@@ -184,7 +183,8 @@ impl<A: Allocator> Links<A> {
         ensures rest { self.new
             ≡ record self.old { records = self.new.records; made = self.new.made } }
     {
-        self.bits.set_linked(slot, location.is_linked());
+        let flags = self.flags[slot as usize];
+        self.flags[slot as usize] = flags.with_linked(location.is_linked());
         self.records.attach(slot, before, location);
     }
 
@@ -200,7 +200,7 @@ impl<A: Allocator> Links<A> {
         ensures cleared { SetsBit slot false self.old
             (record self.new { records = self.old.records; made = self.old.made }) }
     {
-        self.bits.renew(slot, location.is_linked());
+        self.flags[slot as usize] = Flags::clear().with_linked(location.is_linked());
         self.records.attach(slot, before, location);
     }
 
@@ -212,7 +212,7 @@ impl<A: Allocator> Links<A> {
         ensures cleared { SetsBit slot false self.old
             (record self.new { records = self.old.records }) }
     {
-        self.bits.renew(slot, true);
+        self.flags[slot as usize] = Flags::clear().with_linked(true);
         self.records.set_location(slot, Location::SmallOld);
     }
 
@@ -227,7 +227,8 @@ impl<A: Allocator> Links<A> {
         ensures value { result ≡ record_at self.old.records.items slot }
         ensures rest { self.new ≡ record self.old { records = self.new.records } }
     {
-        self.bits.set_linked(slot, false);
+        let flags = self.flags[slot as usize];
+        self.flags[slot as usize] = flags.with_linked(false);
         self.records.detach(slot)
     }
 
@@ -254,7 +255,7 @@ impl<A: Allocator> Links<A> {
         requires { slot < length self.now.records.items }
         ensures { result ≡ is_linked (location_at self.now.records.items slot) }
     {
-        self.bits.is_linked(slot)
+        self.flags[slot as usize].is_linked()
     }
 
     /// Sets or clears the hit bit of a slot.
@@ -262,7 +263,8 @@ impl<A: Allocator> Links<A> {
         requires { slot < length self.old.records.items }
         ensures { SetsBit slot bit self.old self.new }
     {
-        self.bits.set(slot, bit);
+        let flags = self.flags[slot as usize];
+        self.flags[slot as usize] = flags.with_bit(bit);
     }
 
     /// Returns true if a slot's bit was set, and clears it: the hand's inspection of a slot.
@@ -274,7 +276,10 @@ impl<A: Allocator> Links<A> {
         ensures rest { self.new ≡ record self.old { bits = self.new.bits } }
         ensures counted { self.new.bits.inspections ≡ self.old.bits.inspections + 1 }
     {
-        self.bits.inspect(slot)
+        self.inspections.tick();
+        let flags = self.flags[slot as usize];
+        self.flags[slot as usize] = flags.with_bit(false);
+        flags.is_set()
     }
 
     /// Reads the record of a slot that is in a queue, and returns true if the slot is old and its bit
@@ -286,7 +291,7 @@ impl<A: Allocator> Links<A> {
         ensures counted { self.new ≡ record self.old { records = accessed self.old.records } }
     {
         match self.records.read(slot).location {
-            Location::SmallOld => self.bits.is_set(slot),
+            Location::SmallOld => self.flags[slot as usize].is_set(),
             _ => false,
         }
     }
@@ -304,7 +309,7 @@ impl<A: Allocator> Links<A> {
         requires { slot < length self.now.records.items }
         ensures { result ≡ bit_at self.now slot }
     {
-        self.bits.is_set(slot)
+        self.flags[slot as usize].is_set()
     }
 
     /// Returns true if a slot that is in a queue is old and its bit is set. It counts no access.
@@ -313,7 +318,8 @@ impl<A: Allocator> Links<A> {
         ensures { result
             ≡ (is_old (location_at self.now.records.items slot) && bit_at self.now slot) }
     {
-        matches!(self.records.peek(slot).location, Location::SmallOld) && self.bits.is_set(slot)
+        matches!(self.records.peek(slot).location, Location::SmallOld)
+            && self.flags[slot as usize].is_set()
     }
 
     /// Resets every record, every position and every bit to its initial state.
@@ -329,6 +335,6 @@ impl<A: Allocator> Links<A> {
     {
         self.records.clear();
         self.window.fill(Link::nowhere());
-        self.bits.clear();
+        self.flags.fill(Flags::clear());
     }
 }

@@ -1,0 +1,17 @@
+use Rattle.std.proofs.Common.{◌<◌, false, length, ap, ◌∙◌}
+use Rattle.clock2q_queues.specs.Links.{LinkState}
+use Rattle.clock2q_queues.proofs.Flagged.{bit_set, slot_attached}
+use Rattle.clock2q_queues.proofs.links.Links.attach_clear.Goals as goal
+
+pub invariant_of-self : goal.invariant_of-self
+invariant_of-self g c =
+    let i = c.self.inside in
+    slot_attached i.records.cells.items i.flags.items i.window.items c.args.slot c.with_linked.result c.self.invariant
+    (rw (ap (λ (l : LinkState). l.records) c.self.view_is) c.requires.slot_in) c.attach.ensures.attached (c.with_linked.ensures.linked ∙ c.is_linked.ensures)
+
+pub returns-clause-cleared : goal.returns-clause-cleared
+returns-clause-cleared g c =
+    let i = c.self.inside in
+    let within : c.args.slot < length i.flags.items = rw (c.self.invariant.as_many, ap (λ (l : LinkState). l.records) c.self.view_is) c.requires.slot_in in
+    rw (← c.self.view_is)
+    (bit_set i.records i.window i.flags.items i.inspections.total c.args.slot c.with_linked.result false within (c.with_linked.ensures.bit ∙ c.clear.ensures.bit))
