@@ -11,8 +11,8 @@ use std::marker::Model;
 /// queue, since the places of an order are all in the same one.
 #[derive(Clone, Copy)]
 pub(crate) struct Neighbours {
-    previous: u32,
-    next: u32,
+    pub(crate) previous: u32,
+    pub(crate) next: u32,
 }
 
 const _: () = prove!(size_of::<Neighbours>() == 8);
@@ -28,29 +28,11 @@ impl Model for Neighbours {
     ghost inverse = { λ r. record { previous = r.previous; next = r.next } };
 }
 
-impl Neighbours {
-    /// Returns these two places as neighbours.
-    pub(crate) fn of(previous: u32, next: u32) -> Self
-        ensures { result
-            ≡ record { previous = previous; next = next; location = Location.Free } }
-    {
-        Neighbours { previous, next }
-    }
-
-    /// Returns the place before.
-    pub(crate) fn previous(self) -> u32
-        ensures { result ≡ self.previous }
-    {
-        self.previous
-    }
-
-    /// Returns the place after.
-    pub(crate) fn next(self) -> u32
-        ensures { result ≡ self.next }
-    {
-        self.next
-    }
-}
+/// The neighbours of a place that isn't in the order.
+pub(crate) const EMPTY: Neighbours = Neighbours {
+    previous: 0,
+    next: 0,
+};
 
 impl<A: Allocator> Cells<Neighbours, A> {
     /// Puts a place just before another.
@@ -60,8 +42,12 @@ impl<A: Allocator> Cells<Neighbours, A> {
         requires previous_in { previous_at self.old.items before < length self.old.items }
         ensures { Attaches place before Location.Free 6 self.old self.new }
     {
-        let previous = self.read(before).previous();
-        self.write(place, Neighbours::of(previous, before));
+        let previous = self.read(before).previous;
+        let between = Neighbours {
+            previous,
+            next: before,
+        };
+        self.write(place, between);
         self.set_next(previous, place);
         self.set_previous(before, place);
     }
@@ -75,9 +61,9 @@ impl<A: Allocator> Cells<Neighbours, A> {
         ensures value { result ≡ record_at self.old.items place }
     {
         let was = self.read(place);
-        self.set_next(was.previous(), was.next());
-        self.set_previous(was.next(), was.previous());
-        self.write(place, Neighbours::of(0, 0));
+        self.set_next(was.previous, was.next);
+        self.set_previous(was.next, was.previous);
+        self.write(place, EMPTY);
         was
     }
 
@@ -87,7 +73,7 @@ impl<A: Allocator> Cells<Neighbours, A> {
         ensures { self.new ≡ accessed (with_next place next self.old) }
     {
         let was = self.read(place);
-        self.write(place, Neighbours::of(was.previous(), next));
+        self.write(place, Neighbours { next, ..was });
     }
 
     /// Writes the place before another.
@@ -96,6 +82,6 @@ impl<A: Allocator> Cells<Neighbours, A> {
         ensures { self.new ≡ accessed (with_previous place previous self.old) }
     {
         let was = self.read(place);
-        self.write(place, Neighbours::of(previous, was.next()));
+        self.write(place, Neighbours { previous, ..was });
     }
 }

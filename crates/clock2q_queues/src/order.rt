@@ -7,7 +7,7 @@ ghost use Rattle.clock2q_queues.specs.Order.{free_places};
 
 use crate::link::Link;
 use crate::links::{Cells, Location};
-use crate::neighbours::Neighbours;
+use crate::neighbours::{EMPTY, Neighbours};
 use std::alloc::{AllocError, Allocator, Global};
 use std::marker::Model;
 
@@ -32,7 +32,7 @@ impl Chain {
             return None;
         }
         let place = self.head;
-        self.head = records.read(place).next();
+        self.head = records.read(place).next;
         self.len -= 1;
         Some(place)
     }
@@ -48,7 +48,11 @@ impl Chain {
             × (records.new ≡ written place
             (record { previous = 0; next = next; location = Location.Free }) records.old) }
     {
-        records.write(place, Neighbours::of(0, self.head));
+        let before_head = Neighbours {
+            previous: 0,
+            next: self.head,
+        };
+        records.write(place, before_head);
         self.head = place;
         self.len += 1;
     }
@@ -100,7 +104,7 @@ impl<A: Allocator> Order<A> {
         ensures whole { IfOk result IsWholeOrder }
     {
         Ok(Order {
-            records: Cells::new(Vec::from_elem(alloc, Neighbours::of(0, 0), limit as usize)?),
+            records: Cells::new(Vec::from_elem(alloc, EMPTY, limit as usize)?),
             newest: Link::nowhere(),
             len: 0,
             chain: Chain { head: 0, len: 0 },
@@ -138,7 +142,13 @@ impl<A: Allocator> Order<A> {
     {
         let place = self.chain.take(&mut self.records).unwrap_or(self.len);
         match self.newest.slot() {
-            None => self.records.write(place, Neighbours::of(place, place)),
+            None => {
+                let alone = Neighbours {
+                    previous: place,
+                    next: place,
+                };
+                self.records.write(place, alone);
+            }
             Some(newest) => self.records.attach(place, newest),
         }
         self.newest = Link::to(place);
@@ -158,7 +168,7 @@ impl<A: Allocator> Order<A> {
             } }
     {
         let newest = self.newest.target();
-        let oldest = self.records.read(newest).previous();
+        let oldest = self.records.read(newest).previous;
         self.newest = Link::to(oldest);
         oldest
     }
@@ -178,7 +188,7 @@ impl<A: Allocator> Order<A> {
         self.chain.put(&mut self.records, place);
         self.len -= 1;
         if self.newest.slot() == Some(place) {
-            self.newest = Link::only_if(self.len > 0, was.next());
+            self.newest = Link::only_if(self.len > 0, was.next);
         }
     }
 

@@ -1,7 +1,6 @@
-use Rattle.std.proofs.Common.{ap}
-use Rattle.clock2q_queues.specs.declared.links.Record.{Record}
+use Rattle.std.proofs.Common.{refl}
 use Rattle.clock2q_queues.proofs.Orders.{chain-put}
 use Rattle.clock2q_queues.proofs.order.Chain.put.Goals as goal
 
 pub returns-clause-chain : goal.returns-clause-chain
-returns-clause-chain g c = chain-put c.args.records.now c.write.new.self c.args.self.now c.args.place _ c.write.ensures (ap (λ (r : Record). r.next) c.of.ensures) c.requires.place_in c.requires.absent
+returns-clause-chain g c = chain-put c.args.records.now c.write.new.self c.args.self.now c.args.place _ c.write.ensures refl c.requires.place_in c.requires.absent

@@ -1,7 +1,7 @@
 use Rattle.std.proofs.Common.{◌≡◌, ◌+◌, ◌<◌, ◌∷◌, List, length, drop, ap, sym, subst, ◌∙◌, arith}
 use Rattle.std.proofs.lemmas.List.{length-set}
 use Rattle.std.specs.Option.{unwrap_or}
-use Rattle.clock2q_queues.specs.Cells.{CellsState, written}
+use Rattle.clock2q_queues.specs.Cells.{CellsState}
 use Rattle.clock2q_queues.specs.declared.links.Record.{Record}
 use Rattle.clock2q_queues.specs.Links.{slots_from}
 use Rattle.clock2q_queues.specs.Order.{PlaceOrder, IsOrderOf, free_places}
@@ -52,7 +52,7 @@ invariant_of-self g c =
     rw c.to-self-inside.ensures (elim c.match-slot.branch [
       | in-None w ↦ rw w.self-inside-is (Pushes-alone i.records i.newest i.len i.chain c.self.invariant c.take.new.records
           c.take.new.self c.take.ensures.items c.take.ensures.rest w.write.new.self place is room (sym c.slot.ensures ∙ w.in-None.is)
-          (w.write.ensures ∙ ap (λ (r : Record). written place r c.take.new.records) w.of.ensures))
+          w.write.ensures)
       | in-Some w ↦ rw w.self-inside-is (Pushes-attached i.records i.newest i.len i.chain c.self.invariant c.take.new.records
           c.take.new.self c.take.ensures.items c.take.ensures.rest w.attach.new.self place w.in-Some.newest is room (sym c.slot.ensures ∙ w.in-Some.is) w.attach.ensures)
     ]) in
@@ -69,7 +69,7 @@ returns-clause-whole g c =
     rw c.to-self-inside.ensures (elim c.match-slot.branch [
       | in-None w ↦ rw w.self-inside-is (Pushes-alone i.records i.newest i.len i.chain c.self.invariant c.take.new.records
           c.take.new.self c.take.ensures.items c.take.ensures.rest w.write.new.self place is room (sym c.slot.ensures ∙ w.in-None.is)
-          (w.write.ensures ∙ ap (λ (r : Record). written place r c.take.new.records) w.of.ensures))
+          w.write.ensures)
       | in-Some w ↦ rw w.self-inside-is (Pushes-attached i.records i.newest i.len i.chain c.self.invariant c.take.new.records
           c.take.new.self c.take.ensures.items c.take.ensures.rest w.attach.new.self place w.in-Some.newest is room (sym c.slot.ensures ∙ w.in-Some.is) w.attach.ensures)
     ]) in
@@ -86,7 +86,7 @@ returns-clause-order g c =
     rw c.to-self-inside.ensures (elim c.match-slot.branch [
       | in-None w ↦ rw w.self-inside-is (Pushes-alone i.records i.newest i.len i.chain c.self.invariant c.take.new.records
           c.take.new.self c.take.ensures.items c.take.ensures.rest w.write.new.self place is room (sym c.slot.ensures ∙ w.in-None.is)
-          (w.write.ensures ∙ ap (λ (r : Record). written place r c.take.new.records) w.of.ensures))
+          w.write.ensures)
       | in-Some w ↦ rw w.self-inside-is (Pushes-attached i.records i.newest i.len i.chain c.self.invariant c.take.new.records
           c.take.new.self c.take.ensures.items c.take.ensures.rest w.attach.new.self place w.in-Some.newest is room (sym c.slot.ensures ∙ w.in-Some.is) w.attach.ensures)
     ]) in

@@ -15,24 +15,24 @@ to-self-inside-requires g c =
     let q = c.self.invariant.queue in
     let first = c.target-newest.result in
     let n = neighbours_fit i.records.items (slots_from i.records.items i.newest i.len) first q.linked (first_in (slots_from i.records.items i.newest i.len) first (sym c.target-newest.ensures ∙ q.starts)) in
-    omega (arith, n.2, c.previous-oldest.ensures, ap (λ (z : Record). z.previous) (c.read.ensures.value vacant), q.countable)
+    omega (arith, n.2, ap (λ (z : Record). z.previous) (c.oldest.view_is ∙ c.read.ensures.value vacant), q.countable)
 
 pub invariant_of-self : goal.invariant_of-self
 invariant_of-self g c =
     let i = c.self.inside in
     let r =
-    reuses i.records i.newest i.len i.chain c.self.invariant c.read.new.self c.target-newest.result c.previous-oldest.result
-    c.read.ensures.counted c.target-newest.ensures (c.previous-oldest.ensures ∙ ap (λ (z : Record). z.previous) (c.read.ensures.value vacant)) in
+    reuses i.records i.newest i.len i.chain c.self.invariant c.read.new.self c.target-newest.result c.oldest.inside.previous
+    c.read.ensures.counted c.target-newest.ensures (ap (λ (z : Record). z.previous) (c.oldest.view_is ∙ c.read.ensures.value vacant)) in
     rw c.to-self-inside.ensures (IsOrder-from r.order)
 
 pub returns : goal.returns
 returns g c =
     let i = c.self.inside in
     let r =
-    reuses i.records i.newest i.len i.chain c.self.invariant c.read.new.self c.target-newest.result c.previous-oldest.result
-    c.read.ensures.counted c.target-newest.ensures (c.previous-oldest.ensures ∙ ap (λ (z : Record). z.previous) (c.read.ensures.value vacant)) in
+    reuses i.records i.newest i.len i.chain c.self.invariant c.read.new.self c.target-newest.result c.oldest.inside.previous
+    c.read.ensures.counted c.target-newest.ensures (ap (λ (z : Record). z.previous) (c.oldest.view_is ∙ c.read.ensures.value vacant)) in
     let q = order_shown i.records i.newest i.len i.chain in
-    let oldest = c.previous-oldest.result in
+    let oldest = c.oldest.inside.previous in
     record {
       whole = rw c.to-self-inside.ensures (IsWholeOrder-from _ _ _ _ (IsOrder-from r.order));
       oldest = ap (λ (z : PlaceOrder). last_or None z.places) (sym c.self.view_is) ∙ r.oldest_was;

@@ -32,7 +32,7 @@ only_if-self-inside-requires g c =
     let i = c.self.inside in
     let there : has c.args.place (slots_from i.records.items i.newest i.len) ≡ true = ap (λ (z : PlaceOrder). has c.args.place z.places) c.self.view_is ∙ c.requires in
     let n = place_fits i.records i.newest i.len i.chain c.self.invariant c.args.place there in
-    omega (arith, n.1, c.next.ensures, ap (λ (r : Record). r.next) c.detach-was.ensures.value, c.self.invariant.queue.countable)
+    omega (arith, n.1, ap (λ (r : Record). r.next) (c.was.view_is ∙ c.detach-was.ensures.value), c.self.invariant.queue.countable)
 
 pub invariant_of-self : goal.invariant_of-self
 invariant_of-self g c =
@@ -40,7 +40,7 @@ invariant_of-self g c =
     let there : has c.args.place (slots_from i.records.items i.newest i.len) ≡ true = ap (λ (z : PlaceOrder). has c.args.place z.places) c.self.view_is ∙ c.requires in
     let u =
     Unlinks i.records i.newest i.len i.chain c.self.invariant c.args.place there c.detach-was.new.self c.detach-was.ensures.detached c.put.new.records _ c.only_if-self-inside.result
-    c.put.new.self c.put.ensures.rest.1 c.put.ensures.chain (c.only_if-self-inside.ensures ∙ ap (λ n. then_some (ltb 0 (i.len - 1)) n) c.next.ensures ∙ ap (λ (r : Record). then_some (ltb 0 (i.len - 1)) r.next) c.detach-was.ensures.value
+    c.put.new.self c.put.ensures.rest.1 c.put.ensures.chain (c.only_if-self-inside.ensures ∙ ap (λ (r : Record). then_some (ltb 0 (i.len - 1)) r.next) (c.was.view_is ∙ c.detach-was.ensures.value)
     ∙ first_gone i.records.items i.newest i.len (slots_from i.records.items i.newest i.len) c.args.place c.self.invariant.queue (is_first i.newest c.args.place (c.if-eq.ensures ∙ ap (λ o. option_eq eqb o (Some c.args.place)) c.slot.ensures))) in
     IsOrder-from u
 
@@ -60,7 +60,7 @@ returns-then-eq g c =
     let there : has c.args.place (slots_from i.records.items i.newest i.len) ≡ true = ap (λ (z : PlaceOrder). has c.args.place z.places) c.self.view_is ∙ c.requires in
     let u =
     Unlinks i.records i.newest i.len i.chain c.self.invariant c.args.place there c.detach-was.new.self c.detach-was.ensures.detached c.put.new.records _ c.only_if-self-inside.result
-    c.put.new.self c.put.ensures.rest.1 c.put.ensures.chain (c.only_if-self-inside.ensures ∙ ap (λ n. then_some (ltb 0 (i.len - 1)) n) c.next.ensures ∙ ap (λ (r : Record). then_some (ltb 0 (i.len - 1)) r.next) c.detach-was.ensures.value
+    c.put.new.self c.put.ensures.rest.1 c.put.ensures.chain (c.only_if-self-inside.ensures ∙ ap (λ (r : Record). then_some (ltb 0 (i.len - 1)) r.next) (c.was.view_is ∙ c.detach-was.ensures.value)
     ∙ first_gone i.records.items i.newest i.len (slots_from i.records.items i.newest i.len) c.args.place c.self.invariant.queue (is_first i.newest c.args.place (c.if-eq.ensures ∙ ap (λ o. option_eq eqb o (Some c.args.place)) c.slot.ensures))) in
     record {
       whole = IsWholeOrder-from _ _ _ _ (IsOrder-from u);
