@@ -6,9 +6,8 @@ use clock2q_handles::Gap;
 use std::alloc::Allocator;
 
 impl<A: Allocator> Index<A> {
-    ghost use Rattle.std.specs.Prelude.{◌≡◌, ◌+◌, ◌^◌, ◌<◌, true, false, None, Some};
-    ghost use Rattle.clock2q_handles.specs.Homes.{total};
-    ghost use Rattle.clock2q_directory.specs.Index.{beside, entered_from, forgotten_at, forgotten_if, is_shared, remembered_at, slots, HasPlaceRoom, HasRoomBeside, HasSlotRoom, IsGapFor, MaySucceed};
+    ghost use Rattle.std.specs.Prelude.{◌≡◌, true};
+    ghost use Rattle.clock2q_directory.specs.Index.{entered_from, forgotten_if, is_shared, remembered_at, HasPlaceRoom, HasRoomBeside, HasSlotRoom, IsGapFor, MaySucceed};
 
     /// Adds the slot of a key that becomes resident in place of another, which is remembered at a
     /// place: that of the oldest key, if one is forgotten.
@@ -56,10 +55,9 @@ impl<A: Allocator> Index<A> {
             self.succeed_shared(None, hash, slot, old_hash, place, oldest);
             return;
         }
-        match oldest {
-            Some(oldest) => self.forget_split(hash, slot, old_hash, place, oldest),
-            None => self.remember_split(hash, slot, old_hash, place),
-        }
+        self.forget_oldest(oldest, place);
+        self.shared.exchange(None, hash, slot, old_hash, slot);
+        self.own.insert(None, old_hash, place.number());
     }
 
     /// Does what `succeed` does if slots and places share a table.
@@ -80,89 +78,22 @@ impl<A: Allocator> Index<A> {
         ensures renewed { self.new ≡ entered_from self.old hash slot
             (remembered_at old_hash slot place (forgotten_if oldest place self.old)) }
     {
+        let handle = Handle::Remembered(place).pack();
         match oldest {
-            Some(oldest) => self.forget_shared(gap, hash, slot, old_hash, place, oldest),
-            None => self.remember_shared(gap, hash, slot, old_hash, place),
+            Some(oldest) => {
+                let most = self
+                    .shared
+                    .most_after_exchange(hash, oldest, handle, old_hash);
+                self.shared.exchange(gap, hash, slot, oldest, handle);
+                self.shared
+                    .replace_handle_up_to(old_hash, slot, handle, &most);
+            }
+            None => {
+                let most = self.shared.most_of_two(hash, old_hash);
+                self.shared.insert(gap, hash, slot);
+                self.shared
+                    .replace_handle_up_to(old_hash, slot, handle, &most);
+            }
         }
-    }
-
-    /// Adds a slot in a table of slots and places, whose old key is remembered at a place that has no
-    /// key.
-    #[inline(always)]
-    fn remember_shared(
-        &mut self,
-        gap: Option<Gap>,
-        hash: u64,
-        slot: u32,
-        old_hash: u64,
-        place: Place,
-    )
-        requires shared { is_shared self.old ≡ true }
-        requires may { MaySucceed slot old_hash place None self.old }
-        requires room { HasSlotRoom self.old }
-        requires gap { IsGapFor gap hash self.old }
-        ensures renewed { self.new ≡ entered_from self.old hash slot
-            (remembered_at old_hash slot place self.old) }
-    {
-        let handle = Handle::Remembered(place).pack();
-        let most = self.shared.most_of_two(hash, old_hash);
-        self.shared.insert(gap, hash, slot);
-        self.shared
-            .replace_handle_up_to(old_hash, slot, handle, &most);
-    }
-
-    /// Adds a slot in a table of slots and places, whose old key is remembered at the place of the
-    /// oldest key.
-    #[inline(always)]
-    fn forget_shared(
-        &mut self,
-        gap: Option<Gap>,
-        hash: u64,
-        slot: u32,
-        old_hash: u64,
-        place: Place,
-        oldest: u64,
-    )
-        requires shared { is_shared self.old ≡ true }
-        requires may { MaySucceed slot old_hash place (Some oldest) self.old }
-        requires room { HasSlotRoom self.old }
-        requires gap { IsGapFor gap hash self.old }
-        ensures renewed { self.new ≡ entered_from self.old hash slot
-            (remembered_at old_hash slot place (forgotten_at oldest place self.old)) }
-    {
-        let handle = Handle::Remembered(place).pack();
-        let most = self
-            .shared
-            .most_after_exchange(hash, oldest, handle, old_hash);
-        self.shared.exchange(gap, hash, slot, oldest, handle);
-        self.shared
-            .replace_handle_up_to(old_hash, slot, handle, &most);
-    }
-
-    /// Adds a slot, whose old key is remembered at a place that has no key in the places' own table.
-    fn remember_split(&mut self, hash: u64, slot: u32, old_hash: u64, place: Place)
-        requires apart { is_shared self.old ≡ false }
-        requires may { MaySucceed slot old_hash place None self.old }
-        requires few { total (slots self.old) + beside self.old < 2 ^ 24 }
-        requires room { HasPlaceRoom self.old }
-        ensures renewed { self.new ≡ entered_from self.old hash slot
-            (remembered_at old_hash slot place self.old) }
-    {
-        self.shared.exchange(None, hash, slot, old_hash, slot);
-        self.own.insert(None, old_hash, place.number());
-    }
-
-    /// Adds a slot, whose old key is remembered at the oldest key's place in the places' own table.
-    fn forget_split(&mut self, hash: u64, slot: u32, old_hash: u64, place: Place, oldest: u64)
-        requires apart { is_shared self.old ≡ false }
-        requires may { MaySucceed slot old_hash place (Some oldest) self.old }
-        requires few { total (slots self.old) + beside self.old < 2 ^ 24 }
-        requires room { HasPlaceRoom (forgotten_at oldest place self.old) }
-        ensures renewed { self.new ≡ entered_from self.old hash slot
-            (remembered_at old_hash slot place (forgotten_at oldest place self.old)) }
-    {
-        self.own.remove_existing(oldest, place.number());
-        self.shared.exchange(None, hash, slot, old_hash, slot);
-        self.own.insert(None, old_hash, place.number());
     }
 }
