@@ -33,6 +33,10 @@ module _ {K : Type 0} (eq : K → K → Bool) where
   distinct-take (suc k) [] d = tt
   distinct-take (suc k) (e ∷ es) d = (key_absent-take e.1 k es d.0, distinct-take k es d.1)
 
+no-place : (ps : List ℕ) → length ps ≡ 0 → ps ≡ []
+no-place [] e = refl
+no-place (p ∷ ps) e = absurd (omega arith)
+
 -- if the limit is zero, the resident only leaves
 pub pushed-nowhere : {K V : Type 0} {eq : K → K → Bool} {index : IndexState} {order : PlaceOrder} {keys : KeyPlaces K V} (hash slot oldest : ℕ) → IsHistory eq index order keys → order.limit ≡ 0
     → pushed_places order.limit hash slot oldest (places_from index order) ≡ places_from (left hash slot index) order
@@ -40,11 +44,13 @@ pushed-nowhere {index = index} {order} hash slot oldest h none =
     let p = places_from index order in
     let within : length order.places ≤ 0 = omega (arith, h.whole.within, none) in
     ap (λ b. if b then taking_free hash slot p else taking_oldest hash slot oldest (last_or None order.places) p) (le-ltb (length order.places) order.limit (omega (arith, none)))
-    ∙ ap (λ z. taking_oldest hash slot oldest (last_or None z) p) (empty order.places (omega (arith, within)))
-  where
-    empty : (ps : List ℕ) → length ps ≡ 0 → ps ≡ []
-    empty [] e = refl
-    empty (p ∷ ps) e = absurd (omega arith)
+    ∙ ap (λ z. taking_oldest hash slot oldest (last_or None z) p) (no-place order.places (omega (arith, within)))
+
+-- and its key is not remembered
+pub none-kept : {K V : Type 0} {eq : K → K → Bool} {index : IndexState} {order : PlaceOrder} {keys : KeyPlaces K V} (e : ℕ × K) → IsHistory eq index order keys → order.limit ≡ 0
+    → entries_of keys.entries order.places ≡ take order.limit (e ∷ entries_of keys.entries order.places)
+none-kept {order = order} {keys} e h none =
+    ap (λ z. entries_of keys.entries z) (no-place order.places (omega (arith, h.whole.within, none))) ∙ ap (λ n. take n (e ∷ entries_of keys.entries order.places)) (sym none)
 
 -- the slots after a key leaves
 module _ (limit hash slot oldest : ℕ) (p : Places) (below : slot < first_remembered) where

@@ -1,10 +1,11 @@
 -- A key that takes a place, with a value or with the one that the place had; and the room that a resident leaves in the
 -- index.
-use Rattle.std.proofs.Common.{◌≡◌, ℕ, ◌<◌, Some, None, List, length, refl, ap, ◌∙◌, arith}
+use Rattle.std.proofs.Common.{◌≡◌, ℕ, ◌<◌, Bool, false, Some, None, List, length, refl, ap, ◌∙◌, arith}
 use Rattle.std.specs.Prelude.{slice_set}
 use Rattle.clock2q_directory.specs.declared.keys.store.Entry.{Entry}
 use Rattle.clock2q_directory.specs.Keys.{entry, written, with_key, hash_at, Writes}
 use Rattle.clock2q_directory.specs.Index.{slots, IsHeld}
+use Rattle.clock2q_directory.specs.History.{is_remembered, MayRetire}
 use Rattle.clock2q_directory.specs.Directory.{Known, IsResident}
 use Rattle.clock2q_directory.proofs.Entries.{slice_get_some, set-written, value-there}
 use Rattle.clock2q_directory.proofs.Indexes.{named-own}
@@ -26,3 +27,8 @@ resident-held {d = d} {slot} {old} r at = record {
   below = omega (arith, r.below);
   there = r.indexed.listed old slot ∙ rw (r.there, named-own (slots d.history.places.index) d.residents.entries old slot at) refl;
 }
+
+-- and its key may be remembered, unless it is
+pub may-retire : {K V : Type 0} {eq : K → K → Bool} {key : K} {d : Known K V} {slot old : ℕ} → IsResident slot d → hash_at d.residents.entries slot ≡ Some old → is_remembered eq key d.history.entries ≡ false
+    → MayRetire eq old slot key d.history
+may-retire r at absent = record { held = resident-held r at; absent = absent }

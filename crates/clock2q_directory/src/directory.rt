@@ -1,23 +1,18 @@
-//! The directory itself: lookups, and access to keys and values by slot.
-ghost use Rattle.std.specs.Prelude.{◌≡◌, ℕ, ◌+◌, ◌^◌, ◌<◌, None, Some, length, map, IfOk, IfSome};
+//! The directory itself, and access to keys and values by slot.
+ghost use Rattle.std.specs.Prelude.{◌≡◌, ℕ, ◌+◌, ◌^◌, ◌<◌, Some, length, IfOk};
 ghost use Rattle.std.specs.Borrow.{sem};
-ghost use Rattle.std.specs.List.{find, AllByRecursion};
-ghost use Rattle.clock2q_handles.specs.Homes.{candidates};
-ghost use Rattle.clock2q_queues.specs.Cells.{Rises};
-ghost use Rattle.clock2q_directory.specs.Keys.{hash_at, key_at, value_at, with_value, is_key_at, comparisons_of};
-ghost use Rattle.clock2q_directory.specs.Indexes.{HasHash};
-ghost use Rattle.clock2q_directory.specs.Index.{slots, places, IsGapFor, IsWithinCapacity};
-ghost use Rattle.clock2q_directory.specs.History.{IsWholeHistory, place_of, places_looked_up, found_slot, found_place, found_gap};
+ghost use Rattle.clock2q_directory.specs.Keys.{key_at, value_at, with_value, is_key_at};
+ghost use Rattle.clock2q_directory.specs.Index.{IsWithinCapacity};
+ghost use Rattle.clock2q_directory.specs.History.{IsWholeHistory};
 ghost use Rattle.clock2q_directory.specs.Directory.{nothing_known};
 ghost use Rattle.clock2q_directory.specs.DirectoryLends.{LendsValueOf};
 
 mod changes;
-mod hashed;
+mod lookups;
 
-use crate::history::{Found, History};
+use crate::index::Index;
 use crate::keys::Keys;
-use crate::place::Place;
-use clock2q_count::Count;
+use clock2q_queues::order::Order;
 use std::alloc::{AllocError, Allocator, Global};
 use std::marker::Model;
 
@@ -41,18 +36,23 @@ use std::marker::Model;
 /// ```
 #[derive(Drop)]
 pub struct Directory<K: Eq, V, A: Allocator = Global> {
-    history: History<K, A>,
+    index: Index<A>,
+    order: Order<A>,
+    remembered: Keys<K, (), A>,
     residents: Keys<K, V, A>,
 }
 
 impl<K: Eq, V, A: Allocator> Model for Directory<K, V, A> {
+    ghost use Rattle.clock2q_directory.specs.History.{remembered_from, IsHistory};
     ghost use Rattle.clock2q_directory.specs.Directory.{Known, known, known_code};
 
     ghost Value = { Known K V };
 
     ghost coded = { known_code K.code V.code };
 
-    ghost view = { λ d. known d.history d.residents };
+    ghost view = { λ d. known (remembered_from d.index d.order d.remembered) d.residents };
+
+    ghost invariant = { λ d. IsHistory K.eq d.index d.order d.remembered };
 }
 
 impl<K: Eq + Drop, V: Drop, A: Allocator + Copy> Directory<K, V, A> {
@@ -72,9 +72,12 @@ impl<K: Eq + Drop, V: Drop, A: Allocator + Copy> Directory<K, V, A> {
         requires short { limit < 2 ^ 24 }
         ensures made { IfOk result (λ d. d ≡ nothing_known slots limit) }
     {
-        let history = History::new(alloc, slots, limit)?;
-        let residents = Keys::new(alloc, slots)?;
-        Ok(Directory { history, residents })
+        Ok(Directory {
+            index: Index::new(alloc, slots, limit)?,
+            order: Order::new(alloc, limit as u32)?,
+            remembered: Keys::new(alloc, limit)?,
+            residents: Keys::new(alloc, slots)?,
+        })
     }
 }
 
@@ -85,7 +88,8 @@ impl<K: Eq, V, A: Allocator> Directory<K, V, A> {
         ensures whole { IsWholeHistory K.eq self.now.history }
         ensures within { IsWithinCapacity self.now.history.places.index }
     {
-        self.history.len()
+        let _ = self.index.is_shared(); // whose contract says that the entries fit
+        self.order.len() as usize
     }
 
     /// Returns the number of slots that have a key and a value, with a resident or without.
@@ -141,93 +145,6 @@ impl<K: Eq, V, A: Allocator> Directory<K, V, A> {
         ensures kept { self.new.history ≡ self.old.history }
     {
         self.residents.key_equals(slot, key)
-    }
-
-    /// Returns the slot of a resident key. It counts no comparison, and charges the index nothing.
-    pub fn slot_of(&self, hash: u64, key: &K) -> Option<u32>
-        requires made { AllByRecursion (λ slot. slot < length self.now.residents.entries)
-            (candidates (slots self.now.history.places.index) hash) }
-        ensures slot { result ≡
-            find (is_key_at K.eq key.now self.now.residents.entries)
-            (candidates (slots self.now.history.places.index) hash) }
-    {
-        let mut compared = Count::new();
-        self.residents
-            .find_counting_in(self.history.handles(hash), key, &mut compared)
-    }
-
-    /// Returns the slot of a resident key, and counts each comparison. Places are skipped. The index
-    /// is charged one lookup.
-    pub fn find_resident(&mut self, hash: u64, key: &K) -> Option<u32>
-        requires made { AllByRecursion (λ slot. slot < length self.old.residents.entries)
-            (candidates (slots self.old.history.places.index) hash) }
-        ensures slot { result ≡
-            find (is_key_at K.eq key.now self.old.residents.entries)
-            (candidates (slots self.old.history.places.index) hash) }
-        ensures counted { self.new.residents ≡
-            record self.old.residents {
-              comparisons = self.old.residents.comparisons +
-                  comparisons_of (is_key_at K.eq key.now self.old.residents.entries)
-                  (candidates (slots self.old.history.places.index) hash);
-            } }
-        ensures kept { self.new.history ≡
-            record self.old.history { places = places_looked_up hash self.old.history.places } }
-    {
-        self.history.find_resident(hash, key, &mut self.residents)
-    }
-
-    /// Returns the place of a remembered key, and counts each comparison. Slots are skipped. The
-    /// index is charged one lookup.
-    pub fn find_remembered(&mut self, hash: u64, key: &K) -> Option<Place>
-        requires hash { HasHash K.eq hash key.now self.old.history.entries }
-        ensures place { result ≡
-            place_of (K.eq key.now)
-            (map (λ e. e.1) self.old.history.entries) self.old.history.places.taken }
-        ensures kept { self.new.history ≡
-            record self.old.history {
-              places = places_looked_up hash self.old.history.places;
-              comparisons = self.new.history.comparisons;
-            } }
-        ensures residents { self.new.residents ≡ self.old.residents }
-        ensures comparisons { Rises 0
-            (length (candidates
-            (places self.old.history.places.index) hash)) self.old.history.comparisons self.new.history.comparisons }
-    {
-        self.history.find(hash, key)
-    }
-
-    /// Looks a key up among the residents and the remembered keys. The index is charged one lookup.
-    #[inline(always)]
-    pub fn lookup(&mut self, hash: u64, key: &K) -> Found
-        requires hash { HasHash K.eq hash key.now self.old.history.entries }
-        requires made { AllByRecursion (λ slot. slot < length self.old.residents.entries)
-            (candidates (slots self.old.history.places.index) hash) }
-        ensures slot { IfSome (found_slot result)
-            (λ slot. find (is_key_at K.eq key.now self.old.residents.entries)
-            (candidates (slots self.old.history.places.index) hash) ≡ Some slot) }
-        ensures place { found_slot result ≡ None →
-            found_place result ≡
-            place_of (K.eq key.now)
-            (map (λ e. e.1) self.old.history.entries) self.old.history.places.taken }
-        ensures absent { found_slot result ≡ None → found_place result ≡ None →
-            find (is_key_at K.eq key.now self.old.residents.entries)
-            (candidates (slots self.old.history.places.index) hash) ≡ None }
-        ensures gap { IsGapFor (found_gap result) hash self.old.history.places.index }
-        ensures residents { self.new.residents ≡
-            record self.old.residents { comparisons = self.new.residents.comparisons } }
-        ensures kept { self.new.history ≡
-            record self.old.history {
-              places = places_looked_up hash self.old.history.places;
-              comparisons = self.new.history.comparisons;
-            } }
-        ensures asked { Rises 0
-            (length (candidates
-            (slots self.old.history.places.index) hash)) self.old.residents.comparisons self.new.residents.comparisons }
-        ensures comparisons { Rises 0
-            (length (candidates
-            (places self.old.history.places.index) hash)) self.old.history.comparisons self.new.history.comparisons }
-    {
-        self.history.lookup(hash, key, &mut self.residents)
     }
 
     /// Raises the count of comparisons by an amount that the proof of the call picks. A caller that

@@ -2,8 +2,8 @@
 //! of the residents and the remembered ones, and the index of all of them. It is made of
 //!
 //! - [`Keys`](keys::Keys): keys by number, each with its hash and a value;
-//! - [`History`](history::History): the remembered keys in order, and the index;
-//! - [`Index`](index::Index): where each known key is, under its hash.
+//! - [`Index`](index::Index): where each known key is, under its hash;
+//! - `Order` of the queues: the places of the remembered keys, in order.
 //!
 //! Constructors take all the memory that will ever be needed, and no later call can fail.
 #![tactic(auto)]

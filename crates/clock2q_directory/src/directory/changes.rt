@@ -1,7 +1,19 @@
 //! What happens to a key: it enters, leaves, is remembered or forgotten.
+ghost use Rattle.std.specs.Prelude.{◌≡◌, ◌+◌, ◌^◌, ◌<◌, ◌≤◌, true, length, IfSome};
+ghost use Rattle.clock2q_handles.specs.Homes.{candidates};
+ghost use Rattle.clock2q_queues.specs.Order.{IsWholeOrder, used};
+ghost use Rattle.clock2q_queues.specs.Rings.{has};
+ghost use Rattle.clock2q_directory.specs.Keys.{entry, written};
+ghost use Rattle.clock2q_directory.specs.Indexes.{IsIndex};
+ghost use Rattle.clock2q_directory.specs.Index.{places, forgotten_if};
+ghost use Rattle.clock2q_directory.specs.History.{MakesPlace};
+
 use crate::directory::Directory;
+use crate::index::Index;
+use crate::keys::Keys;
 use crate::place::Place;
 use clock2q_handles::Gap;
+use clock2q_queues::order::Order;
 use std::alloc::Allocator;
 
 impl<K: Eq, V, A: Allocator> Directory<K, V, A> {
@@ -35,7 +47,7 @@ impl<K: Eq, V, A: Allocator> Directory<K, V, A> {
         ensures left { Leaves slot self.old self.new.history }
         ensures kept { self.new.residents ≡ self.old.residents }
     {
-        self.history.leave(self.residents.hash(slot), slot);
+        self.index.remove_slot(self.residents.hash(slot), slot);
     }
 
     /// Removes the resident at a slot from the index, remembers its key as the newest, and returns
@@ -51,7 +63,20 @@ impl<K: Eq, V, A: Allocator> Directory<K, V, A> {
         ensures kept { self.new.residents ≡ self.old.residents }
     {
         let key = *self.residents.key(slot);
-        self.history.retire(self.residents.hash(slot), slot, key);
+        let hash = self.residents.hash(slot);
+        if self.order.limit() == 0 {
+            self.index.remove_slot(hash, slot);
+            return key;
+        }
+        let (place, oldest) = put_key(
+            &self.index,
+            &mut self.order,
+            &mut self.remembered,
+            hash,
+            key,
+        );
+        self.index.forget_oldest(oldest, place);
+        self.index.remember(hash, slot, place);
         key
     }
 
@@ -75,7 +100,14 @@ impl<K: Eq, V, A: Allocator> Directory<K, V, A> {
             (map (λ e. e.1) self.old.history.entries) self.old.history.places.taken) self.old.history.places }
         ensures accesses { Rises 0 7 self.old.history.accesses self.new.history.accesses }
     {
-        self.history.forget(hash, key, place)
+        let _ = key;
+        let _ = self.order.len();
+        let Some(place) = place else {
+            return false;
+        };
+        self.index.forget(hash, place);
+        self.order.unlink(place.number());
+        true
     }
 
     /// Forgets every key, and drops them with the residents' values.
@@ -95,7 +127,9 @@ impl<K: Eq, V, A: Allocator> Directory<K, V, A> {
         ensures residents { self.new.residents ≡ record self.old.residents { entries = [] } }
     {
         self.residents.clear();
-        self.history.clear();
+        self.index.clear();
+        self.order.clear();
+        self.remembered.clear();
     }
 }
 
@@ -122,7 +156,7 @@ impl<K: Eq + Drop, V: Drop, A: Allocator> Directory<K, V, A> {
             } }
     {
         self.residents.put(slot, hash, key, value);
-        self.history.enter(gap, hash, slot);
+        self.index.add_slot(gap, hash, slot);
     }
 
     /// Makes a key the resident of a slot in place of another, which is no longer known, with a new
@@ -155,7 +189,7 @@ impl<K: Eq + Drop, V: Drop, A: Allocator> Directory<K, V, A> {
             } }
     {
         let old = self.residents.refill(slot, hash, key, value);
-        self.history.renew(gap, hash, slot, old.0);
+        self.index.renew(gap, hash, slot, old.0);
         old
     }
 
@@ -176,6 +210,53 @@ impl<K: Eq + Drop, V: Drop, A: Allocator> Directory<K, V, A> {
             } }
     {
         let (old_hash, old_key) = self.residents.refill(slot, hash, key, value);
-        self.history.remember(gap, hash, slot, old_hash, old_key);
+        if self.order.limit() == 0 {
+            self.index.renew(gap, hash, slot, old_hash);
+            return;
+        }
+        let (place, oldest) = put_key(
+            &self.index,
+            &mut self.order,
+            &mut self.remembered,
+            old_hash,
+            old_key,
+        );
+        self.index.succeed(gap, hash, slot, old_hash, place, oldest);
     }
+}
+
+/// Writes a key to a place at the front: to a free one, or, if every place has a key, to the oldest
+/// key's. Then it also returns the hash of that key, which the index still has.
+fn put_key<K: Drop, A: Allocator>(
+    index: &Index<A>,
+    order: &mut Order<A>,
+    keys: &mut Keys<K, (), A>,
+    hash: u64,
+    key: K,
+) -> (Place, Option<u64>)
+    requires indexed { IsIndex (places index.now) keys.old.entries order.old.places }
+    requires as_many { length keys.old.entries ≡ used order.old }
+    requires room { order.old.limit ≤ keys.old.room }
+    requires some { 0 < order.old.limit }
+    requires short { order.old.limit < 2 ^ 24 }
+    ensures made { MakesPlace index.now (forgotten_if result.1 result.0 index.now) order.old order.new
+        keys.old.entries result.0 }
+    ensures held { IfSome result.1
+        (λ oldest. has result.0 (candidates (places index.now) oldest) ≡ true) }
+    ensures written { keys.new ≡
+        record keys.old {
+          entries = written result.0 (entry hash key tt) keys.old.entries;
+          writes = keys.old.writes + 1;
+        } }
+    ensures whole { IsWholeOrder order.new }
+{
+    let _ = index;
+    if order.len() < order.limit() {
+        let place = Place::new(order.push());
+        keys.write(place.number(), hash, key, ());
+        return (place, None);
+    }
+    let place = Place::new(order.reuse_oldest());
+    let (oldest_hash, _) = keys.refill(place.number(), hash, key, Some(()));
+    (place, Some(oldest_hash))
 }

@@ -1,8 +1,13 @@
-use Rattle.std.proofs.Common.{arith}
+use Rattle.std.proofs.Common.{refl, arith}
+use Rattle.clock2q_directory.proofs.Histories.{IsHistory-index}
+use Rattle.clock2q_directory.proofs.Views.{places-entered, entered-like}
 use Rattle.clock2q_directory.proofs.directory.Directory.enter.Goals as goal
 
-pub put-requires : goal.put-requires
-put-requires g c = let v = rw (← c.self.view_is) at c.requires.vacant in record { next = v.next; had = v.had; room = v.room; few = v.few }
+pub invariant_of-self : goal.invariant_of-self
+invariant_of-self g c =
+    let i = c.self.inside.index in
+    rw c.add_slot.ensures.entered (IsHistory-index c.self.invariant
+    (places-entered i c.args.hash c.args.slot (omega (arith, c.requires.vacant.below))) (entered-like i c.args.hash c.args.slot).shared)
 
-pub enter-requires : goal.enter-requires
-enter-requires g c = let v = rw (← c.self.view_is) at c.requires.vacant in record { below = omega (arith, v.below); room = v.index_room; gap = rw (← c.self.view_is) at c.requires.gap }
+pub returns-clause-index : goal.returns-clause-index
+returns-clause-index g c = rw (← c.self.view_is, c.add_slot.ensures.entered) refl

@@ -1,12 +1,13 @@
--- The resident's slot is in the index under the hash of its key.
-use Rattle.clock2q_directory.proofs.Taking.{resident-held}
+use Rattle.std.proofs.Common.{refl, arith}
+use Rattle.clock2q_directory.proofs.Histories.{IsHistory-index}
+use Rattle.clock2q_directory.proofs.Views.{places-left, left-like}
 use Rattle.clock2q_directory.proofs.directory.Directory.leave.Goals as goal
 
-pub hash-requires : goal.hash-requires
-hash-requires g c = let r = rw (← c.self.view_is) at c.requires.resident in record { used = r.made }
-
-pub leave-requires : goal.leave-requires
-leave-requires g c = let r = rw (← c.self.view_is) at c.requires.resident in record { held = resident-held r c.hash.ensures.hash }
+pub invariant_of-self : goal.invariant_of-self
+invariant_of-self g c =
+    let i = c.self.inside.index in
+    rw c.remove_slot.ensures.left (IsHistory-index c.self.invariant
+    (places-left i c.hash.result c.args.slot (omega (arith, c.requires.resident.below))) (left-like i c.hash.result c.args.slot).shared)
 
 pub returns-clause-left : goal.returns-clause-left
-returns-clause-left g c = rw (← c.self.view_is) (record { hash = c.hash.result; had = c.hash.ensures.hash; becomes = c.leave.ensures.removed })
+returns-clause-left g c = rw (← c.self.view_is, c.remove_slot.ensures.left) (record { hash = c.hash.result; had = c.hash.ensures.hash; becomes = refl })

@@ -1,28 +1,62 @@
 -- The old key goes into the history, and its slot to the new one.
-use Rattle.clock2q_directory.proofs.Taking.{resident-held}
+use Rattle.std.proofs.Common.{◌≡◌, ◌<◌, ap, sym, ◌∙◌, arith}
+use Rattle.clock2q_directory.specs.Index.{first_remembered, forgotten_if, left, remembered_at}
+use Rattle.clock2q_directory.specs.History.{Remembered, remembered_from, entering_places, places_from}
+use Rattle.clock2q_directory.proofs.Histories.{IsHistory-index}
+use Rattle.clock2q_directory.proofs.Remembering.{remembers, pushed-nowhere, none-kept}
+use Rattle.clock2q_directory.proofs.Taking.{may-retire}
+use Rattle.clock2q_directory.proofs.Views.{places-entered, places-left, entered-like, left-like}
 use Rattle.clock2q_directory.proofs.directory.Directory.remember.Goals as goal
 
-pub refill-old_hash-requires : goal.refill-old_hash-requires
-refill-old_hash-requires g c = let r = rw (← c.self.view_is) at c.requires.resident in record { used = r.made }
+pub invariant_of-self : goal.invariant_of-self
+invariant_of-self g c =
+    let i = c.self.inside.index in
+    let old_hash = c.refill-old_hash.result.0 in
+    let below : c.args.slot < first_remembered = omega (arith, c.requires.resident.below) in
+    let less = left old_hash c.args.slot i in
+    rw c.renew.ensures.renewed (IsHistory-index c.self.invariant
+    (places-entered less c.args.hash c.args.slot below ∙ places-left i old_hash c.args.slot below)
+    ((entered-like less c.args.hash c.args.slot).shared ∙ (left-like i old_hash c.args.slot).shared))
 
-pub remember-requires : goal.remember-requires
-remember-requires g c =
-    let r = rw (← c.self.view_is) at c.requires.resident in
-    let absent = rw (← c.self.view_is) at c.requires.absent in
-    record {
-      may = record { held = resident-held r c.refill-old_hash.ensures.hash; absent = absent _ c.refill-old_hash.ensures.key };
-      gap = rw (← c.self.view_is) at c.requires.gap;
-      room = rw (← c.self.view_is) at c.requires.room;
-    }
+pub returns-then-limit-eq0-clause-index : goal.returns-then-limit-eq0-clause-index
+returns-then-limit-eq0-clause-index g c =
+    let i = c.self.inside in
+    let old_hash = c.refill-old_hash.result.0 in
+    let none : i.order.limit ≡ 0 = omega (arith, c.if-limit-eq0.true, c.limit.ensures) in
+    rw (← c.self.view_is) (record {
+      old_hash = old_hash;
+      old_key = c.refill-old_hash.result.1;
+      had_hash = c.refill-old_hash.ensures.hash;
+      had_key = c.refill-old_hash.ensures.key;
+      becomes = ap (λ es. record (remembered_from c.renew.new.self i.order i.remembered) { entries = es }) (none-kept (old_hash, c.refill-old_hash.result.1) c.self.invariant none);
+      places = ap (λ z. places_from z i.order) c.renew.ensures.renewed
+          ∙ ap (λ q. entering_places c.args.hash c.args.slot (places_from i.index i.order) q) (sym (pushed-nowhere old_hash c.args.slot _ c.self.invariant none));
+      accesses = (omega arith, omega arith);
+    })
+
+pub invariant_of-self-2 : goal.invariant_of-self-2
+invariant_of-self-2 g c =
+    let put = c.put_key-place.ensures in
+    let place = c.put_key-place.result.0 in
+    let old_hash = c.refill-old_hash.result.0 in
+    let below : c.args.slot < first_remembered = omega (arith, c.requires.resident.below) in
+    let may = may-retire (rw (← c.self.view_is) at c.requires.resident) c.refill-old_hash.ensures.hash ((rw (← c.self.view_is) at c.requires.absent) _ c.refill-old_hash.ensures.key) in
+    let r = remembers c.self.invariant put.made put.written put.whole may in
+    let then = remembered_at old_hash c.args.slot place (forgotten_if c.put_key-place.result.1 place c.self.inside.index) in
+    rw c.succeed.ensures.renewed (IsHistory-index r.whole (places-entered then c.args.hash c.args.slot below) (entered-like then c.args.hash c.args.slot).shared)
 
 pub returns-clause-index : goal.returns-clause-index
 returns-clause-index g c =
+    let put = c.put_key-place.ensures in
+    let order = c.put_key-place.new.order in
+    let may = may-retire (rw (← c.self.view_is) at c.requires.resident) c.refill-old_hash.ensures.hash ((rw (← c.self.view_is) at c.requires.absent) _ c.refill-old_hash.ensures.key) in
+    let r = remembers c.self.invariant put.made put.written put.whole may in
     rw (← c.self.view_is) (record {
       old_hash = c.refill-old_hash.result.0;
       old_key = c.refill-old_hash.result.1;
       had_hash = c.refill-old_hash.ensures.hash;
       had_key = c.refill-old_hash.ensures.key;
-      becomes = c.remember.ensures.pushed;
-      places = c.remember.ensures.places;
-      accesses = c.remember.ensures.accesses;
+      becomes = ap (λ (z : Remembered _). record z { places = places_from c.succeed.new.self order }) r.pushed;
+      places = ap (λ z. places_from z order) c.succeed.ensures.renewed ∙ ap (λ q. entering_places c.args.hash c.args.slot (places_from c.self.inside.index c.self.inside.order) q) r.places;
+      accesses = r.accesses;
     })

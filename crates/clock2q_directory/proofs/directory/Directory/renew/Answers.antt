@@ -1,14 +1,18 @@
--- The slot that leaves the index makes room for itself.
-use Rattle.clock2q_directory.proofs.Taking.{resident-held}
+use Rattle.std.proofs.Common.{◌<◌, refl, ◌∙◌, arith}
+use Rattle.clock2q_directory.specs.Index.{left, first_remembered}
+use Rattle.clock2q_directory.proofs.Histories.{IsHistory-index}
+use Rattle.clock2q_directory.proofs.Views.{places-entered, places-left, entered-like, left-like}
 use Rattle.clock2q_directory.proofs.directory.Directory.renew.Goals as goal
 
-pub refill-old-requires : goal.refill-old-requires
-refill-old-requires g c = let r = rw (← c.self.view_is) at c.requires.resident in record { used = r.made }
-
-pub renew-requires : goal.renew-requires
-renew-requires g c =
-    let r = rw (← c.self.view_is) at c.requires.resident in
-    record { held = resident-held r c.refill-old.ensures.hash; gap = rw (← c.self.view_is) at c.requires.gap; room = rw (← c.self.view_is) at c.requires.room }
+pub invariant_of-self : goal.invariant_of-self
+invariant_of-self g c =
+    let i = c.self.inside.index in
+    let old_hash = c.refill-old.result.0 in
+    let below : c.args.slot < first_remembered = omega (arith, c.requires.resident.below) in
+    let less = left old_hash c.args.slot i in
+    rw c.renew.ensures.renewed (IsHistory-index c.self.invariant
+    (places-entered less c.args.hash c.args.slot below ∙ places-left i old_hash c.args.slot below)
+    ((entered-like less c.args.hash c.args.slot).shared ∙ (left-like i old_hash c.args.slot).shared))
 
 pub returns-clause-index : goal.returns-clause-index
-returns-clause-index g c = rw (← c.self.view_is) c.renew.ensures.renewed
+returns-clause-index g c = rw (← c.self.view_is, c.renew.ensures.renewed) refl

@@ -1,7 +1,7 @@
 use Rattle.std.proofs.Common.{◌≡◌, length}
 use Rattle.clock2q_directory.specs.Keys.{is_key_at}
 use Rattle.clock2q_directory.proofs.Looking.{LooksOn}
-use Rattle.clock2q_directory.proofs.history.look_among.Given as goal
+use Rattle.clock2q_directory.proofs.directory.lookups.look_among.Given as goal
 
 abbrev pub invariant-loop-handle : goal.invariant-loop-handle
 invariant-loop-handle g l = record {

@@ -1,8 +1,8 @@
-use Rattle.std.proofs.Common.{◌≡◌, ap, sym, ◌∙◌, arith}
+use Rattle.std.proofs.Common.{◌≡◌, refl, ap, sym, ◌∙◌, arith}
 use Rattle.clock2q_directory.specs.Index.{forgotten_at}
 use Rattle.clock2q_directory.specs.History.{remembered_from, places_from, freed_place}
 use Rattle.clock2q_directory.proofs.Forgetting.{forgets, missed, place_there, place_held, place_short}
-use Rattle.clock2q_directory.proofs.history.History.forget.Goals as goal
+use Rattle.clock2q_directory.proofs.directory.Directory.forget.Goals as goal
 
 pub returns-in_default : goal.returns-in_default
 returns-in_default g c =
@@ -11,7 +11,8 @@ returns-in_default g c =
     let m = missed g.met.K.Eq.laws c.args.hash c.args.key.now c.self.invariant hashed (sym c.in_default.is ∙ placed) in
     rw (← c.self.view_is) (record {
       found = sym m.0;
-      forgotten = ap (λ es. record (remembered_from c.self.inside.index c.self.inside.order c.self.inside.keys) { entries = es }) (sym m.1);
+      forgotten = ap (λ es. record (remembered_from c.self.inside.index c.self.inside.order c.self.inside.remembered) { entries = es }) (sym m.1);
+      kept = refl;
       places = ap (λ z. freed_place c.args.hash z (places_from c.self.inside.index c.self.inside.order)) (sym c.in_default.is ∙ placed);
       accesses = (omega arith, omega arith);
     })
@@ -45,4 +46,4 @@ returns g c =
     let hashed = rw (← c.self.view_is) at c.requires.hash in
     let placed = rw (← c.self.view_is) at c.requires.place in
     let f = forgets g.met.K.Eq.laws c.args.hash c.args.key.now c.self.invariant hashed (sym c.in-Some.is ∙ placed) c.unlink.ensures.whole (rw c.number.ensures.number at c.unlink.ensures.order) in
-    rw (← c.self.view_is, gone) (record { found = sym f.found; forgotten = f.forgotten; places = f.places; accesses = f.accesses })
+    rw (← c.self.view_is, gone) (record { found = sym f.found; forgotten = f.forgotten; kept = refl; places = f.places; accesses = f.accesses })

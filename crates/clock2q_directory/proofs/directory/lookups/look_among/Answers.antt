@@ -4,7 +4,7 @@ use Rattle.clock2q_directory.specs.declared.history.Found.{Found}
 use Rattle.clock2q_directory.specs.History.{first_known}
 use Rattle.clock2q_directory.specs.Keys.{is_key_at}
 use Rattle.clock2q_directory.proofs.Looking.{looks-next, resident-there, resident-found, place-there, place-found}
-use Rattle.clock2q_directory.proofs.history.look_among.Goals as goal
+use Rattle.clock2q_directory.proofs.directory.lookups.look_among.Goals as goal
 
 pub key_equals-requires : goal.key_equals-requires
 key_equals-requires g c =

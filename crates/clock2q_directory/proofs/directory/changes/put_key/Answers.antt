@@ -1,9 +1,9 @@
 use Rattle.std.proofs.Common.{◌<◌, ◌≤◌, length, arith}
 use Rattle.clock2q_directory.specs.History.{MakesPlace}
 use Rattle.clock2q_directory.proofs.MakingPlaces.{MakesPlace-new, MakesPlace-oldest, oldest_held}
-use Rattle.clock2q_directory.proofs.history.put_key.Given.{Over}
-use Rattle.clock2q_directory.proofs.history.put_key.Goals.{After-new-place}
-use Rattle.clock2q_directory.proofs.history.put_key.Goals as goal
+use Rattle.clock2q_directory.proofs.directory.changes.put_key.Given.{Over}
+use Rattle.clock2q_directory.proofs.directory.changes.put_key.Goals.{After-new-place}
+use Rattle.clock2q_directory.proofs.directory.changes.put_key.Goals as goal
 
 made : (g : Over) (c : After-new-place g) → MakesPlace c.args.index.now c.args.index.now c.args.order.now c.push.new.self c.args.keys.now.entries c.new-place.result
 made g c =

@@ -1,0 +1,205 @@
+//! Where a key is: lookups of residents and of remembered keys.
+ghost use Rattle.std.specs.Prelude.{◌≡◌, ◌+◌, ◌<◌, false, None, Some, length, map, slice_get, IfSome, IsSome};
+ghost use Rattle.std.specs.List.{filter, find, AllByRecursion};
+ghost use Rattle.clock2q_handles.specs.Homes.{candidates};
+ghost use Rattle.clock2q_queues.specs.Cells.{Rises};
+ghost use Rattle.clock2q_directory.specs.Keys.{is_key_at, comparisons_of};
+ghost use Rattle.clock2q_directory.specs.Hashed.{has_hash};
+ghost use Rattle.clock2q_directory.specs.Indexes.{HasHash};
+ghost use Rattle.clock2q_directory.specs.Index.{is_shared, slots, places, slots_among, places_among, IsGapFor};
+ghost use Rattle.clock2q_directory.specs.History.{place_of, places_looked_up, found_slot, found_place, found_gap, first_known, Searches};
+
+use crate::directory::Directory;
+use crate::handle::Handle;
+use crate::history::Found;
+use crate::keys::Keys;
+use crate::place::Place;
+use clock2q_count::Count;
+use clock2q_handles::Candidates;
+use std::alloc::Allocator;
+
+impl<K: Eq, V, A: Allocator> Directory<K, V, A> {
+    /// Looks a key up among the residents and the remembered keys. The index is charged one lookup.
+    #[inline(always)]
+    pub fn lookup(&mut self, hash: u64, key: &K) -> Found
+        requires hash { HasHash K.eq hash key.now self.old.history.entries }
+        requires made { AllByRecursion (λ slot. slot < length self.old.residents.entries)
+            (candidates (slots self.old.history.places.index) hash) }
+        ensures slot { IfSome (found_slot result)
+            (λ slot. find (is_key_at K.eq key.now self.old.residents.entries)
+            (candidates (slots self.old.history.places.index) hash) ≡ Some slot) }
+        ensures place { found_slot result ≡ None →
+            found_place result ≡
+            place_of (K.eq key.now)
+            (map (λ e. e.1) self.old.history.entries) self.old.history.places.taken }
+        ensures absent { found_slot result ≡ None → found_place result ≡ None →
+            find (is_key_at K.eq key.now self.old.residents.entries)
+            (candidates (slots self.old.history.places.index) hash) ≡ None }
+        ensures gap { IsGapFor (found_gap result) hash self.old.history.places.index }
+        ensures residents { self.new.residents ≡
+            record self.old.residents { comparisons = self.new.residents.comparisons } }
+        ensures kept { self.new.history ≡
+            record self.old.history {
+              places = places_looked_up hash self.old.history.places;
+              comparisons = self.new.history.comparisons;
+            } }
+        ensures asked { Rises 0
+            (length (candidates
+            (slots self.old.history.places.index) hash)) self.old.residents.comparisons self.new.residents.comparisons }
+        ensures comparisons { Rises 0
+            (length (candidates
+            (places self.old.history.places.index) hash)) self.old.history.comparisons self.new.history.comparisons }
+    {
+        self.index.charge_lookup(hash); // once for both kinds
+        if self.index.is_shared() {
+            return look_among(
+                self.index.handles(hash),
+                key,
+                &mut self.residents,
+                &mut self.remembered,
+            );
+        }
+        self.lookup_apart(hash, key)
+    }
+
+    /// Looks a key up as `lookup` does, if the places have a table of their own. It finds no gap, and
+    /// the index is not charged.
+    fn lookup_apart(&mut self, hash: u64, key: &K) -> Found
+        requires apart { is_shared self.old.history.places.index ≡ false }
+        requires hash { HasHash K.eq hash key.now self.old.history.entries }
+        requires made { AllByRecursion (λ slot. slot < length self.old.residents.entries)
+            (candidates (slots self.old.history.places.index) hash) }
+        ensures found { Searches K.eq key.now hash result self.old.history self.old.residents self.new.history self.new.residents }
+        ensures gap { found_gap result ≡ None }
+    {
+        if let Some(slot) = self.residents.find(self.index.handles(hash), key) {
+            return Found::Resident(slot);
+        }
+        if let Some(place) = self.remembered.find(self.index.own_places(hash), key) {
+            return Found::Remembered(Place::new(place));
+        }
+        Found::Absent(None)
+    }
+
+    /// Returns the slot of a resident key, and counts each comparison. Places are skipped. The index
+    /// is charged one lookup.
+    pub fn find_resident(&mut self, hash: u64, key: &K) -> Option<u32>
+        requires made { AllByRecursion (λ slot. slot < length self.old.residents.entries)
+            (candidates (slots self.old.history.places.index) hash) }
+        ensures slot { result ≡
+            find (is_key_at K.eq key.now self.old.residents.entries)
+            (candidates (slots self.old.history.places.index) hash) }
+        ensures counted { self.new.residents ≡
+            record self.old.residents {
+              comparisons = self.old.residents.comparisons +
+                  comparisons_of (is_key_at K.eq key.now self.old.residents.entries)
+                  (candidates (slots self.old.history.places.index) hash);
+            } }
+        ensures kept { self.new.history ≡
+            record self.old.history { places = places_looked_up hash self.old.history.places } }
+    {
+        let found = self.residents.find(self.index.handles(hash), key);
+        self.index.charge_lookup(hash);
+        found
+    }
+
+    /// Returns the place of a remembered key, and counts each comparison. Slots are skipped. The
+    /// index is charged one lookup.
+    pub fn find_remembered(&mut self, hash: u64, key: &K) -> Option<Place>
+        requires hash { HasHash K.eq hash key.now self.old.history.entries }
+        ensures place { result ≡
+            place_of (K.eq key.now)
+            (map (λ e. e.1) self.old.history.entries) self.old.history.places.taken }
+        ensures kept { self.new.history ≡
+            record self.old.history {
+              places = places_looked_up hash self.old.history.places;
+              comparisons = self.new.history.comparisons;
+            } }
+        ensures residents { self.new.residents ≡ self.old.residents }
+        ensures comparisons { Rises 0
+            (length (candidates
+            (places self.old.history.places.index) hash)) self.old.history.comparisons self.new.history.comparisons }
+    {
+        self.index.charge_lookup(hash);
+        if self.index.is_shared() {
+            return self
+                .remembered
+                .find_remembered(self.index.handles(hash), key);
+        }
+        let place = self.remembered.find(self.index.own_places(hash), key)?;
+        Some(Place::new(place))
+    }
+
+    /// Returns the slot of a resident key. It counts no comparison, and charges the index nothing.
+    pub fn slot_of(&self, hash: u64, key: &K) -> Option<u32>
+        requires made { AllByRecursion (λ slot. slot < length self.now.residents.entries)
+            (candidates (slots self.now.history.places.index) hash) }
+        ensures slot { result ≡
+            find (is_key_at K.eq key.now self.now.residents.entries)
+            (candidates (slots self.now.history.places.index) hash) }
+    {
+        let mut compared = Count::new();
+        self.residents
+            .find_counting_in(self.index.handles(hash), key, &mut compared)
+    }
+
+    /// Returns the slot that comes after `nth` others among those of the residents whose keys have
+    /// this hash. It compares no key.
+    pub fn slot_with_hash(&self, hash: u64, nth: usize) -> Option<u32>
+        requires made { AllByRecursion (λ slot. slot < length self.now.residents.entries)
+            (candidates (slots self.now.history.places.index) hash) }
+        ensures slot { result ≡
+            slice_get (filter (has_hash self.now.residents.entries hash)
+            (candidates (slots self.now.history.places.index) hash)) nth }
+    {
+        self.residents
+            .with_hash(self.index.handles(hash), hash, nth)
+    }
+}
+
+/// Returns the first of `handles` that has `key`, as a resident or as a remembered key, or else the
+/// gap where they end.
+#[inline(always)]
+fn look_among<K: Eq, V, A: Allocator>(
+    mut handles: Candidates<'_, u32>,
+    key: &K,
+    residents: &mut Keys<K, V, A>,
+    remembered: &mut Keys<K, (), A>,
+) -> Found
+    requires walking { IsSome handles.end }
+    requires slots { AllByRecursion (λ slot. slot < length residents.old.entries)
+        (slots_among handles.left) }
+    requires places { AllByRecursion (λ place. place < length remembered.old.entries)
+        (places_among handles.left) }
+    ensures found { result ≡
+        first_known (is_key_at K.eq key.now residents.old.entries)
+        (is_key_at K.eq key.now remembered.old.entries) handles.entry.end handles.entry.left }
+    ensures residents { residents.new ≡
+        record residents.old { comparisons = residents.new.comparisons } }
+    ensures remembered { remembered.new ≡
+        record remembered.old { comparisons = remembered.new.comparisons } }
+    ensures asked { Rises 0
+        (length (slots_among handles.entry.left)) residents.old.comparisons residents.new.comparisons }
+    ensures comparisons { Rises 0
+        (length (places_among handles.entry.left)) remembered.old.comparisons remembered.new.comparisons }
+{
+    loop {
+        let handle = match handles.peek_or_gap() {
+            Ok(handle) => handle,
+            Err(gap) => return Found::Absent(Some(gap)),
+        };
+        match Handle::unpack(handle) {
+            Handle::Resident(slot) => {
+                if residents.key_equals(slot, key) {
+                    return Found::Resident(slot);
+                }
+            }
+            Handle::Remembered(place) => {
+                if remembered.key_equals(place.number(), key) {
+                    return Found::Remembered(place);
+                }
+            }
+        }
+        handles.advance();
+    }
+}
