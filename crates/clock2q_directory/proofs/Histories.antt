@@ -1,22 +1,15 @@
 -- A new history, one that was cleared, and what callers see of one.
-use Rattle.std.proofs.Common.{◌≡◌, ℕ, ◌+◌, ◌^◌, ◌<◌, ◌≤◌, Bool, true, false, List, [], length, refl, sym, ap, ◌∙◌, subst, arith}
-use Rattle.std.specs.Prelude.{if◌then◌else◌}
-use Rattle.clock2q_handles.specs.Homes.{total}
+use Rattle.std.proofs.Common.{◌≡◌, ℕ, ◌^◌, ◌<◌, ◌≤◌, Bool, List, [], length, refl, sym, ap, ◌∙◌, subst, arith}
 use Rattle.clock2q_directory.specs.declared.keys.store.Entry.{Entry}
 use Rattle.clock2q_queues.specs.Order.{PlaceOrder, IsWholeOrder, unused, used}
 use Rattle.clock2q_directory.specs.Keys.{KeyPlaces, entries_of}
 use Rattle.clock2q_directory.specs.Indexes.{IsIndex, AllDistinct}
 use Rattle.clock2q_directory.specs.Index as known
 use Rattle.clock2q_directory.specs.Index.{IndexState, emptied, index_for, is_shared, HasSlotRoom, HasRoomBeside}
-use Rattle.clock2q_directory.specs.Directory.{IsWithinRoom}
-use Rattle.clock2q_directory.specs.History.{Places, HasRoom, IsHistory, IsWholeHistory, remembered, remembered_from}
+use Rattle.clock2q_directory.specs.History.{Places, IsHistory, IsWholeHistory, remembered, remembered_from}
 use Rattle.clock2q_queues.proofs.Rings.{AllBelow-left}
 use Rattle.clock2q_directory.proofs.Entries.{length-entries}
 use Rattle.clock2q_directory.proofs.Emptied.{for-new, new-none, emptied-places, cleared_like}
-
-beside_most : (b : Bool) (n limit : ℕ) → n ≤ limit → (if b then n else 0) ≤ (if b then limit + 1 else 0)
-beside_most true n limit l = omega (arith, l)
-beside_most false n limit l = omega arith
 
 module _ {K V : Type 0} (eq : K → K → Bool) where
   pub IsHistory-new : (residents limit : ℕ) (keys : KeyPlaces K V) → 0 < residents → residents < 2 ^ 24 → limit < 2 ^ 24 → IsWholeOrder (unused limit)
@@ -51,19 +44,6 @@ module _ {K V : Type 0} {eq : K → K → Bool} {index : IndexState} {order : Pl
     own_room = λ e. rw same (h.own_room (sym shared ∙ e));
     short = h.short;
   }
-
-  -- room beside the most places that there may be is room beside those that there are
-  beside-most : (if is_shared index then total (known.places index) else 0) ≤ (if is_shared index then order.limit + 1 else 0)
-  beside-most = beside_most (is_shared index) (total (known.places index)) order.limit (omega (arith, h.indexed.counted, h.whole.within))
-
-  pub slot-room : HasRoom (remembered_from index order keys) → HasSlotRoom index
-  slot-room r = record { room = omega (arith, r.room, beside-most); few = omega (arith, r.few, beside-most) }
-
-  pub beside-room : IsWithinRoom (remembered_from index order keys) → HasRoomBeside index
-  beside-room r =
-      let less : is_shared index ≡ true → (if is_shared index then total (known.places index) else 0) < (if is_shared index then order.limit + 1 else 0) = (λ shared.
-      omega (arith, h.indexed.counted, h.whole.within, ap (λ b. if b then total (known.places index) else 0) shared, ap (λ b. if b then order.limit + 1 else 0) shared)) in
-      record { few = omega (arith, r.few, beside-most); spare = λ shared. record { room = omega (arith, r.room, less shared); few = omega (arith, r.few, less shared) } }
 
   pub IsHistory-cleared : {order' : PlaceOrder} {keys' : KeyPlaces K V} → IsWholeOrder order' → order' ≡ record order { places = []; free = [] } → keys' ≡ record keys { entries = [] }
       → IsHistory eq (emptied index) order' keys'

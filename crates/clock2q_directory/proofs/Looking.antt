@@ -78,9 +78,6 @@ pub shared-gap : (hash : ℕ) (v : IndexState) (o : Option GapValue) → IfSome 
 shared-gap hash v None is p = tt
 shared-gap hash v (Some g) is p = (is, p)
 
-pub no-gap : (hash : ℕ) (v : IndexState) (o : Option GapValue) → o ≡ None → IsGapFor o hash v
-no-gap hash v o none = rw none tt
-
 pub some-not : {X : Type 0} {x : X} → Some x ≡ None → ⊥
 some-not e = absurd (cc)
 

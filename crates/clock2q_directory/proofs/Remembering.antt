@@ -1,10 +1,9 @@
 -- A key put at the front of the history.
-use Rattle.std.proofs.Common.{◌≡◌, ℕ, zero, suc, ◌+◌, ◌-◌, ◌^◌, ◌<◌, ◌≤◌, Bool, true, false, eqb, ltb, Option, Some, None, slice_get, List, [], ◌∷◌, length, take, inl, inr, refl, sym, ap, ◌∙◌, subst, arith}
+use Rattle.std.proofs.Common.{◌≡◌, ℕ, zero, suc, ◌+◌, ◌-◌, ◌<◌, ◌≤◌, Bool, true, false, eqb, ltb, Option, Some, None, slice_get, List, [], ◌∷◌, length, take, inl, inr, refl, sym, ap, ◌∙◌, subst, arith}
 use Rattle.std.specs.Prelude.{if◌then◌else◌}
 use Rattle.std.specs.List.{last_or}
 use Rattle.std.proofs.lemmas.Bool.{both_ways, cases_Bool, eq-eqb, le-ltb}
-use Rattle.std.proofs.lemmas.List.{length-take}
-use Rattle.clock2q_handles.specs.Homes.{total, capacity, removed}
+use Rattle.clock2q_handles.specs.Homes.{removed}
 use Rattle.clock2q_directory.specs.Index as known
 use Rattle.clock2q_directory.specs.Index.{IndexState, first_remembered, left, remembered_at, forgotten_at, HasPlaceRoom, IsHeld}
 use Rattle.clock2q_directory.specs.declared.keys.store.Entry.{Entry}
@@ -95,19 +94,6 @@ module _ {K : Type 0} {eq : K → K → Bool} {index index1 : IndexState} {order
     (h : IsHistory eq index order keys) (m : MakesPlace index index1 order order' keys.entries place) where
   abbrev pub fewer : List ℕ
   fewer = take (order.limit - 1) order.places
-
-  fewer_now : total (known.places index1) < order.limit
-  fewer_now = omega (arith, length-take (order.limit - 1) order.places, m.indexed.counted, m.below)
-
-  -- a table of the places' own has room for the place
-  pub place_room : HasPlaceRoom index1
-  place_room = record {
-    room = λ own. omega (arith, fewer_now, h.own_room (sym m.shared ∙ own), ap capacity m.as_many);
-    few = λ own. omega (arith, fewer_now, h.short);
-  }
-
-  pub place_below : place < 2 ^ 24
-  place_below = omega (arith, m.below, h.short)
 
   -- the slot is still there
   pub still_held : {hash slot : ℕ} → IsHeld hash slot index → IsHeld hash slot index1

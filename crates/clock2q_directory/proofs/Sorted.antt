@@ -121,9 +121,6 @@ pub sorted-remembered : {v : IndexState} (x s p : ℕ) → s < first_remembered 
 sorted-remembered {v} x s p below sorts =
     sorted v (index_state (removed eqb v.shared x s) (with_handle v.own x p)) sorts (length-taken v.shared x s) (length-put v.own x p) (λ _. others-left v.shared x s below)
 
-pub sorted-own : {v : IndexState} (own : List (List (ℕ × ℕ))) → length own ≡ length v.own → IsSorted v → IsSorted (index_state v.shared own)
-sorted-own {v} own same sorts = sorted v (index_state v.shared own) sorts refl same (λ _. refl)
-
 pub sorted-cleared : (v : IndexState) → IsSorted v → IsSorted (index_state (no_entries (length v.shared)) (no_entries (length v.own)))
 sorted-cleared v s =
     let same : length (no_entries {E = ℕ × ℕ} (length v.own)) ≡ length v.own = length-replicate {A = List (ℕ × ℕ)} (length v.own) [] in
