@@ -51,15 +51,15 @@ impl<K: Eq, V, A: Allocator> Directory<K, V, A> {
             (places self.old.history.places.index) hash)) self.old.history.comparisons self.new.history.comparisons }
     {
         self.index.charge_lookup(hash); // once for both kinds
-        if self.index.is_shared() {
-            return look_among(
-                self.index.handles(hash),
-                key,
-                &mut self.residents,
-                &mut self.remembered,
-            );
+        if !self.index.is_shared() {
+            return self.lookup_apart(hash, key);
         }
-        self.lookup_apart(hash, key)
+        look_among(
+            self.index.handles(hash),
+            key,
+            &mut self.residents,
+            &mut self.remembered,
+        )
     }
 
     /// Looks a key up as `lookup` does, if the places have a table of their own. It finds no gap, and

@@ -21,13 +21,13 @@ look_among-requires-clause-slots g c =
 
 pub look_among-requires-clause-places : goal.look_among-requires-clause-places
 look_among-requires-clause-places g c =
-    let is = sym (shared g (goal.at.look_among-requires-clause-places g c).After-is_shared) ∙ c.if-is_shared.true in
+    let is = sym (shared g (goal.at.look_among-requires-clause-places g c).After-is_shared) ∙ c.if-not-is_shared.false in
     rw (c.handles.ensures.handles, c.charge_lookup.ensures.looked) (shared-places c.self.invariant c.args.hash is)
 
-pub returns-then-is_shared : goal.returns-then-is_shared
-returns-then-is_shared g c =
+pub returns : goal.returns
+returns g c =
     let i = c.self.inside in
-    let is = sym (shared g (goal.at.returns-then-is_shared g c).After-is_shared) ∙ c.if-is_shared.true in
+    let is = sym (shared g (goal.at.returns g c).After-is_shared) ∙ c.if-not-is_shared.false in
     let a = is_key_at g.K.PartialEq.eq c.args.key.now i.residents.entries in
     let b = is_key_at g.K.PartialEq.eq c.args.key.now i.remembered.entries in
     let f : IsFirst a b c.handles.result.end c.handles.result.left c.look_among.result = rw c.look_among.ensures.found (first-known _ _ _ c.handles.result.left) in
