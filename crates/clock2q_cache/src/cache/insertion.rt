@@ -100,9 +100,17 @@ impl<K: Hash + Eq + Drop, V: Drop, S: BuildHasher, A: Allocator> Cache<K, V, S, 
             (leaves_placed main self.old.machine) result.0 result.1 }
     {
         if main {
-            self.insert_into_main(gap, hash, key, value, leaves)
+            if self.main_is_full() {
+                self.replace_victim(gap, hash, key, value, leaves)
+            } else {
+                (self.join_main(gap, hash, key, value), None)
+            }
+        } else if self.has_vacancy() {
+            (self.join_small(gap, hash, key, value), None)
+        } else if self.tail_is_promoted() {
+            self.promote_tail(gap, hash, key, value, leaves)
         } else {
-            self.insert_into_small(gap, hash, key, value, leaves)
+            self.evict_tail(gap, hash, key, value, leaves)
         }
     }
 
@@ -126,6 +134,7 @@ impl<K: Hash + Eq + Drop, V: Drop, S: BuildHasher, A: Allocator> Cache<K, V, S, 
     fn main_is_full(&self) -> bool
         ensures full { result ≡
             (length self.now.machine.main == main_share self.now.machine.shares) }
+        ensures whole { IsWhole K.eq self.now.machine }
     {
         self.queues.main_len() == self.shares.main()
     }
@@ -150,31 +159,6 @@ impl<K: Hash + Eq + Drop, V: Drop, S: BuildHasher, A: Allocator> Cache<K, V, S, 
             share <= self.queues.small_len()
         } else {
             share == 0
-        }
-    }
-
-    /// Inserts a key into Main: in the slot of Main's victim if Main is full, otherwise in a free
-    /// slot.
-    fn insert_into_main<R, F: FnOnce(&K) -> R>(
-        &mut self,
-        gap: Option<Gap>,
-        hash: u64,
-        key: K,
-        value: Option<V>,
-        leaves: F,
-    ) -> (u32, Option<R>)
-        requires callable { F.IsAlwaysCallable leaves }
-        requires unknown { IsUnknown K.Hash S.BuildHasher S.Hasher.Hasher key hash gap self.old }
-        requires had { IfNone value
-            ((into_main key self.old.machine).slot < length self.old.machine.values) }
-        ensures entered { EntersMain K.Hash S.BuildHasher S.Hasher.Hasher key value
-            (main_inspections self.old.machine) result.0 self.old self.new }
-        ensures left { Notes F.FnOnce leaves (leaves_for_main self.old.machine) result.0 result.1 }
-    {
-        if self.queues.main_len() == self.shares.main() {
-            self.replace_victim(gap, hash, key, value, leaves)
-        } else {
-            (self.join_main(gap, hash, key, value), None)
         }
     }
 
@@ -211,36 +195,6 @@ impl<K: Hash + Eq + Drop, V: Drop, S: BuildHasher, A: Allocator> Cache<K, V, S, 
         self.directory.enter(gap, slot, hash, key, value);
         self.queues.append(slot);
         slot
-    }
-
-    /// Inserts a key into Small: in a free slot if there is one, otherwise in the slot of Small's
-    /// tail or of Main's victim.
-    fn insert_into_small<R, F: FnOnce(&K) -> R>(
-        &mut self,
-        gap: Option<Gap>,
-        hash: u64,
-        key: K,
-        value: Option<V>,
-        leaves: F,
-    ) -> (u32, Option<R>)
-        requires callable { F.IsAlwaysCallable leaves }
-        requires unknown { IsUnknown K.Hash S.BuildHasher S.Hasher.Hasher key hash gap self.old }
-        requires small { goes_to_main false self.old.machine ≡ false }
-        requires had { IfNone value
-            ((into_small key self.old.machine).slot < length self.old.machine.values) }
-        ensures entered { EntersSmall K.Hash S.BuildHasher S.Hasher.Hasher key value
-            (out_of_small self.old.machine)
-            (small_inspections self.old.machine) 29 result.0 self.old self.new }
-        ensures left { Notes F.FnOnce leaves
-            (leaves_placed false self.old.machine) result.0 result.1 }
-    {
-        if self.has_vacancy() {
-            (self.join_small(gap, hash, key, value), None)
-        } else if self.tail_is_promoted() {
-            self.promote_tail(gap, hash, key, value, leaves)
-        } else {
-            self.evict_tail(gap, hash, key, value, leaves)
-        }
     }
 
     /// Inserts a key into Small, which has room, at a vacancy.
