@@ -1,14 +1,14 @@
 -- The resident that leaves for a key, and what comes back of it.
-use Rattle.std.proofs.Common.{◌≡◌, ℕ, ◌<◌, ◌==◌, Bool, true, false, not, ◌&&◌, List, [], ◌∷◌, length, Option, Some, None, refl, sym, ap, ◌∙◌, subst, eq-eqb, ne_eqb, arith}
+use Rattle.std.proofs.Common.{◌≡◌, ℕ, ◌<◌, Bool, true, false, List, length, Option, Some, None, refl, sym, ap, ◌∙◌, subst, eq-eqb}
 use Rattle.std.specs.Borrow.{Bor}
+use Rattle.std.specs.Option.{IsSomeAnd}
 use Rattle.std.specs.Prelude.{IfSome, MatchOption}
 use Rattle.std.specs.Fn.{Once, FnOnceReturnsAt}
-use Rattle.clock2q_cache.proofs.Names.{if◌then◌else◌, is_some, slice_get, nat_lt, list_any, option_and_then, option_map, slice_get_within, last_or, main_share, Machine, Placement, slot_of, value_of, vacancy, vacant_slot, stored, inserted, IsWhole, Fills, placed, next_is_vacant, makes_slot, stored_same}
+use Rattle.clock2q_cache.proofs.Names.{if◌then◌else◌, is_some, slice_get, list_any, option_and_then, option_map, slice_get_within, last_or, main_share, Machine, Placement, slot_of, value_of, vacancy, stored, inserted, IsWhole, Fills, placed, stored_same}
 use Rattle.clock2q_machine.specs.Calls.{Put}
 use Rattle.clock2q_machine.specs.Entries.{first_of, from_victim}
 use Rattle.clock2q_machine.specs.Leaving.{leaves_for, leaves_for_main, leaves_for_small, victim_of, with_value}
-use Rattle.clock2q_cache.specs.Insertions.{leaves_placed, Notes}
-use Rattle.clock2q_cache.proofs.Insertions.{IsSent, goes-there}
+use Rattle.clock2q_cache.specs.Insertions.{IsSent, leaves_placed, Notes}
 use Rattle.clock2q_cache.proofs.Making.{small-unknown, placed-there, placed-values}
 
 -- a closure was called with the key that leaves
@@ -17,15 +17,9 @@ pub noted : {F K R : Type 0} (g : Once F (Bor K × Unit {0}) R) {f : F} {leaver 
 noted g {f} {leaver} {slot} {key} leaves called = record { noted = (key.now, leaves, (key, called, refl)) }
 
 module _ {K V : Type 0} (m : Machine K V) where
-  abbrev main_leaver : Bool → Option (K × ℕ)
-  main_leaver full = if full then first_of (from_victim m.main) else None
-
   -- for a key that enters Main
   pub full-leaver : length m.main ≡ main_share m.shares → leaves_for_main m ≡ first_of (from_victim m.main)
-  full-leaver full = ap main_leaver (eq-eqb (length m.main) (main_share m.shares) full)
-
-  pub room-leaver : length m.main < main_share m.shares → leaves_for_main m ≡ None
-  room-leaver room = ap main_leaver (ne_eqb (length m.main) (main_share m.shares) (λ e. omega (arith, e, room)))
+  full-leaver full = ap (λ b. if b then first_of (from_victim m.main) else None) (eq-eqb (length m.main) (main_share m.shares) full)
 
   -- for a key that enters Small at a vacancy
   pub vacant-leaver : is_some (vacancy m) ≡ true → leaves_placed false m ≡ None
@@ -34,21 +28,12 @@ module _ {K V : Type 0} (m : Machine K V) where
     by None some = cc
     by (Some slot) some = refl
 
-  -- none leaves if a slot is made
-  pub maker-leaves : (main : Bool) → makes_slot main m ≡ true → leaves_placed main m ≡ None
-  maker-leaves true makes = by (next_is_vacant m) (length m.main == main_share m.shares) makes where
-    by : (next full : Bool) → (next && not full) ≡ true → main_leaver full ≡ None
-    by true true makes = cc
-    by true false makes = refl
-    by false full makes = cc
-  maker-leaves false makes = vacant-leaver (by m.free makes) where
-    room : (b : Bool) → (((0 == 0) && b) && true) ≡ true → is_some (if b then Some (length m.values) else None) ≡ true
-    room true makes = refl
-    room false makes = cc
-
-    by : (free : List ℕ) → (((length free == 0) && nat_lt (length m.values) m.shares.capacity) && true) ≡ true → is_some (vacant_slot free (length m.values) m.shares.capacity) ≡ true
-    by [] makes = room (nat_lt (length m.values) m.shares.capacity) makes
-    by (slot ∷ slots) makes = refl
+-- what `map` returns if its closure returns `f` of a value
+pub map-gives : {X Y : Type 0} (f : X → Y) {P : X → Y → Type 0} (o : Option X) (r : Option Y) → MatchOption o (r ≡ None) (λ x. IsSomeAnd r (P x)) → ((x : X) (y : Y) → P x y → y ≡ f x)
+    → r ≡ option_map f o
+map-gives f None r none same = none
+map-gives f (Some x) None never same = absurd never
+map-gives f (Some x) (Some y) gave same = ap Some (same x y gave)
 
 -- what comes back of the resident that leaves, with the value of its slot
 module _ {K V : Type 0} (m : Machine K V) where
@@ -66,9 +51,6 @@ module _ {K V : Type 0} (m : Machine K V) where
           ap (λ k. Some (k, value)) (same e.0 note e.2)
           ∙ sym (ap handed e.1 ∙ ap (λ (o : Option V). option_map (λ (v : K × (ℕ × V)). (v.0, v.1.1)) (option_map (λ v. (e.0, (slot, v))) o)) there)
 
-  pub hands-none : {leaver : Option (K × ℕ)} → leaver ≡ None → None ≡ handed leaver
-  hands-none none = sym (ap handed none)
-
 -- of a put of a key that isn't resident
 pub victim-handed : {K V : Type 0} (eq : K → K → Bool) (m : Machine K V) (key : K) (value : V) → slot_of (eq key) m ≡ None
     → handed m (leaves_for (list_any (eq key) m.history) m) ≡ option_map (λ (v : K × (ℕ × V)). (v.0, v.1.1)) (victim_of eq (Put key value) m)
@@ -77,7 +59,7 @@ victim-handed eq m key value absent = sym (ap (λ (o : Option ℕ). handed m (if
 -- the same once the key's history is erased
 module _ {K V : Type 0} {is : K → Bool} {m m1 : Machine K V} {main : Bool} (s : IsSent is m m1 main) where
   pub leaver-there : leaves_placed main m1 ≡ leaves_for (list_any is m.history) m
-  leaver-there = ap (leaves_placed main) s.erased ∙ ap (λ b. leaves_placed b m) (goes-there s)
+  leaver-there = ap (leaves_placed main) s.erased ∙ ap (λ b. leaves_placed b m) s.goes
 
 -- a key that isn't resident has no value, and a resident has that of its slot
 module _ {K V : Type 0} (is : K → Bool) (m : Machine K V) (P : V → Type 0) where

@@ -1,11 +1,11 @@
 -- What the insertion of a key costs.
-use Rattle.std.proofs.Common.{◌≡◌, ℕ, ◌+◌, ◌<◌, ◌≤◌, ◌==◌, Bool, true, false, not, ◌&&◌, List, [], ◌∷◌, length, Option, Some, None, refl, ap, sym, ◌∙◌, subst, arith, eq-eqb, ne_eqb}
-use Rattle.clock2q_cache.proofs.Names.{if◌then◌else◌, is_some, IfSome, list_any, last_or, IsEquivalence, KeyPlaces, key_at, inspections, QueueState, Entry, Remembered, Places, Age, is_promoted, last_some, none_is, Shares, main_share, SmallEntry, Machine, slot_of, vacancy, goes_to_main, forgotten, goes_on, takes_victim, inspections_for, placed_inspections, main_inspections, small_inspections, machine_of, IsKept, counts_of, CacheState, Counts, Spends, accesses_for, discarded}
+use Rattle.std.proofs.Common.{◌≡◌, ℕ, ◌+◌, ◌<◌, ◌≤◌, Bool, false, not, ◌&&◌, List, [], ◌∷◌, length, Option, Some, None, refl, ap, sym, ◌∙◌, subst, arith}
+use Rattle.clock2q_cache.proofs.Names.{if◌then◌else◌, is_some, IfSome, list_any, last_or, IsEquivalence, KeyPlaces, key_at, inspections, QueueState, Entry, Remembered, Places, Age, is_promoted, last_some, none_is, Shares, SmallEntry, Machine, slot_of, vacancy, goes_to_main, forgotten, goes_on, inspections_for, small_inspections, machine_of, IsKept, counts_of, CacheState, Counts, Spends, accesses_for, discarded}
 use Rattle.clock2q_queues.specs.Cells.{Rises}
 use Rattle.clock2q_directory.specs.declared.history.Found.{Found}
 use Rattle.clock2q_directory.specs.History.{found_gap, freed_place}
 use Rattle.clock2q_directory.specs.Index.{IsGapFor}
-use Rattle.clock2q_cache.specs.Insertions.{IsFoundFor}
+use Rattle.clock2q_cache.specs.Insertions.{IsFoundFor, IsSent}
 use Rattle.clock2q_machine.specs.Entries as machine
 use Rattle.clock2q_cache.proofs.Spent.{spends-both, spends-more}
 use Rattle.clock2q_cache.proofs.WithKeys.{main-inspections}
@@ -42,13 +42,6 @@ no_last [] some none = omega (arith, some)
 no_last (x ∷ xs) some none = let l = last_some xs x in none_is l.0 (sym none ∙ l.1)
 
 module _ {K V : Type 0} (m : Machine K V) where
-  -- into a full Main, and into one with room
-  pub full-inspections : length m.main ≡ main_share m.shares → main_inspections m ≡ machine.inspections m.main
-  full-inspections full = ap (λ b. if b then machine.inspections m.main else 0) (eq-eqb (length m.main) (main_share m.shares) full)
-
-  pub room-inspections : length m.main < main_share m.shares → main_inspections m ≡ 0
-  room-inspections room = ap (λ b. if b then machine.inspections m.main else 0) (ne_eqb (length m.main) (main_share m.shares) (λ e. omega (arith, e, room)))
-
   -- into a full Small, whose tail moves on or is evicted
   tail-goes : (b : Bool) → 0 < length m.small → IfSome (last_or None m.small) (λ tail. b ≡ is_promoted tail.age) → goes_on (last_or None m.small) ≡ b
   tail-goes b some at = of (last_or None m.small) refl at where
@@ -61,33 +54,9 @@ module _ {K V : Type 0} (m : Machine K V) where
   tail-inspections b none some at = ap (λ v. if not v && goes_on (last_or None m.small) then machine.inspections m.main else 0) none
       ∙ ap (λ v. if v then machine.inspections m.main else 0) (tail-goes b some at)
 
-  -- into either
-  module _ (is : K → Bool) (absent : slot_of is m ≡ None) where
-    looks_of : inspections_for is m ≡ (if takes_victim is m then machine.inspections m.main else 0)
-    looks_of = ap (λ o. if is_some o then 0 else (if takes_victim is m then machine.inspections m.main else 0)) absent
-
-    insertion : inspections_for is m ≡ placed_inspections (goes_to_main (list_any is m.history) m) m
-    insertion = looks_of ∙ of (goes_to_main (list_any is m.history) m)
-      where
-        of : (b : Bool) → (if (if b then length m.main == main_share m.shares else not (is_some (vacancy m)) && goes_on (last_or None m.small)) then machine.inspections m.main else 0)
-            ≡ placed_inspections b m
-        of true = refl
-        of false = refl
-
--- a key whose history is erased first enters Main or Small
-pub record IsSent {K V : Type 0} (is : K → Bool) (m m1 : Machine K V) (main : Bool) : Type 0 where
-  pub known : Bool
-  pub had : known ≡ list_any is m.history
-  pub erased : m1 ≡ forgotten is m
-  pub goes : main ≡ goes_to_main known m1
-
-module _ {K V : Type 0} {is : K → Bool} {m m1 : Machine K V} {main : Bool} (s : IsSent is m m1 main) where
-  pub goes-there : main ≡ goes_to_main (list_any is m.history) m
-  goes-there = s.goes ∙ ap (λ z. goes_to_main s.known z) s.erased ∙ ap (λ b. goes_to_main b m) s.had
-
-  -- the number of inspections by the hand then
-  pub placed-inspections : slot_of is m ≡ None → placed_inspections main m1 ≡ inspections_for is m
-  placed-inspections absent = ap (placed_inspections main) s.erased ∙ ap (λ b. placed_inspections b m) goes-there ∙ sym (insertion m is absent)
+-- a key that is erased from the history enters Main or Small
+pub sent-by : {K V : Type 0} {is : K → Bool} {m m1 : Machine K V} {main known : Bool} → known ≡ list_any is m.history → m1 ≡ forgotten is m → main ≡ goes_to_main known m1 → IsSent is m m1 main
+sent-by {m = m} {known = known} had erased goes = record { erased = erased; goes = goes ∙ ap (goes_to_main known) erased ∙ ap (λ b. goes_to_main b m) had }
 
 -- the gap that a lookup found is still there then
 pub gap-still : {K V S : Type 0} {eq : K → K → Bool} (found : Found) {k : K} {x : ℕ} {c : CacheState K V S} {p : Places} → IsFoundFor eq found k x c
@@ -101,10 +70,6 @@ gap-still (Found.Absent (Some gap)) {x = x} {c = c} f erased =
 -- after a look at Small's tail
 pub looked-spends : {looks : ℕ} {a b c : Counts} → Spends 0 1 0 a b → Spends looks (looks + 28) 0 b c → Spends looks (looks + 29) 0 a c
 looked-spends before after = spends-both before after (omega arith) (omega arith) (omega arith)
-
--- after the key's history is erased
-pub forgotten-spends : {looks : ℕ} {a b c : Counts} → Spends 0 7 0 a b → Spends looks (looks + 29) 0 b c → Spends looks (looks + 36) 0 a c
-forgotten-spends before after = spends-both before after (omega arith) (omega arith) (omega arith)
 
 -- A key is looked up, and is hit or inserted.
 module _ {K V : Type 0} (is : K → Bool) (m : Machine K V) {r n : ℕ} {old found new : Counts} (asked : Spends 0 0 r old found) where

@@ -1,8 +1,13 @@
 -- When a key that is placed makes a slot, and when it finds a value in one.
 use Rattle.std.proofs.Common.{◌≡◌, ℕ, ◌<◌, ◌==◌, Bool, true, false, not, ◌&&◌, List, [], ◌∷◌, length, inl, inr, Option, Some, None, refl, sym, ap, ◌∙◌, subst, arith, eq-eqb, eqb-true, ne_eqb}
-use Rattle.clock2q_cache.proofs.Names.{if◌then◌else◌, nat_lt, is_some, IfSome, IfNone, IsEquivalence, count_by, last_or, UnwrapsOrElse, lt-ltb, le-ltb, eqb-false, ltb-true, ltb-false, slice_get_past, sum_by-cons, and_true, and_false, main_share, MainEntry, Machine, Placement, vacancy, vacant_slot, goes_to_main, into_main, into_small, into_small_at, joining_main, replacing_victim, placement, forgotten, slot_of, stored, reused, inserted, hit, fetched_value, IsWhole, Reuses, Takes, Fills, placed, next_is_vacant, makes_slot, one_if, some_is, none_is, counted_made, victim_made, no_vacancy, all_resident, placed-main, placed-small, length-from_victim, resident_made, get-within, slot_at_most, reused_value, stored_again, stored_same}
+use Rattle.clock2q_cache.proofs.Names.{HashMembers, CacheState, list_any, known_count, discarded, unknown_once_forgotten, if◌then◌else◌, nat_lt, is_some, IfSome, IfNone, IsEquivalence, count_by, last_or, UnwrapsOrElse, lt-ltb, le-ltb, eqb-false, ltb-true, ltb-false, slice_get_past, sum_by-cons, and_true, and_false, main_share, MainEntry, Machine, Placement, vacancy, vacant_slot, goes_to_main, into_main, into_small, into_small_at, joining_main, replacing_victim, placement, forgotten, slot_of, stored, reused, inserted, hit, fetched_value, IsWhole, Reuses, Takes, Fills, placed, next_is_vacant, makes_slot, one_if, some_is, none_is, counted_made, victim_made, no_vacancy, all_resident, placed-main, placed-small, length-from_victim, resident_made, get-within, slot_at_most, reused_value, stored_again, stored_same}
+use Rattle.clock2q_directory.specs.declared.history.Found.{Found}
+use Rattle.clock2q_directory.specs.History.{found_gap}
 use Rattle.clock2q_machine.specs.Entries.{from_victim}
-use Rattle.clock2q_cache.proofs.Insertions.{IsSent, goes-there}
+use Rattle.std.specs.declared.hash.Hasher as hasher
+use Rattle.std.specs.declared.hash.BuildHasher as builder
+use Rattle.clock2q_cache.specs.Insertions.{IsAbsent, IsFoundFor, IsSent, IsUnknown}
+use Rattle.clock2q_cache.proofs.Insertions.{gap-still}
 
 module _ {K V : Type 0} (eq : K → K → Bool) (m : Machine K V) (h : IsWhole eq m) where
   -- the vacancy is a new slot if none is free
@@ -56,10 +61,10 @@ goes-unknown false m e = e
 -- how a key is placed if its history is erased first
 module _ {K V : Type 0} (eq : K → K → Bool) (key : K) {m m1 : Machine K V} {main : Bool} (s : IsSent (eq key) m m1 main) where
   pub small-unknown : main ≡ false → goes_to_main false m1 ≡ false
-  small-unknown small = goes-unknown s.known m1 (sym s.goes ∙ small)
+  small-unknown small = goes-unknown (list_any (eq key) m.history) m1 (ap (goes_to_main (list_any (eq key) m.history)) s.erased ∙ sym s.goes ∙ small)
 
   pub placed-there : placed main key m1 ≡ placement (eq key) key m
-  placed-there = ap (placed main key) s.erased ∙ ap (λ b. placed b key (forgotten (eq key) m)) (goes-there s)
+  placed-there = ap (placed main key) s.erased ∙ ap (λ b. placed b key (forgotten (eq key) m)) s.goes
 
   pub fills-there : (value : Option V) (new : Machine K V) → Fills value (placed main key m1) m1 new → Fills value (placement (eq key) key m) m new
   fills-there value new f = grind (arith, placed-there)
@@ -75,6 +80,16 @@ module _ {K V : Type 0} (eq : K → K → Bool) (key : K) {m m1 : Machine K V} {
 
     pub values-there : (placement (eq key) key m).machine.values ≡ m.values
     values-there = ap (λ (p : Placement K V). p.machine.values) (sym placed-there) ∙ placed-values eq m1 whole key main small-unknown ∙ ap (λ (z : Machine K V). z.values) s.erased
+
+-- a key that is erased from the history is not known then
+pub still-unknown : {K V S H : Type 0} {key : HashMembers K} {build : builder.Ghosts S H} {hash : hasher.Ghosts H} {found : Found} {k : K} {x : ℕ} {old new : CacheState K V S}
+    → IsFoundFor key.eq found k x old → IsAbsent key build hash k x old → new.machine ≡ forgotten (key.eq k) old.machine → new.hasher ≡ old.hasher → new.known ≡ discarded (key.eq k) x old
+    → IsUnknown key build hash k x (found_gap found) new
+still-unknown {key = key} {found = found} {k} {old = old} f a erased hasher known = record {
+  hashed = rw hasher a.hashed;
+  absent = ap (known_count (key.eq k)) erased ∙ unknown_once_forgotten (key.eq k) old.machine a.absent;
+  at = gap-still found f known;
+}
 
 -- if no value is given, the slot was made before
 pub made-or-none : {V : Type 0} (value : Option V) (slot made : ℕ) → nat_lt slot made ≡ not (is_some value) → IfNone value (slot < made)

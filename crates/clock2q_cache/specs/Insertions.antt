@@ -3,7 +3,7 @@
 use Rattle.std.specs.Prelude.{◌≡◌, ℕ, ◌+◌, Bool, not, ◌&&◌, ◌==◌, if◌then◌else◌, nat_lt, length, Option, Some, None, MatchOption, is_some}
 use Rattle.std.specs.Borrow.{Bor}
 use Rattle.std.specs.Fn.{Once, FnOnceReturnsAt}
-use Rattle.std.specs.List.{last_or}
+use Rattle.std.specs.List.{last_or, list_any}
 use Rattle.std.specs.declared.hash.Hasher as hasher
 use Rattle.std.specs.declared.hash.BuildHasher as builder
 use Rattle.std.specs.HashMap.Lent.{HashMembers}
@@ -14,13 +14,13 @@ use Rattle.clock2q_directory.specs.declared.history.Found.{Found}
 use Rattle.clock2q_directory.specs.Index.{IsGapFor}
 use Rattle.clock2q_directory.specs.History.{place_of, found_place, found_gap}
 use Rattle.clock2q_directory.specs.Keys.{IsValueFor}
-use Rattle.clock2q_machine.specs.Machine.{Machine, Placement, vacancy, into_main, into_small, slot_of, stored}
+use Rattle.clock2q_machine.specs.Machine.{Machine, Placement, vacancy, forgotten, goes_to_main, into_main, into_small, slot_of, stored}
 use Rattle.clock2q_machine.specs.Whole.{known_count}
 use Rattle.clock2q_machine.specs.Bounds.{goes_on}
 use Rattle.clock2q_machine.specs.Leaving.{leaves_for_main, leaves_for_small}
 use Rattle.clock2q_cache.specs.CacheState.{CacheState}
 use Rattle.clock2q_cache.specs.Costs.{Spends}
-use Rattle.clock2q_cache.specs.Places.{Reindexes, hash_in, out_of}
+use Rattle.clock2q_cache.specs.Places.{Reindexes, discarded, hash_in, out_of}
 
 module _ {K V : Type 0} where
   -- for a key that enters Main
@@ -57,6 +57,11 @@ module _ {K V : Type 0} where
   -- the resident that leaves then
   abbrev pub leaves_placed : Bool → Machine K V → Option (K × ℕ)
   leaves_placed main m = if main then leaves_for_main m else leaves_for_small (vacancy m) (last_or None m.small) m.main
+
+-- a key is erased from the history, and goes into Main or into Small
+pub record IsSent {K V : Type 0} (is : K → Bool) (m m1 : Machine K V) (main : Bool) : Type 0 where
+  pub erased : m1 ≡ forgotten is m
+  pub goes : main ≡ goes_to_main (list_any is m.history) m
 
 -- what a lookup of a key with this hash found, unless it is resident: its place in the history, or the gap for it
 pub record IsFoundFor {K V S : Type 0} (eq : K → K → Bool) (found : Found) (k : K) (x : ℕ) (c : CacheState K V S) : Type 0 where
@@ -100,3 +105,10 @@ module _ {K V S H : Type 0} (key : HashMembers K) (build : builder.Ghosts S H) (
   abbrev pub EntersQueue : (main : Bool) → K → Option V → (slot : ℕ) → CacheState K V S → CacheState K V S → Type 0
   EntersQueue main k value slot old new =
       let m = old.machine in Enters k value (placed main k m) (out_of main m) (placed_inspections main m) 29 slot old new
+
+  -- a key that is not resident is erased from the history, and goes into Main or into Small
+  pub record Sends (k : K) (x : ℕ) (main : Bool) (old new : CacheState K V S) : Type 0 where
+    pub sent : IsSent (key.eq k) old.machine new.machine main
+    pub known : new.known ≡ discarded (key.eq k) x old
+    pub hasher : new.hasher ≡ old.hasher
+    pub counts : Spends 0 7 0 old.counts new.counts

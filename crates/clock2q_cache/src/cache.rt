@@ -96,6 +96,7 @@ impl<K: Hash + Eq, V, S: BuildHasher, A: Allocator> Cache<K, V, S, A> {
     ghost use Rattle.clock2q_cache.specs.Costs.{Becomes, Costs, Spends, alike};
     ghost use Rattle.clock2q_cache.specs.Hashes.{hash_of};
     ghost use Rattle.clock2q_cache.specs.Indexed.{IsIndexed, IsSpacious};
+    ghost use Rattle.clock2q_cache.specs.Insertions.{IsFoundFor};
     ghost use Rattle.std.specs.Bool.{then_some};
     ghost use Rattle.std.specs.List.{list_any};
     ghost use Rattle.clock2q_machine.specs.Machine.{resident_count, slot_of, value_of, hit, forgotten};
@@ -322,19 +323,18 @@ impl<K: Hash + Eq, V, S: BuildHasher, A: Allocator> Cache<K, V, S, A> {
         self.directory.lookup(hash, key)
     }
 
-    /// Returns the place of a remembered key.
-    pub(crate) fn find_place(&mut self, hash: u64, key: &K) -> Option<Place>
+    /// Looks a key that is not resident up in the history.
+    pub(crate) fn find_place(&mut self, hash: u64, key: &K) -> Found
         requires { hash ≡
             hash_of S.BuildHasher S.Hasher.Hasher self.old.hasher (K.hash_input key.now) }
-        ensures place { result ≡
-            place_of (K.eq key.now) self.old.machine.history self.old.known.taken }
+        ensures found { IsFoundFor K.eq result key.now hash self.new }
         ensures kept { self.new ≡
             record (looked_for K.Hash S.BuildHasher S.Hasher.Hasher key.now self.old) { counts = self.new.counts } }
         ensures counts { Spends 0 0
             (length (candidates
             (remembered_in self.old.known) hash)) self.old.counts self.new.counts }
     {
-        self.directory.find_remembered(hash, key)
+        Found::from_place(self.directory.find_remembered(hash, key))
     }
 
     /// Returns the slot of a resident key, and records a hit on it.

@@ -70,8 +70,7 @@ impl<K: Hash + Eq + Copy, V: Drop, S: BuildHasher, A: Allocator> Cache<K, V, S, 
         ensures counts { Spends (inspections_for (K.eq key) self.old.machine)
             (inspections_for (K.eq key) self.old.machine + 36) 0 self.old.counts self.new.counts }
     {
-        let known = self.forget(hash, &key, found.place());
-        let main = self.admits_to_main(known);
+        let main = self.choose_queue(hash, &key, &found);
         let gap = found.gap();
         if self.makes_slot(main) {
             self.insert_unknown(gap, hash, key, Some(value), main, |_| ());
@@ -79,8 +78,7 @@ impl<K: Hash + Eq + Copy, V: Drop, S: BuildHasher, A: Allocator> Cache<K, V, S, 
         }
         let (slot, left) = self.insert_unknown(gap, hash, key, None, main, |key| *key);
         let before = self.replace(slot, value);
-        let evicted = left?;
-        Some((evicted, before))
+        left.map(|evicted| (evicted, before))
     }
 
     /// Stores a value for a key as [`put`](Cache::put) does, and returns the key's slot and who had
@@ -132,10 +130,16 @@ impl<K: Hash + Eq + Copy, V: Drop, S: BuildHasher, A: Allocator> Cache<K, V, S, 
             (length (candidates
             (remembered_in self.old.known) hash)) self.old.counts self.new.counts }
     {
-        let place = self.find_place(hash, &key);
-        let known = self.forget(hash, &key, place);
-        let main = self.admits_to_main(known);
-        let (slot, left) = self.insert_unknown(None, hash, key, Some(value), main, |key| *key);
+        let found = self.find_place(hash, &key);
+        let main = self.choose_queue(hash, &key, &found);
+        let (slot, left) = self.insert_unknown(
+            found.gap(),
+            hash,
+            key,
+            Some(value),
+            main,
+            |key| *key,
+        );
         match left {
             Some(evicted) => (slot, Occupant::Other(evicted)),
             None => (slot, Occupant::Nobody),

@@ -14,13 +14,14 @@ impl<K: Hash + Eq + Drop, V: Drop, S: BuildHasher, A: Allocator> Cache<K, V, S, 
     ghost use Rattle.clock2q_machine.specs.Ages.{is_promoted};
     ghost use Rattle.clock2q_machine.specs.Whole.{IsWhole};
     ghost use Rattle.clock2q_handles.specs.Homes.{candidates};
+    ghost use Rattle.clock2q_directory.specs.History.{found_gap};
     ghost use Rattle.clock2q_machine.specs.Bounds.{inspections_for};
     ghost use Rattle.clock2q_cache.specs.Costs.{Spends};
     ghost use Rattle.clock2q_cache.specs.CacheState.{remembered_in};
     ghost use Rattle.clock2q_machine.specs.Entries.{inspections};
     ghost use Rattle.clock2q_cache.specs.Closures.{Reuses};
     ghost use Rattle.clock2q_cache.specs.Places.{known_at, looked_for, out_of_small};
-    ghost use Rattle.clock2q_cache.specs.Insertions.{EntersMain, EntersQueue, EntersSmall, IsAbsent, IsFoundFor, IsUnknown, Notes, placed, makes_slot, next_is_vacant, main_inspections, small_inspections, leaves_placed};
+    ghost use Rattle.clock2q_cache.specs.Insertions.{EntersMain, EntersQueue, EntersSmall, IsAbsent, IsFoundFor, IsUnknown, Notes, Sends, placed, makes_slot, next_is_vacant, main_inspections, small_inspections, leaves_placed};
     ghost use Rattle.clock2q_machine.specs.Leaving.{leaves_for, leaves_for_main};
     ghost use Rattle.clock2q_machine.specs.Machine.{vacancy, goes_to_main, into_main, into_small, placement, inserted};
 
@@ -36,8 +37,7 @@ impl<K: Hash + Eq + Drop, V: Drop, S: BuildHasher, A: Allocator> Cache<K, V, S, 
         ensures counts { Spends (inspections_for (K.eq key) self.old.machine)
             (inspections_for (K.eq key) self.old.machine + 36) 0 self.old.counts self.new.counts }
     {
-        let known = self.forget(hash, &key, found.place());
-        let main = self.admits_to_main(known);
+        let main = self.choose_queue(hash, &key, &found);
         self.insert_unknown(found.gap(), hash, key, Some(value), main, |_| ())
             .0
     }
@@ -70,11 +70,10 @@ impl<K: Hash + Eq + Drop, V: Drop, S: BuildHasher, A: Allocator> Cache<K, V, S, 
             (length (candidates
             (remembered_in self.old.known) hash)) self.old.counts self.new.counts }
     {
-        let place = self.find_place(hash, &key);
-        let known = self.forget(hash, &key, place);
-        let main = self.admits_to_main(known);
+        let found = self.find_place(hash, &key);
+        let main = self.choose_queue(hash, &key, &found);
         let value = self.makes_slot(main).then(make);
-        let (slot, left) = self.insert_unknown(None, hash, key, value, main, |_| ());
+        let (slot, left) = self.insert_unknown(found.gap(), hash, key, value, main, |_| ());
         (slot, left.is_some())
     }
 
@@ -147,19 +146,24 @@ impl<K: Hash + Eq + Drop, V: Drop, S: BuildHasher, A: Allocator> Cache<K, V, S, 
         self.directory.made() < self.shares.capacity() || !self.free.is_empty()
     }
 
-    /// Returns true if a key enters Main. `known` is true if it was in the history.
-    pub(super) fn admits_to_main(&self, known: bool) -> bool
-        ensures { result ≡ goes_to_main known self.now.machine }
+    /// Chooses the queue for a key that is not resident, for which a lookup found `found`, and erases
+    /// the key from the history. Returns true for Main.
+    pub(super) fn choose_queue(&mut self, hash: u64, key: &K, found: &Found) -> bool
+        requires found { IsFoundFor K.eq found.now key.now hash self.old }
+        requires absent { IsAbsent K.Hash S.BuildHasher S.Hasher.Hasher key.now hash self.old }
+        ensures sent { Sends K.Hash S.BuildHasher S.Hasher.Hasher key.now hash result self.old self.new }
+        ensures unknown { IsUnknown K.Hash S.BuildHasher S.Hasher.Hasher key.now hash
+            (found_gap found.now) self.new }
+        ensures small { result ≡ false → goes_to_main false self.new.machine ≡ false }
     {
-        if known {
+        if self.forget(hash, key, found.place()) {
             return true;
         }
         let share = self.shares.small();
         if self.has_vacancy() {
-            share <= self.queues.small_len()
-        } else {
-            share == 0
+            return share <= self.queues.small_len();
         }
+        share == 0
     }
 
     /// Inserts a key into a full Main, in place of its victim.

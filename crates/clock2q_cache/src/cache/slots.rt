@@ -1,6 +1,5 @@
 //! Calls by slot or by hash, for a caller that compares its keys itself, between two calls.
 use crate::cache::Cache;
-use clock2q_directory::history::Found;
 use std::alloc::Allocator;
 use std::hash::{BuildHasher, Hash};
 
@@ -176,7 +175,7 @@ impl<K: Hash + Eq + Drop, V: Drop, S: BuildHasher, A: Allocator> Cache<K, V, S, 
             return (slot as usize, false);
         }
         let _ = self.len(); // whose contract says that the cache is whole
-        let found = Found::from_place(self.find_place(hash, &key));
+        let found = self.find_place(hash, &key);
         (self.insert(hash, key, value, found) as usize, true)
     }
 }

@@ -1,6 +1,5 @@
 -- A full cache has an entry in Small, if Small has a share.
-use Rattle.std.proofs.Common.{true, false, None, sym, arith}
-use Rattle.clock2q_cache.proofs.Names.{last_or}
+use Rattle.std.proofs.Common.{sym, arith}
 use Rattle.clock2q_cache.proofs.Places.{key-out}
 use Rattle.clock2q_cache.proofs.Changed.{small-some}
 use Rattle.clock2q_cache.proofs.Insertions.{tail-inspections, looked-spends}
@@ -24,33 +23,13 @@ returns-then-has_vacancy-clause-entered g c = grind (arith, c.join_small.ensures
 
 pub returns-then-tail_is_promoted-clause-entered : goal.returns-then-tail_is_promoted-clause-entered
 returns-then-tail_is_promoted-clause-entered g c =
-    let e = c.promote_tail.ensures.entered in
-    let machine = c.tail_is_promoted.ensures.machine in
     let some = small-some _ c.args.self.now.machine c.has_vacancy.ensures.whole (sym c.if-has_vacancy.ensures.vacant) (c.requires.small c.if-main.false) in
-    let out = key-out true (last_or None c.args.self.now.machine.small) c.if-tail_is_promoted.ensures.value in
-    rw c.if-main.false (record {
-      slot = rw machine at e.slot;
-      machine = rw machine at e.machine;
-      indexes = rw (← c.if-has_vacancy.ensures.vacant, out) (rw c.tail_is_promoted.ensures.kept at e.indexes);
-      hasher = rw c.tail_is_promoted.ensures.kept at e.hasher;
-      counts = rw (tail-inspections c.args.self.now.machine true (sym c.if-has_vacancy.ensures.vacant) some c.if-tail_is_promoted.ensures.value)
-          (looked-spends c.tail_is_promoted.ensures.counts (rw machine at e.counts));
-    })
+    grind (arith, c.if-main.false, c.promote_tail.ensures.entered, c.tail_is_promoted.ensures.kept, c.tail_is_promoted.ensures.counts, key-out, tail-inspections, c.if-has_vacancy.ensures.vacant, c.if-tail_is_promoted.ensures.value, looked-spends)
 
 pub returns-else-tail_is_promoted-clause-entered : goal.returns-else-tail_is_promoted-clause-entered
 returns-else-tail_is_promoted-clause-entered g c =
-    let e = c.evict_tail.ensures.entered in
-    let machine = c.tail_is_promoted.ensures.machine in
     let some = small-some _ c.args.self.now.machine c.has_vacancy.ensures.whole (sym c.if-has_vacancy.ensures.vacant) (c.requires.small c.if-main.false) in
-    let out = key-out false (last_or None c.args.self.now.machine.small) c.if-tail_is_promoted.ensures.value in
-    rw c.if-main.false (record {
-      slot = rw machine at e.slot;
-      machine = rw machine at e.machine;
-      indexes = rw (← c.if-has_vacancy.ensures.vacant, out) (rw c.tail_is_promoted.ensures.kept at e.indexes);
-      hasher = rw c.tail_is_promoted.ensures.kept at e.hasher;
-      counts = rw (tail-inspections c.args.self.now.machine false (sym c.if-has_vacancy.ensures.vacant) some c.if-tail_is_promoted.ensures.value)
-          (looked-spends c.tail_is_promoted.ensures.counts e.counts);
-    })
+    grind (arith, c.if-main.false, c.evict_tail.ensures.entered, c.tail_is_promoted.ensures.kept, c.tail_is_promoted.ensures.counts, key-out, tail-inspections, c.if-has_vacancy.ensures.vacant, c.if-tail_is_promoted.ensures.value, looked-spends)
 
 pub returns-then-has_vacancy-clause-left : goal.returns-then-has_vacancy-clause-left
 returns-then-has_vacancy-clause-left g c = rw c.if-main.false (record { noted = vacant-leaver c.args.self.now.machine (sym c.if-has_vacancy.ensures.vacant) })

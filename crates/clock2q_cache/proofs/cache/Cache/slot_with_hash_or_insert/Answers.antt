@@ -20,7 +20,7 @@ pub returns-clause-resident : goal.returns-clause-resident
 returns-clause-resident g c = λ entered.
     let eq = g.K.PartialEq.eq in
     let m = c.args.self.now.machine in
-    let kept = ap (λ (z : CacheState _ _ _). z.machine) c.find_place.ensures.kept in
+    let kept = ap (λ (z : CacheState _ _ _). z.machine) c.find_place-found.ensures.kept in
     rw (c.insert.ensures.machine, c.insert.ensures.slot, kept)
     (entered_there eq g.met.K.Eq.laws m c.len.ensures.whole c.args.key (returns-clause-absent g c refl) c.args.value false
     (lasting-inserted eq g.met.K.Eq.laws c.args.key m c.len.ensures.whole (returns-clause-absent g c refl) c.args.value))
@@ -28,7 +28,7 @@ returns-clause-resident g c = λ entered.
 pub returns-clause-costs : goal.returns-clause-costs
 returns-clause-costs g c = λ entered.
     let is = g.K.PartialEq.eq c.args.key in
-    let kept = ap (λ (z : CacheState _ _ _). z.machine) c.find_place.ensures.kept in
+    let kept = ap (λ (z : CacheState _ _ _). z.machine) c.find_place-found.ensures.kept in
     let none = sym (returns-clause-absent g c refl) in
     let asked = ap (λ h. length (candidates (remembered_in c.args.self.now.known) h)) c.hash-hash.ensures in
     costs-of (c.insert.ensures.machine ∙ ap (inserted is c.args.key c.args.value) kept
@@ -36,15 +36,15 @@ returns-clause-costs g c = λ entered.
     (reaches-with (record { eq = g.K.PartialEq.eq; hash_input = g.K.Hash.hash_input }) g.S.BuildHasher g.S.Hasher.Hasher
     c.args.key g.met.K.Eq.laws g.met.K.Hash.respects_eq c.len.ensures.whole c.len.ensures.indexed.as_many
     c.len.ensures.within
-    (rw (← none) (rw (c.insert.ensures.slot, c.find_place.ensures.kept) at c.insert.ensures.known)))
-    (insert-spends is c.args.self.now.machine c.find_place.ensures.counts none kept c.insert.ensures.counts (omega (arith, asked)))
+    (rw (← none) (rw (c.insert.ensures.slot, c.find_place-found.ensures.kept) at c.insert.ensures.known)))
+    (insert-spends is c.args.self.now.machine c.find_place-found.ensures.counts none kept c.insert.ensures.counts (omega (arith, asked)))
 
 pub returns-clause-within : goal.returns-clause-within
 returns-clause-within g c =
     let eq = g.K.PartialEq.eq in
     let m = c.args.self.now.machine in
     let whole = lasting-inserted eq g.met.K.Eq.laws c.args.key m c.len.ensures.whole (returns-clause-absent g c refl) c.args.value in
-    let kept = ap (λ (z : CacheState _ _ _). z.machine) c.find_place.ensures.kept in
+    let kept = ap (λ (z : CacheState _ _ _). z.machine) c.find_place-found.ensures.kept in
     let there = entered_there eq g.met.K.Eq.laws m c.len.ensures.whole c.args.key (returns-clause-absent g c refl) c.args.value false whole in
     rw (c.insert.ensures.machine, c.insert.ensures.slot, kept)
     (omega (arith, resident_made eq g.met.K.Eq.laws (eq c.args.key) (inserted (eq c.args.key) c.args.key c.args.value m) whole _ there, whole.made_within))
