@@ -29,12 +29,12 @@ module _ {K V : Type 0} (q : QueueState) (h : Remembered K) (keys : KeyPlaces K 
 module _ {K V : Type 0} {eq : K → K → Bool} {hash : K → ℕ} {shares : Shares} {q : QueueState} {h : Remembered K} {index : List (List (ℕ × ℕ))} {keys : KeyPlaces K V} {free : List ℕ} {room : ℕ}
     (laws : IsEquivalence eq) (kept : IsKept eq hash shares q h index keys free room) where
   -- a key that takes the slot of Main's victim; any other change of the queues costs as much
-  pub victim-spends : {q' : QueueState} {keys' : KeyPlaces K V} {small : List (ℕ × Age)} {main : List (ℕ × Bool)} {es : List (Entry K V)} {n looks : ℕ}
-      → looks ≡ q.inspections + inspections q.main → Rises (inspections q.main) (inspections q.main + 28) q.accesses q'.accesses
+  pub victim-spends : {q' : QueueState} {keys' : KeyPlaces K V} {small : List (ℕ × Age)} {main : List (ℕ × Bool)} {es : List (Entry K V)} {n looks : ℕ} (most : ℕ)
+      → looks ≡ q.inspections + inspections q.main → Rises (inspections q.main) (inspections q.main + most) q.accesses q'.accesses
       → q' ≡ record q { small = small; main = main; accesses = q'.accesses; inspections = looks }
       → {places : Places} {h' : Remembered K} → h' ≡ record h { places = places } → keys' ≡ record keys { entries = es; writes = n }
-      → let m = machine_of shares q keys.entries h.entries free in Spends (machine.inspections m.main) (machine.inspections m.main + 28) 0 (counts_of q h keys) (counts_of q' h' keys')
-  victim-spends looks links queues moved renewed =
+      → let m = machine_of shares q keys.entries h.entries free in Spends (machine.inspections m.main) (machine.inspections m.main + most) 0 (counts_of q h keys) (counts_of q' h' keys')
+  victim-spends most looks links queues moved renewed =
       grind (arith, main-inspections (key_at keys.entries) q.main (main_have laws kept), inspections, links.0, links.1)
 
 pub no_last : {X : Type 0} (xs : List X) → 0 < length xs → last_or None xs ≡ None → ⊥

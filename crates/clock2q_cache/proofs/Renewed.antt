@@ -74,7 +74,7 @@ module _ {K V : Type 0} {eq : K → K → Bool} {hash : K → ℕ} {shares : Sha
     swept : from_victim q.main ≡ (victim, false) ∷ rest
     swept = first-is (from_victim q.main) (victim, false) first
 
-    rest_times : (t : ℕ) → times t (slots_of q.main) ≡ cond (victim == t) 1 0 + times t (slots_of rest)
+    pub rest_times : (t : ℕ) → times t (slots_of q.main) ≡ cond (victim == t) 1 0 + times t (slots_of rest)
     rest_times t = sym (times-split t (set_front q.main) q.main) ∙ ap (λ z. times t (slots_of z)) swept ∙ times-cons t victim (slots_of rest)
 
     victim_times : times victim (slots_of q.main) ≡ 1 + times victim (slots_of rest)
@@ -92,19 +92,19 @@ module _ {K V : Type 0} {eq : K → K → Bool} {hash : K → ℕ} {shares : Sha
     pub victim-in : has victim (places_of q) ≡ true
     victim-in = has-append victim (slots_of q.small) (slots_of q.main) ∙ rw (victim-not_in_small, victim-there) refl
 
-    length-rest : suc (length rest) ≡ length q.main
+    pub length-rest : suc (length rest) ≡ length q.main
     length-rest = sym (ap (λ (z : List (ℕ × Bool)). length z) swept) ∙ length-swept q.main
 
-    victim_key : (k : K) × (key_at keys.entries victim ≡ Some k)
+    pub victim_key : (k : K) × (key_at keys.entries victim ≡ Some k)
     victim_key = main_have laws kept victim victim-there
 
-    abbrev victim_entry : MainEntry K
+    abbrev pub victim_entry : MainEntry K
     victim_entry = record { key = victim_key.0; slot = victim; bit = false }
 
-    abbrev others : List (MainEntry K)
+    abbrev pub others : List (MainEntry K)
     others = with_keys_main (key_at keys.entries) rest
 
-    choice : machine.from_victim m.main ≡ victim_entry ∷ others
+    pub choice : machine.from_victim m.main ≡ victim_entry ∷ others
     choice = main-from_victim (key_at keys.entries) q.main (main_have laws kept)
         ∙ ap (λ z. with_keys_main (key_at keys.entries) z) swept ∙ keys-cons main_with (key_at keys.entries) (victim, false) rest victim_key.0 victim_key.1
 

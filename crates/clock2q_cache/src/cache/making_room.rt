@@ -5,7 +5,7 @@ use std::alloc::Allocator;
 use std::hash::{BuildHasher, Hash};
 
 impl<K: Hash + Eq + Copy, V: Drop, S: BuildHasher, A: Allocator> Cache<K, V, S, A> {
-    ghost use Rattle.std.specs.Prelude.{◌≡◌, ◌+◌, ◌<◌, length, None, Some};
+    ghost use Rattle.std.specs.Prelude.{◌≡◌, ◌+◌, ◌<◌, length, true, None, Some};
     ghost use Rattle.std.specs.List.{last_or};
     ghost use Rattle.std.specs.Option.{option_map};
     ghost use Rattle.clock2q_machine.specs.Calls.{Evict};
@@ -15,7 +15,7 @@ impl<K: Hash + Eq + Copy, V: Drop, S: BuildHasher, A: Allocator> Cache<K, V, S, 
     ghost use Rattle.clock2q_machine.specs.Shares.{main_share};
     ghost use Rattle.clock2q_machine.specs.Whole.{IsWhole};
     ghost use Rattle.clock2q_cache.specs.Costs.{Costs, Spends};
-    ghost use Rattle.clock2q_cache.specs.MakingRoom.{promoted, turned, retired_from};
+    ghost use Rattle.clock2q_cache.specs.MakingRoom.{retired_from};
     ghost use Rattle.clock2q_cache.specs.Hashes.{hash_of};
     ghost use Rattle.clock2q_cache.specs.Places.{left_by};
 
@@ -61,7 +61,7 @@ impl<K: Hash + Eq + Copy, V: Drop, S: BuildHasher, A: Allocator> Cache<K, V, S, 
 
     /// Evicts Main's victim, while Small's tail moves on to Main.
     fn evict_victim(&mut self) -> (K, usize)
-        requires some { 0 < length self.old.machine.main }
+        requires leaves { victim_leaves self.old.machine ≡ true }
         ensures left { first_of (from_victim self.old.machine.main) ≡ Some result }
         ensures machine { self.new.machine ≡
             victim_evicted (last_or None self.old.machine.small)
@@ -73,40 +73,15 @@ impl<K: Hash + Eq + Copy, V: Drop, S: BuildHasher, A: Allocator> Cache<K, V, S, 
         ensures counts { Spends (inspections self.old.machine.main)
             (inspections self.old.machine.main + 20) 0 self.old.counts self.new.counts }
     {
-        let slot = self.turn_hand();
-        let key = *self.key(slot);
-        self.vacate(slot);
-        self.promote();
+        let slot = self.queues.take_victim();
+        let key = *self.directory.key(slot);
+        self.directory.leave(slot);
+        free_slot(&mut self.free, slot);
+        let Some(tail) = self.queues.take_tail() else {
+            return (key, slot as usize);
+        };
+        self.queues.append(tail);
         (key, slot as usize)
-    }
-
-    /// Moves the hand on to Main's victim, and returns its slot.
-    fn turn_hand(&mut self) -> u32
-        requires some { 0 < length self.old.machine.main }
-        ensures first { option_map (λ r. r.1) (first_of (from_victim self.old.machine.main)) ≡
-            Some result }
-        ensures machine { self.new.machine ≡ turned self.old.machine }
-        ensures whole { IsWhole K.eq self.new.machine }
-        ensures known { self.new.known ≡ self.old.known }
-        ensures hasher { self.new.hasher ≡ self.old.hasher }
-        ensures counts { Spends (inspections self.old.machine.main)
-            (set_front self.old.machine.main) 0 self.old.counts self.new.counts }
-    {
-        self.queues.select()
-    }
-
-    /// Moves Small's tail to Main, which has room, if there is one.
-    fn promote(&mut self)
-        requires room { length self.old.machine.main < main_share self.old.machine.shares }
-        ensures machine { self.new.machine ≡
-            promoted (last_or None self.old.machine.small) self.old.machine }
-        ensures known { self.new.known ≡ self.old.known }
-        ensures hasher { self.new.hasher ≡ self.old.hasher }
-        ensures counts { Spends 0 13 0 self.old.counts self.new.counts }
-    {
-        if let Some(tail) = self.queues.take_tail() {
-            self.queues.append(tail);
-        }
     }
 
     /// Evicts Small's tail, which is remembered.

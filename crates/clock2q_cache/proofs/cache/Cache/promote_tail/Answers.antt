@@ -98,7 +98,7 @@ returns g c =
         indexes = entered-renewed g.met.K.Eq.laws c.self.invariant c.self.inside.directory.history.places c.args.key c.take_victim-slot.result (rw (← c.self.view_is) at c.requires.unknown.hashed)
             (victim-in g.met.K.Eq.laws c.self.invariant c.take_victim-slot.result c.take_victim-slot.ensures.victim) r.hash (ap (λ (z : Remembered _). z.places) r.index);
         hasher = refl;
-        counts = victim-spends g.met.K.Eq.laws c.self.invariant c.take_victim-slot.ensures.inspections
+        counts = victim-spends g.met.K.Eq.laws c.self.invariant 28 c.take_victim-slot.ensures.inspections
             (omega (arith, taken, c.in-Some.ensures.accesses.0, appended.0, admitted.0), omega (arith, taken, c.in-Some.ensures.accesses.1, appended.1, admitted.1, from_tail, from_victim, still.0, still.1))
             (rw (c.append.ensures.queues, c.in-Some.ensures.queues, c.take_victim-slot.ensures.queues, still.0, still.1) at c.admit.ensures.queues) r.index r.kept;
       };
