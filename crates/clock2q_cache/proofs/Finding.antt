@@ -1,8 +1,7 @@
 -- A lookup through the index finds the machine's slot of the key, and a hit there does what the machine's does.
 use Rattle.std.proofs.Common.{◌≡◌, ℕ, zero, suc, ◌+◌, ◌<◌, ◌≤◌, ◌⊎◌, Bool, true, false, ◌&&◌, cond, eqb, Option, Some, None, slice_get, List, [], ◌∷◌, ◌++◌, map, length, inl, inr, refl, sym, ap, ◌∙◌, subst, arith, eqb-true}
-use Rattle.clock2q_cache.proofs.Names.{IfSome, IsEquivalence, option_map, count_by, find, list_any, cons_option, AllByRecursion, cases_Bool, both_ways, or_cases, sum_by-cons, sum_by-append, candidates, or_true, touched, slots_of-hit, Entry, has, KeyPlaces, key_at, hashed_at, entries_of, is_key_at, AllDistinct, HasHash, small_hit_at, main_hit_at, then_some, QueueState, slots_of, Remembered, place_of, found_slot, found_place, has-append, has_first, below_of, same_place, key_there, any_entry, length-values, lookup, found_there, not_found, Shares, SmallEntry, MainEntry, Machine, slot_of, hit, is_at, IsWhole, machine_of, places_of, with_keys_small, with_keys_main, IsStored, IsKept, whole-hit, some_is, candidates_there}
+use Rattle.clock2q_cache.proofs.Names.{IfSome, IsEquivalence, option_map, count_by, find, list_any, cons_option, AllByRecursion, cases_Bool, both_ways, or_cases, sum_by-cons, sum_by-append, candidates, or_true, touched, slots_of-hit, Entry, has, KeyPlaces, key_at, hashed_at, entries_of, is_key_at, AllDistinct, HasHash, small_hit_at, main_hit_at, then_some, QueueState, slots_of, Remembered, place_of, found_slot, found_place, has-append, has_first, below_of, same_place, key_there, any_entry, length-values, lookup, found_there, not_found, Shares, SmallEntry, MainEntry, Machine, slot_of, hit, is_at, IsWhole, machine_of, places_of, IsStored, IsKept, whole-hit, some_is, candidates_there}
 use Rattle.clock2q_directory.specs.declared.history.Found.{Found}
-use Rattle.clock2q_machine.specs.Entries as machine
 use Rattle.clock2q_cache.proofs.WithKeys.{HaveKeys, have_later, paired, paired-cons, small-hit, main-hit}
 use Rattle.clock2q_cache.proofs.Indexed.{residents-paired}
 use Rattle.clock2q_cache.proofs.Stored.{have_keys}
@@ -208,26 +207,23 @@ module _ {K V : Type 0} {eq : K → K → Bool} {hash : K → ℕ} {shares : Sha
           passed : is_key_at eq key keys.entries t ≡ eq key k
           passed = key-compares keys.entries eq key t k at
 
-      pub hit-machine : (q' : QueueState) → q'.small ≡ small_hit_at slot q.small → q'.main ≡ main_hit_at slot q.main → machine_of shares q' keys.entries h.entries free ≡ hit (eq key) m
-      hit-machine q' small main =
-          let s : with_keys_small (key_at keys.entries) q'.small ≡ machine.small_hit (eq key) m.small =
-          ap (λ z. with_keys_small (key_at keys.entries) z) small ∙ small-hit (key_at keys.entries) (eq key) slot q.small
-          (λ t k g at. key-there k t (has-append t (slots_of q.small) (slots_of q.main) ∙ rw g refl) at) (small_have laws kept) in
-          let t : with_keys_main (key_at keys.entries) q'.main ≡ machine.main_hit (eq key) m.main =
-          ap (λ z. with_keys_main (key_at keys.entries) z) main ∙ main-hit (key_at keys.entries) (eq key) slot q.main
-          (λ t k g at. key-there k t (has-append t (slots_of q.small) (slots_of q.main) ∙ rw g (or_true (has t (slots_of q.small)))) at) (main_have laws kept) in
-          cc
+      module _ {q' : QueueState} (queues : q' ≡ record q { small = small_hit_at slot q.small; main = main_hit_at slot q.main }) where
+        pub hit-machine : machine_of shares q' keys.entries h.entries free ≡ hit (eq key) m
+        hit-machine =
+            let s = small-hit (key_at keys.entries) (eq key) slot q.small
+            (λ t k g at. key-there k t (has-append t (slots_of q.small) (slots_of q.main) ∙ rw g refl) at) (small_have laws kept) in
+            let t = main-hit (key_at keys.entries) (eq key) slot q.main
+            (λ t k g at. key-there k t (has-append t (slots_of q.small) (slots_of q.main) ∙ rw g (or_true (has t (slots_of q.small)))) at) (main_have laws kept) in
+            cc
 
-      pub kept-hit : (q' : QueueState) → q'.small ≡ small_hit_at slot q.small → q'.main ≡ main_hit_at slot q.main
-          → q'.slots ≡ q.slots → q'.made ≡ q.made → q'.window ≡ q.window → IsKept eq hash shares q' h index keys free room
-      kept-hit q' small main slots made window = record {
-        whole = subst (IsWhole eq) (sym (hit-machine q' small main)) (whole-hit eq m kept.whole (eq key));
-        stored = subst (λ z. IsStored hash index keys.entries z) (sym places) kept.stored;
-        hashed = kept.hashed;
-        linked = omega (arith, made, kept.linked);
-        sized = sized-same kept.sized slots window refl refl refl refl refl;
-      }
-        where
-          places : places_of q' ≡ places_of q
-          places = ap (λ z. slots_of z ++ slots_of q'.main) small ∙ ap (λ z. z ++ slots_of q'.main) (slots_of-hit touched slot q.small)
-              ∙ ap (λ z. slots_of q.small ++ slots_of z) main ∙ ap (λ z. slots_of q.small ++ z) (slots_of-hit (λ b. true) slot q.main)
+        pub kept-hit : IsKept eq hash shares q' h index keys free room
+        kept-hit =
+            let places : places_of (record q { small = small_hit_at slot q.small; main = main_hit_at slot q.main }) ≡ places_of q =
+            ap (λ z. z ++ slots_of (main_hit_at slot q.main)) (slots_of-hit touched slot q.small) ∙ ap (λ z. slots_of q.small ++ z) (slots_of-hit (λ b. true) slot q.main) in
+            rw queues (record {
+              whole = subst (IsWhole eq) (sym (rw queues at hit-machine)) (whole-hit eq m kept.whole (eq key));
+              stored = subst (λ z. IsStored hash index keys.entries z) (sym places) kept.stored;
+              hashed = kept.hashed;
+              linked = kept.linked;
+              sized = sized-same kept.sized refl refl refl refl refl refl refl;
+            })

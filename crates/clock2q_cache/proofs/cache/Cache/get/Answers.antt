@@ -2,7 +2,7 @@
 use Rattle.std.proofs.Common.{arith, ◌≡◌, Some, slice_get, rules, refl, sym, ap, ◌∙◌}
 use Rattle.std.specs.Option.{option_and_then}
 use Rattle.clock2q_machine.specs.Machine.{Machine, slot_of}
-use Rattle.clock2q_cache.proofs.Names.{QueueState, CacheState, hit, value-there}
+use Rattle.clock2q_cache.proofs.Names.{CacheState, hit, value-there}
 use Rattle.clock2q_cache.proofs.CacheInvariant.{m}
 use Rattle.clock2q_cache.proofs.Finding.{found-there, either-queue, hit-machine, kept-hit}
 use Rattle.clock2q_cache.proofs.Spent.{missed-becomes, hit-becomes}
@@ -24,10 +24,7 @@ hit-requires g c =
 
 pub invariant_of-self : goal.invariant_of-self
 invariant_of-self g c =
-    kept-hit g.met.K.Eq.laws c.self.invariant c.args.key.now c.in_ok-slot.slot
-    (there g (goal.at.invariant_of-self g c).After-value-value) c.hit.new.self
-    (ap (λ (z : QueueState). z.small) c.hit.ensures.queues)
-    (ap (λ (z : QueueState). z.main) c.hit.ensures.queues) (ap (λ (z : QueueState). z.slots) c.hit.ensures.queues) (ap (λ (z : QueueState). z.made) c.hit.ensures.queues) (ap (λ (z : QueueState). z.window) c.hit.ensures.queues)
+    kept-hit g.met.K.Eq.laws c.self.invariant c.args.key.now c.in_ok-slot.slot (there g (goal.at.invariant_of-self g c).After-value-value) c.hit.ensures.queues
 
 pub returns-in_err-slot : goal.returns-in_err-slot
 returns-in_err-slot g c =
@@ -38,8 +35,7 @@ pub returns : goal.returns
 returns g c =
     let at = there g (goal.at.returns g c).After-value-value in
     let now =
-    hit-machine g.met.K.Eq.laws c.self.invariant c.args.key.now c.in_ok-slot.slot at c.hit.new.self
-    (ap (λ (z : QueueState). z.small) c.hit.ensures.queues) (ap (λ (z : QueueState). z.main) c.hit.ensures.queues)
+    hit-machine g.met.K.Eq.laws c.self.invariant c.args.key.now c.in_ok-slot.slot at c.hit.ensures.queues
     ∙ ap (λ (z : CacheState _ _ _). hit (g.K.PartialEq.eq c.args.key.now) z.machine) c.self.view_is in
     let value =
     sym c.value-value.ensures.value ∙ sym (value-there c.self.inside.directory.residents.entries c.in_ok-slot.slot)

@@ -1,6 +1,4 @@
 -- A hit on a slot is one on the key that is resident there.
-use Rattle.std.proofs.Common.{ap}
-use Rattle.clock2q_cache.proofs.Names.{QueueState}
 use Rattle.clock2q_cache.proofs.Finding.{either-queue, hit-machine, kept-hit}
 use Rattle.clock2q_cache.proofs.HitSlot.{in-queues, own-key, own-slot, own-resident}
 use Rattle.clock2q_cache.proofs.cache.Cache.hit_resident.Goals as goal
@@ -13,15 +11,11 @@ pub invariant_of-self : goal.invariant_of-self
 invariant_of-self g c =
     let there = rw (← c.self.view_is) at c.requires in
     let laws = g.met.K.Eq.laws in
-    kept-hit laws c.self.invariant (own-key laws c.self.invariant c.args.slot there).0 c.args.slot
-    (own-slot laws c.self.invariant c.args.slot there) c.hit.new.self (ap (λ (z : QueueState). z.small) c.hit.ensures.queues)
-    (ap (λ (z : QueueState). z.main) c.hit.ensures.queues) (ap (λ (z : QueueState). z.slots) c.hit.ensures.queues) (ap (λ (z : QueueState). z.made) c.hit.ensures.queues) (ap (λ (z : QueueState). z.window) c.hit.ensures.queues)
+    kept-hit laws c.self.invariant (own-key laws c.self.invariant c.args.slot there).0 c.args.slot (own-slot laws c.self.invariant c.args.slot there) c.hit.ensures.queues
 
 pub returns-clause-machine : goal.returns-clause-machine
 returns-clause-machine g c =
     let there = rw (← c.self.view_is) at c.requires in
     let laws = g.met.K.Eq.laws in
-    let k = c.self.invariant in
-    rw (← c.self.view_is, own-resident laws k c.args.slot there)
-    (hit-machine laws k (own-key laws k c.args.slot there).0 c.args.slot (own-slot laws k c.args.slot there) c.hit.new.self
-    (ap (λ (z : QueueState). z.small) c.hit.ensures.queues) (ap (λ (z : QueueState). z.main) c.hit.ensures.queues))
+    rw (← c.self.view_is, own-resident laws c.self.invariant c.args.slot there)
+    (hit-machine laws c.self.invariant (own-key laws c.self.invariant c.args.slot there).0 c.args.slot (own-slot laws c.self.invariant c.args.slot there) c.hit.ensures.queues)

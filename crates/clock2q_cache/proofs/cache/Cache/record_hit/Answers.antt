@@ -1,6 +1,6 @@
 -- A hit on a slot is one on the key that is resident there.
 use Rattle.std.proofs.Common.{ap, ◌∙◌}
-use Rattle.clock2q_cache.proofs.Names.{QueueState, CacheState, hit}
+use Rattle.clock2q_cache.proofs.Names.{CacheState, hit}
 use Rattle.clock2q_cache.proofs.Finding.{found-there, either-queue, hit-machine, kept-hit}
 use Rattle.clock2q_cache.proofs.cache.Cache.record_hit.Goals as goal
 
@@ -9,13 +9,9 @@ hit-requires g c =
     record { resident = either-queue c.self.inside.queues c.args.slot (found-there g.met.K.Eq.laws c.self.invariant c.args.key.now c.args.slot (rw (← c.self.view_is) at c.requires)).0 }
 
 pub invariant_of-self : goal.invariant_of-self
-invariant_of-self g c =
-    kept-hit g.met.K.Eq.laws c.self.invariant c.args.key.now c.args.slot (rw (← c.self.view_is) at c.requires) c.hit.new.self (ap (λ (z : QueueState). z.small) c.hit.ensures.queues)
-    (ap (λ (z : QueueState). z.main) c.hit.ensures.queues) (ap (λ (z : QueueState). z.slots) c.hit.ensures.queues) (ap (λ (z : QueueState). z.made) c.hit.ensures.queues) (ap (λ (z : QueueState). z.window) c.hit.ensures.queues)
+invariant_of-self g c = kept-hit g.met.K.Eq.laws c.self.invariant c.args.key.now c.args.slot (rw (← c.self.view_is) at c.requires) c.hit.ensures.queues
 
 pub returns-clause-machine : goal.returns-clause-machine
 returns-clause-machine g c =
-    let k = c.self.invariant in
-    let is = rw (← c.self.view_is) at c.requires in
-    hit-machine g.met.K.Eq.laws k c.args.key.now c.args.slot is c.hit.new.self (ap (λ (z : QueueState). z.small) c.hit.ensures.queues) (ap (λ (z : QueueState). z.main) c.hit.ensures.queues)
+    hit-machine g.met.K.Eq.laws c.self.invariant c.args.key.now c.args.slot (rw (← c.self.view_is) at c.requires) c.hit.ensures.queues
     ∙ ap (λ (z : CacheState _ _ _). hit (g.K.PartialEq.eq c.args.key.now) z.machine) c.self.view_is
