@@ -1,6 +1,6 @@
 -- A cache's fields keep their invariant after each change of the layers, and the machine becomes what it should.
-use Rattle.std.proofs.Common.{◌≡◌, ℕ, suc, ◌+◌, ◌^◌, ◌<◌, ◌≤◌, Bool, false, Option, Some, None, List, [], ◌∷◌, ◌++◌, map, length, drop, reverse, refl, sym, ap, ◌∙◌, subst, arith, length-append, eqb}
-use Rattle.clock2q_cache.proofs.Names.{Entry, length-written, made_below, key_at-own, key_at-others, values-written, length-values, if◌then◌else◌, IfNone, IsEquivalence, last_or, AllByRecursion, total, capacity, with_handle, has, KeyPlaces, entry, written, key_at, admitted, QueueState, slots_of, IndexState, is_shared, slots, Remembered, most_beside, has-append, length-put, or_parts, Shares, main_share, Machine, Placement, vacancy, vacant_slot, into_main, into_small, into_small_at, joining_main, stored, IsWhole, known_count, IsValueFor, Fills, Writes, machine_of, places_of, with_keys_small, with_keys_main, IsStored, IsSized, IsKept, IsPlaced, whole-stored, placed-admitted, placed-joining, slots-entered, slots-left, removed, left}
+use Rattle.std.proofs.Common.{◌≡◌, ℕ, suc, ◌+◌, ◌^◌, ◌<◌, ◌≤◌, Bool, true, false, Option, Some, None, List, [], ◌∷◌, ◌++◌, map, length, drop, reverse, refl, sym, ap, ◌∙◌, subst, arith, length-append, eqb}
+use Rattle.clock2q_cache.proofs.Names.{Entry, length-written, made_below, key_at-own, key_at-others, values-written, length-values, if◌then◌else◌, IfNone, IsEquivalence, last_or, AllByRecursion, total, capacity, with_handle, has, KeyPlaces, entry, written, key_at, admitted, QueueState, slots_of, IndexState, is_shared, slots, Remembered, most_beside, has-append, length-put, or_parts, Shares, main_share, Machine, Placement, vacancy, vacant_slot, into_main, into_small, into_small_at, joining_main, placed, stored, IsWhole, known_count, IsValueFor, Fills, Writes, machine_of, places_of, with_keys_small, with_keys_main, IsStored, IsSized, IsKept, IsPlaced, whole-stored, placed-admitted, placed-joining, slots-entered, slots-left, removed, left}
 use Rattle.clock2q_directory.specs.Index as known
 use Rattle.clock2q_machine.specs.Entries as machine
 use Rattle.clock2q_cache.proofs.WithKeys.{small-admitted, main-behind, small_with, main_with, keys-agree, length-small, length-main}
@@ -102,11 +102,10 @@ module _ {K V : Type 0} {eq : K → K → Bool} {hash : K → ℕ} {shares : Sha
         few = omega (arith, few, kept.sized.few, kept.stored.indexed.counted, length-places q);
       }
 
-  pub free-small : {slot made : ℕ} → made ≡ length keys.entries → vacant_slot (reverse free) made (made + 1) ≡ Some slot → length m.small < shares.small → IsFree slot
-  free-small is picked some = is-free is picked (omega (arith, some, kept.whole.main_within, kept.whole.small_below, length_in_small, length_in_main))
-
-  pub free-main : {slot made : ℕ} → made ≡ length keys.entries → vacant_slot (reverse free) made (made + 1) ≡ Some slot → length m.main < main_share shares → IsFree slot
-  free-main is picked some = is-free is picked (omega (arith, some, kept.whole.small_within, kept.whole.small_below, length_in_small, length_in_main))
+  pub free-to-join : {slot made : ℕ} (main : Bool) → made ≡ length keys.entries → vacant_slot (reverse free) made (made + 1) ≡ Some slot
+      → (main ≡ true → length m.main < main_share shares) → (main ≡ false → length m.small < shares.small) → IsFree slot
+  free-to-join true is picked room none = is-free is picked (omega (arith, room refl, kept.whole.small_within, kept.whole.small_below, length_in_small, length_in_main))
+  free-to-join false is picked none room = is-free is picked (omega (arith, room refl, kept.whole.main_within, kept.whole.small_below, length_in_small, length_in_main))
 
   -- no link record is made for a slot that was made
   pub made-still : {slot : ℕ} → slot < length keys.entries → made_below (slot + 1) q.made ≡ q.made
@@ -153,12 +152,10 @@ module _ {K V : Type 0} {eq : K → K → Bool} {hash : K → ℕ} {shares : Sha
   into-main : {slot : ℕ} (key : K) → vacancy m ≡ Some slot → length m.main < main_share shares → into_main key m ≡ joining_main key (Some slot) m
   into-main key taken some = grind arith
 
-  pub made-small : {slot : ℕ} (key : K) (value : Option V) → vacancy m ≡ Some slot → IfNone value ((into_small key m).slot < length m.values) → IfNone value (slot < length keys.entries)
-  made-small key value taken = made-there value (ap (λ (p : Placement K V). p.slot) (into-small key taken))
-
-  pub made-main : {slot : ℕ} (key : K) (value : Option V) → vacancy m ≡ Some slot → length m.main < main_share shares
-      → IfNone value ((into_main key m).slot < length m.values) → IfNone value (slot < length keys.entries)
-  made-main key value taken some = made-there value (ap (λ (p : Placement K V). p.slot) (into-main key taken some))
+  pub made-to-join : {slot : ℕ} (main : Bool) (key : K) (value : Option V) → vacancy m ≡ Some slot → (main ≡ true → length m.main < main_share shares)
+      → IfNone value ((placed main key m).slot < length m.values) → IfNone value (slot < length keys.entries)
+  made-to-join true key value taken some = made-there value (ap (λ (p : Placement K V). p.slot) (into-main key taken (some refl)))
+  made-to-join false key value taken some = made-there value (ap (λ (p : Placement K V). p.slot) (into-small key taken))
 
   -- a key takes a free slot and joins a queue
   module _ {key : K} {value : Option V} {hsh slot n : ℕ} {index' : List (List (ℕ × ℕ))} {keys' : KeyPlaces K V} (f : IsFree slot) (is : hsh ≡ hash key) (absent : known_count (eq key) m ≡ 0)

@@ -21,7 +21,7 @@ impl<K: Hash + Eq + Drop, V: Drop, S: BuildHasher, A: Allocator> Cache<K, V, S, 
     ghost use Rattle.clock2q_machine.specs.Entries.{inspections};
     ghost use Rattle.clock2q_cache.specs.Closures.{Reuses};
     ghost use Rattle.clock2q_cache.specs.Places.{known_at, looked_for, out_of_small};
-    ghost use Rattle.clock2q_cache.specs.Insertions.{EntersMain, EntersQueue, EntersSmall, IsAbsent, IsFoundFor, IsUnknown, Notes, Sends, placed, makes_slot, next_is_vacant, main_inspections, small_inspections, leaves_placed};
+    ghost use Rattle.clock2q_cache.specs.Insertions.{Enters, EntersMain, EntersQueue, EntersSmall, IsAbsent, IsFoundFor, IsUnknown, Notes, Sends, placed, makes_slot, next_is_vacant, main_inspections, small_inspections, leaves_placed};
     ghost use Rattle.clock2q_machine.specs.Leaving.{leaves_for, leaves_for_main};
     ghost use Rattle.clock2q_machine.specs.Machine.{vacancy, goes_to_main, into_main, into_small, placement, inserted};
 
@@ -102,10 +102,10 @@ impl<K: Hash + Eq + Drop, V: Drop, S: BuildHasher, A: Allocator> Cache<K, V, S, 
             if self.main_is_full() {
                 self.replace_victim(gap, hash, key, value, leaves)
             } else {
-                (self.join_main(gap, hash, key, value), None)
+                (self.join(gap, hash, key, value, true), None)
             }
         } else if self.has_vacancy() {
-            (self.join_small(gap, hash, key, value), None)
+            (self.join(gap, hash, key, value, false), None)
         } else if self.tail_is_promoted() {
             self.promote_tail(gap, hash, key, value, leaves)
         } else {
@@ -187,31 +187,24 @@ impl<K: Hash + Eq + Drop, V: Drop, S: BuildHasher, A: Allocator> Cache<K, V, S, 
         (victim, Some(leaves(&old.1)))
     }
 
-    /// Inserts a key into Main, which has room, at a vacancy.
-    fn join_main(&mut self, gap: Option<Gap>, hash: u64, key: K, value: Option<V>) -> u32
+    /// Inserts a key into Main or into Small, which has room, at a vacancy.
+    fn join(&mut self, gap: Option<Gap>, hash: u64, key: K, value: Option<V>, main: bool) -> u32
         requires unknown { IsUnknown K.Hash S.BuildHasher S.Hasher.Hasher key hash gap self.old }
-        requires room { length self.old.machine.main < main_share self.old.machine.shares }
+        requires main { main ≡ true →
+            length self.old.machine.main < main_share self.old.machine.shares }
+        requires small { main ≡ false →
+            length self.old.machine.small < self.old.machine.shares.small }
         requires had { IfNone value
-            ((into_main key self.old.machine).slot < length self.old.machine.values) }
-        ensures entered { EntersMain K.Hash S.BuildHasher S.Hasher.Hasher key value 0 result self.old self.new }
+            ((placed main key self.old.machine).slot < length self.old.machine.values) }
+        ensures entered { Enters K.Hash S.BuildHasher S.Hasher.Hasher key value
+            (placed main key self.old.machine) None 0 28 result self.old self.new }
     {
         let slot = take_vacancy(&mut self.free, self.directory.made());
         self.directory.enter(gap, slot, hash, key, value);
-        self.queues.append(slot);
-        slot
-    }
-
-    /// Inserts a key into Small, which has room, at a vacancy.
-    fn join_small(&mut self, gap: Option<Gap>, hash: u64, key: K, value: Option<V>) -> u32
-        requires unknown { IsUnknown K.Hash S.BuildHasher S.Hasher.Hasher key hash gap self.old }
-        requires room { length self.old.machine.small < self.old.machine.shares.small }
-        requires vacant { is_some (vacancy self.old.machine) ≡ true }
-        requires had { IfNone value
-            ((into_small key self.old.machine).slot < length self.old.machine.values) }
-        ensures entered { EntersSmall K.Hash S.BuildHasher S.Hasher.Hasher key value None 0 28 result self.old self.new }
-    {
-        let slot = take_vacancy(&mut self.free, self.directory.made());
-        self.directory.enter(gap, slot, hash, key, value);
+        if main {
+            self.queues.append(slot);
+            return slot;
+        }
         self.queues.admit(slot);
         slot
     }

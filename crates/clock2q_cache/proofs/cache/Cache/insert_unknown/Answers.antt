@@ -19,7 +19,7 @@ evict_tail-requires-clause-some g c =
     rw c.tail_is_promoted.ensures.machine (small-some _ c.args.self.now.machine c.has_vacancy.ensures.whole (sym c.if-has_vacancy.ensures.vacant) (c.requires.small c.if-main.false))
 
 pub returns-then-has_vacancy-clause-entered : goal.returns-then-has_vacancy-clause-entered
-returns-then-has_vacancy-clause-entered g c = grind (arith, c.join_small.ensures.entered, c.if-has_vacancy.ensures.vacant, spends-more)
+returns-then-has_vacancy-clause-entered g c = grind (arith, c.join-then-has_vacancy.ensures.entered, c.if-has_vacancy.ensures.vacant, spends-more)
 
 pub returns-then-tail_is_promoted-clause-entered : goal.returns-then-tail_is_promoted-clause-entered
 returns-then-tail_is_promoted-clause-entered g c =

@@ -1,0 +1,99 @@
+-- The new key's slot is the vacancy.
+use Rattle.std.proofs.Common.{refl, ap, vec_capacity, arith}
+use Rattle.clock2q_cache.proofs.Names.{slots, Remembered, slots-entered, into_main, into_small}
+use Rattle.clock2q_cache.proofs.CacheInvariant.{m, IsFree, IsDone, done-reindexed, reindexed, now-slots, free-to-join, made-to-join, main-done, small-done}
+use Rattle.clock2q_cache.proofs.Insertions.{joined-spends}
+use Rattle.clock2q_cache.proofs.Places.{entered-vacant}
+use Rattle.clock2q_cache.proofs.cache.Cache.join.Given.{Over}
+use Rattle.clock2q_cache.proofs.cache.Cache.join.Goals.{After-take_vacancy-slot, After-append, After-admit}
+use Rattle.clock2q_cache.proofs.cache.Cache.join.Goals as goal
+
+-- the slot that was picked
+free : (g : Over) (c : After-take_vacancy-slot g) → IsFree g.met.K.Eq.laws c.self.invariant c.take_vacancy-slot.result
+free g c = free-to-join g.met.K.Eq.laws c.self.invariant c.args.main c.made.ensures.made c.take_vacancy-slot.ensures.slot (rw (← c.self.view_is) at c.requires.main) (rw (← c.self.view_is) at c.requires.small)
+
+pub enter-requires : goal.enter-requires
+enter-requires g c =
+    let f = free g (goal.at.enter-requires g c).After-take_vacancy-slot in
+    record {
+      vacant = record {
+        next = f.next;
+        had = made-to-join g.met.K.Eq.laws c.self.invariant c.args.main c.args.key c.args.value f.taken (rw (← c.self.view_is) at c.requires.main) (rw (← c.self.view_is) at c.requires.had);
+        room = f.within;
+        few = f.made;
+        below = f.short;
+        index_room = record { room = f.index_room; few = f.few };
+      };
+      gap = rw (← c.self.view_is) at c.requires.unknown.at;
+    }
+
+pub append-requires : goal.append-requires
+append-requires g c = grind (arith, free)
+
+pub admit-requires : goal.admit-requires
+admit-requires g c = grind (arith, free, c.self.invariant.sized, c.self.view_is, c.requires.small c.if-main.false)
+
+-- the key has it, in Main and in Small
+in-main : (g : Over) (c : After-append g) → IsFree g.met.K.Eq.laws c.self.invariant c.take_vacancy-slot.result
+    → IsDone g.met.K.Eq.laws c.self.invariant c.take_vacancy-slot.result c.args.value (into_main c.args.key (m g.met.K.Eq.laws c.self.invariant))
+    c.append.new.self c.enter.new.self.history (slots c.enter.new.self.history.places.index) c.enter.new.self.residents c.take_vacancy-slot.new.free.items (vec_capacity c.take_vacancy-slot.new.free)
+in-main g c f =
+    done-reindexed g.met.K.Eq.laws c.self.invariant (reindexed c.self.inside.directory.history c.enter.ensures.index refl)
+    (main-done g.met.K.Eq.laws c.self.invariant f (rw (← c.self.view_is) at c.requires.unknown.hashed) (rw (← c.self.view_is) at c.requires.unknown.absent)
+    (now-slots c.self.inside.directory.history c.enter.ensures.index (slots-entered c.self.inside.directory.history.places.index c.args.hash c.take_vacancy-slot.result (omega (arith, f.short))))
+    c.enter.ensures.entries c.enter.ensures.kept (rw (← c.self.view_is) at (c.requires.main c.if-main.true))
+    c.append.ensures.queues c.take_vacancy-slot.ensures.others c.take_vacancy-slot.ensures.capacity)
+
+in-small : (g : Over) (c : After-admit g) → IsFree g.met.K.Eq.laws c.self.invariant c.take_vacancy-slot.result
+    → IsDone g.met.K.Eq.laws c.self.invariant c.take_vacancy-slot.result c.args.value (into_small c.args.key (m g.met.K.Eq.laws c.self.invariant))
+    c.admit.new.self c.enter.new.self.history (slots c.enter.new.self.history.places.index) c.enter.new.self.residents c.take_vacancy-slot.new.free.items (vec_capacity c.take_vacancy-slot.new.free)
+in-small g c f =
+    done-reindexed g.met.K.Eq.laws c.self.invariant (reindexed c.self.inside.directory.history c.enter.ensures.index refl)
+    (small-done g.met.K.Eq.laws c.self.invariant f (rw (← c.self.view_is) at c.requires.unknown.hashed) (rw (← c.self.view_is) at c.requires.unknown.absent)
+    (now-slots c.self.inside.directory.history c.enter.ensures.index (slots-entered c.self.inside.directory.history.places.index c.args.hash c.take_vacancy-slot.result (omega (arith, f.short))))
+    c.enter.ensures.entries c.enter.ensures.kept (rw (← c.self.view_is) at (c.requires.small c.if-main.false))
+    c.admit.ensures.queues c.take_vacancy-slot.ensures.others c.take_vacancy-slot.ensures.capacity)
+
+pub invariant_of-self : goal.invariant_of-self
+invariant_of-self g c =
+    let at = goal.at.invariant_of-self g c in
+    (in-main g at.After-append (free g at.After-take_vacancy-slot)).holds
+
+pub invariant_of-self-2 : goal.invariant_of-self-2
+invariant_of-self-2 g c =
+    let at = goal.at.invariant_of-self-2 g c in
+    (in-small g at.After-admit (free g at.After-take_vacancy-slot)).holds
+
+pub returns-then-main : goal.returns-then-main
+returns-then-main g c =
+    let at = goal.at.returns-then-main g c in
+    let f = free g at.After-take_vacancy-slot in
+    let d = in-main g at.After-append f in
+    rw (c.if-main.true, ← c.self.view_is) (record {
+      entered = record {
+        slot = d.at;
+        machine = d.fills;
+        indexes = entered-vacant g.met.K.Eq.laws c.self.invariant c.self.inside.directory.history.places c.args.key c.take_vacancy-slot.result
+            (rw (← c.self.view_is) at c.requires.unknown.hashed) f.absent (ap (λ (z : Remembered _). z.places) c.enter.ensures.index);
+        hasher = refl;
+        counts = joined-spends c.self.inside.queues c.self.inside.directory.history c.self.inside.directory.residents 1 6 c.append.ensures.queues c.append.ensures.accesses
+            (omega (arith, f.next, c.self.invariant.linked)) (omega arith) c.enter.ensures.index c.enter.ensures.kept;
+      };
+    })
+
+pub returns : goal.returns
+returns g c =
+    let at = goal.at.returns g c in
+    let f = free g at.After-take_vacancy-slot in
+    let d = in-small g at.After-admit f in
+    rw (c.if-main.false, ← c.self.view_is) (record {
+      entered = record {
+        slot = d.at;
+        machine = d.fills;
+        indexes = entered-vacant g.met.K.Eq.laws c.self.invariant c.self.inside.directory.history.places c.args.key c.take_vacancy-slot.result
+            (rw (← c.self.view_is) at c.requires.unknown.hashed) f.absent (ap (λ (z : Remembered _). z.places) c.enter.ensures.index);
+        hasher = refl;
+        counts = joined-spends c.self.inside.queues c.self.inside.directory.history c.self.inside.directory.residents 3 10 c.admit.ensures.queues c.admit.ensures.accesses
+            (omega (arith, f.next, c.self.invariant.linked)) (omega arith) c.enter.ensures.index c.enter.ensures.kept;
+      };
+    })
