@@ -1,6 +1,6 @@
 -- What a cache's fields become when a resident is evicted though no key comes.
 use Rattle.std.proofs.Common.{◌≡◌, ℕ, suc, ◌+◌, ◌-◌, ◌<◌, ◌==◌, Bool, true, false, not, ◌&&◌, cond, eqb, Option, Some, None, List, [], ◌∷◌, ◌++◌, map, length, take, reverse, inl, inr, refl, sym, ap, ◌∙◌, subst, arith, eq-eqb, eqb-true, length-append}
-use Rattle.clock2q_cache.proofs.Names.{if◌then◌else◌, slice_get, IfSome, IsEquivalence, last_or, option_map, AllByRecursion, cases_Bool, lt-ltb, ltb-true, Age, take-map, All-from_recursion, recursion_from_All, All-take, has, without, has-without_test, and_true, and_false, eqb_swap, KeyPlaces, hash_at, key_at, removed, length-taken, QueueState, slots_of, from_victim, Remembered, most_beside, Places, oldest_hash, pushed_places, Shares, history_share, SmallEntry, Machine, is_promoted, IsWhole, some_is, machine_of, places_of, with_keys_small, with_keys_main, IsStored, IsKept, remembering}
+use Rattle.clock2q_cache.proofs.Names.{if◌then◌else◌, slice_get, IfSome, IsEquivalence, last_or, option_map, AllByRecursion, cases_Bool, lt-ltb, ltb-true, Age, take-map, All-from_recursion, recursion_from_All, All-take, has, without, has-without_test, and_true, and_false, eqb_swap, KeyPlaces, hash_at, key_at, removed, length-taken, QueueState, slots_of, from_victim, Remembered, most_beside, Shares, history_share, SmallEntry, Machine, is_promoted, IsWhole, some_is, machine_of, places_of, with_keys_small, with_keys_main, IsStored, IsKept}
 use Rattle.std.proofs.lemmas.List.{length-reverse}
 use Rattle.clock2q_queues.proofs.Joining.{length-without}
 use Rattle.clock2q_machine.specs.Entries as machine
@@ -14,7 +14,6 @@ use Rattle.clock2q_cache.proofs.WithKeys.{main-behind}
 use Rattle.clock2q_cache.proofs.Stored.{stored-left, stored-same, hash-of-key}
 use Rattle.clock2q_cache.proofs.Slots.{apart, times, times-none, times-both, times-pushed, has-times, at_most_once, length-places}
 use Rattle.clock2q_cache.proofs.CacheInvariant.{length_in_small, index_some, sized-same}
-use Rattle.clock2q_cache.proofs.Places.{oldest-hashed}
 use Rattle.clock2q_cache.proofs.Renewed.{front_times, length-front, front_entries, front, tail_key, tail_entry, last_entry, tail-in, no-tail, rest, rest_times, length-rest, victim_entry, others, choice, victim-in, victim-leaves}
 
 -- Who leaves next.
@@ -160,6 +159,13 @@ module _ {K V : Type 0} {eq : K → K → Bool} {hash : K → ℕ} {shares : Sha
     length-front laws kept tail last,
   )
 
+  -- Small's tail, with its key
+  pub tail-entry : (tail : ℕ) → last_or None (slots_of q.small) ≡ Some tail → (key : K) → key_at keys.entries tail ≡ Some key
+      → ◌≡◌ {A = Option (K × ℕ)} (Some (key, tail)) (option_map (λ (t : SmallEntry K). (t.key, t.slot)) (last_or None m.small))
+  tail-entry tail last key key_is =
+      sym (ap (option_map (λ (t : SmallEntry K). (t.key, t.slot))) (last_entry laws kept tail last)
+      ∙ ap (λ k. let r : Option (K × ℕ) = Some (k, tail) in r) (some_is (tail_key laws kept tail last).0 key (sym (tail_key laws kept tail last).1 ∙ key_is)))
+
   -- Small's tail leaves, and is remembered
   module _ (tail : ℕ) (last : last_or None (slots_of q.small) ≡ Some tail) (q' : QueueState) (h' : Remembered K) (free' : List ℕ) (links old : ℕ) (key : K)
       (is : q' ≡ record q { small = front laws kept tail last; accesses = links }) (at : hash_at keys.entries tail ≡ Some old) (key_is : key_at keys.entries tail ≡ Some key)
@@ -181,9 +187,6 @@ module _ {K V : Type 0} {eq : K → K → Bool} {hash : K → ℕ} {shares : Sha
         ∙ ap (λ z. take (history_share shares) (z ∷ m.history)) (sym tail_is) in
         cc
 
-    pub left-retired : ◌≡◌ {A = Option (K × ℕ)} (Some (key, tail)) (option_map (λ (t : SmallEntry K). (t.key, t.slot)) (last_or None m.small))
-    left-retired = ap (λ k. let r : Option (K × ℕ) = Some (k, tail) in r) (sym tail_is) ∙ ap (option_map (λ (t : SmallEntry K). (t.key, t.slot))) (sym (last_entry laws kept tail last))
-
     pub retired-machine : machine_of shares q' keys.entries h'.entries free' ≡ tail_evicted (last_or None m.small) m
     retired-machine = grind (arith, retired-is, last_entry)
 
@@ -201,10 +204,3 @@ module _ {K V : Type 0} {eq : K → K → Bool} {hash : K → ℕ} {shares : Sha
           sized = sized-same kept.sized (ap (λ (z : QueueState). z.slots) is) (ap (λ (z : QueueState). z.window) is) (ap (λ (z : Remembered K). z.limit) pushed) beside
               (ap (λ (z : List (List (ℕ × ℕ))). length z) out ∙ length-taken index old tail) refl free_room;
         }
-
-    pub known-retired : (p : Places) {p' : Places} → p' ≡ pushed_places h.limit old tail (oldest_hash (λ (e : ℕ × K). e.0) h.entries) p → p' ≡ remembering hash key tail m p
-    known-retired p indexed =
-        indexed
-        ∙ ap (λ z. pushed_places z old tail (oldest_hash (λ (e : ℕ × K). e.0) h.entries) p) kept.sized.remembers
-        ∙ ap (λ z. pushed_places (history_share shares) z tail (oldest_hash (λ (e : ℕ × K). e.0) h.entries) p) (hash-of-key hash keys.entries tail old key kept.stored.hashed at key_is)
-        ∙ ap (λ z. pushed_places (history_share shares) (hash key) tail z p) (oldest-hashed hash None None h.entries refl kept.hashed)

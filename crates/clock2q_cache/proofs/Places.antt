@@ -29,7 +29,7 @@ key-out false None at = refl
 key-out b (Some tail) at = ap (λ z. if z then None else Some tail.key) (sym at)
 
 -- the hash stored with the oldest key is that of the key
-pub oldest-hashed : {K : Type 0} (hash : K → ℕ) (o : Option (ℕ × K)) (p : Option K) (es : List (ℕ × K))
+oldest-hashed : {K : Type 0} (hash : K → ℕ) (o : Option (ℕ × K)) (p : Option K) (es : List (ℕ × K))
     → ◌≡◌ {A = ℕ} (elim o [ None ↦ 0 | Some e ↦ e.0 ]) (elim p [ None ↦ 0 | Some k ↦ hash k ]) → AllByRecursion (λ (e : ℕ × K). e.0 ≡ hash e.1) es
     → ◌≡◌ {A = ℕ} (elim (last_or o es) [ None ↦ 0 | Some e ↦ e.0 ]) (elim (last_or p (map (λ (e : ℕ × K). e.1) es)) [ None ↦ 0 | Some k ↦ hash k ])
 oldest-hashed hash o p [] same all = same
@@ -62,6 +62,14 @@ module _ {K V : Type 0} {eq : K → K → Bool} {hash : K → ℕ} {shares : Sha
       indexed ∙ ap (λ x. record p { index = known.left x slot p.index }) (hash-of-key hash keys.entries slot old k.0 kept.stored.hashed at k.1)
       ∙ sym (ap (λ z. left_by hash z slot p) (resident-there slot k.0 there k.1))
 
+  -- the key of a resident goes into the history
+  pub pushed-key : (p : Places) (slot : ℕ) (k : K) {old : ℕ} → key_at keys.entries slot ≡ Some k → hash_at keys.entries slot ≡ Some old
+      → pushed_places h.limit old slot (oldest_hash (λ (e : ℕ × K). e.0) h.entries) p ≡ remembering hash k slot m p
+  pushed-key p slot k {old} key_is hash_is =
+      ap (λ z. pushed_places z old slot (oldest_hash (λ (e : ℕ × K). e.0) h.entries) p) kept.sized.remembers
+      ∙ ap (λ z. pushed_places (history_share shares) z slot (oldest_hash (λ (e : ℕ × K). e.0) h.entries) p) (hash-of-key hash keys.entries slot old k kept.stored.hashed hash_is key_is)
+      ∙ ap (λ z. pushed_places (history_share shares) (hash k) slot z p) (oldest-hashed hash None None h.entries refl kept.hashed)
+
   module _ (p : Places) (key : K) (slot : ℕ) {hsh : ℕ} {p' : Places} (is : hsh ≡ hash key) where
     -- a key enters at a slot that has no resident
     pub entered-vacant : has slot (places_of q) ≡ false → p' ≡ record p { index = known.entered hsh slot p.index } → p' ≡ entered hash key slot None m p
@@ -83,10 +91,6 @@ module _ {K V : Type 0} {eq : K → K → Bool} {hash : K → ℕ} {shares : Sha
     entered-evicting {key_out} {old} last key_is hash_is indexed =
         let out : option_map (λ (e : SmallEntry K). e.key) (last_or None m.small) ≡ Some key_out =
         ap (λ o. option_map (λ (e : SmallEntry K). e.key) o) (last_entry laws kept slot last) ∙ sym (tail_key laws kept slot last).1 ∙ key_is in
-        let pushed : pushed_places h.limit old slot (oldest_hash (λ (e : ℕ × K). e.0) h.entries) p ≡ remembering hash key_out slot m p =
-        ap (λ z. pushed_places z old slot (oldest_hash (λ (e : ℕ × K). e.0) h.entries) p) kept.sized.remembers
-        ∙ ap (λ z. pushed_places (history_share shares) z slot (oldest_hash (λ (e : ℕ × K). e.0) h.entries) p) (hash-of-key hash keys.entries slot old key_out kept.stored.hashed hash_is key_is)
-        ∙ ap (λ z. pushed_places (history_share shares) (hash key_out) slot z p) (oldest-hashed hash None None h.entries refl kept.hashed) in
-        indexed ∙ ap (λ (r : Places). record r { index = known.entered_from p.index hsh slot r.index }) pushed
+        indexed ∙ ap (λ (r : Places). record r { index = known.entered_from p.index hsh slot r.index }) (pushed-key p slot key_out key_is hash_is)
         ∙ ap (λ x. let r = remembering hash key_out slot m p in record r { index = known.entered_from p.index x slot r.index }) is
         ∙ ap (λ o. entered hash key slot o m p) (sym out)

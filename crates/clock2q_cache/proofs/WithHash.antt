@@ -68,10 +68,10 @@ module _ {K V : Type 0} {eq : K → K → Bool} {hash : K → ℕ} {shares : Sha
       alike t there it = grind (arith, candidate_there, kept.stored.indexed, slice_get_some, below_of, kept.stored.made, eq-eqb, hash-there, kept.stored.hashed)
 
   -- of what the walk finds
-  pub absent-unless : (key : K) → ((x y : K) → eq x y ≡ true → hash x ≡ hash y) → (x : ℕ) → x ≡ hash key → (o : Option ℕ)
-      → o ≡ slice_get (filter (has_hash keys.entries x) (candidates index x)) 0 → IfNone o (slot_of (eq key) n ≡ None)
-  absent-unless key respects x is None found = none-with-hash key respects x is found
-  absent-unless key respects x is (Some s) found = tt
+  pub absent-unless : ((x y : K) → eq x y ≡ true → hash x ≡ hash y) → (x nth : ℕ) (o : Option ℕ) → o ≡ slice_get (filter (has_hash keys.entries x) (candidates index x)) nth
+      → IfNone o (nth ≡ 0 → (key : K) → x ≡ hash key → slot_of (eq key) n ≡ None)
+  absent-unless respects x nth None found = λ first key is. none-with-hash key respects x is (found ∙ ap (slice_get (filter (has_hash keys.entries x) (candidates index x))) first)
+  absent-unless respects x nth (Some s) found = tt
 
 -- what is in a list and passes is what is kept of it
 has-kept : (p : ℕ → Bool) (cs : List ℕ) (t : ℕ) → has t (filter p cs) ≡ (has t cs && p t)

@@ -113,23 +113,13 @@ impl<K: Hash + Eq, V, S: BuildHasher, A: Allocator> Cache<K, V, S, A> {
         ensures slot { result ≡
             slice_get (slots_with_hash K.Hash S.BuildHasher S.Hasher.Hasher hash self.now) nth }
         ensures listed { ListsOnce K.Hash S.BuildHasher S.Hasher.Hasher hash self.now }
+        ensures absent { IfNone result
+            (nth ≡ 0 → (key : K) →
+            hash ≡ hash_of S.BuildHasher S.Hasher.Hasher self.now.hasher (K.hash_input key) →
+            slot_of (K.eq key) self.now.machine ≡ None) }
         ensures within { IfSome result (λ slot. slot < self.now.machine.shares.capacity) }
     {
         self.directory.slot_with_hash(hash, nth)
-    }
-
-    /// Returns the first slot of those of the residents whose keys have the hash of this key.
-    #[inline(always)]
-    fn first_alike(&self, hash: u64, key: &K) -> Option<u32>
-        requires { hash ≡
-            hash_of S.BuildHasher S.Hasher.Hasher self.now.hasher (K.hash_input key.now) }
-        ensures slot { result ≡
-            slice_get (slots_with_hash K.Hash S.BuildHasher S.Hasher.Hasher hash self.now) 0 }
-        ensures absent { IfNone result (slot_of (K.eq key.now) self.now.machine ≡ None) }
-        ensures within { IfSome result (λ slot. slot < self.now.machine.shares.capacity) }
-    {
-        let _ = key;
-        self.directory.slot_with_hash(hash, 0)
     }
 }
 
@@ -171,7 +161,7 @@ impl<K: Hash + Eq + Drop, V: Drop, S: BuildHasher, A: Allocator> Cache<K, V, S, 
             Costs K.Hash S.BuildHasher S.Hasher.Hasher (Put key value) self.old self.new }
     {
         let hash = self.hash(&key);
-        if let Some(slot) = self.first_alike(hash, &key) {
+        if let Some(slot) = self.with_hash(hash, 0) {
             return (slot as usize, false);
         }
         let _ = self.len(); // whose contract says that the cache is whole

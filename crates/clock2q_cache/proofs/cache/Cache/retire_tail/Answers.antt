@@ -1,10 +1,9 @@
 -- The tail's key goes into the history, and its slot is free.
-use Rattle.std.proofs.Common.{◌+◌, ◌≡◌, ℕ, None, length, sym, ap, ◌∙◌, arith, rules, vec_len}
-use Rattle.std.specs.Option.{option_map}
-use Rattle.clock2q_machine.specs.Machine.{tail_evicted}
-use Rattle.clock2q_cache.proofs.Names.{CacheState, Remembered, Places, last_or, oldest_hash, is_shared, slots, most_beside, slots-pushed, shared-pushed, if◌then◌else◌, hash_of, remembering}
+use Rattle.std.proofs.Common.{◌+◌, ◌≡◌, ℕ, length, sym, ap, ◌∙◌, arith, rules, vec_len}
+use Rattle.clock2q_cache.proofs.Names.{Remembered, Places, oldest_hash, is_shared, slots, most_beside, slots-pushed, shared-pushed, if◌then◌else◌}
 use Rattle.clock2q_cache.proofs.Renewed.{is-resident, slot-below, tail-in, tail-unremembered}
-use Rattle.clock2q_cache.proofs.MakingRoom.{kept-unmoved, unretired-machine, last_none, retired-machine, kept-retired, left-retired, known-retired, room-for-free}
+use Rattle.clock2q_cache.proofs.MakingRoom.{kept-unmoved, unretired-machine, last_none, retired-machine, kept-retired, tail-entry, room-for-free}
+use Rattle.clock2q_cache.proofs.Places.{pushed-key}
 use Rattle.clock2q_cache.proofs.cache.Cache.retire_tail.Goals as goal
 
 pub invariant_of-self : goal.invariant_of-self
@@ -12,14 +11,10 @@ invariant_of-self g c =
     kept-unmoved g.met.K.Eq.laws c.self.invariant (sym c.in_err-tail.ensures.tail) c.in_err-tail.ensures.queues
 
 pub returns-in_err-tail-clause-left : goal.returns-in_err-tail-clause-left
-returns-in_err-tail-clause-left g c =
-    c.from_residual.ensures ∙ sym (ap (λ t. option_map (λ tail. (tail.key, tail.slot)) t) (last_none g.met.K.Eq.laws c.self.invariant (sym c.in_err-tail.ensures.tail)))
-    ∙ ap (λ (z : CacheState _ _ _). option_map (λ tail. (tail.key, tail.slot)) (last_or None z.machine.small)) c.self.view_is
+returns-in_err-tail-clause-left g c = grind (arith, c.self.view_is, c.from_residual.ensures, last_none g.met.K.Eq.laws c.self.invariant (sym c.in_err-tail.ensures.tail))
 
 pub returns-in_err-tail-clause-machine : goal.returns-in_err-tail-clause-machine
-returns-in_err-tail-clause-machine g c =
-    unretired-machine g.met.K.Eq.laws c.self.invariant (sym c.in_err-tail.ensures.tail) c.in_err-tail.ensures.queues
-    ∙ ap (λ (z : CacheState _ _ _). tail_evicted (last_or None z.machine.small) z.machine) c.self.view_is
+returns-in_err-tail-clause-machine g c = rw (← c.self.view_is) (unretired-machine g.met.K.Eq.laws c.self.invariant (sym c.in_err-tail.ensures.tail) c.in_err-tail.ensures.queues)
 
 pub retire-key-requires-clause-resident : goal.retire-key-requires-clause-resident
 retire-key-requires-clause-resident g c =
@@ -52,27 +47,20 @@ invariant_of-self-2 g c =
 
 pub returns-clause-left : goal.returns-clause-left
 returns-clause-left g c =
-    let r = c.retire-key.ensures.retired in
-    left-retired g.met.K.Eq.laws c.self.invariant c.in_ok-tail.tail
-    (sym c.in_ok-tail.ensures.tail) _ _ c.free_slot.new.free.items _ _ _ c.in_ok-tail.ensures.queues r.had_hash r.had_key
-    r.becomes c.free_slot.ensures.top
-    ∙ ap (λ (z : CacheState _ _ _). option_map (λ tail. (tail.key, tail.slot)) (last_or None z.machine.small)) c.self.view_is
+    rw (← c.self.view_is) (tail-entry g.met.K.Eq.laws c.self.invariant c.in_ok-tail.tail (sym c.in_ok-tail.ensures.tail) c.retire-key.result c.retire-key.ensures.retired.had_key)
 
 pub returns-clause-machine : goal.returns-clause-machine
 returns-clause-machine g c =
     let r = c.retire-key.ensures.retired in
-    rw c.retire-key.ensures.kept
-    (retired-machine g.met.K.Eq.laws c.self.invariant c.in_ok-tail.tail
-    (sym c.in_ok-tail.ensures.tail) _ _ c.free_slot.new.free.items _ _ _ c.in_ok-tail.ensures.queues r.had_hash r.had_key
-    r.becomes c.free_slot.ensures.top)
-    ∙ ap (λ (z : CacheState _ _ _). tail_evicted (last_or None z.machine.small) z.machine) c.self.view_is
+    rw (c.retire-key.ensures.kept, ← c.self.view_is) (retired-machine g.met.K.Eq.laws c.self.invariant c.in_ok-tail.tail (sym c.in_ok-tail.ensures.tail) _ _ c.free_slot.new.free.items _ _ _
+    c.in_ok-tail.ensures.queues r.had_hash r.had_key r.becomes c.free_slot.ensures.top)
 
 pub returns-clause-known : goal.returns-clause-known
 returns-clause-known g c =
     let r = c.retire-key.ensures.retired in
-    known-retired g.met.K.Eq.laws c.self.invariant c.in_ok-tail.tail
-    (sym c.in_ok-tail.ensures.tail) _ _ c.free_slot.new.free.items _ _ _ c.in_ok-tail.ensures.queues r.had_hash r.had_key
-    r.becomes c.free_slot.ensures.top c.self.inside.directory.history.places r.places
-    ∙ ap (λ (z : CacheState _ _ _). remembering
-    (λ k. hash_of g.S.BuildHasher g.S.Hasher.Hasher z.hasher (g.K.Hash.hash_input k)) c.retire-key.result c.in_ok-tail.tail
-    z.machine z.known) c.self.view_is
+    grind (
+      arith,
+      c.self.view_is,
+      r.places,
+      pushed-key g.met.K.Eq.laws c.self.invariant c.self.inside.directory.history.places c.in_ok-tail.tail c.retire-key.result r.had_key r.had_hash,
+    )

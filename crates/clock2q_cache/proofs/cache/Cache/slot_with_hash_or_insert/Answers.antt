@@ -11,10 +11,10 @@ use Rattle.clock2q_cache.proofs.WithHash.{none-of, none-unless}
 use Rattle.clock2q_cache.proofs.cache.Cache.slot_with_hash_or_insert.Goals as goal
 
 pub returns-clause-absent : goal.returns-clause-absent
-returns-clause-absent g c = λ entered. none-unless c.first_alike.result c.in_default.not-Some c.first_alike.ensures.absent
+returns-clause-absent g c = λ entered. none-unless c.with_hash.result c.in_default.not-Some c.with_hash.ensures.absent refl c.args.key c.hash-hash.ensures
 
 pub returns-clause-alone : goal.returns-clause-alone
-returns-clause-alone g c = grind (arith, none-of, is_empty, c.first_alike.ensures.slot, c.hash-hash.ensures)
+returns-clause-alone g c = grind (arith, none-of, is_empty, c.with_hash.ensures.slot, c.hash-hash.ensures)
 
 pub returns-clause-resident : goal.returns-clause-resident
 returns-clause-resident g c = λ entered.

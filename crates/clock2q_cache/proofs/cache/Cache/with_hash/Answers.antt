@@ -1,9 +1,9 @@
 -- What the walk finds are the slots of the residents with the hash, each once.
 use Rattle.std.proofs.Common.{slice_get, ap, ◌∙◌}
-use Rattle.clock2q_cache.proofs.Names.{CacheState}
+use Rattle.clock2q_cache.proofs.Names.{hash_of, CacheState}
 use Rattle.clock2q_cache.specs.SlotsByHash.{slots_with_hash}
 use Rattle.clock2q_cache.proofs.Finding.{candidates-there}
-use Rattle.clock2q_cache.proofs.WithHash.{found-within, with-hash, lists-each, lists-once}
+use Rattle.clock2q_cache.proofs.WithHash.{found-within, with-hash, absent-unless, lists-each, lists-once}
 use Rattle.clock2q_cache.proofs.cache.Cache.with_hash.Goals as goal
 
 pub slot_with_hash-requires : goal.slot_with_hash-requires
@@ -23,6 +23,12 @@ returns-clause-listed g c =
       each = lists-each g.met.K.Eq.laws c.self.invariant c.args.hash;
       once = lists-once g.met.K.Eq.laws c.self.invariant c.args.hash;
     })
+
+pub returns-clause-absent : goal.returns-clause-absent
+returns-clause-absent g c =
+    rw (← c.self.view_is)
+    (absent-unless g.met.K.Eq.laws c.self.invariant (λ x y e. ap (λ z. hash_of g.S.BuildHasher g.S.Hasher.Hasher c.self.inside.hasher z) (g.met.K.Hash.respects_eq x y e))
+    c.args.hash c.args.nth c.slot_with_hash.result c.slot_with_hash.ensures.slot)
 
 pub returns-clause-within : goal.returns-clause-within
 returns-clause-within g c = rw (← c.self.view_is) (found-within g.met.K.Eq.laws c.self.invariant c.args.hash c.args.nth c.slot_with_hash.result c.slot_with_hash.ensures.slot)
