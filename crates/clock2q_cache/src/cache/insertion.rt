@@ -20,10 +20,10 @@ impl<K: Hash + Eq + Drop, V: Drop, S: BuildHasher, A: Allocator> Cache<K, V, S, 
     ghost use Rattle.clock2q_cache.specs.CacheState.{remembered_in};
     ghost use Rattle.clock2q_machine.specs.Entries.{inspections};
     ghost use Rattle.clock2q_cache.specs.Closures.{Reuses};
-    ghost use Rattle.clock2q_cache.specs.Places.{known_at, looked_for, out_of_small};
-    ghost use Rattle.clock2q_cache.specs.Insertions.{Enters, EntersMain, EntersQueue, EntersSmall, IsAbsent, IsFoundFor, IsUnknown, Notes, Sends, placed, makes_slot, next_is_vacant, main_inspections, small_inspections, leaves_placed};
+    ghost use Rattle.clock2q_cache.specs.Places.{known_at, looked_for};
+    ghost use Rattle.clock2q_cache.specs.Insertions.{Enters, EntersMain, EntersQueue, EntersSmall, IsAbsent, IsFoundFor, IsUnknown, Notes, Sends, placed, makes_slot, next_is_vacant, leaves_placed};
     ghost use Rattle.clock2q_machine.specs.Leaving.{leaves_for, leaves_for_main};
-    ghost use Rattle.clock2q_machine.specs.Machine.{vacancy, goes_to_main, into_main, into_small, placement, inserted};
+    ghost use Rattle.clock2q_machine.specs.Machine.{vacancy, goes_to_main, placement, inserted};
 
     /// Inserts a key that is not resident, for which a lookup found `found`.
     pub(crate) fn insert(&mut self, hash: u64, key: K, value: V, found: Found) -> u32

@@ -5,15 +5,13 @@ use std::alloc::Allocator;
 use std::hash::{BuildHasher, Hash};
 
 impl<K: Hash + Eq + Copy, V: Drop, S: BuildHasher, A: Allocator> Cache<K, V, S, A> {
-    ghost use Rattle.std.specs.Prelude.{◌≡◌, ◌+◌, ◌<◌, length, true, None, Some};
+    ghost use Rattle.std.specs.Prelude.{◌≡◌, ◌+◌, ◌<◌, true, None, Some};
     ghost use Rattle.std.specs.List.{last_or};
     ghost use Rattle.std.specs.Option.{option_map};
     ghost use Rattle.clock2q_machine.specs.Calls.{Evict};
-    ghost use Rattle.clock2q_machine.specs.Entries.{first_of, from_victim, inspections, set_front};
+    ghost use Rattle.clock2q_machine.specs.Entries.{first_of, from_victim, inspections};
     ghost use Rattle.clock2q_machine.specs.Leaving.{leaver};
     ghost use Rattle.clock2q_machine.specs.Machine.{evicted, tail_evicted, victim_evicted, victim_leaves};
-    ghost use Rattle.clock2q_machine.specs.Shares.{main_share};
-    ghost use Rattle.clock2q_machine.specs.Whole.{IsWhole};
     ghost use Rattle.clock2q_cache.specs.Costs.{Costs, Spends};
     ghost use Rattle.clock2q_cache.specs.MakingRoom.{retired_from};
     ghost use Rattle.clock2q_cache.specs.Hashes.{hash_of};

@@ -57,7 +57,7 @@ impl<K: Hash + Eq, V, S: BuildHasher, A: Allocator> Cache<K, V, S, A> {
         if !self.has_resident(slot) {
             return false;
         }
-        self.hit_resident(slot as u32);
+        self.queues.hit(slot as u32);
         true
     }
 
@@ -95,16 +95,6 @@ impl<K: Hash + Eq, V, S: BuildHasher, A: Allocator> Cache<K, V, S, A> {
             return false;
         }
         self.is_resident(slot as u32)
-    }
-
-    /// Records a hit on the resident at a slot.
-    fn hit_resident(&mut self, slot: u32)
-        requires { IsSome (resident_at self.old.machine slot) }
-        ensures machine { IfSome (resident_at self.old.machine slot)
-            (λ r. self.new.machine ≡ hit (K.eq r.0) self.old.machine) }
-        ensures kept { self.new ≡ record self.old { machine = self.new.machine } }
-    {
-        self.queues.hit(slot);
     }
 
     /// Returns slot number `nth` of those of the residents whose keys have a hash.
