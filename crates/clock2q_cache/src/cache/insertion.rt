@@ -188,6 +188,7 @@ impl<K: Hash + Eq + Drop, V: Drop, S: BuildHasher, A: Allocator> Cache<K, V, S, 
     }
 
     /// Inserts a key into Main or into Small, which has room, at a vacancy.
+    #[inline(always)]
     fn join(&mut self, gap: Option<Gap>, hash: u64, key: K, value: Option<V>, main: bool) -> u32
         requires unknown { IsUnknown K.Hash S.BuildHasher S.Hasher.Hasher key hash gap self.old }
         requires main { main ≡ true →
