@@ -4,7 +4,8 @@ use Rattle.std.proofs.lemmas.List.{append_assoc, get_or_default, length-append, 
 use Rattle.clock2q_queues.specs.declared.links.Record.{Record}
 use Rattle.clock2q_queues.specs.Cells.{cells_state}
 use Rattle.clock2q_queues.specs.Flags.{is_linked}
-use Rattle.clock2q_queues.specs.Links.{RecordsState, all_records, records_state, location_at, next_at, previous_at, record_at, vacant}
+use Rattle.clock2q_queues.specs.Links.{RecordsState, Detaches, all_records, records_state, location_at, next_at, previous_at, record_at, vacant}
+use Rattle.clock2q_queues.proofs.Attaching.{detaches, next_is, previous_is, with_change}
 use Rattle.clock2q_queues.proofs.Records.{get_or-same}
 
 padded-at : (rs : List Record) (n t : ℕ) → record_at (rs ++ replicate n vacant) t ≡ record_at rs t
@@ -38,15 +39,6 @@ module _ (rs : List Record) (slots : ℕ) where
   -- the record of a slot that isn't in memory is vacant
   pub all-at : (t : ℕ) → record_at (all_records rs slots) t ≡ record_at rs t
   all-at t = padded-at rs (slots - length rs) t
-
-  pub next-all : (t : ℕ) → next_at (all_records rs slots) t ≡ next_at rs t
-  next-all t = ap (λ (r : Record). r.next) (all-at t)
-
-  pub previous-all : (t : ℕ) → previous_at (all_records rs slots) t ≡ previous_at rs t
-  previous-all t = ap (λ (r : Record). r.previous) (all-at t)
-
-  pub location-all : (t : ℕ) → location_at (all_records rs slots) t ≡ location_at rs t
-  location-all t = ap (λ (r : Record). r.location) (all-at t)
 
   -- so that of a slot which is in a queue is in memory
   pub linked-in : (slot : ℕ) → is_linked (location_at (all_records rs slots) slot) ≡ true → slot < length rs
@@ -89,7 +81,34 @@ module _ (rs : List Record) (slots : ℕ) where
 
   -- vacant records come into memory
   pub all-more : (k : ℕ) → length rs + k ≤ slots → all_records (rs ++ replicate k vacant) slots ≡ all_records rs slots
-  all-more k fit =
-      let rest = slots - length (rs ++ replicate k vacant) in
-      append_assoc rs (replicate k vacant) (replicate rest vacant) ∙ ap (λ z. rs ++ z) (replicate-append-replicate k rest vacant)
-      ∙ ap (λ n. rs ++ replicate n vacant) (omega (arith, fit, length-append rs (replicate k vacant), length-replicate k vacant))
+  all-more k fit = grind (arith, append_assoc, replicate-append-replicate, length-append, length-replicate)
+
+-- Writes to the records in memory
+
+-- two slots are linked to each other
+pub all-relinked : (rs : List Record) (slots p q next previous : ℕ) (r s : Record) → p < length rs → r ≡ get_or rs p r → q < length rs → s ≡ get_or (set rs p (next_is next r)) q s
+    → all_records (set (set rs p (next_is next r)) q (previous_is previous s)) slots ≡ with_change (with_change (all_records rs slots) p (next_is next)) q (previous_is previous)
+all-relinked rs slots p q next previous r s in_p r_is in_q s_is =
+    let xs = set rs p (next_is next r) in
+    let in_xs : q < length xs = rw (length-set rs p (next_is next r)) in_q in
+    all-changed xs slots q (previous_is previous) s (s_is ∙ sym (get_or_default xs q vacant s in_xs)) in_xs
+    ∙ ap (λ z. with_change z q (previous_is previous)) (all-changed rs slots p (next_is next) r (r_is ∙ sym (get_or_default rs p vacant r in_p)) in_p)
+
+module _ (rs : List Record) (slots a b slot : ℕ) (was r s : Record) where
+  -- a slot's neighbours are linked to each other, then its own record is vacated
+  pub all-detached : is_linked (location_at (all_records rs slots) slot) ≡ true → is_linked (location_at (all_records rs slots) (next_at (all_records rs slots) slot)) ≡ true
+      → is_linked (location_at (all_records rs slots) (previous_at (all_records rs slots) slot)) ≡ true → was ≡ record_at (all_records rs slots) slot
+      → r ≡ get_or rs was.previous r → s ≡ get_or (set rs was.previous (next_is was.next r)) was.next s → b ≡ a + 6
+      → Detaches slot (cells_state (all_records rs slots) a)
+      (cells_state (all_records (set (set (set rs was.previous (next_is was.next r)) was.next (previous_is was.previous s)) slot vacant) slots) b)
+  all-detached own next_in previous_in was_is r_is s_is counted =
+      let all = all_records rs slots in
+      let xs = set rs was.previous (next_is was.next r) in
+      let ys = set xs was.next (previous_is was.previous s) in
+      let in_p : was.previous < length rs = rw was_is (linked-in rs slots (previous_at all slot) previous_in) in
+      let in_n : was.next < length rs = rw was_is (linked-in rs slots (next_at all slot) next_in) in
+      let in_ys : slot < length ys = rw (length-set xs was.next (previous_is was.previous s), length-set rs was.previous (next_is was.next r)) (linked-in rs slots slot own) in
+      let items : all_records (set ys slot vacant) slots ≡ set (with_change (with_change all was.previous (next_is was.next)) was.next (previous_is was.previous)) slot vacant =
+      sym (all-set ys slots slot vacant in_ys) ∙ ap (λ z. set z slot vacant) (all-relinked rs slots was.previous was.next was.next was.previous r s in_p r_is in_n s_is) in
+      rw (items, was_is)
+      (detaches all a b slot (linked_within all slot own) (linked_within all (next_at all slot) next_in) (linked_within all (previous_at all slot) previous_in) counted)

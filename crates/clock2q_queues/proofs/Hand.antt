@@ -1,5 +1,5 @@
 -- The hand's sweep over Main, one inspection after the other.
-use Rattle.std.proofs.Common.{◌≡◌, ℕ, suc, ◌+◌, ◌<◌, Bool, true, false, cond, ◌||◌, eqb, Some, slice_get, List, [], ◌∷◌, ◌++◌, length, map, take, drop, inl, inr, refl, sym, ap, ◌∙◌, subst, arith}
+use Rattle.std.proofs.Common.{◌≡◌, ℕ, ◌+◌, ◌<◌, Bool, true, false, cond, ◌||◌, eqb, Some, slice_get, List, [], ◌∷◌, ◌++◌, length, map, drop, refl, sym, ap, ◌∙◌, subst, arith}
 use Rattle.std.proofs.lemmas.Bool.{both_ways, or_cases}
 use Rattle.std.proofs.lemmas.List.{append-nil, append_assoc, map-append, take-append-le, drop-append-le, length_push}
 use Rattle.std.proofs.lemmas.List.Sums.{prefix_len-le-length}
@@ -23,11 +23,7 @@ prefix_len-push ((t, false) ∷ es) s = refl
 
 -- an entry that the hand passes goes to the end with a clear bit, and the choice is the same
 pub from_victim-passed : (s : ℕ) (es : List (ℕ × Bool)) → from_victim ((s, true) ∷ es) ≡ from_victim (es ++ (s, false) ∷ [])
-from_victim-passed s es =
-    let n = prefix_len-le-length (λ (e : ℕ × Bool). e.1) es in
-    let e : 1 + set_front es ≡ suc (set_front es) = omega arith in
-    rw (prefix_len-push es s, drop-append-le (set_front es) es ((s, false) ∷ []) n, take-append-le (set_front es) es ((s, false) ∷ []) n, e)
-    (sym (append_assoc (drop (set_front es) es) ((s, false) ∷ []) (map (λ e. (e.0, false)) (take (set_front es) es))))
+from_victim-passed s es = grind (arith, prefix_len-le-length, prefix_len-push, drop-append-le, take-append-le, append_assoc)
 
 -- if the first bit is clear, the first entry is the victim
 pub from_victim-chosen : (s : ℕ) (es : List (ℕ × Bool)) → from_victim ((s, false) ∷ es) ≡ (s, false) ∷ es
@@ -54,10 +50,7 @@ starts_next next previous hand [] r = ap (λ z. Some z) r.0
 starts_next next previous hand (t ∷ rest) r = ap (λ z. Some z) r.0
 
 has-behind : (t hand : ℕ) (rest : List ℕ) → has t (rest ++ hand ∷ []) ≡ true → has t (hand ∷ rest) ≡ true
-has-behind t hand rest h = elim (or_cases (has t rest) (has t (hand ∷ [])) (sym (has-append t rest (hand ∷ [])) ∙ h)) [
-  | inl q ↦ has_later t hand rest q
-  | inr q ↦ or_left (eqb t hand) (has t rest) (elim (or_cases (eqb t hand) false q) [ inl z ↦ z | inr z ↦ absurd (both_ways false refl z) ])
-]
+has-behind t hand rest h = grind (arith, or_cases, has-append, has_later, or_left, both_ways)
 
 -- if no record changed, the hand may stay at a slot or move on from it
 module _ (now l : LinkState) (main : MainRing) (hand : ℕ) (rest : List ℕ) (items : l.records.items ≡ now.records.items) (m : IsMain now (with_hand hand main) (hand ∷ rest)) where
@@ -79,10 +72,7 @@ module _ (now l : LinkState) (main : MainRing) (hand : ℕ) (rest : List ℕ) (i
   }
 
   stayed : IsMain l (with_hand hand main) (hand ∷ rest)
-  stayed = record {
-    queue = record { linked = linked; starts = refl; counted = m.queue.counted; countable = rw as_many m.queue.countable };
-    location = λ t h. ap (λ (z : List Record). (record_at z t).location) items ∙ m.location t h;
-  }
+  stayed = grind (arith, linked, as_many)
 
 -- an inspection of the hand's slot doesn't change the other bits
 module _ (now l : LinkState) (main : MainRing) (hand : ℕ) (rest : List ℕ) (k : Looks hand now l) (m : IsMain now (with_hand hand main) (hand ∷ rest)) where
@@ -93,10 +83,7 @@ module _ (now l : LinkState) (main : MainRing) (hand : ℕ) (rest : List ℕ) (k
   hand_cleared = k.bits hand ∙ rw (eqb_self hand) refl
 
   entries_turned : map {B = ℕ × Bool} (λ s. (s, bit_at l s)) (rest ++ hand ∷ []) ≡ map {B = ℕ × Bool} (λ s. (s, bit_at now s)) rest ++ (hand, false) ∷ []
-  entries_turned =
-      map-append {B = ℕ × Bool} (λ s. (s, bit_at l s)) rest (hand ∷ [])
-      ∙ ap (λ (z : List (ℕ × Bool)). z ++ (hand, bit_at l hand) ∷ []) others_kept
-      ∙ ap (λ z. map {B = ℕ × Bool} (λ s. (s, bit_at now s)) rest ++ (hand, z) ∷ []) hand_cleared
+  entries_turned = grind (arith, map-append, others_kept, hand_cleared)
 
   entries_stayed : map {B = ℕ × Bool} (λ s. (s, bit_at l s)) (hand ∷ rest) ≡ (hand, false) ∷ map {B = ℕ × Bool} (λ s. (s, bit_at now s)) rest
   entries_stayed =
@@ -171,8 +158,8 @@ module _ (old : LinkState) (main : MainRing) (now : LinkState) (hand : ℕ) (s :
   at_hand : IsMain now (with_hand hand main) (hand ∷ rest)
   at_hand = subst (λ z. IsMain now (with_hand hand main) z) rest_of.1 s.whole
 
-  pub hand_in : hand < length now.records.items
-  hand_in = at_hand.queue.linked.below.0
+  pub hand_linked : is_linked (location_at now.records.items hand) ≡ true
+  hand_linked = ap is_linked (at_hand.location hand (has_first hand rest))
 
   abbrev es : List (ℕ × Bool)
   es = map {B = ℕ × Bool} (λ t. (t, bit_at now t)) rest
@@ -227,10 +214,7 @@ pub record Selects (old : LinkState) (main : MainRing) (new : LinkState) (main' 
 module _ (old : LinkState) (main : MainRing) (now : LinkState) (hand : ℕ) (s : Swept old main now hand) (l : LinkState) (k : Looks hand now l)
     (b : bit_at now hand ≡ false) (a : l.records.accesses ≡ now.records.accesses) where
   chosen_entries : main_entries l (with_hand hand main) ≡ (hand, false) ∷ es old main now hand s
-  chosen_entries =
-      ap (λ z. map {B = ℕ × Bool} (λ t. (t, bit_at l t)) z)
-      (main_slots-is l (with_hand hand main) (hand ∷ rest old main now hand s) (stayed now l main hand (rest old main now hand s) k.items (at_hand old main now hand s)))
-      ∙ entries_stayed now l main hand (rest old main now hand s) k (at_hand old main now hand s)
+  chosen_entries = grind (arith, main_slots-is, stayed, at_hand, entries_stayed)
 
   Selects-from : Selects old main l (with_hand hand main) hand
   Selects-from =
@@ -258,8 +242,7 @@ module _ (old : LinkState) (main : MainRing) (now : LinkState) (hand : ℕ) (s :
     (bits : (t : ℕ) → bit_at mid t ≡ cond (eqb t hand) false (bit_at now t)) (looked : mid ≡ record now { bits = mid.bits }) (counted : mid.bits.inspections ≡ now.bits.inspections + 1) where
   pub hand_linked_still : is_linked (location_at mid.records.items hand) ≡ true
   hand_linked_still =
-      subst (λ (z : LinkState). is_linked (location_at z.records.items hand) ≡ true) (sym looked)
-      (ap is_linked ((at_hand old main now hand s).location hand (has_first hand (rest old main now hand s))))
+      ap (λ (z : LinkState). is_linked (location_at z.records.items hand)) looked ∙ hand_linked old main now hand s
 
   Looks-only : Looks hand now mid
   Looks-only = record { bits = bits; items = ap (λ (z : LinkState). z.records.items) looked; window = ap (λ (z : LinkState). z.window) looked; made = ap (λ (z : LinkState). z.made) looked; inspections = counted }
@@ -269,13 +252,7 @@ module _ (old : LinkState) (main : MainRing) (now : LinkState) (hand : ℕ) (s :
 
   module _ (l : LinkState) (r : Record) (b : true ≡ bit_at now hand) (e : l ≡ record mid { records = accessed mid.records }) (v : r ≡ record_at mid.records.items hand) where
     Looks-read : Looks hand now l
-    Looks-read = record {
-      bits = λ t. ap (λ (z : LinkState). bit_at z t) e ∙ bits t;
-      items = ap (λ (z : LinkState). z.records.items) e ∙ Looks-only.items;
-      window = ap (λ (z : LinkState). z.window) e ∙ Looks-only.window;
-      made = ap (λ (z : LinkState). z.made) e ∙ Looks-only.made;
-      inspections = ap (λ (z : LinkState). z.bits.inspections) e ∙ counted;
-    }
+    Looks-read = grind (arith, Looks-only)
 
     next_is : r.next ≡ next_at now.records.items hand
     next_is = ap (λ (q : Record). q.next) v ∙ ap (λ (z : LinkState). next_at z.records.items hand) looked

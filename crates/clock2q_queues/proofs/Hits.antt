@@ -1,5 +1,5 @@
 -- A hit on a slot sets its bit. A young slot's bit isn't in the view, so the one write is a hit in either queue.
-use Rattle.std.proofs.Common.{◌≡◌, ◌⊎◌, ℕ, ◌<◌, Bool, true, cond, eqb, List, [], ◌∷◌, length, map, inl, inr, refl, sym, ap, ◌∙◌, subst}
+use Rattle.std.proofs.Common.{◌≡◌, ◌⊎◌, ℕ, Bool, true, cond, eqb, List, [], ◌∷◌, length, map, inl, inr, refl, sym, ap, ◌∙◌, subst}
 use Rattle.std.proofs.lemmas.Bool.{cases_Bool}
 use Rattle.clock2q_machine.specs.Ages.{touched}
 use Rattle.clock2q_queues.specs.Cells.{CellsState, HitBits, bit_in}
@@ -13,7 +13,8 @@ use Rattle.clock2q_queues.specs.Links.{LinkState, SetsBit, location_at, bit_at}
 use Rattle.clock2q_queues.specs.MainRing.{main_slots, main_entries, main_hit_at}
 use Rattle.clock2q_queues.specs.Small.{small_slots, small_entries, small_hit_at, age_of, age_at}
 use Rattle.clock2q_queues.specs.Queues.{AreQueues, QueueState, queues_shown, slots_of}
-use Rattle.clock2q_queues.proofs.Joining.{in_bounds}
+use Rattle.clock2q_queues.specs.Flags.{is_linked}
+use Rattle.clock2q_queues.proofs.InQueue.{main_linked, small_linked}
 use Rattle.clock2q_queues.proofs.Sharing.{Becomes, queues_equal, in_small, in_main}
 
 -- entries that differ at one slot
@@ -72,7 +73,7 @@ module _ (l : LinkState) (small : Small) (main : MainRing) (q : AreQueues l smal
       subst (λ z. Becomes z small main (record (queues_shown l small main) { small = small_hit_at slot (small_entries l small); main = main_hit_at slot (main_entries l main) })) (sym e)
       (hit_bits new.bits s.bits s.inspections)
 
-  -- a slot of a queue has a record
-  pub resident_in : (shown : QueueState) → queues_shown l small main ≡ shown → (has slot (slots_of shown.small) ≡ true) ⊎ (has slot (slots_of shown.main) ≡ true) → slot < length l.records.items
-  resident_in shown e (inl h) = in_bounds l.records.items (small_slots l small) slot q.small.queue.linked (in_small l small main shown slot true e h)
-  resident_in shown e (inr h) = in_bounds l.records.items (main_slots l main) slot q.main.queue.linked (in_main l small main shown slot true e h)
+  -- its location says so
+  pub resident_linked : (shown : QueueState) → queues_shown l small main ≡ shown → (has slot (slots_of shown.small) ≡ true) ⊎ (has slot (slots_of shown.main) ≡ true) → is_linked (location_at l.records.items slot) ≡ true
+  resident_linked shown e (inl h) = (small_linked l small q.small slot (in_small l small main shown slot true e h)).own
+  resident_linked shown e (inr h) = (main_linked l main q.main slot (in_main l small main shown slot true e h)).own

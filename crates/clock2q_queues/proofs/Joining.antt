@@ -13,7 +13,7 @@ use Rattle.clock2q_queues.specs.declared.links.Record.{Record}
 use Rattle.clock2q_queues.specs.declared.links.Location.{Location}
 use Rattle.clock2q_queues.specs.Rings.{has, without, AllApart, AllBelow, Joins, IsRing}
 use Rattle.clock2q_queues.specs.Cells.{CellsState}
-use Rattle.clock2q_queues.specs.Links.{IsLinked, IsQueue, Attaches, Detaches, slots_from, record_at, next_at, previous_at, location_at, vacant}
+use Rattle.clock2q_queues.specs.Links.{IsLinked, IsQueue, Attaches, Detaches, end_of, slots_from, record_at, next_at, previous_at, location_at, vacant}
 use Rattle.clock2q_queues.proofs.Rings.{eqb_self, eqb_swap, has-append, has_first, has_later, differs, AllApart-append, AllApart-left, AllApart-right, apart_from, AllApart-turned, AllBelow-append}
 use Rattle.clock2q_queues.proofs.Rings.{AllBelow-left, AllBelow-right, below_of, parted, IsRing-kept, IsRing-put, IsRing-taken, IsRing-turned, before_end, Joins_parts, around-ring, without-parted}
 use Rattle.clock2q_queues.proofs.Booleans.{or_left, or_right, or_parts, or_neither}
@@ -23,10 +23,7 @@ use Rattle.clock2q_queues.proofs.Records.{changed}
 
 -- a record is its three fields
 pub same_record : (x y : Record) → x.previous ≡ y.previous → x.next ≡ y.next → x.location ≡ y.location → x ≡ y
-same_record x y p n s =
-    ap (λ z. record { previous = z; next = x.next; location = x.location }) p
-    ∙ ap (λ z. record { previous = y.previous; next = z; location = x.location }) n
-    ∙ ap (λ z. record { previous = y.previous; next = y.next; location = z }) s
+same_record x y p n s = grind (arith)
 
 pub map-agree : {X : Type 0} (f g : ℕ → X) (ss : List ℕ) → ((t : ℕ) → has t ss ≡ true → f t ≡ g t) → map f ss ≡ map g ss
 map-agree f g [] h = refl
@@ -57,18 +54,10 @@ room rs ss slot k h b = length-le_bound (length rs) (slot ∷ ss) (h, k.apart) (
 
 pub IsLinked-kept : (old new : List Record) (ss : List ℕ) → IsLinked old ss → length new ≡ length old
     → ((t : ℕ) → has t ss ≡ true → record_at new t ≡ record_at old t) → IsLinked new ss
-IsLinked-kept old new ss k n h = record {
-  ring = IsRing-kept (next_at old) (previous_at old) (next_at new) (previous_at new) ss k.ring (λ t g. ap (λ r. r.next) (h t g)) (λ t g. ap (λ r. r.previous) (h t g));
-  apart = k.apart;
-  below = subst (λ z. AllBelow z ss) (sym n) k.below;
-}
+IsLinked-kept old new ss k n h = grind (arith, IsRing-kept)
 
 pub IsLinked-turned : (rs : List Record) (xs ys : List ℕ) → IsLinked rs (xs ++ ys) → IsLinked rs (ys ++ xs)
-IsLinked-turned rs xs ys k = record {
-  ring = IsRing-turned (next_at rs) (previous_at rs) xs ys k.ring;
-  apart = AllApart-turned xs ys k.apart;
-  below = AllBelow-append (length rs) ys xs (AllBelow-right (length rs) xs ys k.below) (AllBelow-left (length rs) xs ys k.below);
-}
+IsLinked-turned rs xs ys k = grind (arith, IsRing-turned, AllApart-turned, AllBelow-append, AllBelow-right, AllBelow-left)
 
 -- a queue's slots are those read from its first one on
 pub slots_from-is : (rs : List Record) (first : Option ℕ) (count : ℕ) (ss : List ℕ) → IsQueue rs first count ss → slots_from rs first count ≡ ss
@@ -80,10 +69,7 @@ slots_from-is rs (Some f) count (s ∷ ss) q =
     rw (q.counted, e) (around-ring (next_at rs) (previous_at rs) s ss q.linked.ring)
 
 has-turned : (t : ℕ) (xs ys : List ℕ) → has t (ys ++ xs) ≡ true → has t (xs ++ ys) ≡ true
-has-turned t xs ys h = elim (or_cases (has t ys) (has t xs) (sym (has-append t ys xs) ∙ h)) [
-  | inl g ↦ has-append t xs ys ∙ or_right (has t xs) (has t ys) g
-  | inr g ↦ has-append t xs ys ∙ or_left (has t xs) (has t ys) g
-]
+has-turned t xs ys h = grind (arith, or_cases, has-append, or_right, or_left)
 
 next_in_ring : (next previous : ℕ → ℕ) (s : ℕ) (ss : List ℕ) → IsRing next previous (s ∷ ss) → has (next s) (s ∷ ss) ≡ true
 next_in_ring next previous s [] r = or_left _ _ (eq-eqb _ _ r.0)
@@ -120,11 +106,7 @@ first_in (s ∷ ss) first e = let q : first ≡ s = cc in or_left (eqb first s) 
 
 -- the next count of slots fits
 pub count_fits : (rs : List Record) (first : Option ℕ) (count : ℕ) (ss : List ℕ) (slot : ℕ) → IsQueue rs first count ss → has slot ss ≡ false → slot < length rs → count + 1 < 2 ^ 32
-count_fits rs first count ss slot q absent b =
-    let r = room rs ss slot q.linked absent b in
-    let n = q.counted in
-    let k = q.countable in
-    omega arith
+count_fits rs first count ss slot q absent b = grind (arith, room)
 
 -- Putting a slot in
 
@@ -243,13 +225,7 @@ filter-entries slot f (s ∷ ss) = elim (cases_Bool (eqb s slot)) [
 -- Counts and ends after a slot was taken out
 
 pub length-without : (slot : ℕ) (ss : List ℕ) → AllApart ss → has slot ss ≡ true → length (without slot ss) + 1 ≡ length ss
-length-without slot ss a h =
-    let p = parted slot ss h in
-    let a' : AllApart (p.0 ++ slot ∷ p.1.0) = subst (λ z. AllApart z) p.1.1 a in
-    let e : without slot ss ≡ p.0 ++ p.1.0 = ap (λ z. without slot z) p.1.1 ∙ without-parted p.0 slot p.1.0 a' in
-    let m = ap (λ (z : List ℕ). length z) e in
-    let n = ap (λ (z : List ℕ). length z) p.1.1 in
-    omega (arith, length-append p.0 p.1.0, length-append p.0 (slot ∷ p.1.0))
+length-without slot ss a h = grind (arith, parted, without-parted, length-append)
 
 -- if the first slot left, the next one is first, if there is one
 pub first_after : (rs : List Record) (count : ℕ) (ss : List ℕ) (slot : ℕ) → IsQueue rs (Some slot) count ss
@@ -258,12 +234,7 @@ first_after rs count [] slot q = absurd (let e = q.starts in cc)
 first_after rs count (s ∷ []) slot q =
     let e : slot ≡ s = let h = q.starts in cc in
     rw (q.counted, e, eqb_self s) refl
-first_after rs count (s ∷ t ∷ ss) slot q =
-    let e : slot ≡ s = let h = q.starts in cc in
-    let a = q.linked.apart in
-    let d : eqb t s ≡ false = eqb_swap s t (or_parts (eqb s t) (has s ss) a.0).0 in
-    let n : ltb 0 (count - 1) ≡ true = lt-ltb 0 (count - 1) (let m = q.counted in omega arith) in
-    rw (n, e, eqb_self s, d) (ap (λ z. Some z) q.linked.ring.0)
+first_after rs count (s ∷ t ∷ ss) slot q = grind (arith, eqb_swap, or_parts, lt-ltb, eqb_self)
 
 -- if another one left, the first stays the first
 pub first_stays : (rs : List Record) (first : Option ℕ) (count : ℕ) (ss : List ℕ) (slot : ℕ) → IsQueue rs first count ss → first ≢ Some slot
@@ -284,6 +255,28 @@ not_first (Some s) slot e h = let q : s ≡ slot = cc in both_ways (eqb s slot) 
 pub first_gone : (rs : List Record) (first : Option ℕ) (count : ℕ) (ss : List ℕ) (slot : ℕ) → IsQueue rs first count ss → first ≡ Some slot
     → then_some (ltb 0 (count - 1)) (next_at rs slot) ≡ slice_get (without slot ss) 0
 first_gone rs first count ss slot q e = first_after rs count ss slot (subst (λ z. IsQueue rs z count ss) e q)
+
+-- a queue with a slot has ends
+pub end_some : (len slot : ℕ) → 0 < len → end_of len slot ≡ Some slot
+end_some len slot some = rw (lt-ltb 0 len some) refl
+
+-- the first slot after one left: the next one if that was first
+pub first_left : (rs : List Record) (len newest newest' : ℕ) (ss : List ℕ) (slot : ℕ) → IsQueue rs (end_of len newest) len ss → has slot ss ≡ true
+    → newest' ≡ cond (eqb newest slot) (next_at rs slot) newest → end_of (len - 1) newest' ≡ slice_get (without slot ss) 0
+first_left rs len newest newest' ss slot q there is =
+    let count = length-without slot ss q.linked.apart there in
+    let was : end_of len newest ≡ Some newest = end_some len newest (omega (arith, count, q.counted)) in
+    elim (cases_Bool (eqb newest slot)) [
+      | inl e ↦ ap (λ z. end_of (len - 1) z) (is ∙ rw e refl) ∙ first_gone rs (end_of len newest) len ss slot q (was ∙ ap (λ z. Some z) (eqb-true newest slot e))
+      | inr e ↦
+          let stays : Some newest ≡ slice_get (without slot ss) 0 =
+          sym was ∙ first_stays rs (end_of len newest) len ss slot q (λ h. let s : newest ≡ slot = let w = was in cc in both_ways (eqb newest slot) e (eq-eqb newest slot s)) in
+          ap (λ z. end_of (len - 1) z) (is ∙ rw e refl) ∙ end_some (len - 1) newest (omega (arith, first_counted (without slot ss) newest stays, count, q.counted)) ∙ stays
+    ]
+  where
+    first_counted : (ss : List ℕ) (first : ℕ) → Some first ≡ slice_get ss 0 → 0 < length ss
+    first_counted [] first e = absurd (cc)
+    first_counted (s ∷ ss) first e = omega arith
 
 -- The last slot
 
@@ -329,3 +322,21 @@ last_stays (s ∷ ss) slot d =
     x.1 ∙ sym (ap (λ z. last_or None (without slot z)) p.1
     ∙ ap (λ z. last_or None z) (filter-append (λ t. not (eqb t slot)) p.0 (x.0 ∷ []))
     ∙ ap (λ z. last_or None (without slot p.0 ++ z)) w ∙ last_or-push None (without slot p.0) x.0)
+
+-- the last slot after one left: the one before it if that was last
+pub last_left : (rs : List Record) (len oldest oldest' : ℕ) (ss : List ℕ) (slot : ℕ) → IsLinked rs ss → len ≡ length ss → end_of len oldest ≡ last_or None ss → has slot ss ≡ true
+    → oldest' ≡ cond (eqb oldest slot) (previous_at rs slot) oldest → end_of (len - 1) oldest' ≡ last_or None (without slot ss)
+last_left rs len oldest oldest' ss slot k counted ends there is =
+    let count = length-without slot ss k.apart there in
+    let was : last_or None ss ≡ Some oldest = sym ends ∙ end_some len oldest (omega (arith, count, counted)) in
+    elim (cases_Bool (eqb oldest slot)) [
+      | inl e ↦ ap (λ z. end_of (len - 1) z) (is ∙ rw e refl) ∙ last_gone rs len ss slot k counted (was ∙ ap (λ z. Some z) (eqb-true oldest slot e))
+      | inr e ↦
+          let stays : Some oldest ≡ last_or None (without slot ss) =
+          sym was ∙ last_stays ss slot (λ h. let s : oldest ≡ slot = let w = was in cc in both_ways (eqb oldest slot) e (eq-eqb oldest slot s)) in
+          ap (λ z. end_of (len - 1) z) (is ∙ rw e refl) ∙ end_some (len - 1) oldest (omega (arith, last_counted (without slot ss) oldest stays, count, counted)) ∙ stays
+    ]
+  where
+    last_counted : (ss : List ℕ) (last : ℕ) → Some last ≡ last_or None ss → 0 < length ss
+    last_counted [] last e = absurd (cc)
+    last_counted (s ∷ ss) last e = omega arith

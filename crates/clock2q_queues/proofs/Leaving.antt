@@ -1,7 +1,6 @@
 -- Small after a slot left it.
-use Rattle.std.proofs.Common.{◌≡◌, ℕ, ◌-◌, ◌<◌, ◌≢◌, ◌⊎◌, true, false, not, eqb, ltb, Option, Some, None, slice_get, List, length, map, get_or, inl, inr, refl, sym, ap, ◌∙◌, subst, arith}
-use Rattle.std.specs.Bool.{then_some}
-use Rattle.std.specs.List.{filter, last_or}
+use Rattle.std.proofs.Common.{◌≡◌, ℕ, ◌-◌, ◌<◌, ◌≢◌, true, false, not, cond, eqb, Option, Some, None, List, length, map, get_or, inl, inr, refl, sym, ap, ◌∙◌, subst, arith}
+use Rattle.std.specs.List.{filter}
 use Rattle.std.proofs.lemmas.Bool.{eqb-true, eq-eqb, ne_eqb, both_ways, cases_Bool, cases_lt}
 use Rattle.std.proofs.lemmas.List.{length-set, get_or_past, set_past}
 use Rattle.clock2q_machine.specs.Ages.{Age}
@@ -11,12 +10,12 @@ use Rattle.clock2q_queues.specs.declared.links.Location.TheVariants.{Free, Small
 use Rattle.clock2q_queues.specs.declared.small.Small.{Small}
 use Rattle.clock2q_queues.specs.Cells.{CellsState, HitBits, bit_in}
 use Rattle.clock2q_queues.specs.Rings.{has, without}
-use Rattle.clock2q_queues.specs.Links.{LinkState, IsLinked, IsSameBut, Detaches, record_at, next_at, previous_at, location_at, bit_at, young_at}
-use Rattle.clock2q_queues.specs.Ends.{position_freed, end_after}
+use Rattle.clock2q_queues.specs.Links.{LinkState, IsLinked, IsSameBut, Detaches, SetsBit, record_at, next_at, previous_at, location_at, bit_at, young_at}
+use Rattle.clock2q_queues.specs.Ends.{position_freed}
 use Rattle.clock2q_queues.specs.Small.{IsSmall, IsSmallQueue, small_slots, small_entries, age_at}
 use Rattle.clock2q_queues.proofs.Records.{changed}
-use Rattle.clock2q_queues.proofs.Rings.{eqb_self, has-without, has-without-back}
-use Rattle.clock2q_queues.proofs.Joining.{Removes, Removes-detached, map-agree, first_gone, first_stays, last_gone, last_stays, filter-entries, length-without}
+use Rattle.clock2q_queues.proofs.Rings.{differs, eqb_swap, has-without, has-without-back}
+use Rattle.clock2q_queues.proofs.Joining.{Removes, Removes-detached, map-agree, first_left, last_left, filter-entries, length-without}
 use Rattle.clock2q_queues.proofs.Window.{AreStaying, aged_slots, small_slots-is, IsSmallQueue-from}
 
 -- Positions
@@ -69,22 +68,6 @@ young_at_was (SmallYoung position) l p t h = elim (cases_lt position (length l.w
 young_at_was SmallOld l p t h = (h, λ position e. absurd (cc))
 young_at_was Main l p t h = (h, λ position e. absurd (cc))
 
--- Ends
-
-end_gone : (end : Option ℕ) (slot others neighbour : ℕ) → end ≡ Some slot → end_after end slot others neighbour ≡ then_some (ltb 0 others) neighbour
-end_gone end slot others neighbour e = rw (e, eqb_self slot) refl
-
-end_stays : (end : Option ℕ) (slot others neighbour : ℕ) → end ≢ Some slot → end_after end slot others neighbour ≡ end
-end_stays None slot others neighbour d = refl
-end_stays (Some s) slot others neighbour d = rw (ne_eqb s slot (λ e. d (ap (λ z. Some z) e))) refl
-
-cases_end : (end : Option ℕ) (slot : ℕ) → (end ≡ Some slot) ⊎ (end ≢ Some slot)
-cases_end None slot = inr (λ e. cc)
-cases_end (Some s) slot = elim (cases_Bool (eqb s slot)) [
-  | inl e ↦ inl (ap (λ z. Some z) (eqb-true s slot e))
-  | inr e ↦ inr (λ h. let q : s ≡ slot = cc in both_ways (eqb s slot) e (eq-eqb s slot q))
-]
-
 -- The slots that stay
 
 module _ (slot : ℕ) {old : LinkState} {small : Small} (mid : LinkState) {new : LinkState} (m : IsSmallQueue old small) (h : has slot (small_slots old small) ≡ true)
@@ -116,14 +99,7 @@ module _ (slot : ℕ) {old : LinkState} {small : Small} (mid : LinkState) {new :
       )
 
   occupied_now : (position t : ℕ) → young_at new position ≡ Some t → (has t (without slot (small_slots old small)) ≡ true) × (location_at new.records.items t ≡ SmallYoung position)
-  occupied_now position t g =
-      let w = young_at_was location mid position t (sym (ap (λ l. young_at l position) e) ∙ g) in
-      let p = m.occupied position t (sym (ap (λ q. get_or q position None) positions) ∙ w.0) in
-      let n : eqb t slot ≡ false = elim (cases_Bool (eqb t slot)) [
-        | inl q ↦ absurd (w.1 position (was ∙ ap (λ z. location_at old.records.items z) (sym (eqb-true t slot q)) ∙ p.1) refl)
-        | inr q ↦ q
-      ] in
-      (has-without-back t slot (small_slots old small) p.0 n, location_now t n ∙ p.1)
+  occupied_now position t g = grind (arith, young_at_was, cases_Bool, eqb-true, has-without-back, location_now)
 
   -- all but the slot whose position was emptied
   pub others_stay : AreStaying new small.cursor (without slot (small_slots old small))
@@ -137,12 +113,12 @@ module _ (slot : ℕ) {old : LinkState} {small : Small} (mid : LinkState) {new :
   }
 
   -- their ages don't change
-  pub ages_kept : (bits : mid.bits ≡ old.bits) → aged_slots new small.cursor (without slot (small_slots old small)) ≡ filter (λ e. not (eqb e.0 slot)) (small_entries old small)
+  pub ages_kept : ((t : ℕ) → eqb t slot ≡ false → bit_at mid t ≡ bit_at old t) → aged_slots new small.cursor (without slot (small_slots old small)) ≡ filter (λ e. not (eqb e.0 slot)) (small_entries old small)
   ages_kept bits =
       map-agree {X = ℕ × Age} (λ s. (s, age_at new small.cursor s)) (λ s. (s, age_at old small.cursor s)) (without slot (small_slots old small))
       (λ t g.
       let w = has-without t slot (small_slots old small) g in
-      let b : bit_at new t ≡ bit_at old t = ap (λ (l : LinkState). bit_at l t) e ∙ ap (λ (b : HitBits). bit_in b.items t) (bits-freed location mid ∙ bits) in
+      let b : bit_at new t ≡ bit_at old t = ap (λ (l : LinkState). bit_at l t) e ∙ ap (λ (b : HitBits). bit_in b.items t) (bits-freed location mid) ∙ bits t w.1 in
       ap (λ z. (t, z)) (rw (window_now, location_now t w.1, b) refl))
       ∙ sym (filter-entries slot (λ s. age_at old small.cursor s) (small_slots old small))
 
@@ -155,13 +131,13 @@ pub record UnlinksSmall (slot : ℕ) (old : LinkState) (small : Small) (new : Li
   pub window : length new.window.items ≡ length old.window.items
 
 module _ (slot : ℕ) (old : LinkState) (small : Small) (mid new : LinkState) (m : IsSmallQueue old small) (h : has slot (small_slots old small) ≡ true)
-    (d : Detaches slot old.records mid.records) (rest : mid ≡ record old { records = mid.records })
+    (d : Detaches slot old.records mid.records) (cleared : SetsBit slot false old (record mid { records = old.records }))
     (location : Location) (was : location ≡ location_at old.records.items slot) (e : new ≡ position_freed location mid) where
   removed : Removes slot (small_slots old small) old.records.items mid.records.items
   removed = Removes-detached old.records mid.records (small_slots old small) slot m.queue.linked h d
 
   positions_mid : mid.window.items ≡ old.window.items
-  positions_mid = ap (λ (l : LinkState). l.window.items) rest
+  positions_mid = ap (λ (z : CellsState (Option ℕ)). z.items) cleared.window
 
   records_left : new.records.items ≡ mid.records.items
   records_left = records_now slot mid m h removed.locations removed.as_many positions_mid was e
@@ -178,40 +154,14 @@ module _ (slot : ℕ) (old : LinkState) (small : Small) (mid new : LinkState) (m
   linked_left : IsLinked new.records.items (without slot (small_slots old small))
   linked_left = subst (λ (z : List Record). IsLinked z (without slot (small_slots old small))) (sym records_left) removed.linked
 
-  bit_left : (t : ℕ) → bit_at new t ≡ bit_at old t
-  bit_left t = ap (λ (l : LinkState). bit_at l t) e ∙ ap (λ (b : HitBits). bit_in b.items t) (bits-freed location mid) ∙ ap (λ (l : LinkState). bit_at l t) rest
+  bit_mid : (t : ℕ) → eqb t slot ≡ false → bit_at mid t ≡ bit_at old t
+  bit_mid t other = cleared.bits t ∙ rw other refl
 
   module _ (small' : Small) (len : small'.len ≡ small.len - 1) (cursor : small'.cursor ≡ small.cursor)
-      (newest : small'.newest ≡ end_after small.newest slot (small.len - 1) (next_at old.records.items slot))
-      (oldest : small'.oldest ≡ end_after small.oldest slot (small.len - 1) (previous_at old.records.items slot)) where
-    newest_is : small'.newest ≡ slice_get (without slot (small_slots old small)) 0
-    newest_is = elim (cases_end small.newest slot) [
-      | inl f ↦ newest ∙ end_gone small.newest slot (small.len - 1) (next_at old.records.items slot) f ∙ first_gone old.records.items small.newest small.len (small_slots old small) slot m.queue f
-      | inr f ↦ newest ∙ end_stays small.newest slot (small.len - 1) (next_at old.records.items slot) f ∙ first_stays old.records.items small.newest small.len (small_slots old small) slot m.queue f
-    ]
-
-    oldest_is : small'.oldest ≡ last_or None (without slot (small_slots old small))
-    oldest_is = elim (cases_end small.oldest slot) [
-      | inl f ↦ oldest ∙ end_gone small.oldest slot (small.len - 1) (previous_at old.records.items slot) f
-          ∙ last_gone old.records.items small.len (small_slots old small) slot m.queue.linked m.queue.counted (sym m.ends ∙ f)
-      | inr f ↦ oldest ∙ end_stays small.oldest slot (small.len - 1) (previous_at old.records.items slot) f ∙ m.ends ∙ last_stays (small_slots old small) slot (λ g. f (m.ends ∙ g))
-    ]
-
+      (newest : small'.newest ≡ cond (eqb small.newest slot) (next_at old.records.items slot) small.newest)
+      (oldest : small'.oldest ≡ cond (eqb small.oldest slot) (previous_at old.records.items slot) small.oldest) where
     whole_left : IsSmall new small' (without slot (small_slots old small))
-    whole_left = record {
-      queue = record {
-        linked = linked_left;
-        starts = newest_is;
-        counted = let n = length-without slot (small_slots old small) m.queue.linked.apart h in let c = m.queue.counted in omega arith;
-        countable = stay.countable;
-      };
-      ends = oldest_is;
-      location = stay.location;
-      placed = stay.placed;
-      occupied = stay.occupied;
-      cursor_in = λ p. rw cursor (stay.cursor_in p);
-      countable_positions = stay.countable_positions;
-    }
+    whole_left = grind (arith, linked_left, first_left, length-without, stay, last_left)
 
     pub UnlinksSmall-from : UnlinksSmall slot old small new small'
     UnlinksSmall-from = record {
@@ -219,12 +169,14 @@ module _ (slot : ℕ) (old : LinkState) (small : Small) (mid new : LinkState) (m
       entries =
           ap (λ z. map {B = ℕ × Age} (λ s. (s, age_at new small'.cursor s)) z) (small_slots-is new small' (without slot (small_slots old small)) whole_left)
           ∙ ap (λ z. aged_slots new z (without slot (small_slots old small))) cursor
-          ∙ ages_kept slot mid m h removed.locations removed.as_many positions_mid was e (ap (λ (l : LinkState). l.bits) rest);
+          ∙ ages_kept slot mid m h removed.locations removed.as_many positions_mid was e bit_mid;
       freed = ap (λ (z : List Record). location_at z slot) records_left ∙ ap (λ r. r.location) removed.freed;
       others =
           record {
-            others = λ t g. ap (λ z. (z, bit_at new t)) (ap (λ (z : List Record). record_at z t) records_left ∙ removed.others t g)
-                ∙ ap (λ z. (record_at old.records.items t, z)) (bit_left t);
+            others = λ t g.
+                let other : eqb t slot ≡ false = eqb_swap slot t (differs slot t (small_slots old small) h g) in
+                ap (λ z. (z, bit_at new t)) (ap (λ (z : List Record). record_at z t) records_left ∙ removed.others t g)
+                ∙ ap (λ z. (record_at old.records.items t, z)) (ap (λ (l : LinkState). bit_at l t) e ∙ ap (λ (b : HitBits). bit_in b.items t) (bits-freed location mid) ∙ bit_mid t other);
             as_many = as_many_left;
           };
       window = window_left;

@@ -46,19 +46,11 @@ module _ (l : LinkState) (main : MainRing) (hand : ℕ) where
     slots_are = ap (λ h. slots_from l.records.items h main.len) at
 
     pub Walks-start : Walks l main hand hand 0
-    Walks-start = record {
-      left = main.len;
-      counted = omega arith;
-      linked = subst (AllLinked l.records.items) slots_are (all_linked l.records.items (main_slots l main) (λ t there. (main_linked l main whole t there).own));
-      choice = ap (λ (ss : List ℕ). first_clear hand (map (λ s. (s, bit_at l s)) ss)) (sym slots_are);
-    }
+    Walks-start = grind (arith, AllLinked, slots_are, all_linked, main_linked)
 
     -- Main's victim is the choice among all
     chosen_first : slice_get (from_victim (main_entries l main)) 0 ≡ Some (first_clear hand (main_entries l main), false)
-    chosen_first =
-        let first = first_of (main_slots l main) hand (sym at ∙ whole.queue.starts) in
-        let is : main_entries l main ≡ (hand, bit_at l hand) ∷ map (λ s. (s, bit_at l s)) first.0 = ap (λ (ss : List ℕ). map {B = ℕ × Bool} (λ s. (s, bit_at l s)) ss) first.1 in
-        rw is (chosen hand (bit_at l hand) (map (λ s. (s, bit_at l s)) first.0))
+    chosen_first = grind (arith, first_of, chosen)
 
     choice_is : (s : ℕ) → s ≡ first_clear hand (main_entries l main) → slice_get (from_victim (main_entries l main)) 0 ≡ Some (s, false)
     choice_is s is = chosen_first ∙ ap (λ z. Some (z, false)) (sym is)
@@ -90,10 +82,7 @@ module _ (l : LinkState) (main : MainRing) (hand : ℕ) where
     slot_in = linked_within l.records.items slot slot_linked
 
     choice_from : (b : Bool) → bit_at l slot ≡ b → first_clear hand ((slot, b) ∷ map (λ s. (s, bit_at l s)) ahead) ≡ first_clear hand (main_entries l main)
-    choice_from b is =
-        ap (λ z. first_clear hand ((slot, z) ∷ map (λ s. (s, bit_at l s)) ahead)) (sym is)
-        ∙ ap (λ n. first_clear hand (map (λ s. (s, bit_at l s)) (around (next_at l.records.items) slot n))) (sym left_after.1)
-        ∙ w.choice
+    choice_from b is = grind (arith, left_after)
 
     pub Walks-on : bit_at l slot ≡ true → Walks l main hand (next_at l.records.items slot) (passed + 1)
     Walks-on set = record { left = left_after.0; counted = omega (arith, w.counted, left_after.1); linked = all_are.1; choice = choice_from true set }

@@ -1,7 +1,6 @@
 -- How each call changes the order of the history's places and the chain of the free ones.
 use Rattle.std.proofs.Common.{◌≡◌, ℕ, zero, suc, ◌+◌, ◌-◌, ◌^◌, ◌<◌, ◌≤◌, Bool, true, false, ◌||◌, eqb, Option, Some}
 use Rattle.std.proofs.Common.{None, slice_get, List, [], ◌∷◌, ◌++◌, length, take, drop, inl, inr, refl, sym, ap, ◌∙◌, subst, arith}
-use Rattle.std.specs.Option.{unwrap_or}
 use Rattle.std.specs.List.{last_or}
 use Rattle.std.proofs.lemmas.Bool.{eqb-true, both_ways, cases_Bool}
 use Rattle.std.proofs.lemmas.List.{length-append, length-set}
@@ -10,13 +9,13 @@ use Rattle.clock2q_queues.specs.declared.links.Location.TheVariants.{Free}
 use Rattle.clock2q_queues.specs.declared.order.Chain.{Chain}
 use Rattle.clock2q_queues.specs.Rings.{has, without, AllApart, AllBelow, around}
 use Rattle.clock2q_queues.specs.Cells.{CellsState, accessed, written}
-use Rattle.clock2q_queues.specs.Links.{IsLinked, Attaches, Detaches, slots_from, record_at, next_at, previous_at, vacant}
+use Rattle.clock2q_queues.specs.Links.{IsLinked, Attaches, Detaches, end_of, slots_from, record_at, next_at, previous_at, vacant}
 use Rattle.clock2q_queues.specs.Order.{PlaceOrder, IsOrderOf, IsOrder, IsWholeOrder, free_places, order_shown, place_for}
 use Rattle.clock2q_queues.proofs.Records.{changed}
 use Rattle.clock2q_queues.proofs.Rings.{eqb_self, has-append, has_first, has_later, AllApart-left, AllApart-right, AllApart-append}
-use Rattle.clock2q_queues.proofs.Rings.{AllBelow-append, AllBelow-left, AllBelow-right, apart_from, apart_back, below_of, has-without}
+use Rattle.clock2q_queues.proofs.Rings.{AllBelow-append, AllBelow-left, AllBelow-right, apart_from, apart_back, below-has, below-more, below_of, has-without}
 use Rattle.clock2q_queues.proofs.Joining.{Inserts, Inserts-before, Inserts-first, Removes, Removes-detached, IsLinked-kept, IsLinked-turned}
-use Rattle.clock2q_queues.proofs.Joining.{slots_from-is, first_in, neighbours_fit, length-without, split_last, last_before}
+use Rattle.clock2q_queues.proofs.Joining.{slots_from-is, end_some, first_in, neighbours_fit, length-without, split_last, last_before}
 use Rattle.clock2q_queues.proofs.Booleans.{or_parts, or_neither}
 
 -- Lists of places
@@ -41,14 +40,6 @@ take_front xs x =
     take_of [] = refl
     take_of (y ∷ ys) = ap (λ zs. y ∷ zs) (take_of ys)
 
-AllBelow-from : (n : ℕ) (ss : List ℕ) → ((t : ℕ) → has t ss ≡ true → t < n) → AllBelow n ss
-AllBelow-from n [] h = tt
-AllBelow-from n (s ∷ ss) h = (h s (has_first s ss), AllBelow-from n ss (λ t g. h t (has_later t s ss g)))
-
-AllBelow-more : (n m : ℕ) (ss : List ℕ) → n ≤ m → AllBelow n ss → AllBelow m ss
-AllBelow-more n m [] h b = tt
-AllBelow-more n m (s ∷ ss) h b = (omega (arith, b.0), AllBelow-more n m ss h b.1)
-
 pub absent_below : (n : ℕ) (ss : List ℕ) → AllBelow n ss → has n ss ≡ false
 absent_below n [] b = refl
 absent_below n (s ∷ ss) b = or_neither (eqb n s) (has n ss)
@@ -71,7 +62,7 @@ FitsNext-from limit ps [] a b w h =
       fits = h;
       absent = absent_below (length ps) ps (AllBelow-left (length ps) ps [] b');
       apart = (absent_below (length ps) (ps ++ []) b', a);
-      below = (omega arith, AllBelow-more (length ps) (suc (length ps) + 0) (ps ++ []) (omega arith) b');
+      below = (omega arith, below-more (length ps) (suc (length ps) + 0) (ps ++ []) (omega arith) b');
       within = omega arith;
     }
 FitsNext-from limit ps (f ∷ fs) a b w h =
@@ -87,7 +78,7 @@ FitsNext-from limit ps (f ∷ fs) a b w h =
         has-append f ps fs ∙ or_neither (has f ps) (has f fs) absent right.0,
         AllApart-append ps fs (AllApart-left ps (f ∷ fs) a) right.1 (λ t g. (or_parts (eqb t f) (has t fs) (apart_from ps (f ∷ fs) a t g)).1),
       );
-      below = (omega (arith, f_below), AllBelow-more n (suc (length ps) + length fs) (ps ++ fs) (omega arith) rest);
+      below = (omega (arith, f_below), below-more n (suc (length ps) + length fs) (ps ++ fs) (omega arith) rest);
       within = omega (arith, w);
     }
 
@@ -96,7 +87,7 @@ pub apart-turned : (ps qs fs : List ℕ) → AllApart qs → ((t : ℕ) → has 
 apart-turned ps qs fs a same apart = AllApart-append qs fs a (AllApart-right ps fs apart) (λ t h. apart_from ps fs apart t (same t h))
 
 pub below-turned : (n : ℕ) (ps qs fs : List ℕ) → ((t : ℕ) → has t qs ≡ true → has t ps ≡ true) → AllBelow n (ps ++ fs) → AllBelow n (qs ++ fs)
-below-turned n ps qs fs same below = AllBelow-append n qs fs (AllBelow-from n qs (λ t h. below_of n ps (AllBelow-left n ps fs below) t (same t h))) (AllBelow-right n ps fs below)
+below-turned n ps qs fs same below = AllBelow-append n qs fs (below-has n qs (λ t h. below_of n ps (AllBelow-left n ps fs below) t (same t h))) (AllBelow-right n ps fs below)
 
 or_swap : (x y : Bool) → (x || y) ≡ true → (y || (x || false)) ≡ true
 or_swap true true h = refl
@@ -141,13 +132,7 @@ chain-put old new chain place r e next fits absent =
     ∙ ap (λ zs. place ∷ zs) (around-kept (next_at old.items) (next_at new.items) chain.head chain.len other)
 
 pub head_fits : (l : CellsState Record) (newest : Option ℕ) (len : ℕ) (chain : Chain) → IsOrder l.items newest len chain → 0 < chain.len → chain.head < length l.items
-head_fits l newest len chain o some =
-    let ps = slots_from l.items newest len in
-    let fs = free_places l.items chain in
-    let n : chain.len ≡ suc (chain.len - 1) = omega arith in
-    let h : has chain.head fs ≡ true =
-    subst (λ z. has chain.head (around (next_at l.items) chain.head z) ≡ true) (sym n) (has_first chain.head (around (next_at l.items) (next_at l.items chain.head) (chain.len - 1))) in
-    omega (arith, below_of (length ps + length fs) fs (AllBelow-right (length ps + length fs) ps fs o.below) chain.head h, o.within)
+head_fits l newest len chain o some = grind (arith, has_first, below_of, AllBelow-right)
 
 module _ (l : CellsState Record) (newest : Option ℕ) (len : ℕ) (chain : Chain) (o : IsOrder l.items newest len chain) where
   abbrev pub places_now : List ℕ
@@ -164,63 +149,83 @@ module _ (l : CellsState Record) (newest : Option ℕ) (len : ℕ) (chain : Chai
   pub next_fits : length places_now < length l.items → FitsNext (length l.items) (place_for (length places_now) free_now) places_now free_now
   next_fits h = FitsNext-from (length l.items) places_now free_now o.apart o.below o.within h
 
-  pub chosen : (place : ℕ) → place ≡ unwrap_or (slice_get free_now 0) len → place ≡ place_for (length places_now) free_now
-  chosen place e = e ∙ chosen_from free_now ∙ ap (λ n. place_for n free_now) o.queue.counted
-    where
-      chosen_from : (fs : List ℕ) → unwrap_or (slice_get fs 0) len ≡ place_for len fs
-      chosen_from [] = refl
-      chosen_from (f ∷ fs) = refl
+  -- the place was taken from the chain, if it had one
+  pub record Chooses (mid : CellsState Record) (newest' len' : ℕ) (chain' : Chain) (place : ℕ) : Type 0 where
+    pub slots : mid.items ≡ l.items
+    pub first : end_of len' newest' ≡ newest
+    pub count : len' ≡ len
+    pub rest : free_places mid.items chain' ≡ drop 1 free_now
+    pub is : place ≡ place_for (length places_now) free_now
 
-  module _ (mid : CellsState Record) (chain' : Chain) (slots : mid.items ≡ l.items) (rest : free_places mid.items chain' ≡ drop 1 free_now) where
+  module _ (newest' : ℕ) (first : end_of len newest' ≡ newest) where
+    pub takes_head : 0 < chain.len → (mid : CellsState Record) → mid ≡ accessed l → (next : ℕ) → next ≡ next_at l.items chain.head
+        → Chooses mid newest' len (record { head = next; len = chain.len - 1 }) chain.head
+    takes_head some mid read next e = grind (arith)
+
+    pub takes_unused : chain.len ≡ 0 → Chooses l newest' len chain len
+    takes_unused none =
+        let parts : free_now ≡ [] = ap (λ z. around (next_at l.items) chain.head z) none in
+        record { slots = refl; first = first; count = refl; rest = parts ∙ sym (ap (λ (z : List ℕ). drop 1 z) parts); is = o.queue.counted ∙ sym (ap (λ z. place_for (length places_now) z) parts) }
+
+  -- the order after a place was put at the front
+  pub record Pushed (place len' : ℕ) (chain' : Chain) (new : CellsState Record) : Type 0 where
+    pub order : IsOrderOf new.items (end_of (len' + 1) place) (len' + 1) chain' (place ∷ places_now) (drop 1 free_now)
+    pub as_many : length new.items ≡ length l.items
+
+  module _ {mid : CellsState Record} {newest' len' : ℕ} {chain' : Chain} {place : ℕ} (k : Chooses mid newest' len' chain' place) (h : length places_now < length l.items) where
+    pub fits : FitsNext (length l.items) place places_now free_now
+    fits = subst (λ z. FitsNext (length l.items) z places_now free_now) (sym k.is) (next_fits h)
+
+    pub place_in : place < length mid.items
+    place_in = rw k.slots fits.fits
+
     linked_mid : IsLinked mid.items places_now
-    linked_mid = subst (λ (z : List Record). IsLinked z places_now) (sym slots) o.queue.linked
+    linked_mid = subst (λ (z : List Record). IsLinked z places_now) (sym k.slots) o.queue.linked
 
-    pub first_fits : (first : ℕ) → newest ≡ Some first → (first < length mid.items) × (previous_at mid.items first < length mid.items)
-    first_fits first e =
-        let f = neighbours_fit mid.items places_now first linked_mid (first_in places_now first (sym e ∙ o.queue.starts)) in
+    starts : 0 < len' → Some newest' ≡ slice_get places_now 0
+    starts some = sym (end_some len' newest' some) ∙ k.first ∙ o.queue.starts
+
+    pub first_fits : 0 < len' → (newest' < length mid.items) × (previous_at mid.items newest' < length mid.items)
+    first_fits some =
+        let f = neighbours_fit mid.items places_now newest' linked_mid (first_in places_now newest' (starts some)) in
         (f.0, f.2)
 
-    pub Pushes : (new : CellsState Record) (place : ℕ) → place ≡ place_for (length places_now) free_now → length places_now < length l.items → Inserts place Free places_now mid.items new.items
-        → IsOrderOf new.items (Some place) (len + 1) chain' (place ∷ places_now) (drop 1 free_now)
-    Pushes new place e h i =
-        let as_many : length new.items ≡ length l.items = i.as_many ∙ ap (λ (z : List Record). length z) slots in
-        let n : FitsNext (length l.items) place places_now free_now = subst (λ z. FitsNext (length l.items) z places_now free_now) (sym e) (next_fits h) in
+    pushes : (new : CellsState Record) → Inserts place Free places_now mid.items new.items → Pushed place len' chain' new
+    pushes new i =
+        let as_many : length new.items ≡ length l.items = i.as_many ∙ ap (λ (z : List Record). length z) k.slots in
         let elsewhere = (λ (t : ℕ) (g : has t (free_places mid.items chain') ≡ true).
-        let apart : has t (place ∷ places_now) ≡ false = apart_back (place ∷ places_now) (drop 1 free_now) n.apart t (subst (λ zs. has t zs ≡ true) rest g) in
+        let apart : has t (place ∷ places_now) ≡ false = apart_back (place ∷ places_now) (drop 1 free_now) fits.apart t (subst (λ zs. has t zs ≡ true) k.rest g) in
         ap (λ (z : Record). z.next) (i.others t apart)) in
         record {
-          queue = record {
-            linked = IsLinked-turned new.items places_now (place ∷ []) i.linked;
-            starts = refl;
-            counted = omega (arith, o.queue.counted);
-            countable = rw as_many o.queue.countable;
+          order = record {
+            queue = record {
+              linked = IsLinked-turned new.items places_now (place ∷ []) i.linked;
+              starts = end_some (len' + 1) place (omega arith);
+              counted = omega (arith, k.count, o.queue.counted);
+              countable = rw as_many o.queue.countable;
+            };
+            chained = around-kept (next_at mid.items) (next_at new.items) chain'.head chain'.len elsewhere ∙ k.rest;
+            apart = fits.apart;
+            below = fits.below;
+            within = rw as_many fits.within;
           };
-          chained = around-kept (next_at mid.items) (next_at new.items) chain'.head chain'.len elsewhere ∙ rest;
-          apart = n.apart;
-          below = n.below;
-          within = rw as_many n.within;
+          as_many = as_many;
         }
 
-    pub Pushes-attached : (new : CellsState Record) (place first : ℕ) → place ≡ place_for (length places_now) free_now
-        → length places_now < length l.items → newest ≡ Some first → Attaches place first Free 6 mid new
-        → IsOrderOf new.items (Some place) (len + 1) chain' (place ∷ places_now) (drop 1 free_now)
-    Pushes-attached new place first e h is a =
-        let n : FitsNext (length l.items) place places_now free_now = subst (λ z. FitsNext (length l.items) z places_now free_now) (sym e) (next_fits h) in
-        Pushes new place e h (Inserts-before mid new places_now place Free first linked_mid (sym is ∙ o.queue.starts) n.absent (rw slots n.fits) a)
+    pub pushes-attached : (new : CellsState Record) → 0 < len' → Attaches place newest' Free 6 mid new → Pushed place len' chain' new
+    pushes-attached new some a = pushes new (Inserts-before mid new places_now place Free newest' linked_mid (starts some) fits.absent place_in a)
 
-    pub Pushes-alone : (new : CellsState Record) (place : ℕ) → place ≡ place_for (length places_now) free_now → length places_now < length l.items → newest ≡ None
-        → new ≡ written place (record { previous = place; next = place; location = Free }) mid
-        → IsOrderOf new.items (Some place) (len + 1) chain' (place ∷ places_now) (drop 1 free_now)
-    Pushes-alone new place e h is w =
-        let n : FitsNext (length l.items) place places_now free_now = subst (λ z. FitsNext (length l.items) z places_now free_now) (sym e) (next_fits h) in
-        Pushes new place e h (Inserts-first mid.items new.items places_now place Free (sym is ∙ o.queue.starts) (rw slots n.fits) (ap (λ (z : CellsState Record). z.items) w))
+    pub pushes-alone : (new : CellsState Record) → len' ≡ 0 → new ≡ written place (record { previous = place; next = place; location = Free }) mid → Pushed place len' chain' new
+    pushes-alone new none w =
+        let first : None ≡ slice_get places_now 0 = ap (λ n. end_of n newest') (sym none) ∙ k.first ∙ o.queue.starts in
+        pushes new (Inserts-first mid.items new.items places_now place Free first place_in (ap (λ (z : CellsState Record). z.items) w))
 
   -- The last place moved to the front
 
   -- this place was the last of the order, and is now the first
   pub record Reuses (new : CellsState Record) (oldest : ℕ) : Type 0 where
     pub oldest_was : last_or None places_now ≡ Some oldest
-    pub order : IsOrderOf new.items (Some oldest) len chain (oldest ∷ take (length places_now - 1) places_now) free_now
+    pub order : IsOrderOf new.items (end_of len oldest) len chain (oldest ∷ take (length places_now - 1) places_now) free_now
 
   last_of : (first : ℕ) (ss : List ℕ) → IsLinked l.items ss → Some first ≡ slice_get ss 0 → last_or None ss ≡ Some (previous_at l.items first)
   last_of first [] k e = absurd (cc)
@@ -232,9 +237,10 @@ module _ (l : CellsState Record) (newest : Option ℕ) (len : ℕ) (chain : Chai
   ends_in [] x e = absurd (cc)
   ends_in (s ∷ ss) x e = split_last ss s x e
 
-  pub reuses : (new : CellsState Record) (first oldest : ℕ) → new ≡ accessed l → newest ≡ Some first → oldest ≡ previous_at l.items first → Reuses new oldest
-  reuses new first oldest w is e =
-      let was : last_or None places_now ≡ Some oldest = last_of first places_now o.queue.linked (sym is ∙ o.queue.starts) ∙ ap (λ z. Some z) (sym e) in
+  pub reuses : (new : CellsState Record) (first oldest : ℕ) → new ≡ accessed l → 0 < length places_now → end_of len first ≡ newest → oldest ≡ previous_at l.items first → Reuses new oldest
+  reuses new first oldest w some is e =
+      let occupied : 0 < len = omega (arith, some, o.queue.counted) in
+      let was : last_or None places_now ≡ Some oldest = last_of first places_now o.queue.linked (sym (end_some len first occupied) ∙ is ∙ o.queue.starts) ∙ ap (λ z. Some z) (sym e) in
       let p = ends_in places_now oldest was in
       let xs = p.0 in
       let front : take (length places_now - 1) places_now ≡ xs = ap (λ (z : List ℕ). take (length z - 1) z) p.1 ∙ take_front xs oldest in
@@ -244,9 +250,9 @@ module _ (l : CellsState Record) (newest : Option ℕ) (len : ℕ) (chain : Chai
       let count : length places_now ≡ suc (length xs) = omega (arith, ap (λ (z : List ℕ). length z) p.1, length-append xs (oldest ∷ [])) in
       record {
         oldest_was = was;
-        order = subst (λ z. IsOrderOf new.items (Some oldest) len chain (oldest ∷ z) free_now) (sym front)
-            (subst (λ (z : CellsState Record). IsOrderOf z.items (Some oldest) len chain (oldest ∷ xs) free_now) (sym w) (record {
-              queue = record { linked = linked; starts = refl; counted = o.queue.counted ∙ count; countable = o.queue.countable };
+        order = subst (λ z. IsOrderOf new.items (end_of len oldest) len chain (oldest ∷ z) free_now) (sym front)
+            (subst (λ (z : CellsState Record). IsOrderOf z.items (end_of len oldest) len chain (oldest ∷ xs) free_now) (sym w) (record {
+              queue = record { linked = linked; starts = end_some len oldest occupied; counted = o.queue.counted ∙ count; countable = o.queue.countable };
               chained = refl;
               apart = apart-turned places_now (oldest ∷ xs) free_now linked.apart same o.apart;
               below = below-turned (suc (length xs) + length free_now) places_now (oldest ∷ xs) free_now same (subst (λ n. AllBelow (n + length free_now) (places_now ++ free_now)) count o.below);
@@ -290,7 +296,7 @@ module _ (l : CellsState Record) (newest : Option ℕ) (len : ℕ) (chain : Chai
           (λ t h. let g = has-without t place places_now h in or_neither (eqb t place) (has t free_now) g.1 (apart_from places_now free_now o.apart t g.0)) in
           let n = length places_now + length free_now in
           let below = AllBelow-append n (without place places_now) (place ∷ free_now)
-          (AllBelow-from n (without place places_now) (λ t h. below_of n places_now (AllBelow-left n places_now free_now o.below) t (has-without t place places_now h).0))
+          (below-has n (without place places_now) (λ t h. below_of n places_now (AllBelow-left n places_now free_now o.below) t (has-without t place places_now h).0))
           (below_of n places_now (AllBelow-left n places_now free_now o.below) place there, AllBelow-right n places_now free_now o.below) in
           record {
             queue = record {
@@ -308,7 +314,4 @@ module _ (l : CellsState Record) (newest : Option ℕ) (len : ℕ) (chain : Chai
 -- the counts after a place was taken out
 pub unlinked_counts : (l mid new : CellsState Record) (place : ℕ) (r : Record) (ps fs : List ℕ) → Detaches place l mid → new ≡ written place r mid
     → ◌≡◌ {A = PlaceOrder} (record { places = ps; free = fs; limit = length new.items; accesses = new.accesses }) (record { places = ps; free = fs; limit = length l.items; accesses = l.accesses + 7 })
-unlinked_counts l mid new place r ps fs d w =
-    let n : length new.items ≡ length l.items = ap (λ (z : CellsState Record). length z.items) w ∙ length-set mid.items place r ∙ d.as_many in
-    let a : new.accesses ≡ l.accesses + 7 = let b = ap (λ (z : CellsState Record). z.accesses) w in let e = d.accesses in omega arith in
-    ap (λ z. record { places = ps; free = fs; limit = z; accesses = new.accesses }) n ∙ ap (λ z. record { places = ps; free = fs; limit = length l.items; accesses = z }) a
+unlinked_counts l mid new place r ps fs d w = grind (arith, length-set)

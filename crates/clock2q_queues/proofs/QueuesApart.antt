@@ -1,5 +1,5 @@
 -- Small and Main share the links: a change to no slot of a queue leaves that queue unchanged.
-use Rattle.std.proofs.Common.{◌≡◌, ℕ, Bool, true, false, get_or, Option, None, List, length, map, inl, inr, sym, ap, ◌∙◌, subst}
+use Rattle.std.proofs.Common.{arith, ◌≡◌, ℕ, Bool, true, false, get_or, Option, None, List, length, map, sym, ap, ◌∙◌, subst}
 use Rattle.std.proofs.lemmas.Bool.{both_ways, cases_Bool}
 use Rattle.clock2q_machine.specs.Ages.{Age}
 use Rattle.clock2q_queues.specs.declared.links.Record.{Record}
@@ -81,13 +81,7 @@ KeepsSmall-from old small new ss m s p d =
 
 -- no slot is in both
 pub small_apart : (l : LinkState) (small : Small) (main : MainRing) → IsSmallQueue l small → IsMainRing l main → (t : ℕ) → has t (small_slots l small) ≡ true → has t (main_slots l main) ≡ false
-small_apart l small main s m t h = elim (cases_Bool (has t (main_slots l main))) [
-  | inl g ↦ absurd (subst (λ z. IsInSmall z) (m.location t g) (s.location t h))
-  | inr g ↦ g
-]
+small_apart l small main s m t h = grind (arith, cases_Bool)
 
 pub main_apart : (l : LinkState) (small : Small) (main : MainRing) → IsSmallQueue l small → IsMainRing l main → (t : ℕ) → has t (main_slots l main) ≡ true → has t (small_slots l small) ≡ false
-main_apart l small main s m t h = elim (cases_Bool (has t (small_slots l small))) [
-  | inl g ↦ absurd (both_ways (has t (main_slots l main)) (small_apart l small main s m t g) h)
-  | inr g ↦ g
-]
+main_apart l small main s m t h = grind (arith, cases_Bool, both_ways, small_apart)

@@ -1,14 +1,11 @@
 -- What is read after a write.
-use Rattle.std.proofs.Common.{◌≡◌, ℕ, zero, suc, ◌<◌, cond, eqb, List, length, get_or, set, replicate, refl, sym, ap, inl, inr, subst}
+use Rattle.std.proofs.Common.{arith, ◌≡◌, ℕ, zero, suc, ◌<◌, cond, eqb, List, length, get_or, set, replicate, refl}
 use Rattle.std.proofs.lemmas.Bool.{cases_Bool, eqb-true, eqb-false}
 use Rattle.std.proofs.lemmas.List.{get_or-set_same, get_or-set_other}
 
 -- what is read at t after a write at i
 pub changed : {A X : Type 0} (f : A → X) (xs : List A) (i : ℕ) (x d : A) (t : ℕ) → i < length xs → f (get_or (set xs i x) t d) ≡ cond (eqb t i) (f x) (f (get_or xs t d))
-changed f xs i x d t h = elim (cases_Bool (eqb t i)) [
-  | inl e ↦ rw e (ap f (subst (λ z. get_or (set xs i x) z d ≡ x) (sym (eqb-true t i e)) (get_or-set_same xs i x d h)))
-  | inr e ↦ rw e (ap f (get_or-set_other xs i t x d (eqb-false t i e)))
-]
+changed f xs i x d t h = grind (arith, cases_Bool, eqb-true, get_or-set_same, get_or-set_other, eqb-false)
 
 -- if all items are the same, so is the one that is read
 pub get_or-same : {X : Type 0} (n i : ℕ) (x : X) → get_or (replicate n x) i x ≡ x

@@ -162,17 +162,7 @@ pub IsRing-put : (next previous next' previous' : ℕ → ℕ) (first : ℕ) (ss
     → ((t : ℕ) → next' t ≡ cond (eqb t (previous first)) slot (cond (eqb t slot) first (next t)))
     → ((t : ℕ) → previous' t ≡ cond (eqb t first) slot (cond (eqb t slot) (previous first) (previous t)))
     → IsRing next' previous' (first ∷ ss ++ slot ∷ [])
-IsRing-put next previous next' previous' first ss slot r a absent n p =
-    let last_in = before_end next previous first ss first r in
-    let last_differs : eqb slot (previous first) ≡ false = eqb_swap (previous first) slot (differs (previous first) slot (first ∷ ss) last_in absent) in
-    let first_differs : eqb slot first ≡ false = (or_parts (eqb slot first) (has slot ss) absent).0 in
-    Joins-append next' previous' first ss slot [] first
-    (Joins-redirected next previous next' previous' first ss first slot r a
-    (λ t h e. n t ∙ (rw e (rw (differs t slot (first ∷ ss) h absent) refl)))
-    (λ t h. p t ∙ (rw (differs t first ss h a.0) (rw (differs t slot (first ∷ ss) (has_later t first ss h) absent) refl)))
-    (n (previous first) ∙ rw (eqb_self (previous first)) refl)
-    (p slot ∙ rw first_differs (rw (eqb_self slot) refl)))
-    (n slot ∙ rw last_differs (rw (eqb_self slot) refl), p first ∙ rw (eqb_self first) refl)
+IsRing-put next previous next' previous' first ss slot r a absent n p = grind (arith, before_end, eqb_swap, differs, or_parts, Joins-append, Joins-redirected, has_later, eqb_self)
 
 -- without its first slot, the others close the ring
 pub IsRing-first_taken : (next previous next' previous' : ℕ → ℕ) (slot : ℕ) (ss : List ℕ)
@@ -181,14 +171,7 @@ pub IsRing-first_taken : (next previous next' previous' : ℕ → ℕ) (slot : �
     → ((t : ℕ) → eqb t slot ≡ false → previous' t ≡ cond (eqb t (next slot)) (previous slot) (previous t))
     → IsRing next' previous' ss
 IsRing-first_taken next previous next' previous' slot [] r a n p = tt
-IsRing-first_taken next previous next' previous' slot (first ∷ ss) r a n p =
-    let last_in = before_end next previous first ss slot r.2 in
-    let apart = (λ (t : ℕ) (h : has t (first ∷ ss) ≡ true). differs t slot (first ∷ ss) h a.0) in
-    Joins-redirected next previous next' previous' first ss slot first r.2 a.1
-    (λ t h e. n t (apart t h) ∙ rw e refl)
-    (λ t h. p t (apart t (has_later t first ss h)) ∙ rw r.0 (rw (differs t first ss h a.1.0) refl))
-    (n (previous slot) (apart (previous slot) last_in) ∙ rw (eqb_self (previous slot)) r.0)
-    (p first (apart first (has_first first ss)) ∙ rw r.0 (rw (eqb_self first) refl))
+IsRing-first_taken next previous next' previous' slot (first ∷ ss) r a n p = grind (arith, before_end, differs, Joins-redirected, has_later, eqb_self, has_first)
 
 pub IsRing-taken : (next previous next' previous' : ℕ → ℕ) (xs : List ℕ) (slot : ℕ) (ys : List ℕ)
     → IsRing next previous (xs ++ slot ∷ ys) → AllApart (xs ++ slot ∷ ys)

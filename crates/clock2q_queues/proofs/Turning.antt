@@ -1,24 +1,23 @@
 -- Small, whose oldest slot became its newest.
-use Rattle.std.proofs.Common.{◌≡◌, ℕ, ◌<◌, true, false, not, cond, eqb, Option, Some, None, IfSome, IsSome, rules, List, [], ◌∷◌, ◌++◌, length, inl, inr, refl, sym, ap, ◌∙◌, subst, arith}
+use Rattle.std.proofs.Common.{◌≡◌, ℕ, ◌+◌, ◌<◌, true, false, not, cond, eqb, Option, Some, None, IfSome, List, [], ◌∷◌, ◌++◌, length, inl, inr, refl, sym, ap, ◌∙◌, subst, arith}
 use Rattle.std.specs.List.{filter, last_or}
 use Rattle.std.proofs.lemmas.Bool.{cases_Bool, eqb-true}
 use Rattle.std.proofs.lemmas.List.{append-nil, length-set}
-use Rattle.clock2q_machine.proofs.Whole.{last_some}
 use Rattle.clock2q_queues.specs.declared.links.Record.{Record}
 use Rattle.clock2q_queues.specs.declared.links.Location.{Location}
-use Rattle.clock2q_queues.specs.declared.links.Location.TheVariants.{SmallYoung, SmallOld}
+use Rattle.clock2q_queues.specs.declared.links.Location.TheVariants.{SmallYoung}
 use Rattle.clock2q_queues.specs.declared.small.Small.{Small}
 use Rattle.clock2q_queues.specs.Cells.{CellsState, HitBits, accessed, bit_in, written}
-use Rattle.clock2q_queues.specs.Rings.{has, without, AllApart, AllBelow}
-use Rattle.clock2q_queues.specs.Links.{LinkState, IsLinked, IsSameBut, record_at, young_at, next_at, previous_at, location_at, bit_at, with_location, vacant}
+use Rattle.clock2q_queues.specs.Rings.{has, without, AllApart}
+use Rattle.clock2q_queues.specs.Links.{LinkState, IsLinked, IsSameBut, end_of, record_at, young_at, next_at, previous_at, location_at, bit_at, with_location, vacant}
 use Rattle.clock2q_queues.specs.Ends.{position_freed}
 use Rattle.clock2q_queues.specs.Flags.{is_linked}
-use Rattle.clock2q_queues.specs.Small.{IsSmallQueue, GrowsOld, is_there, small_slots, small_entries, admitted, next_cursor}
+use Rattle.clock2q_queues.specs.Small.{IsSmallQueue, GrowsOld, small_slots, small_entries, admitted, next_cursor}
 use Rattle.clock2q_queues.proofs.Booleans.{and_false, or_parts, or_neither}
 use Rattle.clock2q_queues.proofs.InQueue.{in_small_linked}
 use Rattle.clock2q_queues.proofs.Records.{changed}
 use Rattle.clock2q_queues.proofs.Rings.{IsRing-kept, eqb_self, has-append, has-without_test, without-parted}
-use Rattle.clock2q_queues.proofs.Joining.{Inserts, IsLinked-turned, in_bounds, last_before, length-without, same_record, split_last}
+use Rattle.clock2q_queues.proofs.Joining.{Inserts, IsLinked-turned, end_some, in_bounds, last_before, length-without, same_record, split_last}
 use Rattle.clock2q_queues.proofs.Leaving.{others_stay, ages_kept, records_now, window_now, bits-freed}
 use Rattle.clock2q_queues.proofs.SlotLists.{tail_among}
 use Rattle.clock2q_queues.proofs.Window.{AreStaying, Admits, Admits-from, aged_slots, cursor_linked}
@@ -31,10 +30,9 @@ ends_in (s ∷ ss) slot a e =
     let w : without slot (s ∷ ss) ≡ p.0 = ap (λ z. without slot z) p.1 ∙ without-parted p.0 slot [] (subst (λ z. AllApart z) p.1 a) ∙ append-nil p.0 in
     p.1 ∙ ap (λ z. z ++ slot ∷ []) (sym w)
 
--- if there is a slot, there is a last one
-pub has_last : (ss : List ℕ) → 0 < length ss → IsSome (last_or None ss)
-has_last [] h = absurd (omega (arith, h))
-has_last (s ∷ ss) h = let x = last_some ss s in subst (λ o. IsSome o) (sym x.1) (search rules)
+-- if there is a slot, there is an oldest one
+pub oldest_is : {l : LinkState} {small : Small} → IsSmallQueue l small → 0 < length (small_slots l small) → last_or None (small_slots l small) ≡ Some small.oldest
+oldest_is {l} {small} m some = sym m.ends ∙ end_some small.len small.oldest (omega (arith, some, m.queue.counted))
 
 -- the slot is none of the others
 pub gone : (slot : ℕ) (ss : List ℕ) → has slot (without slot ss) ≡ false
@@ -118,64 +116,41 @@ module _ (slot : ℕ) (old : LinkState) (small : Small) (m : IsSmallQueue old sm
 
       -- the slot is still in a queue
       pub aged_linked : is_linked (location_at aged.records.items slot) ≡ true
-      aged_linked =
-          let is_aged = ap (λ (l : LinkState). location_at l.records.items slot) a ∙ o.locations slot in
-          let was_in : is_linked (location_at left.records.items slot) ≡ true =
-          ap (λ (rs : List Record). is_linked (location_at rs slot)) records_left ∙ in_small_linked (location_at old.records.items slot) (m.location slot there) in
-          elim (cases_Bool (is_there (young_at left small.cursor) slot)) [
-            | inl g ↦ let q : location_at aged.records.items slot ≡ SmallOld = is_aged ∙ rw g refl in ap is_linked q
-            | inr g ↦ let q : location_at aged.records.items slot ≡ location_at left.records.items slot = is_aged ∙ rw g refl in ap is_linked q ∙ was_in
-          ]
+      aged_linked = grind (arith, in_small_linked, there, cases_Bool)
 
     module _ (mid aged new : LinkState) (small' : Small) (w : 0 < length old.window.items) (o : GrowsOld small.cursor left mid)
         (a : aged ≡ record mid { window = written small.cursor (Some slot) mid.window })
         (n : new ≡ record aged { records = accessed (with_location slot (SmallYoung small.cursor) aged.records) })
-        (newest : small'.newest ≡ Some slot) (oldest : small'.oldest ≡ Some (previous_at old.records.items slot)) (len : small'.len ≡ small.len)
-        (cursor : small'.cursor ≡ next_cursor (length new.window.items) small.cursor) where
+        (newest : small'.newest ≡ slot) (oldest : small'.oldest ≡ previous_at old.records.items slot) (len : small'.len ≡ small.len)
+        (cursor : small'.cursor ≡ next_cursor (length left.window.items) small.cursor) where
       window_new : length new.window.items ≡ length left.window.items
       window_new = ap (λ (l : LinkState). length l.window.items) n ∙ ap (λ (l : LinkState). length l.window.items) a
           ∙ length-set mid.window.items small.cursor (Some slot) ∙ ap (λ (z : List (Option ℕ)). length z) o.positions
 
       stood : (t : ℕ) → (next_at new.records.items t ≡ next_at mid.records.items t) × (previous_at new.records.items t ≡ previous_at mid.records.items t)
           × (location_at new.records.items t ≡ cond (eqb t slot) (SmallYoung small.cursor) (location_at mid.records.items t))
-      stood t =
-          let s = relocated aged.records slot (SmallYoung small.cursor) t (aged_fits mid aged o a) in
-          let same = ap (λ (l : LinkState). l.records.items) a in (
-            ap (λ (l : LinkState). next_at l.records.items t) n ∙ s.0 ∙ ap (λ (rs : List Record). next_at rs t) same,
-            ap (λ (l : LinkState). previous_at l.records.items t) n ∙ s.1 ∙ ap (λ (rs : List Record). previous_at rs t) same,
-            ap (λ (l : LinkState). location_at l.records.items t) n ∙ s.2 ∙ ap (λ (rs : List Record). cond (eqb t slot) (SmallYoung small.cursor) (location_at rs t)) same,
-          )
+      stood t = grind (arith, relocated, aged_fits)
 
       as_many_new : length new.records.items ≡ length mid.records.items
       as_many_new = ap (λ (l : LinkState). length l.records.items) n ∙ length-set aged.records.items slot _ ∙ ap (λ (l : LinkState). length l.records.items) a
 
       inserted : Inserts slot (SmallYoung small.cursor) rest mid.records.items new.records.items
-      inserted = record {
-        linked = record {
-          ring = IsRing-kept (next_at old.records.items) (previous_at old.records.items) (next_at new.records.items) (previous_at new.records.items) (rest ++ slot ∷ []) linked_before.ring
-              (λ t h. (stood t).0 ∙ o.nexts t ∙ ap (λ (rs : List Record). next_at rs t) records_left)
-              (λ t h. (stood t).1 ∙ o.previouses t ∙ ap (λ (rs : List Record). previous_at rs t) records_left);
-          apart = linked_before.apart;
-          below = subst (λ z. AllBelow z (rest ++ slot ∷ [])) (sym (as_many_new ∙ o.as_many ∙ ap (λ (rs : List Record). length rs) records_left)) linked_before.below;
-        };
-        locations = λ t. (stood t).2;
-        others = λ t h.
-            let d : eqb t slot ≡ false = (or_parts (eqb t slot) (has t rest) h).0 in
-            same_record (record_at new.records.items t) (record_at mid.records.items t) (stood t).1 (stood t).0 ((stood t).2 ∙ rw d refl);
-        as_many = as_many_new;
-      }
+      inserted = grind (arith, IsRing-kept, linked_before, stood, as_many_new, or_parts, same_record, as_many)
+
+      counted : small'.len ≡ length rest + 1
+      counted = omega (arith, len, m.queue.counted, length-without slot (small_slots old small) m.queue.linked.apart there)
 
       admits : Admits slot left small.cursor rest new small'
-      admits = Admits-from stay (gone slot (small_slots old small)) (rw window_left w) o a inserted
-          (n ∙ ap (λ (l : LinkState). record aged { records = l.records; made = l.made }) (sym n))
-          newest (oldest ∙ last_is) (omega (arith, len, m.queue.counted, length-without slot (small_slots old small) m.queue.linked.apart there))
-          (cursor ∙ ap (λ z. next_cursor z small.cursor) window_new)
+      admits = Admits-from small' stay (gone slot (small_slots old small)) (rw window_left w) o a inserted
+          (record { positions = ap (λ (l : LinkState). l.window.items) n; bits = λ t other. ap (λ (l : LinkState). bit_at l t) n })
+          newest (ap (λ z. end_of small'.len z) oldest ∙ end_some small'.len (previous_at old.records.items slot) (omega (arith, counted)) ∙ last_is) counted
+          cursor
 
       pub Turns-from : Turns slot old small new small'
       Turns-from = record {
         whole = admits.whole;
         entries = admits.entries ∙ ap (λ z. admitted z slot (aged_slots left small.cursor rest)) window_left
-            ∙ ap (λ z. admitted (length old.window.items) slot z) (ages_kept slot read m there kept as_many positions was e (ap (λ (l : LinkState). l.bits) r));
+            ∙ ap (λ z. admitted (length old.window.items) slot z) (ages_kept slot read m there kept as_many positions was e (λ t other. ap (λ (l : LinkState). bit_at l t) r));
         others = record {
           others = λ t h.
               let h' : has t (slot ∷ rest) ≡ false = not_turned t h in

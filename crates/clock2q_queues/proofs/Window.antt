@@ -9,30 +9,23 @@ use Rattle.clock2q_machine.specs.Ages.{Age, grown}
 use Rattle.clock2q_queues.specs.declared.links.Location.{Location}
 use Rattle.clock2q_queues.specs.declared.links.Location.TheVariants.{Free, SmallYoung, SmallOld, Main}
 use Rattle.clock2q_queues.specs.declared.small.Small.{Small}
-use Rattle.clock2q_queues.specs.Rings.{has, AllBelow}
+use Rattle.clock2q_queues.specs.Rings.{has}
 use Rattle.clock2q_queues.specs.declared.links.Record.{Record}
 use Rattle.clock2q_queues.specs.Cells.{CellsState, accessed, written}
 use Rattle.clock2q_queues.specs.Flags.{is_linked}
-use Rattle.clock2q_queues.specs.Links.{LinkState, IsBlank, IsLinked, IsSameBut, Attaches, record_at, next_at, previous_at, location_at, bit_at, young_at}
+use Rattle.clock2q_queues.specs.Links.{LinkState, IsBlank, IsLinked, IsSameBut, Attaches, SetsBit, end_of, record_at, previous_at, location_at, bit_at, young_at}
 use Rattle.clock2q_queues.specs.Small.{IsSmall, IsSmallQueue, IsInSmall, GrowsOld, small_slots, small_entries, admissions_since, next_cursor, age_of, age_at, admitted, is_there}
 use Rattle.clock2q_queues.proofs.InQueue.{in_small_linked}
 use Rattle.clock2q_queues.proofs.Records.{changed}
 use Rattle.clock2q_queues.proofs.Rings.{IsRing-kept, eqb_self, has_first, has_later, differs}
-use Rattle.clock2q_queues.proofs.Joining.{Inserts, Inserts-before, Inserts-first, slots_from-is, IsLinked-turned, first_in, previous_in, same_record}
+use Rattle.clock2q_queues.proofs.Joining.{Inserts, Inserts-before, Inserts-first, slots_from-is, IsLinked-turned, end_some, first_in, previous_in, same_record}
 use Rattle.clock2q_queues.proofs.Booleans.{or_left, or_parts}
 
 -- Ages
 
 -- the slot that is admitted has age 0
 pub admissions_since-own : (window cursor : ℕ) → cursor < window → admissions_since window (next_cursor window cursor) cursor ≡ 0
-admissions_since-own window cursor h = elim (cases_lt (cursor + 1) window) [
-  | inl l ↦
-      let a : next_cursor window cursor ≡ cursor + 1 = rw (lt-ltb (cursor + 1) window l) refl in
-      rw (a, lt-ltb cursor (cursor + 1) (omega arith)) (omega arith)
-  | inr l ↦
-      let a : next_cursor window cursor ≡ 0 = rw (le-ltb (cursor + 1) window l) refl in
-      rw (a, le-ltb cursor 0 (omega arith)) (omega arith)
-]
+admissions_since-own window cursor h = grind (arith, cases_lt, lt-ltb, le-ltb)
 
 -- the slot at the cursor is the oldest of the window
 pub admissions_since-cursor : (window cursor : ℕ) → cursor < window → admissions_since window cursor cursor + 1 ≡ window
@@ -41,17 +34,7 @@ admissions_since-cursor window cursor h = rw (le-ltb cursor cursor (omega arith)
 -- a young slot at another position grows older by one, and is still within the window
 pub admissions_since-other : (window cursor position : ℕ) → cursor < window → position < window → position ≢ cursor
     → (admissions_since window (next_cursor window cursor) position ≡ admissions_since window cursor position + 1) × (admissions_since window cursor position + 1 < window)
-admissions_since-other window cursor position h p d = elim (cases_lt (cursor + 1) window) [
-  | inl l ↦
-      let a : next_cursor window cursor ≡ cursor + 1 = rw (lt-ltb (cursor + 1) window l) refl in
-      elim (cases_lt position cursor) [
-        | inl q ↦ rw (a, lt-ltb position (cursor + 1) (omega arith), lt-ltb position cursor q) (omega arith, omega arith)
-        | inr q ↦ rw (a, le-ltb position (cursor + 1) (omega arith), le-ltb position cursor q) (omega arith, omega arith)
-      ]
-  | inr l ↦
-      let a : next_cursor window cursor ≡ 0 = rw (le-ltb (cursor + 1) window l) refl in
-      rw (a, le-ltb position 0 (omega arith), lt-ltb position cursor (omega arith)) (omega arith, omega arith)
-]
+admissions_since-other window cursor position h p d = grind (arith, cases_lt, lt-ltb, le-ltb)
 
 -- The slot at a position
 
@@ -86,18 +69,14 @@ entries-mapped f g h (s ∷ ss) e =
     ∙ ap (λ zs. (s, h (g s)) ∷ zs) (entries-mapped f g h ss (λ t k. e t (has_later t s ss k)))
 
 pub small_slots-is : (l : LinkState) (small : Small) (ss : List ℕ) → IsSmall l small ss → small_slots l small ≡ ss
-small_slots-is l small ss m = slots_from-is l.records.items small.newest small.len ss m.queue
+small_slots-is l small ss m = slots_from-is l.records.items (end_of small.len small.newest) small.len ss m.queue
 
 pub IsSmallQueue-from : (l : LinkState) (small : Small) (ss : List ℕ) → IsSmall l small ss → IsSmallQueue l small
 IsSmallQueue-from l small ss m = subst (λ z. IsSmall l small z) (sym (small_slots-is l small ss m)) m
 
 -- the queue after the slot at the cursor became old
 linked_still : (old mid : LinkState) (ss : List ℕ) (cursor : ℕ) → IsLinked old.records.items ss → GrowsOld cursor old mid → IsLinked mid.records.items ss
-linked_still old mid ss cursor k o = record {
-  ring = IsRing-kept (next_at old.records.items) (previous_at old.records.items) (next_at mid.records.items) (previous_at mid.records.items) ss k.ring (λ t h. o.nexts t) (λ t h. o.previouses t);
-  apart = k.apart;
-  below = subst (λ z. AllBelow z ss) (sym o.as_many) k.below;
-}
+linked_still old mid ss cursor k o = grind (arith, IsRing-kept)
 
 -- the slots of Small, perhaps without one that leaves: their locations, and what the window's positions hold
 pub record AreStaying (l : LinkState) (cursor : ℕ) (ss : List ℕ) : Type 0 where
@@ -139,17 +118,23 @@ pub record Admits (slot : ℕ) (old : LinkState) (cursor : ℕ) (ss : List ℕ) 
   pub entries : small_entries new small' ≡ admitted (length old.window.items) slot (aged_slots old cursor ss)
   pub others : IsSameBut (slot ∷ ss) old new
 
-module _ {slot : ℕ} {old : LinkState} {cursor : ℕ} {ss : List ℕ} {mid aged new : LinkState} {small' : Small}
+-- the positions are the same, and so is the bit of each slot but this one
+pub record IsSameWithout (slot : ℕ) (old new : LinkState) : Type 0 where
+  pub positions : new.window.items ≡ old.window.items
+  pub bits : (t : ℕ) → eqb t slot ≡ false → bit_at new t ≡ bit_at old t
+
+module _ {slot : ℕ} {old : LinkState} {cursor : ℕ} {ss : List ℕ} {mid aged new : LinkState} (small' : Small)
     (m : AreStaying old cursor ss) (absent : has slot ss ≡ false) (w : 0 < length old.window.items)
     (o : GrowsOld cursor old mid) (e : aged ≡ record mid { window = written cursor (Some slot) mid.window })
-    (i : Inserts slot (SmallYoung cursor) ss mid.records.items new.records.items) (rest : new ≡ record aged { records = new.records; made = new.made })
-    (newest : small'.newest ≡ Some slot) (oldest : small'.oldest ≡ last_or None (slot ∷ ss))
+    (i : Inserts slot (SmallYoung cursor) ss mid.records.items new.records.items)
+    (same : IsSameWithout slot aged new)
+    (newest : small'.newest ≡ slot) (oldest : end_of small'.len small'.oldest ≡ last_or None (slot ∷ ss))
     (count : small'.len ≡ length ss + 1) (moved : small'.cursor ≡ next_cursor (length old.window.items) cursor) where
   within : cursor < length old.window.items
   within = m.cursor_in w
 
   window_items_new : new.window.items ≡ set old.window.items cursor (Some slot)
-  window_items_new = ap (λ (l : LinkState). l.window.items) rest ∙ ap (λ (l : LinkState). l.window.items) e ∙ ap (λ (z : List (Option ℕ)). set z cursor (Some slot)) o.positions
+  window_items_new = same.positions ∙ ap (λ (l : LinkState). l.window.items) e ∙ ap (λ (z : List (Option ℕ)). set z cursor (Some slot)) o.positions
 
   window_new : length new.window.items ≡ length old.window.items
   window_new = ap (λ (z : List (Option ℕ)). length z) window_items_new ∙ length-set old.window.items cursor (Some slot)
@@ -163,8 +148,8 @@ module _ {slot : ℕ} {old : LinkState} {cursor : ℕ} {ss : List ℕ} {mid aged
   location_new : (t : ℕ) → location_at new.records.items t ≡ cond (eqb t slot) (SmallYoung cursor) (cond (is_there (young_at old cursor) t) SmallOld (location_at old.records.items t))
   location_new t = i.locations t ∙ ap (λ z. cond (eqb t slot) (SmallYoung cursor) z) (o.locations t)
 
-  bit_new : (t : ℕ) → bit_at new t ≡ cond (is_there (young_at old cursor) t) false (bit_at old t)
-  bit_new t = ap (λ (l : LinkState). bit_at l t) rest ∙ ap (λ (l : LinkState). bit_at l t) e ∙ o.bits t
+  bit_new : (t : ℕ) → eqb t slot ≡ false → bit_at new t ≡ cond (is_there (young_at old cursor) t) false (bit_at old t)
+  bit_new t other = same.bits t other ∙ ap (λ (l : LinkState). bit_at l t) e ∙ o.bits t
 
   -- a young slot of the queue that isn't at the cursor has another position
   elsewhere : (t position : ℕ) → has t ss ≡ true → is_there (young_at old cursor) t ≡ false
@@ -179,9 +164,9 @@ module _ {slot : ℕ} {old : LinkState} {cursor : ℕ} {ss : List ℕ} {mid aged
       elim (cases_Bool (is_there (young_at old cursor) t)) [
         | inl g ↦
             let y = (m.occupied cursor t (is_there-true _ t g)).1 in
-            rw (moved, window_new, location_new t, bit_new t, d, g, y) (sym (grown-at_cursor (length old.window.items) cursor (bit_at old t) within))
+            rw (moved, window_new, location_new t, bit_new t d, d, g, y) (sym (grown-at_cursor (length old.window.items) cursor (bit_at old t) within))
         | inr g ↦
-            rw (moved, window_new, location_new t, bit_new t, d, g)
+            rw (moved, window_new, location_new t, bit_new t d, d, g)
             (aged_location (length old.window.items) cursor (location_at old.records.items t) (bit_at old t) within (λ position y. elsewhere t position h g y))
       ]
 
@@ -190,66 +175,22 @@ module _ {slot : ℕ} {old : LinkState} {cursor : ℕ} {ss : List ℕ} {mid aged
 
   -- a slot that is in the queue now was in it before, unless it is new
   young_new : (t position : ℕ) → has t (slot ∷ ss) ≡ true → location_at new.records.items t ≡ SmallYoung position → (position < length new.window.items) × (young_at new position ≡ Some t)
-  young_new t position h y = elim (cases_Bool (eqb t slot)) [
-    | inl g ↦
-        let q : t ≡ slot = eqb-true t slot g in
-        let p : position ≡ cursor = let r = own_location in let y' = subst (λ z. location_at new.records.items z ≡ SmallYoung position) q y in cc in
-        (rw (p, window_new) within, young_at_new position ∙ rw (p, eqb_self cursor) (ap (λ z. Some z) (sym q)))
-    | inr g ↦
-        let k : has t ss ≡ true = elim (or_cases (eqb t slot) (has t ss) h) [ inl z ↦ absurd (both_ways (eqb t slot) g z) | inr z ↦ z ] in
-        elim (cases_Bool (is_there (young_at old cursor) t)) [
-          | inl f ↦ let z : location_at new.records.items t ≡ SmallOld = location_new t ∙ rw (g, f) refl in absurd (cc)
-          | inr f ↦
-              let z : location_at old.records.items t ≡ SmallYoung position = sym (location_new t ∙ rw (g, f) refl) ∙ y in
-              let p = elsewhere t position k f z in
-              (rw window_new p.0, young_at_new position ∙ rw (ne_eqb position cursor p.1) (m.placed t position k z).1)
-        ]
-  ]
+  young_new t position h y = grind (arith, cases_Bool, eqb-true, own_location, window_new, within, young_at_new, eqb_self, or_cases, both_ways, location_new, elsewhere, ne_eqb)
 
   occupied_new : (position t : ℕ) → young_at new position ≡ Some t → (has t (slot ∷ ss) ≡ true) × (location_at new.records.items t ≡ SmallYoung position)
-  occupied_new position t h = elim (cases_Bool (eqb position cursor)) [
-    | inl g ↦
-        let q : Some slot ≡ Some t = sym (young_at_new position ∙ rw g refl) ∙ h in
-        let r : t ≡ slot = cc in (
-          or_left (eqb t slot) (has t ss) (eq-eqb t slot r),
-          subst (λ z. location_at new.records.items z ≡ SmallYoung position) (sym r) (own_location ∙ ap (λ z. SmallYoung z) (sym (eqb-true position cursor g))),
-        )
-    | inr g ↦
-        let q : young_at old position ≡ Some t = sym (young_at_new position ∙ rw g refl) ∙ h in
-        let p = m.occupied position t q in
-        let d : eqb t slot ≡ false = differs t slot ss p.0 absent in
-        let f : is_there (young_at old cursor) t ≡ false = elim (cases_Bool (is_there (young_at old cursor) t)) [
-          | inl z ↦
-              let y = (m.occupied cursor t (is_there-true _ t z)).1 in
-              let c : position ≡ cursor = let x = p.1 in cc in
-              absurd (both_ways (eqb position cursor) g (eq-eqb position cursor c))
-          | inr z ↦ z
-        ] in
-        (has_later t slot ss p.0, location_new t ∙ rw (d, f) p.1)
-  ]
+  occupied_new position t h = grind (arith, cases_Bool, young_at_new, or_left, eq-eqb, own_location, eqb-true, differs, is_there-true, both_ways, has_later, location_new)
 
   in_small_new : (t : ℕ) → has t (slot ∷ ss) ≡ true → IsInSmall (location_at new.records.items t)
-  in_small_new t h = elim (cases_Bool (eqb t slot)) [
-    | inl g ↦ rw (location_new t, g) tt
-    | inr g ↦
-        let k : has t ss ≡ true = elim (or_cases (eqb t slot) (has t ss) h) [ inl z ↦ absurd (both_ways (eqb t slot) g z) | inr z ↦ z ] in
-        elim (cases_Bool (is_there (young_at old cursor) t)) [
-          | inl f ↦ rw (location_new t, g, f) tt
-          | inr f ↦ rw (location_new t, g, f) (m.location t k)
-        ]
-  ]
+  in_small_new t h = grind (arith, cases_Bool, location_new, or_cases, both_ways)
 
   cursor_new : small'.cursor < length new.window.items
-  cursor_new = elim (cases_lt (cursor + 1) (length old.window.items)) [
-    | inl l ↦ rw (moved, window_new, lt-ltb (cursor + 1) (length old.window.items) l) l
-    | inr l ↦ rw (moved, window_new, le-ltb (cursor + 1) (length old.window.items) l) w
-  ]
+  cursor_new = grind (arith, cases_lt, window_new, lt-ltb, le-ltb)
 
   whole_new : IsSmall new small' (slot ∷ ss)
   whole_new = record {
     queue = record {
       linked = IsLinked-turned new.records.items ss (slot ∷ []) i.linked;
-      starts = newest;
+      starts = ap (λ z. end_of small'.len z) newest ∙ end_some small'.len slot (omega (arith, count));
       counted = omega (arith, count);
       countable = rw slots_new m.countable;
     };
@@ -280,13 +221,13 @@ module _ {slot : ℕ} {old : LinkState} {cursor : ℕ} {ss : List ℕ} {mid aged
             | inr z ↦ z
           ] in
           ap (λ z. (z, bit_at new t)) (i.others t h ∙ same_record (record_at mid.records.items t) (record_at old.records.items t) (o.previouses t) (o.nexts t) (o.locations t ∙ rw f refl))
-          ∙ ap (λ z. (record_at old.records.items t, z)) (bit_new t ∙ rw f refl);
+          ∙ ap (λ z. (record_at old.records.items t, z)) (bit_new t d ∙ rw f refl);
       as_many = slots_new;
     };
   }
 
 -- a queue with no slot, if no position is taken
-pub IsSmallQueue-empty : (l : LinkState) → IsBlank l → IsSmallQueue l (record { newest = None; oldest = None; len = 0; cursor = 0 })
+pub IsSmallQueue-empty : (l : LinkState) → IsBlank l → IsSmallQueue l (record { newest = 0; oldest = 0; len = 0; cursor = 0 })
 IsSmallQueue-empty l b = record {
   queue = record { linked = record { ring = tt; apart = tt; below = tt }; starts = refl; counted = refl; countable = b.countable };
   ends = refl;
@@ -310,47 +251,43 @@ module _ (slot : ℕ) (old : LinkState) (small : Small) (mid aged : LinkState) (
   records_aged : aged.records ≡ mid.records
   records_aged = ap (λ (l : LinkState). l.records) e
 
-  pub window_aged : length aged.window.items ≡ length old.window.items
-  window_aged = ap (λ (l : LinkState). length l.window.items) e ∙ length-set mid.window.items small.cursor (Some slot) ∙ ap (λ (z : List (Option ℕ)). length z) o.positions
-
   still_in : (t : ℕ) → has t (small_slots old small) ≡ true → is_linked (location_at aged.records.items t) ≡ true
-  still_in t there =
-      let now = ap (λ (z : CellsState Record). location_at z.items t) records_aged ∙ o.locations t in
-      elim (cases_Bool (is_there (young_at old small.cursor) t)) [
-        | inl g ↦ let q : location_at aged.records.items t ≡ SmallOld = now ∙ rw g refl in ap is_linked q
-        | inr g ↦ let q : location_at aged.records.items t ≡ location_at old.records.items t = now ∙ rw g refl in ap is_linked q ∙ in_small_linked (location_at old.records.items t) (m.location t there)
-      ]
+  still_in t there = grind (arith, cases_Bool, in_small_linked)
 
   -- the slots between which a new one is put are in Small
-  pub first_linked : (newest : ℕ) → small.newest ≡ Some newest
-      → (is_linked (location_at aged.records.items newest) ≡ true) × (is_linked (location_at aged.records.items (previous_at aged.records.items newest)) ≡ true)
-  first_linked newest h =
-      let there = first_in (small_slots old small) newest (sym h ∙ m.queue.starts) in
-      let p : previous_at aged.records.items newest ≡ previous_at old.records.items newest = ap (λ (z : CellsState Record). previous_at z.items newest) records_aged ∙ o.previouses newest in
-      (still_in newest there, rw p (still_in (previous_at old.records.items newest) (previous_in old.records.items (small_slots old small) newest m.queue.linked there)))
+  pub first_linked : 0 < small.len
+      → (is_linked (location_at aged.records.items small.newest) ≡ true) × (is_linked (location_at aged.records.items (previous_at aged.records.items small.newest)) ≡ true)
+  first_linked some = grind (arith, first_in, end_some, still_in, previous_in)
 
   module _ (new : LinkState) (small' : Small) (b : slot < length old.records.items) (absent : has slot (small_slots old small) ≡ false) (w : 0 < length old.window.items)
-      (rest : new ≡ record aged { records = new.records; made = new.made }) (n : small'.newest ≡ Some slot)
+      (cleared : SetsBit slot false aged (record new { records = aged.records; made = aged.made })) (n : small'.newest ≡ slot)
       (c : small'.len ≡ small.len + 1) (r : small'.cursor ≡ next_cursor (length old.window.items) small.cursor) where
     counted : small'.len ≡ length (small_slots old small) + 1
     counted = omega (arith, c, m.queue.counted)
 
-    pub Admits-attached : (cost newest : ℕ) → small.newest ≡ Some newest
-        → Attaches slot newest (SmallYoung small.cursor) cost aged.records new.records → small'.oldest ≡ small.oldest → Admits slot old small.cursor (small_slots old small) new small'
-    Admits-attached cost newest h a d =
+    same : IsSameWithout slot aged new
+    same = record { positions = ap (λ (z : CellsState (Option ℕ)). z.items) cleared.window; bits = λ t other. cleared.bits t ∙ rw other refl }
+
+    ends_at : (oldest : ℕ) → small'.oldest ≡ oldest → end_of small'.len small'.oldest ≡ Some oldest
+    ends_at oldest d = ap (λ z. end_of small'.len z) d ∙ end_some small'.len oldest (omega (arith, c))
+
+    pub Admits-attached : (cost : ℕ) → 0 < small.len
+        → Attaches slot small.newest (SmallYoung small.cursor) cost aged.records new.records → small'.oldest ≡ small.oldest → Admits slot old small.cursor (small_slots old small) new small'
+    Admits-attached cost some a d =
+        let newest = small.newest in
         let k = linked_still old mid (small_slots old small) small.cursor m.queue.linked o in
-        let s = sym h ∙ m.queue.starts in
+        let s = sym (end_some small.len newest some) ∙ m.queue.starts in
         let a' : Attaches slot newest (SmallYoung small.cursor) cost mid.records new.records =
         subst (λ (z : CellsState Record). Attaches slot newest (SmallYoung small.cursor) cost z new.records) records_aged a in
-        Admits-from (all_stay m) absent w o e
-        (Inserts-before mid.records new.records (small_slots old small) slot (SmallYoung small.cursor) newest k s absent (rw o.as_many b) a') rest
-        n (d ∙ m.ends ∙ last_behind (small_slots old small) slot newest s) counted r
+        Admits-from small' (all_stay m) absent w o e
+        (Inserts-before mid.records new.records (small_slots old small) slot (SmallYoung small.cursor) newest k s absent (rw o.as_many b) a') same
+        n (ends_at small.oldest d ∙ sym (end_some small.len small.oldest some) ∙ m.ends ∙ last_behind (small_slots old small) slot newest s) counted r
 
-    pub Admits-alone : small.newest ≡ None → new.records.items ≡ set aged.records.items slot (record { previous = slot; next = slot; location = SmallYoung small.cursor })
-        → small'.oldest ≡ Some slot → Admits slot old small.cursor (small_slots old small) new small'
+    pub Admits-alone : small.len ≡ 0 → new.records.items ≡ set aged.records.items slot (record { previous = slot; next = slot; location = SmallYoung small.cursor })
+        → small'.oldest ≡ slot → Admits slot old small.cursor (small_slots old small) new small'
     Admits-alone h a d =
-        let s = sym h ∙ m.queue.starts in
-        Admits-from (all_stay m) absent w o e
+        let s : None ≡ slice_get (small_slots old small) 0 = ap (λ n. end_of n small.newest) (sym h) ∙ m.queue.starts in
+        Admits-from small' (all_stay m) absent w o e
         (Inserts-first mid.records.items new.records.items (small_slots old small) slot (SmallYoung small.cursor) s (rw o.as_many b)
-        (a ∙ ap (λ (z : CellsState Record). set z.items slot (record { previous = slot; next = slot; location = SmallYoung small.cursor })) records_aged)) rest
-        n (d ∙ last_alone (small_slots old small) slot s) counted r
+        (a ∙ ap (λ (z : CellsState Record). set z.items slot (record { previous = slot; next = slot; location = SmallYoung small.cursor })) records_aged)) same
+        n (ends_at slot d ∙ last_alone (small_slots old small) slot s) counted r

@@ -1,20 +1,25 @@
--- What the byte of a slot says: its hit bit, and whether the slot is in a queue.
-use Rattle.std.specs.Prelude.{◌≡◌, ℕ, ◌%◌, ◌^◌, ◌<◌, ◌==◌, nat_le, Bool, true, false, List, Option, map, length, slice_index_or}
+-- What the flag of a slot says: its hit bit, and whether the slot is in a queue.
+use Rattle.std.specs.Prelude.{◌≡◌, ℕ, ◌^◌, ◌<◌, Bool, true, false, List, Option, map, length, slice_index_or}
 use Rattle.clock2q_queues.specs.Cells.{CellsState, hit_bits}
 use Rattle.clock2q_queues.specs.declared.links.Record.{Record}
 use Rattle.clock2q_queues.specs.declared.links.Location.{Location}
 use Rattle.clock2q_queues.specs.declared.links.Location.TheVariants.{Free, SmallYoung, SmallOld, Main}
-use Rattle.clock2q_queues.specs.declared.links.flags.Flags.{Flags}
+use Rattle.clock2q_queues.specs.declared.links.Flag.{Flag}
+use Rattle.clock2q_queues.specs.declared.links.Flag.TheVariants as flag
 use Rattle.clock2q_queues.specs.Links.{LinkState, RecordsState, location_at}
 
-abbrev pub is_set : Flags → Bool
-is_set f = f.byte % 2 == 1
+abbrev pub is_set : Flag → Bool
+is_set flag.Free = false
+is_set flag.Clear = false
+is_set flag.Hit = true
 
-abbrev pub says_linked : Flags → Bool
-says_linked f = nat_le 2 f.byte
+abbrev pub says_linked : Flag → Bool
+says_linked flag.Free = false
+says_linked flag.Clear = true
+says_linked flag.Hit = true
 
--- what the links hold, with the hit bits that these bytes say
-abbrev pub links_shown : RecordsState → CellsState (Option ℕ) → List Flags → ℕ → LinkState
+-- what the links hold, with the hit bits that these flags say
+abbrev pub links_shown : RecordsState → CellsState (Option ℕ) → List Flag → ℕ → LinkState
 links_shown records window flags inspections =
     record { records = records.cells; made = records.made; window = window; bits = hit_bits (map is_set flags) inspections }
 
@@ -25,8 +30,8 @@ is_linked (SmallYoung position) = true
 is_linked SmallOld = true
 is_linked Main = true
 
--- each slot that has a record has flags, which say whether it is in a queue, as its record does
-pub record AreLinks (rs : List Record) (flags : List Flags) (window : List (Option ℕ)) : Type 0 where
+-- each slot has a flag, which says whether it is in a queue, as its record does
+pub record AreLinks (rs : List Record) (flags : List Flag) (window : List (Option ℕ)) : Type 0 where
   pub as_many : length flags ≡ length rs
   pub agree : (slot : ℕ) → slice_index_or (map says_linked flags) slot false ≡ is_linked (location_at rs slot)
   pub countable_positions : length window < 2 ^ 32

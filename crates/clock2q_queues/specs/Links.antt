@@ -1,5 +1,6 @@
 -- What the links hold, and how it changes.
-use Rattle.std.specs.Prelude.{◌≡◌, ℕ, ◌+◌, ◌-◌, ◌^◌, ◌<◌, ◌==◌, Bool, true, false, List, [], ◌++◌, length, Option, Some, None, slice_get, slice_index_or, replicate, if◌then◌else◌}
+use Rattle.std.specs.Prelude.{◌≡◌, ℕ, ◌+◌, ◌-◌, ◌^◌, ◌<◌, ◌==◌, nat_lt, Bool, true, false, List, [], ◌++◌, length, Option, Some, None, slice_get, slice_index_or, replicate, if◌then◌else◌}
+use Rattle.std.specs.Bool.{then_some}
 use Rattle.clock2q_queues.specs.Cells.{CellsState, HitBits, cells_state, hit_bits, written, bit_in}
 use Rattle.clock2q_queues.specs.Rings.{has, AllApart, AllBelow, IsRing, around}
 use Rattle.clock2q_queues.specs.declared.links.Record.{Record}
@@ -42,6 +43,10 @@ pub record IsLinked (rs : List Record) (slots : List ℕ) : Type 0 where
   pub ring : IsRing (next_at rs) (previous_at rs) slots
   pub apart : AllApart slots
   pub below : AllBelow (length rs) slots
+
+-- the slot at an end of a queue with this number of slots, if it has any
+abbrev pub end_of : ℕ → ℕ → Option ℕ
+end_of len slot = then_some (nat_lt 0 len) slot
 
 -- these slots are a queue: `first` is its first slot, if there is one, and `count` their number
 pub record IsQueue (rs : List Record) (first : Option ℕ) (count : ℕ) (slots : List ℕ) : Type 0 where

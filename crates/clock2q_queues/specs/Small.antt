@@ -4,7 +4,7 @@ use Rattle.std.specs.List.{last_or}
 use Rattle.clock2q_machine.specs.Ages as ages
 use Rattle.clock2q_machine.specs.Ages.{Age, grown, touched}
 use Rattle.clock2q_queues.specs.Rings.{has}
-use Rattle.clock2q_queues.specs.Links.{LinkState, IsQueue, slots_from, next_at, previous_at, location_at, bit_at, young_at}
+use Rattle.clock2q_queues.specs.Links.{LinkState, IsQueue, end_of, slots_from, next_at, previous_at, location_at, bit_at, young_at}
 use Rattle.clock2q_queues.specs.declared.links.Location.{Location}
 use Rattle.clock2q_queues.specs.declared.links.Location.TheVariants.{Free, SmallYoung, SmallOld, Main}
 use Rattle.clock2q_queues.specs.declared.small.Small.{Small}
@@ -29,7 +29,7 @@ age_at l cursor slot = age_of (length l.window.items) cursor (location_at l.reco
 
 -- the slots of Small, newest first
 abbrev pub small_slots : LinkState → Small → List ℕ
-small_slots l small = slots_from l.records.items small.newest small.len
+small_slots l small = slots_from l.records.items (end_of small.len small.newest) small.len
 
 -- the same, each with its age
 abbrev pub small_entries : LinkState → Small → List (ℕ × Age)
@@ -44,8 +44,8 @@ IsInSmall Main = ⊥
 
 -- these slots are Small's, their locations say so, and the window's positions hold the young ones
 pub record IsSmall (l : LinkState) (small : Small) (slots : List ℕ) : Type 0 where
-  pub queue : IsQueue l.records.items small.newest small.len slots
-  pub ends : small.oldest ≡ last_or None slots
+  pub queue : IsQueue l.records.items (end_of small.len small.newest) small.len slots
+  pub ends : end_of small.len small.oldest ≡ last_or None slots
   pub location : (t : ℕ) → has t slots ≡ true → IsInSmall (location_at l.records.items t)
   pub placed : (t position : ℕ) → has t slots ≡ true → location_at l.records.items t ≡ SmallYoung position → (position < length l.window.items) × (young_at l position ≡ Some t)
   pub occupied : (position t : ℕ) → young_at l position ≡ Some t → (has t slots ≡ true) × (location_at l.records.items t ≡ SmallYoung position)

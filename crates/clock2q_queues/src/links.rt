@@ -1,18 +1,18 @@
 //! What the queues are built on: the link records and the hit bits by slot number, and the
 //! positions of Small's window.
-ghost use Rattle.std.specs.Prelude.{◌≡◌, ℕ, ◌+◌, ◌-◌, ◌^◌, ◌<◌, ◌≤◌, ◌&&◌, length, slice_set, IfOk, replicate, None, true, false, if◌then◌else◌, ◌==◌};
-ghost use Rattle.clock2q_queues.specs.Cells.{CellsState, cells_state, accessed, written};
+ghost use Rattle.std.specs.Prelude.{◌≡◌, ℕ, ◌+◌, ◌-◌, ◌^◌, ◌<◌, ◌≤◌, ◌&&◌, length, slice_set, IfOk, IfSome, replicate, None, Some, true, false, if◌then◌else◌, ◌==◌};
+ghost use Rattle.clock2q_queues.specs.Cells.{Rises, cells_state, accessed, written};
+ghost use Rattle.clock2q_queues.specs.Ends.{position_freed};
 ghost use Rattle.clock2q_queues.specs.Flags.{is_linked};
-ghost use Rattle.clock2q_queues.specs.Links.{LinkState, vacant, is_old, Attaches, Detaches, SetsBit, fresh, made_below, record_at, next_at, previous_at, with_location, location_at, bit_at, young_at};
+ghost use Rattle.clock2q_queues.specs.Links.{LinkState, accesses_of, vacant, is_old, Attaches, Detaches, SetsBit, fresh, made_below, record_at, next_at, previous_at, with_location, location_at, bit_at, young_at};
+ghost use Rattle.clock2q_queues.specs.Small.{GrowsOld, next_cursor};
 
 mod cells;
-mod flags;
 mod records;
 
-use crate::link::Link;
+use crate::link::{Link, NOWHERE};
 pub(crate) use cells::Cells;
 use clock2q_count::Count;
-use flags::Flags;
 use records::Records;
 use std::alloc::{AllocError, Allocator, Global};
 use std::marker::Model;
@@ -28,18 +28,6 @@ pub(crate) enum Location {
     SmallOld,
     /// In Main.
     Main,
-}
-
-impl Location {
-    /// Returns true if the slot is in a queue.
-    fn is_linked(self) -> bool
-        ensures { result ≡ is_linked self }
-    {
-        match self {
-            Location::Free => false,
-            Location::SmallYoung(_) | Location::SmallOld | Location::Main => true,
-        }
-    }
 }
 
 /// The neighbours of a slot in its queue, and its location.
@@ -59,12 +47,24 @@ pub(crate) const VACANT: Record = Record {
     location: Location::Free,
 };
 
+/// Whether a slot is in a queue, as its record says too, and its hit bit. A slot in no queue has a
+/// clear bit.
+#[derive(Clone, Copy)]
+enum Flag {
+    /// In neither queue.
+    Free,
+    /// In a queue, with a clear bit.
+    Clear,
+    /// In a queue, with a set bit.
+    Hit,
+}
+
 /// The records and the hit bits of the slots, which both queues share, and the window's positions.
 #[derive(Drop)]
 pub(crate) struct Links<A: Allocator = Global> {
     records: Records<A>,
     window: Cells<Link, A>,
-    flags: Vec<Flags, A>,
+    flags: Vec<Flag, A>,
     inspections: Count,
 }
 
@@ -87,21 +87,14 @@ impl<A: Allocator> Links<A> {
         ensures { IfOk result (λ l. l ≡ fresh slots window) }
     {
         let records = Records::new(alloc.clone()?, slots)?;
-        let positions = Vec::from_elem(alloc.clone()?, Link::nowhere(), window as usize)?;
-        let flags = Vec::from_elem(alloc, Flags::clear(), slots as usize)?;
+        let positions = Vec::from_elem(alloc.clone()?, NOWHERE, window as usize)?;
+        let flags = Vec::from_elem(alloc, Flag::Free, slots as usize)?;
         Ok(Links {
             records,
             window: Cells::new(positions),
             flags,
             inspections: Count::new(),
         })
-    }
-
-    /// Returns the number of positions in the window.
-    pub(crate) fn window(&self) -> u32
-        ensures { result ≡ length self.now.window.items }
-    {
-        self.window.len() as u32
     }
 
     /// Raises the count of accesses by an amount that the proof of the call picks.
@@ -132,19 +125,25 @@ impl<A: Allocator> Links<A> {
         self.records.read_any(slot).location
     }
 
-    /// Writes the record of a slot, and makes those of the slots below it that have none yet.
-    pub(crate) fn write(&mut self, slot: u32, content: Record)
-        requires { slot < length self.old.records.items }
-        ensures items { self.new.records.items ≡ slice_set self.old.records.items slot content }
+    /// Puts a slot, with a clear bit, into an empty queue: it is its own neighbour on both sides.
+    pub(crate) fn attach_alone(&mut self, slot: u32, location: Location)
+        requires slot_in { slot < length self.old.records.items }
+        requires linked { is_linked location ≡ true }
+        ensures items { self.new.records.items ≡ slice_set self.old.records.items slot
+            (record { previous = slot; next = slot; location = location }) }
         ensures accesses { self.new.records.accesses
             ≡ self.old.records.accesses + (slot - self.old.made) + 1 }
         ensures made { self.new.made ≡ made_below (slot + 1) self.old.made }
-        ensures rest { self.new
-            ≡ record self.old { records = self.new.records; made = self.new.made } }
+        ensures cleared { SetsBit slot false self.old
+            (record self.new { records = self.old.records; made = self.old.made }) }
     {
-        let flags = self.flags[slot as usize];
-        self.flags[slot as usize] = flags.with_linked(content.location.is_linked());
-        self.records.write(slot, content);
+        self.flags[slot as usize] = Flag::Clear;
+        let alone = Record {
+            previous: slot,
+            next: slot,
+            location,
+        };
+        self.records.write(slot, alone);
     }
 
     /// Makes the records of the slots below a bound that have none yet.
@@ -171,52 +170,24 @@ impl<A: Allocator> Links<A> {
         self.records.set_location(slot, location);
     }
 
-    /// Puts a slot just before another.
+    /// Puts a slot, with a clear bit, just before another.
     pub(crate) fn attach(&mut self, slot: u32, before: u32, location: Location)
         requires slot_in { slot < length self.old.records.items }
         requires before_in { is_linked (location_at self.old.records.items before) ≡ true }
         requires previous_in { is_linked (location_at self.old.records.items
             (previous_at self.old.records.items before)) ≡ true }
-        ensures attached { Attaches slot before location (slot - self.old.made + 6)
-            self.old.records self.new.records }
-        ensures made { self.new.made ≡ made_below (slot + 1) self.old.made }
-        ensures rest { self.new
-            ≡ record self.old { records = self.new.records; made = self.new.made } }
-    {
-        let flags = self.flags[slot as usize];
-        self.flags[slot as usize] = flags.with_linked(location.is_linked());
-        self.records.attach(slot, before, location);
-    }
-
-    /// Puts a slot just before another, with a clear bit.
-    pub(crate) fn attach_clear(&mut self, slot: u32, before: u32, location: Location)
-        requires slot_in { slot < length self.old.records.items }
-        requires before_in { is_linked (location_at self.old.records.items before) ≡ true }
-        requires previous_in { is_linked (location_at self.old.records.items
-            (previous_at self.old.records.items before)) ≡ true }
+        requires linked { is_linked location ≡ true }
         ensures attached { Attaches slot before location (slot - self.old.made + 6)
             self.old.records self.new.records }
         ensures made { self.new.made ≡ made_below (slot + 1) self.old.made }
         ensures cleared { SetsBit slot false self.old
             (record self.new { records = self.old.records; made = self.old.made }) }
     {
-        self.flags[slot as usize] = Flags::clear().with_linked(location.is_linked());
+        self.flags[slot as usize] = Flag::Clear;
         self.records.attach(slot, before, location);
     }
 
-    /// Makes a slot that is in a queue old, with a clear bit.
-    pub(crate) fn make_old(&mut self, slot: u32)
-        requires { is_linked (location_at self.old.records.items slot) ≡ true }
-        ensures marked { self.new.records
-            ≡ accessed (with_location slot Location.SmallOld self.old.records) }
-        ensures cleared { SetsBit slot false self.old
-            (record self.new { records = self.old.records }) }
-    {
-        self.flags[slot as usize] = Flags::clear().with_linked(true);
-        self.records.set_location(slot, Location::SmallOld);
-    }
-
-    /// Removes a slot from between its neighbours, and returns the record that it had.
+    /// Removes a slot from between its neighbours, clears its bit, and returns the record that it had.
     pub(crate) fn detach(&mut self, slot: u32) -> Record
         requires slot_in { is_linked (location_at self.old.records.items slot) ≡ true }
         requires next_in { is_linked (location_at self.old.records.items
@@ -225,29 +196,60 @@ impl<A: Allocator> Links<A> {
             (previous_at self.old.records.items slot)) ≡ true }
         ensures detached { Detaches slot self.old.records self.new.records }
         ensures value { result ≡ record_at self.old.records.items slot }
-        ensures rest { self.new ≡ record self.old { records = self.new.records } }
+        ensures cleared { SetsBit slot false self.old
+            (record self.new { records = self.old.records }) }
     {
-        let flags = self.flags[slot as usize];
-        self.flags[slot as usize] = flags.with_linked(false);
+        self.flags[slot as usize] = Flag::Free;
         self.records.detach(slot)
     }
 
-    /// Returns the slot at a position of the window, if there is one.
-    pub(crate) fn young_at(&mut self, position: u32) -> Link
-        requires { position < length self.old.window.items }
-        ensures value { result ≡ young_at self.old position }
-        ensures counted { self.new ≡ record self.old { window = accessed self.old.window } }
+    /// Makes a slot that is in a queue old, with a clear bit.
+    fn make_old(&mut self, slot: u32)
+        requires { is_linked (location_at self.old.records.items slot) ≡ true }
+        ensures marked { self.new.records
+            ≡ accessed (with_location slot Location.SmallOld self.old.records) }
+        ensures cleared { SetsBit slot false self.old
+            (record self.new { records = self.old.records }) }
     {
-        self.window.read(position)
+        self.flags[slot as usize] = Flag::Clear;
+        self.records.set_location(slot, Location::SmallOld);
     }
 
-    /// Puts a slot at a position of the window, or empties the position.
-    pub(crate) fn set_young_at(&mut self, position: u32, occupant: Link)
-        requires { position < length self.old.window.items }
-        ensures { self.new
-            ≡ record self.old { window = written position occupant self.old.window } }
+    /// Puts a slot at the cursor, and returns the position after it, or the first one after the last.
+    /// The slot that was there, if there was one, becomes old with a clear bit.
+    pub(crate) fn take_position(&mut self, cursor: u32, slot: u32) -> u32
+        requires countable { slot < 2 ^ 32 - 1 }
+        requires cursor { cursor < length self.old.window.items }
+        requires there { IfSome (young_at self.old cursor)
+            (λ slot. is_linked (location_at self.old.records.items slot) ≡ true) }
+        ensures next { result ≡ next_cursor (length self.old.window.items) cursor }
+        ensures taken { self.new.window ≡ written cursor (Some slot) (accessed self.old.window) }
+        ensures older { GrowsOld cursor self.old
+            (record self.new { window = accessed self.old.window }) }
+        ensures made { self.new.made ≡ self.old.made }
+        ensures accesses { Rises 2 4 (accesses_of self.old) (accesses_of self.new) }
     {
-        self.window.write(position, occupant);
+        let there = self.window.read(cursor);
+        self.window.write(cursor, Link::to(slot));
+        if let Some(oldest) = there.slot() {
+            self.make_old(oldest);
+        }
+        if cursor + 1 < self.window.len() as u32 {
+            cursor + 1
+        } else {
+            0
+        }
+    }
+
+    /// Empties the position of a slot, if it was young.
+    pub(crate) fn leave_position(&mut self, location: Location)
+        requires { (position : ℕ) → location ≡ Location.SmallYoung position
+            → position < length self.old.window.items }
+        ensures { self.new ≡ position_freed location self.old }
+    {
+        if let Location::SmallYoung(position) = location {
+            self.window.write(position, NOWHERE);
+        }
     }
 
     /// Returns true if a slot is in a queue. It reads the byte with the slot's bit, and no record.
@@ -255,21 +257,21 @@ impl<A: Allocator> Links<A> {
         requires { slot < length self.now.records.items }
         ensures { result ≡ is_linked (location_at self.now.records.items slot) }
     {
-        self.flags[slot as usize].is_linked()
+        !matches!(self.flags[slot as usize], Flag::Free)
     }
 
-    /// Sets or clears the hit bit of a slot.
-    pub(crate) fn set_bit(&mut self, slot: u32, bit: bool)
-        requires { slot < length self.old.records.items }
-        ensures { SetsBit slot bit self.old self.new }
+    /// Sets the hit bit of a slot that is in a queue.
+    pub(crate) fn set_bit(&mut self, slot: u32)
+        requires { is_linked (location_at self.old.records.items slot) ≡ true }
+        ensures { SetsBit slot true self.old self.new }
     {
-        let flags = self.flags[slot as usize];
-        self.flags[slot as usize] = flags.with_bit(bit);
+        self.flags[slot as usize] = Flag::Hit;
     }
 
-    /// Returns true if a slot's bit was set, and clears it: the hand's inspection of a slot.
+    /// Returns true if the bit of a slot in a queue was set, and clears it: the hand's inspection of a
+    /// slot.
     pub(crate) fn inspect(&mut self, slot: u32) -> bool
-        requires { slot < length self.old.records.items }
+        requires { is_linked (location_at self.old.records.items slot) ≡ true }
         ensures value { result ≡ bit_at self.old slot }
         ensures bits { (t : ℕ) → bit_at self.new t
             ≡ (if t == slot then false else bit_at self.old t) }
@@ -277,9 +279,9 @@ impl<A: Allocator> Links<A> {
         ensures counted { self.new.bits.inspections ≡ self.old.bits.inspections + 1 }
     {
         self.inspections.tick();
-        let flags = self.flags[slot as usize];
-        self.flags[slot as usize] = flags.with_bit(false);
-        flags.is_set()
+        let was = self.flags[slot as usize];
+        self.flags[slot as usize] = Flag::Clear;
+        matches!(was, Flag::Hit)
     }
 
     /// Reads the record of a slot that is in a queue, and returns true if the slot is old and its bit
@@ -291,7 +293,7 @@ impl<A: Allocator> Links<A> {
         ensures counted { self.new ≡ record self.old { records = accessed self.old.records } }
     {
         match self.records.read(slot).location {
-            Location::SmallOld => self.flags[slot as usize].is_set(),
+            Location::SmallOld => matches!(self.flags[slot as usize], Flag::Hit),
             _ => false,
         }
     }
@@ -309,7 +311,7 @@ impl<A: Allocator> Links<A> {
         requires { slot < length self.now.records.items }
         ensures { result ≡ bit_at self.now slot }
     {
-        self.flags[slot as usize].is_set()
+        matches!(self.flags[slot as usize], Flag::Hit)
     }
 
     /// Returns true if a slot that is in a queue is old and its bit is set. It counts no access.
@@ -319,7 +321,7 @@ impl<A: Allocator> Links<A> {
             ≡ (is_old (location_at self.now.records.items slot) && bit_at self.now slot) }
     {
         matches!(self.records.peek(slot).location, Location::SmallOld)
-            && self.flags[slot as usize].is_set()
+            && matches!(self.flags[slot as usize], Flag::Hit)
     }
 
     /// Resets every record, every position and every bit to its initial state.
@@ -334,7 +336,7 @@ impl<A: Allocator> Links<A> {
             ≡ self.old.window.accesses + length self.old.window.items }
     {
         self.records.clear();
-        self.window.fill(Link::nowhere());
-        self.flags.fill(Flags::clear());
+        self.window.fill(NOWHERE);
+        self.flags.fill(Flag::Free);
     }
 }

@@ -6,7 +6,7 @@ ghost use Rattle.clock2q_queues.specs.Cells.{Rises, accessed};
 ghost use Rattle.clock2q_queues.specs.Rings.{has};
 ghost use Rattle.clock2q_queues.specs.Links.{LinkState, IsSameBut, location_at, made_below};
 
-use crate::links::{Links, Location, Record};
+use crate::links::{Links, Location};
 use std::alloc::Allocator;
 
 /// A ring of slots. The hand is at the slot that it inspects next, and a new slot goes just before
@@ -14,7 +14,7 @@ use std::alloc::Allocator;
 #[derive(Drop)]
 pub(crate) struct MainRing {
     hand: Option<u32>,
-    len: usize,
+    pub(crate) len: usize,
 }
 
 impl MainRing {
@@ -26,14 +26,6 @@ impl MainRing {
         ensures whole { (l : LinkState) → length l.records.items < 2 ^ 32 → IsMainRing l result }
     {
         MainRing { hand: None, len: 0 }
-    }
-
-    /// Returns the number of slots.
-    pub(crate) fn len(&self) -> usize
-        ensures { (l : LinkState) → IsMainRing l self.now
-            → result ≡ length (main_slots l self.now) }
-    {
-        self.len
     }
 
     /// Puts a slot just before the hand, with a clear bit. In an empty ring, the hand goes to it.
@@ -54,16 +46,10 @@ impl MainRing {
     {
         match self.hand {
             None => {
-                links.set_bit(slot, false);
-                let alone = Record {
-                    previous: slot,
-                    next: slot,
-                    location: Location::Main,
-                };
-                links.write(slot, alone);
+                links.attach_alone(slot, Location::Main);
                 self.hand = Some(slot);
             }
-            Some(hand) => links.attach_clear(slot, hand, Location::Main),
+            Some(hand) => links.attach(slot, hand, Location::Main),
         }
         self.len += 1;
     }
@@ -77,7 +63,9 @@ impl MainRing {
             ≡ filter (λ e. not (e.0 == slot)) (main_entries links.old self.old) }
         ensures freed { location_at links.new.records.items slot ≡ Location.Free }
         ensures others { IsSameBut (main_slots links.old self.old) links.old links.new }
-        ensures rest { links.new ≡ record links.old { records = links.new.records } }
+        ensures window { links.new.window ≡ links.old.window }
+        ensures inspections { links.new.bits.inspections ≡ links.old.bits.inspections }
+        ensures made { links.new.made ≡ links.old.made }
         ensures accesses { links.new.records.accesses ≡ links.old.records.accesses + 6 }
     {
         let was = links.detach(slot);

@@ -1,7 +1,6 @@
 //! The neighbours of a place: a record without a queue, in half of the room.
 ghost use Rattle.std.specs.Prelude.{◌≡◌, ◌<◌, length};
-ghost use Rattle.clock2q_queues.specs.Cells.{accessed};
-ghost use Rattle.clock2q_queues.specs.Links.{Attaches, Detaches, next_at, previous_at, record_at, with_next, with_previous};
+ghost use Rattle.clock2q_queues.specs.Links.{Attaches, Detaches, next_at, previous_at, record_at};
 
 use crate::links::{Cells, Location, Record};
 use std::alloc::Allocator;
@@ -48,8 +47,16 @@ impl<A: Allocator> Cells<Neighbours, A> {
             next: before,
         };
         self.write(place, between);
-        self.set_next(previous, place);
-        self.set_previous(before, place);
+        let was = self.read(previous);
+        self.write(previous, Neighbours { next: place, ..was });
+        let was = self.read(before);
+        self.write(
+            before,
+            Neighbours {
+                previous: place,
+                ..was
+            },
+        );
     }
 
     /// Removes a place from between its neighbours, and returns those that it had.
@@ -61,27 +68,23 @@ impl<A: Allocator> Cells<Neighbours, A> {
         ensures value { result ≡ record_at self.old.items place }
     {
         let was = self.read(place);
-        self.set_next(was.previous, was.next);
-        self.set_previous(was.next, was.previous);
+        let previous = self.read(was.previous);
+        self.write(
+            was.previous,
+            Neighbours {
+                next: was.next,
+                ..previous
+            },
+        );
+        let next = self.read(was.next);
+        self.write(
+            was.next,
+            Neighbours {
+                previous: was.previous,
+                ..next
+            },
+        );
         self.write(place, EMPTY);
         was
-    }
-
-    /// Writes the place after another.
-    fn set_next(&mut self, place: u32, next: u32)
-        requires { place < length self.old.items }
-        ensures { self.new ≡ accessed (with_next place next self.old) }
-    {
-        let was = self.read(place);
-        self.write(place, Neighbours { next, ..was });
-    }
-
-    /// Writes the place before another.
-    fn set_previous(&mut self, place: u32, previous: u32)
-        requires { place < length self.old.items }
-        ensures { self.new ≡ accessed (with_previous place previous self.old) }
-    {
-        let was = self.read(place);
-        self.write(place, Neighbours { previous, ..was });
     }
 }

@@ -1,12 +1,10 @@
 //! Places that are reused, ordered newest first, and the chain of the free ones.
-ghost use Rattle.std.specs.Prelude.{◌≡◌, ℕ, ◌+◌, ◌-◌, ◌^◌, ◌<◌, true, false, List, [], ◌∷◌, take, drop, length, slice_get, Some, None, IfOk};
+ghost use Rattle.std.specs.Prelude.{◌≡◌, ◌+◌, ◌-◌, ◌<◌, true, [], ◌∷◌, take, drop, length, Some, None, IfOk};
 ghost use Rattle.std.specs.List.{last_or};
-ghost use Rattle.clock2q_queues.specs.Cells.{CellsState, Rises, written};
+ghost use Rattle.clock2q_queues.specs.Cells.{Rises};
 ghost use Rattle.clock2q_queues.specs.Rings.{has, without};
-ghost use Rattle.clock2q_queues.specs.Order.{free_places};
 
-use crate::link::Link;
-use crate::links::{Cells, Location};
+use crate::links::Cells;
 use crate::neighbours::{EMPTY, Neighbours};
 use std::alloc::{AllocError, Allocator, Global};
 use std::marker::Model;
@@ -16,46 +14,6 @@ use std::marker::Model;
 struct Chain {
     head: u32,
     len: u32,
-}
-
-impl Chain {
-    /// Removes the head of the chain and returns it, if there is one.
-    fn take<A: Allocator>(&mut self, records: &mut Cells<Neighbours, A>) -> Option<u32>
-        requires { 0 < self.old.len → self.old.head < length records.old.items }
-        ensures taken { result ≡ slice_get (free_places records.old.items self.old) 0 }
-        ensures rest { free_places records.new.items self.new
-            ≡ drop 1 (free_places records.old.items self.old) }
-        ensures items { records.new.items ≡ records.old.items }
-        ensures accesses { Rises 0 1 records.old.accesses records.new.accesses }
-    {
-        if self.len == 0 {
-            return None;
-        }
-        let place = self.head;
-        self.head = records.read(place).next;
-        self.len -= 1;
-        Some(place)
-    }
-
-    /// Puts a place that is in neither the order nor the chain at the head of the chain.
-    fn put<A: Allocator>(&mut self, records: &mut Cells<Neighbours, A>, place: u32)
-        requires place_in { place < length records.old.items }
-        requires absent { has place (free_places records.old.items self.old) ≡ false }
-        requires countable { self.old.len + 1 < 2 ^ 32 }
-        ensures chain { free_places records.new.items self.new
-            ≡ place ∷ free_places records.old.items self.old }
-        ensures rest { (next : ℕ)
-            × (records.new ≡ written place
-            (record { previous = 0; next = next; location = Location.Free }) records.old) }
-    {
-        let before_head = Neighbours {
-            previous: 0,
-            next: self.head,
-        };
-        records.write(place, before_head);
-        self.head = place;
-        self.len += 1;
-    }
 }
 
 /// A limited number of places, with those in use ordered newest first: the places of the keys that
@@ -75,19 +33,20 @@ impl Chain {
 #[derive(Drop)]
 pub struct Order<A: Allocator = Global> {
     records: Cells<Neighbours, A>,
-    newest: Link,
+    newest: u32,
     len: u32,
     chain: Chain,
 }
 
 impl<A: Allocator> Model for Order<A> {
+    ghost use Rattle.clock2q_queues.specs.Links.{end_of};
     ghost use Rattle.clock2q_queues.specs.Order.{PlaceOrder, IsOrder, order_shown};
 
     ghost Value = { PlaceOrder };
 
-    ghost view = { λ o. order_shown o.records o.newest o.len o.chain };
+    ghost view = { λ o. order_shown o.records (end_of o.len o.newest) o.len o.chain };
 
-    ghost invariant = { λ o. IsOrder o.records.items o.newest o.len o.chain };
+    ghost invariant = { λ o. IsOrder o.records.items (end_of o.len o.newest) o.len o.chain };
 }
 
 impl<A: Allocator> Order<A> {
@@ -105,7 +64,7 @@ impl<A: Allocator> Order<A> {
     {
         Ok(Order {
             records: Cells::new(Vec::from_elem(alloc, EMPTY, limit as usize)?),
-            newest: Link::nowhere(),
+            newest: 0,
             len: 0,
             chain: Chain { head: 0, len: 0 },
         })
@@ -140,18 +99,22 @@ impl<A: Allocator> Order<A> {
             } }
         ensures accesses { Rises 1 7 self.old.accesses self.new.accesses }
     {
-        let place = self.chain.take(&mut self.records).unwrap_or(self.len);
-        match self.newest.slot() {
-            None => {
-                let alone = Neighbours {
-                    previous: place,
-                    next: place,
-                };
-                self.records.write(place, alone);
-            }
-            Some(newest) => self.records.attach(place, newest),
+        let mut place = self.len;
+        if self.chain.len > 0 {
+            place = self.chain.head;
+            self.chain.head = self.records.read(place).next;
+            self.chain.len -= 1;
         }
-        self.newest = Link::to(place);
+        if self.len == 0 {
+            let alone = Neighbours {
+                previous: place,
+                next: place,
+            };
+            self.records.write(place, alone);
+        } else {
+            self.records.attach(place, self.newest);
+        }
+        self.newest = place;
         self.len += 1;
         place
     }
@@ -167,9 +130,8 @@ impl<A: Allocator> Order<A> {
               accesses = self.old.accesses + 1;
             } }
     {
-        let newest = self.newest.target();
-        let oldest = self.records.read(newest).previous;
-        self.newest = Link::to(oldest);
+        let oldest = self.records.read(self.newest).previous;
+        self.newest = oldest;
         oldest
     }
 
@@ -185,10 +147,16 @@ impl<A: Allocator> Order<A> {
             } }
     {
         let was = self.records.detach(place);
-        self.chain.put(&mut self.records, place);
+        let before_head = Neighbours {
+            previous: 0,
+            next: self.chain.head,
+        };
+        self.records.write(place, before_head);
+        self.chain.head = place;
+        self.chain.len += 1;
         self.len -= 1;
-        if self.newest.slot() == Some(place) {
-            self.newest = Link::only_if(self.len > 0, was.next);
+        if self.newest == place {
+            self.newest = was.next;
         }
     }
 
@@ -197,7 +165,6 @@ impl<A: Allocator> Order<A> {
         ensures whole { IsWholeOrder self.new }
         ensures order { self.new ≡ record self.old { places = []; free = [] } }
     {
-        self.newest = Link::nowhere();
         self.len = 0;
         self.chain = Chain { head: 0, len: 0 };
     }

@@ -96,14 +96,14 @@ impl<A: Allocator> Queues<A> {
         ensures len { result ≡ length self.now.small }
         ensures whole { IsWholeQueues self.now }
     {
-        self.small.len()
+        self.small.len
     }
 
     /// Returns the number of slots in Main.
     pub fn main_len(&self) -> usize
         ensures len { result ≡ length self.now.main }
     {
-        self.main.len()
+        self.main.len
     }
 
     /// Returns true if the oldest slot of Small goes on to Main instead of leaving: it is old, and
@@ -114,7 +114,7 @@ impl<A: Allocator> Queues<A> {
         ensures queues { self.new ≡ record self.old { accesses = self.new.accesses } }
         ensures accesses { Rises 0 1 self.old.accesses self.new.accesses }
     {
-        let tail = self.small.oldest(&self.links);
+        let tail = self.small.tail().unwrap();
         self.links.is_old_hit(tail)
     }
 
@@ -251,7 +251,7 @@ impl<A: Allocator> Queues<A> {
             → slice_get (from_victim self.now.main) 0 ≡ option_map (λ slot. (slot, false)) result }
     {
         let tail = self.small.tail();
-        if self.main.len() == 0 {
+        if self.main.len == 0 {
             return tail;
         }
         if let Some(tail) = tail {
@@ -342,7 +342,7 @@ impl<A: Allocator> Queues<A> {
               main = main_hit_at slot self.old.main;
             } }
     {
-        self.links.set_bit(slot, true);
+        self.links.set_bit(slot);
     }
 
     /// Raises the count of link accesses by an amount that the proof of the call picks. A caller

@@ -1,8 +1,8 @@
 //! The records of the slots. A record is made when its slot is first in a queue.
 ghost use Rattle.std.specs.Prelude.{◌≡◌, ℕ, ◌+◌, ◌-◌, ◌<◌, ◌≤◌, true, IfOk, length, replicate, slice_set};
-ghost use Rattle.clock2q_queues.specs.Cells.{cells_state, accessed, written};
+ghost use Rattle.clock2q_queues.specs.Cells.{cells_state, accessed};
 ghost use Rattle.clock2q_queues.specs.Flags.{is_linked};
-ghost use Rattle.clock2q_queues.specs.Links.{Attaches, Detaches, location_at, made_below, next_at, previous_at, record_at, records_state, vacant, with_location, with_next, with_previous};
+ghost use Rattle.clock2q_queues.specs.Links.{Attaches, Detaches, location_at, made_below, next_at, previous_at, record_at, vacant, with_location};
 
 use crate::links::{Location, Record, VACANT};
 use clock2q_count::Count;
@@ -90,7 +90,8 @@ impl<A: Allocator> Records<A> {
         ensures made { self.new.made ≡ made_below (slot + 1) self.old.made }
     {
         if (slot as usize) < self.items.len() {
-            self.overwrite(slot, content);
+            self.accesses.tick();
+            self.items[slot as usize] = content;
             return;
         }
         if self.items.len() < slot as usize {
@@ -98,16 +99,6 @@ impl<A: Allocator> Records<A> {
         }
         self.accesses.tick();
         self.items.push_reserved(content);
-    }
-
-    /// Writes a record that was made.
-    fn overwrite(&mut self, slot: u32, content: Record)
-        requires { slot < self.old.made }
-        ensures written { self.new.cells ≡ written slot content self.old.cells }
-        ensures made { self.new.made ≡ self.old.made }
-    {
-        self.accesses.tick();
-        self.items[slot as usize] = content;
     }
 
     /// Makes the records of the slots below a bound that have none yet.
@@ -156,8 +147,12 @@ impl<A: Allocator> Records<A> {
             location,
         };
         self.write(slot, record);
-        self.set_next(previous, slot);
-        self.set_previous(before, slot);
+        self.accesses.tick();
+        self.accesses.tick();
+        self.items[previous as usize].next = slot;
+        self.accesses.tick();
+        self.accesses.tick();
+        self.items[before as usize].previous = slot;
     }
 
     /// Removes a slot from between its neighbours, and returns the record that it had.
@@ -173,33 +168,15 @@ impl<A: Allocator> Records<A> {
     {
         self.accesses.tick();
         let was = self.items[slot as usize];
-        self.set_next(was.previous, was.next);
-        self.set_previous(was.next, was.previous);
-        self.overwrite(slot, VACANT);
+        self.accesses.tick();
+        self.accesses.tick();
+        self.items[was.previous as usize].next = was.next;
+        self.accesses.tick();
+        self.accesses.tick();
+        self.items[was.next as usize].previous = was.previous;
+        self.accesses.tick();
+        self.items[slot as usize] = VACANT;
         was
-    }
-
-    /// Writes the slot after another. Changing one field counts as a read and a write of the record.
-    fn set_next(&mut self, slot: u32, next: u32)
-        requires { slot < self.old.made }
-        ensures written { self.new.cells ≡ accessed (with_next slot next self.old.cells) }
-        ensures made { self.new.made ≡ self.old.made }
-    {
-        self.accesses.tick();
-        self.accesses.tick();
-        self.items[slot as usize].next = next;
-    }
-
-    /// Writes the slot before another.
-    fn set_previous(&mut self, slot: u32, previous: u32)
-        requires { slot < self.old.made }
-        ensures written { self.new.cells
-            ≡ accessed (with_previous slot previous self.old.cells) }
-        ensures made { self.new.made ≡ self.old.made }
-    {
-        self.accesses.tick();
-        self.accesses.tick();
-        self.items[slot as usize].previous = previous;
     }
 
     /// Raises the count of accesses by an amount that the proof of the call picks.

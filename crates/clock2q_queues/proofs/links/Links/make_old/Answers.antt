@@ -1,4 +1,4 @@
-use Rattle.std.proofs.Common.{◌<◌, false, length, ap, ◌∙◌}
+use Rattle.std.proofs.Common.{◌<◌, false, length, refl, ap}
 use Rattle.clock2q_queues.specs.declared.links.Record.{Record}
 use Rattle.clock2q_queues.specs.declared.links.Location.TheVariants.{SmallOld}
 use Rattle.clock2q_queues.specs.Cells.{CellsState}
@@ -13,12 +13,12 @@ invariant_of-self g c =
     let rs = i.records.cells.items in
     let within = rw (← ap (λ (l : LinkState). l.records) c.self.view_is) at (linked_within c.args.self.now.records.items c.args.slot c.requires) in
     rw (ap (λ (z : CellsState Record). z.items) c.set_location.ensures.written)
-    (record_written rs i.flags.items i.window.items c.args.slot c.with_linked.result c.self.invariant within
-    (record (record_at rs c.args.slot) { location = SmallOld }) c.with_linked.ensures.linked)
+    (record_written rs i.flags.items i.window.items c.args.slot _ c.self.invariant within
+    (record (record_at rs c.args.slot) { location = SmallOld }) refl)
 
 pub returns-clause-cleared : goal.returns-clause-cleared
 returns-clause-cleared g c =
     let i = c.self.inside in
     let within : c.args.slot < length i.flags.items = rw (c.self.invariant.as_many, ap (λ (l : LinkState). l.records) c.self.view_is) (linked_within c.args.self.now.records.items c.args.slot c.requires) in
     rw (← c.self.view_is, c.set_location.ensures.made)
-    (bit_set i.records i.window i.flags.items i.inspections.total c.args.slot c.with_linked.result false within (c.with_linked.ensures.bit ∙ c.clear.ensures.bit))
+    (bit_set i.records i.window i.flags.items i.inspections.total c.args.slot _ false within refl)

@@ -1,4 +1,4 @@
-use Rattle.std.proofs.Common.{◌+◌, sym, subst, ◌∙◌, arith}
+use Rattle.std.proofs.Common.{sym, ◌∙◌, arith}
 use Rattle.clock2q_queues.proofs.NextVictim.{Walks, Walks-start, Walks-on, Walks-here, Walks-over, slot_in, slot_linked}
 use Rattle.clock2q_queues.proofs.main_ring.MainRing.victim.Goals as goal
 
@@ -17,11 +17,7 @@ pub next_of-slot-requires : goal.next_of-slot-requires
 next_of-slot-requires g c = slot_linked c.args.links.now c.args.self.now c.in_ok-hand.hand c.loop.invariant c.loop-test.true
 
 pub loop-preserved : goal.loop-preserved
-loop-preserved g c =
-    let links = c.args.links.now in
-    let main = c.args.self.now in
-    subst (λ slot. Walks links main c.in_ok-hand.hand slot (c.loop.counter + 1)) (sym c.next_of-slot.ensures)
-    (Walks-on links main c.in_ok-hand.hand c.loop.invariant c.loop-test.true (sym c.has_bit.ensures ∙ c.if-not-has_bit.false))
+loop-preserved g c = grind (arith, Walks, Walks-on, c.next_of-slot.ensures, c.loop.invariant, c.loop-test.true, c.has_bit.ensures, c.if-not-has_bit.false)
 
 pub returns : goal.returns
 returns g c =

@@ -1,6 +1,4 @@
-use Rattle.std.proofs.Common.{◌+◌, ◌++◌, ◌∷◌, [], false, ap, ◌∙◌}
-use Rattle.clock2q_queues.specs.Queues.{queues_shown}
-use Rattle.clock2q_queues.specs.Links.{accesses_of, made_below}
+use Rattle.std.proofs.Common.{arith, false}
 use Rattle.clock2q_queues.proofs.Sharing.{after_append, in_small, in_main}
 use Rattle.clock2q_queues.proofs.queues.Queues.append.Goals as goal
 
@@ -13,9 +11,4 @@ invariant_of-self g c = (after_append c.self.inside.links c.self.inside.small c.
     c.push.ensures.whole c.push.ensures.entries c.push.ensures.others c.push.ensures.made c.push.ensures.window).queues
 
 pub returns-clause-queues : goal.returns-clause-queues
-returns-clause-queues g c =
-    let q = queues_shown c.self.inside.links c.self.inside.small c.self.inside.main in
-    rw (← c.self.view_is) ((after_append c.self.inside.links c.self.inside.small c.self.inside.main c.self.invariant c.push.new.links c.push.new.self c.args.slot
-    (in_small c.self.inside.links c.self.inside.small c.self.inside.main c.args.self.now c.args.slot false c.self.view_is c.requires.not_in_small)
-    c.push.ensures.whole c.push.ensures.entries c.push.ensures.others c.push.ensures.made c.push.ensures.window).is
-    ∙ ap (λ n. record q { main = q.main ++ (c.args.slot, false) ∷ []; made = made_below (c.args.slot + 1) q.made; accesses = accesses_of c.push.new.links; inspections = n }) c.push.ensures.inspections)
+returns-clause-queues g c = grind (arith, after_append, in_small, c.self.view_is, c.self.invariant, c.requires.not_in_small, c.push.ensures.whole, c.push.ensures.entries, c.push.ensures.others, c.push.ensures.made, c.push.ensures.window, c.push.ensures.inspections)

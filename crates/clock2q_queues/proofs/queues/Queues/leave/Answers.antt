@@ -1,7 +1,6 @@
-use Rattle.std.proofs.Common.{true, refl, sym, ap, ◌∙◌}
+use Rattle.std.proofs.Common.{arith, true, ap, ◌∙◌}
 use Rattle.clock2q_queues.specs.Rings.{has}
-use Rattle.clock2q_queues.specs.Links.{LinkState, accesses_of}
-use Rattle.clock2q_queues.specs.Queues.{QueueState, slots_of, without_slot}
+use Rattle.clock2q_queues.specs.Queues.{QueueState, slots_of}
 use Rattle.clock2q_queues.proofs.Locations.{in_small_alone}
 use Rattle.clock2q_queues.proofs.Sharing.{after_small_left, after_main_left, in_small, in_main, queues_equal}
 use Rattle.clock2q_queues.proofs.SlotLists.{without_slot-absent}
@@ -30,32 +29,13 @@ pub invariant_of-self-in-Main : goal.invariant_of-self-in-Main
 invariant_of-self-in-Main g c =
     let u = c.unlink-in-Main in
     (after_main_left c.self.inside.links c.self.inside.small c.self.inside.main c.self.invariant u.new.links u.new.self c.args.slot
-    u.ensures.whole u.ensures.freed u.ensures.entries u.ensures.others (ap (λ (z : LinkState). z.made) u.ensures.rest) (ap (λ (z : LinkState). z.window) u.ensures.rest)).queues
+    u.ensures.whole u.ensures.freed u.ensures.entries u.ensures.others u.ensures.made u.ensures.window).queues
 
 pub returns-in-Free-clause-queues : goal.returns-in-Free-clause-queues
-returns-in-Free-clause-queues g c =
-    let q = c.args.self.now in
-    let read = c.in-Free.ensures in
-    read.queues ∙ queues_equal _ _ (without_slot-absent c.args.slot q.small read.value.0)
-    (without_slot-absent c.args.slot q.main read.value.1) refl refl refl (sym (ap (λ (z : QueueState). z.accesses) read.queues)) refl
+returns-in-Free-clause-queues g c = grind (arith, queues_equal, without_slot-absent, c.in-Free.ensures)
 
 pub returns-in-SmallYoung-clause-queues : goal.returns-in-SmallYoung-clause-queues
-returns-in-SmallYoung-clause-queues g c =
-    let read = c.location.ensures in
-    let at = in_small_alone c.location.result c.args.slot c.args.self.now c.in-SmallYoung.is read.value in
-    let u = c.unlink in
-    (after_small_left c.self.inside.links c.self.inside.small c.self.inside.main c.self.invariant u.new.links u.new.self c.args.slot
-    u.ensures.whole u.ensures.freed u.ensures.entries u.ensures.others u.ensures.made u.ensures.window u.ensures.inspections).is
-    ∙ ap (λ (z : QueueState). record z { small = without_slot c.args.slot z.small; accesses = accesses_of u.new.links }) (c.self.view_is ∙ read.queues)
-    ∙ queues_equal _ _ refl (without_slot-absent c.args.slot c.args.self.now.main at.1) refl refl refl refl refl
+returns-in-SmallYoung-clause-queues g c = grind (arith, in_small_alone, after_small_left, queues_equal, without_slot-absent, c.location.ensures, c.in-SmallYoung.is, c.self.invariant, c.self.view_is)
 
 pub returns-in-Main-clause-queues : goal.returns-in-Main-clause-queues
-returns-in-Main-clause-queues g c =
-    let read = c.in-Main.ensures in
-    let u = c.unlink-in-Main in
-    let l = u.new.links in
-    (after_main_left c.self.inside.links c.self.inside.small c.self.inside.main c.self.invariant l u.new.self c.args.slot
-    u.ensures.whole u.ensures.freed u.ensures.entries u.ensures.others (ap (λ (z : LinkState). z.made) u.ensures.rest) (ap (λ (z : LinkState). z.window) u.ensures.rest)).is
-    ∙ ap (λ (z : QueueState). record z { main = without_slot c.args.slot z.main; accesses = accesses_of l; inspections = l.bits.inspections }) (c.self.view_is ∙ read.queues)
-    ∙ queues_equal _ _ (without_slot-absent c.args.slot c.args.self.now.small read.value.0) refl refl refl refl refl
-    (ap (λ (z : LinkState). z.bits.inspections) u.ensures.rest ∙ ap (λ (z : QueueState). z.inspections) (c.self.view_is ∙ read.queues))
+returns-in-Main-clause-queues g c = grind (arith, after_main_left, queues_equal, without_slot-absent, c.in-Main.ensures, c.self.invariant, c.self.view_is)

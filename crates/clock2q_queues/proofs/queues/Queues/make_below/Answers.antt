@@ -1,4 +1,4 @@
-use Rattle.std.proofs.Common.{◌-◌, ap}
+use Rattle.std.proofs.Common.{arith, ◌-◌, ap}
 use Rattle.clock2q_queues.specs.Links.{made_below}
 use Rattle.clock2q_queues.specs.Queues.{QueueState}
 use Rattle.clock2q_queues.proofs.Sharing.{after_making}
@@ -13,9 +13,4 @@ pub make_below-requires : goal.make_below-requires
 make_below-requires g c = rw (ap (λ (q : QueueState). q.slots) c.self.view_is) c.requires.bound_in
 
 pub returns : goal.returns
-returns g c =
-    let l = c.self.inside.links in
-    record {
-      queues = rw (← c.self.view_is)
-          (after_making l c.self.inside.small c.self.inside.main c.self.invariant c.make_below.new.self (c.args.bound - l.made) (made_below c.args.bound l.made) c.make_below.ensures.made).is;
-    }
+returns g c = grind (arith, after_making, c.self.view_is, c.self.invariant, c.make_below.ensures.made)

@@ -1,7 +1,6 @@
-use Rattle.std.proofs.Common.{None, sym, ap, ◌∙◌}
-use Rattle.std.specs.List.{last_or}
+use Rattle.std.proofs.Common.{arith, sym, ap, ◌∙◌}
 use Rattle.clock2q_queues.specs.Links.{accesses_of}
-use Rattle.clock2q_queues.specs.Queues.{QueueState, slots_of, queues_shown}
+use Rattle.clock2q_queues.specs.Queues.{queues_shown}
 use Rattle.clock2q_queues.proofs.Sharing.{after_small_left, small_slots-of}
 use Rattle.clock2q_queues.proofs.Locations.{tail_there, tail_out, no_tail}
 use Rattle.clock2q_queues.proofs.queues.Queues.take_tail.Goals as goal
@@ -17,16 +16,10 @@ invariant_of-self g c =
     c.unlink.ensures.whole c.unlink.ensures.freed c.unlink.ensures.entries c.unlink.ensures.others c.unlink.ensures.made c.unlink.ensures.window c.unlink.ensures.inspections).queues
 
 pub returns-in_err-tail-clause-tail : goal.returns-in_err-tail-clause-tail
-returns-in_err-tail-clause-tail g c =
-    let i = c.self.inside in
-    c.from_residual.ensures ∙ c.in_err-tail.ensures i.links c.self.invariant.small ∙ ap (λ z. last_or None z) (sym (small_slots-of i.links i.small))
-    ∙ ap (λ (q : QueueState). last_or None (slots_of q.small)) c.self.view_is
+returns-in_err-tail-clause-tail g c = grind (arith, small_slots-of, c.from_residual.ensures, c.in_err-tail.ensures, c.self.invariant.small, c.self.view_is)
 
 pub returns-clause-tail : goal.returns-clause-tail
-returns-clause-tail g c =
-    let i = c.self.inside in
-    c.in_ok-tail.ensures i.links c.self.invariant.small ∙ ap (λ z. last_or None z) (sym (small_slots-of i.links i.small))
-    ∙ ap (λ (q : QueueState). last_or None (slots_of q.small)) c.self.view_is
+returns-clause-tail g c = grind (arith, small_slots-of, c.in_ok-tail.ensures, c.self.invariant.small, c.self.view_is)
 
 pub returns-in_err-tail-clause-queues : goal.returns-in_err-tail-clause-queues
 returns-in_err-tail-clause-queues g c =

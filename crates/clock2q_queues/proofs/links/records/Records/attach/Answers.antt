@@ -1,41 +1,38 @@
-use Rattle.std.proofs.Common.{◌≡◌, ◌+◌, ◌-◌, set, ap, ◌∙◌, rules, arith}
+use Rattle.std.proofs.Common.{◌≡◌, ◌+◌, ◌-◌, ◌<◌, length, ap, ◌∙◌, arith}
 use Rattle.clock2q_queues.specs.declared.links.Record.{Record}
-use Rattle.clock2q_queues.specs.Cells.{CellsState, accessed, cells_state}
-use Rattle.clock2q_queues.specs.Links.{RecordsState, previous_at, record_at, with_next, with_previous}
-use Rattle.clock2q_queues.proofs.AllRecords.{linked-made, linked-value, linked_within}
+use Rattle.clock2q_queues.specs.Cells.{CellsState}
+use Rattle.clock2q_queues.specs.Links.{RecordsState, made_below, previous_at}
+use Rattle.clock2q_queues.proofs.AllRecords.{all-relinked, linked-made, linked-value, linked_within}
 use Rattle.clock2q_queues.proofs.Attaching.{attaches}
-use Rattle.clock2q_queues.proofs.links.records.Records.attach.Given.{Over}
-use Rattle.clock2q_queues.proofs.links.records.Records.attach.Goals.{After-index}
 use Rattle.clock2q_queues.proofs.links.records.Records.attach.Goals as goal
-
--- the record before which the slot is put
-was : (g : Over) (c : After-index g) → c.index.result.now ≡ record_at c.args.self.now.cells.items c.args.before
-was g c = linked-value c.self.inside.items.items c.self.inside.slots c.self.inside.accesses.total c.args.before c.args.self.now c.self.view_is c.requires.before_in c.index.result.now c.index.ensures
-
-pub set_next-requires : goal.set_next-requires
-set_next-requires g c =
-    let i = c.self.inside in
-    let there = linked-made i.items.items i.slots i.accesses.total (previous_at c.args.self.now.cells.items c.args.before) c.args.self.now c.self.view_is c.requires.previous_in in
-    rw (ap (λ (r : Record). r.previous) (was g (goal.at.set_next-requires g c).After-index)) (omega (arith, there, c.write.ensures.made, ap (λ (z : RecordsState). z.made) c.self.view_is))
-
-pub set_previous-requires : goal.set_previous-requires
-set_previous-requires g c =
-    let i = c.self.inside in
-    let there = linked-made i.items.items i.slots i.accesses.total c.args.before c.args.self.now c.self.view_is c.requires.before_in in
-    omega (arith, there, c.write.ensures.made, c.set_next.ensures.made, ap (λ (z : RecordsState). z.made) c.self.view_is)
 
 pub returns-clause-attached : goal.returns-clause-attached
 returns-clause-attached g c =
     let now = c.args.self.now in
     let rs = now.cells.items in
     let slot = c.args.slot in
-    let p = previous_at rs c.args.before in
-    let r : Record = record { previous = p; next = c.args.before; location = c.args.location } in
-    let is = ap (λ (r : Record). r.previous) (was g (goal.at.returns-clause-attached g c).After-index) in
-    let written : c.write.new.self.cells ≡ cells_state (set rs slot r) (now.cells.accesses + 1 + (slot - now.made) + 1) = search rules in
-    let linked : c.set_previous.new.self.cells ≡ accessed (with_previous c.args.before slot (accessed (with_next p slot (cells_state (set rs slot r) (now.cells.accesses + 1 + (slot - now.made) + 1))))) =
-    c.set_previous.ensures.written ∙ ap (λ (z : CellsState Record). accessed (with_previous c.args.before slot z)) c.set_next.ensures.written
-    ∙ ap (λ n. accessed (with_previous c.args.before slot (accessed (with_next n slot c.write.new.self.cells)))) is
-    ∙ ap (λ (z : CellsState Record). accessed (with_previous c.args.before slot (accessed (with_next p slot z)))) written in
-    rw linked (attaches rs now.cells.accesses _ slot c.args.before (slot - now.made + 6) c.args.location c.requires.slot_in
-    (linked_within rs c.args.before c.requires.before_in) (linked_within rs p c.requires.previous_in) (omega arith))
+    let before = c.args.before in
+    let p = previous_at rs before in
+    let i = c.self.inside in
+    let j = c.self-2.inside in
+    let was = linked-value i.items.items i.slots i.accesses.total before now c.self.view_is c.requires.before_in c.index.result.now c.index.ensures in
+    let made : length j.items.items ≡ made_below (slot + 1) now.made = ap (λ (z : RecordsState). z.made) c.self-2.view_is ∙ c.write.ensures.made ∙ ap (λ (z : RecordsState). made_below (slot + 1) z.made) c.self.view_is in
+    let in_p : c.index.result.now.previous < length j.items.items = rw was (omega (arith, linked-made i.items.items i.slots i.accesses.total p now c.self.view_is c.requires.previous_in, made)) in
+    let in_before : before < length j.items.items = omega (arith, linked-made i.items.items i.slots i.accesses.total before now c.self.view_is c.requires.before_in, made) in
+    let written = ap (λ (z : RecordsState). z.cells) c.self-2.view_is ∙ c.write.ensures.written in
+    let counted : c.tick-5.new.self.total ≡ now.cells.accesses + (slot - now.made + 6) =
+    omega (
+      arith,
+      c.tick.ensures.ticked,
+      c.tick-2.ensures.ticked,
+      c.tick-3.ensures.ticked,
+      c.tick-4.ensures.ticked,
+      c.tick-5.ensures.ticked,
+      ap (λ (z : CellsState Record). z.accesses) written,
+      ap (λ (z : RecordsState). z.cells.accesses) c.self.view_is,
+      ap (λ (z : RecordsState). z.made) c.self.view_is,
+    ) in
+    let relinked = all-relinked j.items.items j.slots c.index.result.now.previous before slot slot c.index_mut.result.now c.index_mut-2.result.now in_p c.index_mut.ensures.value in_before c.index_mut-2.ensures.value in
+    rw (relinked, ap (λ (z : CellsState Record). z.items) written, was, ap (λ (z : RecordsState). z.cells.items) c.self.view_is)
+    (attaches rs now.cells.accesses _ slot before (slot - now.made + 6) c.args.location c.requires.slot_in
+    (linked_within rs before c.requires.before_in) (linked_within rs p c.requires.previous_in) counted)
