@@ -6,7 +6,7 @@ pub mod Changes
 pub mod Removals
 pub mod Steps
 pub mod Carrying
-pub mod PuttingAndTaking
+pub mod Taking
 pub mod Wrapping
 pub mod Insertions
 pub mod FewEntries

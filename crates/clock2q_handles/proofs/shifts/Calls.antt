@@ -19,9 +19,9 @@ use Rattle.clock2q_handles.proofs.layout.MoreEntries.{walk-more}
 use Rattle.clock2q_handles.proofs.layout.TidyLayout.{length-homes_of, tidy-room}
 use Rattle.clock2q_handles.proofs.shifts.Exchanges.{put_on, taken_within}
 use Rattle.clock2q_handles.proofs.shifts.Insertions.{IsEnd, Insertion, few_room, inserted, refusal}
-use Rattle.clock2q_handles.proofs.shifts.PuttingAndTaking.{found_taken}
+use Rattle.clock2q_handles.proofs.shifts.Taking.{Removal, found_taken, removal}
 use Rattle.clock2q_handles.proofs.shifts.Removals.{exchanged-homes, held-still, removed-walk}
-use Rattle.clock2q_handles.proofs.shifts.Steps.{Removal, listed-home, removal, table-laid}
+use Rattle.clock2q_handles.proofs.shifts.Steps.{listed-home, table-laid}
 use Rattle.clock2q_handles.proofs.walks.Positions.{gap_ends}
 
 -- v is taken out under x

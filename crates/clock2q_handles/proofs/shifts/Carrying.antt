@@ -13,6 +13,7 @@ use Rattle.clock2q_handles.proofs.layout.Periods.{lap, lap-lt, lap-same, rem-sam
 use Rattle.clock2q_handles.proofs.layout.Reading.{slot-again}
 use Rattle.clock2q_handles.proofs.shifts.Moves.{apart_on_lap, at_written, at_other, less_than_lap, MovingBack, moving_back_more, closed, cell-mark_on, cell-mark_back, reach_of_meaning}
 use Rattle.clock2q_handles.proofs.shifts.Moves.{vacant_of_meaning}
+use Rattle.clock2q_handles.proofs.shifts.Steps.{past_home}
 use Rattle.clock2q_handles.proofs.walks.Cursors.{rem-plus, goes_on}
 
 -- the distance from s of the slot k past it is k
@@ -53,6 +54,14 @@ module _ {E : Type 0} (slots : List (Option (Placed E))) where
 
   pub come_slot : (g d s : ℕ) → HasCome slots g d s → s < length slots
   come_slot g d s come = omega (arith, come.slot, mod_below (g + d) (length slots) (omega (arith, come.within)))
+
+  -- a walk from the home of x, seen from x
+  pub come_at : (x d s : ℕ) → HasCome slots (x % length slots) d s → HasCome slots x d s
+  come_at x d s come = record {
+    slot = come.slot ∙ rem-plus (length slots) x d;
+    within = come.within;
+    passed = λ j l. omega (arith, come.passed j l, ap reach (past_home slots (length slots) (x % length slots) x refl refl j));
+  }
 
   -- a walk that goes on
   pub come_on : IsTidy slots → (g d s s' : ℕ) → HasCome slots g d s → d < reach (slot_at slots s) → s' ≡ (s + 1) % length slots → HasCome slots g (suc d) s'

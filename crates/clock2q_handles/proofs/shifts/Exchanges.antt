@@ -1,5 +1,5 @@
 -- A removal that follows an insertion: it writes at most one slot more than the run was long before both.
-use Rattle.std.proofs.Common.{◌≡◌, ℕ, suc, ◌+◌, ◌%◌, ◌<◌, ◌≤◌, refl, sym, ap, ◌∙◌, arith, Bool, List, length, Option, Some, None}
+use Rattle.std.proofs.Common.{◌≡◌, ℕ, suc, ◌+◌, ◌%◌, ◌<◌, ◌≤◌, sym, ap, ◌∙◌, arith, Bool, List, length, Option, Some, None}
 use Rattle.clock2q_handles.specs.Candidates.{IsWalkFor}
 use Rattle.clock2q_handles.specs.Found.{TakesOut}
 use Rattle.clock2q_handles.specs.Homes.{top}
@@ -11,7 +11,6 @@ use Rattle.clock2q_handles.proofs.layout.Reaching.{occupied-is}
 use Rattle.clock2q_handles.proofs.layout.Reading.{slot-again}
 use Rattle.clock2q_handles.proofs.layout.TooLong.{first-vacant}
 use Rattle.clock2q_handles.proofs.layout.Walk.{after as after_stop}
-use Rattle.clock2q_handles.proofs.shifts.Steps.{past_home}
 
 module _ {E : Type 0} where
   moved_reach : (o : Option (Placed E)) → reach (moved_on o) ≤ suc (reach o)
@@ -51,20 +50,19 @@ module _ {E : Type 0} (slots more : List (Option (Placed E))) (tidy : IsTidy slo
   further h j = grind arith
 
   -- a removal from them writes at most one slot more than the run was long
-  pub taken_within : {test : E → Bool} {less : List (Option (Placed E))} (x : ℕ) {before after : ℕ} → TakesOut test more less (x % length more) before after → after ≤ before + (run slots x + 1)
+  pub taken_within : {test : E → Bool} {less : List (Option (Placed E))} (x : ℕ) {before after : ℕ} → TakesOut test more less x before after → after ≤ before + (run slots x + 1)
   taken_within {test} {less} x {before} {after} taken =
       let v = first-vacant slots tidy some x in
       let is : run slots x ≡ v.0 = occupied-is (slot_at slots) x v.0 (length slots) v.1 v.2 v.3 in
-      let g : ℕ = x % length more in
-      let end : reach (slot_at more (g + suc v.0)) ≤ 1 = omega (arith, further x v.0, ap reach v.2, ap reach (past_home more (length more) g x refl refl (suc v.0))) in
+      let end : reach (slot_at more (x + suc v.0)) ≤ 1 = omega (arith, further x v.0, ap reach v.2) in
       grind (
         arith,
         taken.written,
         taken.closes.opens.moved v.0,
         taken.closes.occupied (suc v.0),
-        moved_far (slot_at less (g + v.0)),
+        moved_far (slot_at less (x + v.0)),
         taken.finds.here,
-        after_stop (slot_at more) tidy'.ordered g 0 (suc v.0) (omega (arith, end)) taken.distance,
+        after_stop (slot_at more) tidy'.ordered x 0 (suc v.0) (omega (arith, end)) taken.distance,
       )
 
 -- slots that an entry was put into where a walk ended

@@ -1,15 +1,15 @@
 -- What removing an entry from its home's list results in: the list that a removal specifies, the table as it was before an insertion, and walks that are no longer.
 use Rattle.std.proofs.Common.{◌≡◌, ℕ, suc, ◌+◌, ◌<◌, ◌≤◌, refl, ap, sym, ◌∙◌, arith, Bool, true, false, cond, eq-eqb, List, [], ◌∷◌, ◌++◌, length, set, set-set, append-nil}
 use Rattle.std.proofs.lemmas.List.{set_comm}
-use Rattle.std.proofs.Common.{Option, Some, ◌-◌}
+use Rattle.std.proofs.Common.{Option, ◌-◌}
 use Rattle.std.specs.List.{list_any}
 use Rattle.std.proofs.Math.Seq.{set-get_or}
 use Rattle.clock2q_handles.specs.Homes.{top, capacity, home, listed, total, with_list, put_last, without_first, with_handle, is_entry_of, removed, IsNew}
 use Rattle.clock2q_handles.specs.Positions.{with_first, handle_replaced}
-use Rattle.clock2q_handles.specs.Layout.{Placed, placed, slot_at, walk, layout, homes_of, met, IsTidy}
+use Rattle.clock2q_handles.specs.Layout.{Placed, walk, layout, homes_of, IsTidy}
 use Rattle.clock2q_handles.proofs.layout.TidyLayout.{tidy-layout, length-homes_of}
 use Rattle.clock2q_handles.proofs.layout.FewerEntries.{shorter-walk}
-use Rattle.clock2q_handles.proofs.shifts.Changes.{list_without, read-split, length-with_list, listed-with_same, listed-with_other, total-with_list}
+use Rattle.clock2q_handles.proofs.shifts.Changes.{length-with_list, listed-with_same, listed-with_other, total-with_list}
 
 module _ {E : Type 0} (test : E → Bool) where
   -- if no element passes, none is left out
@@ -49,13 +49,6 @@ module _ {H : Type 0} (eq : H → H → Bool) where
   -- if there is no such entry, nothing changes
   pub removed-none : (homes : List (List (ℕ × H))) (x : ℕ) (v : H) → IsNew eq homes x v → removed eq homes x v ≡ homes
   removed-none homes x v none = ap (set homes (home homes x)) (without_first-none (is_entry_of eq x v) (listed homes x) none) ∙ set-get_or homes (home homes x) []
-
-  -- the entry d past its home is removed, if those before it fail the test and it passes
-  pub removed-found : (slots : List (Option (Placed (ℕ × H)))) (x d : ℕ) (v : H) (e : ℕ × H) → d < length slots → slot_at slots (x + d) ≡ Some (placed d e)
-      → list_any (is_entry_of eq x v) (met (slot_at slots) x 0 d) ≡ false → is_entry_of eq x v e ≡ true → removed eq (homes_of slots) x v ≡ with_list (homes_of slots) x (list_without slots x d)
-  removed-found slots x d v e l here none is =
-      ap (set (homes_of slots) (home (homes_of slots) x)) (ap (without_first (is_entry_of eq x v)) (read-split slots x d e l here)
-      ∙ without_first-at (is_entry_of eq x v) (met (slot_at slots) x 0 d) (met (slot_at slots) x (suc d) (length slots - suc d)) e none is)
 
   any_at : (test : ℕ × H → Bool) (es ys : List (ℕ × H)) → list_any test es ≡ true → list_any test (es ++ ys) ≡ true
   any_at test [] ys some = absurd (cc)

@@ -3,7 +3,7 @@ use Rattle.clock2q_handles.specs.Shifts.{HasRoomAt}
 use Rattle.clock2q_handles.specs.TableStep.{HasSpare}
 use Rattle.clock2q_handles.proofs.shifts.Calls.{end_of_gap, end_room, held_on, exchanged_table, exchanging}
 use Rattle.clock2q_handles.proofs.shifts.Insertions.{IsEnd, end_within, inserted}
-use Rattle.clock2q_handles.proofs.shifts.PuttingAndTaking.{found_occupied}
+use Rattle.clock2q_handles.proofs.shifts.Taking.{found_occupied}
 use Rattle.clock2q_handles.proofs.table.Table.exchange.Given.{Over}
 use Rattle.clock2q_handles.proofs.table.Table.exchange.Goals.{After-self}
 use Rattle.clock2q_handles.proofs.table.Table.exchange.Goals as goal

@@ -3,7 +3,7 @@ use Rattle.std.specs.List.{list_any}
 use Rattle.clock2q_handles.specs.Homes.{is_entry_of}
 use Rattle.clock2q_handles.specs.Layout.{homes_of}
 use Rattle.clock2q_handles.proofs.shifts.Calls.{gone, taking}
-use Rattle.clock2q_handles.proofs.shifts.PuttingAndTaking.{found_occupied}
+use Rattle.clock2q_handles.proofs.shifts.Taking.{found_occupied}
 use Rattle.clock2q_handles.proofs.shifts.Removals.{removed-none}
 use Rattle.clock2q_handles.proofs.shifts.Steps.{listed-home, table-laid}
 use Rattle.clock2q_handles.proofs.table.Table.remove.Goals as goal

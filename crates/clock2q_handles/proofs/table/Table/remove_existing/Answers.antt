@@ -1,5 +1,5 @@
 use Rattle.clock2q_handles.proofs.shifts.Calls.{gone, taking}
-use Rattle.clock2q_handles.proofs.shifts.PuttingAndTaking.{found_occupied}
+use Rattle.clock2q_handles.proofs.shifts.Taking.{found_occupied}
 use Rattle.clock2q_handles.proofs.table.Table.remove_existing.Goals as goal
 
 pub take_out-requires-clause-occupied : goal.take_out-requires-clause-occupied

@@ -1,0 +1,112 @@
+-- What removing the entry that a search found results in.
+use Rattle.std.proofs.Common.{◌≡◌, ℕ, suc, ◌+◌, ◌-◌, ◌%◌, ◌<◌, ◌≤◌, refl, ap, sym, ◌∙◌, subst, arith, Bool, true, false, ◌||◌, List, [], ◌∷◌, ◌++◌, length, Option, Some}
+use Rattle.std.specs.List.{list_any}
+use Rattle.clock2q_handles.specs.Found.{FindsAt, TakesOut, TakesOutAt}
+use Rattle.clock2q_handles.specs.Homes.{capacity, listed, total, is_entry_of, removed, without_first}
+use Rattle.clock2q_handles.specs.Layout.{Placed, placed, slot_at, reach, longest_reach, entries, homes_of, met, run, IsTidy}
+use Rattle.clock2q_handles.specs.Shifts.{HasCome}
+use Rattle.clock2q_handles.specs.Slots.{IsSlotCount}
+use Rattle.clock2q_handles.specs.Table.{IsTable}
+use Rattle.clock2q_handles.proofs.layout.Laid.{met-same}
+use Rattle.clock2q_handles.proofs.layout.Reaching.{run-above}
+use Rattle.clock2q_handles.proofs.layout.Reading.{slot-again, slots_again}
+use Rattle.clock2q_handles.proofs.layout.TidyLayout.{length-homes_of, tidy-total}
+use Rattle.clock2q_handles.proofs.shifts.Carrying.{come_at, slot_from}
+use Rattle.clock2q_handles.proofs.shifts.Removals.{without_first-at}
+use Rattle.clock2q_handles.proofs.shifts.Shifts.{closed-ordered, closed-within, opened-entries, own-before, own-after, others-kept, with_list-is}
+use Rattle.clock2q_handles.proofs.shifts.Steps.{past_home}
+
+module _ {E : Type 0} {test : E → Bool} {slots : List (Option (Placed E))} where
+  -- a slot where an entry was found is occupied
+  pub found_occupied : {h s : ℕ} → FindsAt test slots h s → 0 < reach (slot_at slots s)
+  found_occupied {h} {s} found = omega (arith, ap reach (slot_from slots h found.distance s found.slot), ap reach found.finds.here)
+
+  -- removing the entry in that slot removes the first that passes
+  pub found_taken : {x s : ℕ} → FindsAt test slots (x % length slots) s → {new : List (Option (Placed E))} {before after : ℕ} → TakesOutAt slots new s before after → TakesOut test slots new x before after
+  found_taken {x} {s} found taken =
+      let d : ℕ = found.distance in
+      let past = past_home slots (length slots) (x % length slots) x refl refl in
+      let come : HasCome slots x d s = come_at slots x d s (record { slot = found.slot; within = found.within; passed = found.passed }) in
+      let here : slot_at slots (x + d) ≡ Some (placed d found.finds.entry) = sym (past d) ∙ found.finds.here in
+      let closed = taken.closes x d found.finds.entry come here in
+      record {
+        distance = d;
+        vacancy = closed.0;
+        within = found.within;
+        finds = record {
+          entry = found.finds.entry;
+          here = here;
+          passes = found.finds.passes;
+          none_before = ap (list_any test) (met-same (slot_at slots) (slot_at slots) x (x % length slots) 0 d (λ j _ _. sym (past j))) ∙ found.finds.none_before;
+        };
+        closes = closed.1;
+        written = closed.2;
+        len = taken.len;
+      }
+
+-- a list with an element that passes
+list_any-at : {E : Type 0} (test : E → Bool) (xs : List E) (e : E) (ys : List E) → test e ≡ true → list_any test (xs ++ e ∷ ys) ≡ true
+list_any-at test [] e ys passes = ap (λ b. b || list_any test ys) passes
+list_any-at test (x ∷ xs) e ys passes = grind (arith, list_any-at test xs e ys passes)
+
+-- what a removal results in: the lists without the entry, which was there, and the writes
+pub record Removal {H : Type 0} (eq : H → H → Bool) (x : ℕ) (v : H) (others slots : List (Option (Placed (ℕ × H)))) (len before after : ℕ) : Type 0 where
+  pub homes : homes_of slots ≡ removed eq (homes_of others) x v
+  pub found : list_any (is_entry_of eq x v) (listed (homes_of others) x) ≡ true
+  pub total_less : suc (total (homes_of slots)) ≡ len
+  pub table : IsTable slots (len - 1)
+  pub counted : before ≤ after
+  pub writes : after ≤ before + run others x
+
+module _ {H : Type 0} (eq : H → H → Bool) (x : ℕ) (v : H) (others slots : List (Option (Placed (ℕ × H)))) (len before after : ℕ)
+    (table : IsTable others len) (taken : TakesOut (is_entry_of eq x v) others slots x before after) where
+  abbrev m : ℕ
+  m = length others
+
+  abbrev n : ℕ
+  n = taken.distance
+
+  abbrev w : ℕ
+  w = taken.vacancy
+
+  abbrev entry : ℕ × H
+  entry = taken.finds.entry
+
+  abbrev again : (k : ℕ) → slot_at slots (k + m) ≡ slot_at slots k
+  again = slots_again slots m taken.len
+
+  fewer : length (entries others) ≡ suc (length (entries slots))
+  fewer = opened-entries slots others m x n w entry taken.len refl taken.closes.opens
+
+  tidy : IsTidy slots
+  tidy = record {
+    ordered = closed-ordered (slot_at slots) (slot_at others) m x n w entry again (slot-again others) taken.closes.opens table.tidy.ordered taken.closes.ends taken.closes.occupied;
+    room = omega (arith, table.tidy.room, fewer, ap capacity taken.len);
+  }
+
+  pub removal : Removal eq x v others slots len before after
+  removal =
+      let test = is_entry_of eq x v in
+      let A = slot_at slots in
+      let own = own-before slots others m x n w entry taken.len refl taken.closes.opens tidy.ordered table.tidy.ordered taken.closes.ends in
+      let was = own-after slots others m x n w entry taken.len refl taken.closes.opens tidy.ordered table.tidy.ordered taken.closes.ends in
+      let kept = others-kept slots others m x n w entry taken.len refl taken.closes.opens tidy.ordered table.tidy.ordered taken.closes.ends in
+      let none : list_any test (met A x 0 n) ≡ false =
+          ap (list_any test) (met-same A (slot_at others) x x 0 n (λ j _ l. sym (taken.closes.opens.before j (omega (arith, l))))) ∙ taken.finds.none_before in
+      let less : suc (total (homes_of slots)) ≡ len = omega (arith, fewer, tidy-total slots tidy, tidy-total others table.tidy, table.counted) in
+      let without : listed (homes_of slots) x ≡ without_first test (listed (homes_of others) x) =
+          own ∙ sym (ap (without_first test) was ∙ without_first-at test (met A x 0 n) (met A x n (w - n)) entry none taken.finds.passes) in
+      record {
+        homes = with_list-is (homes_of others) (homes_of slots) x (without_first test (listed (homes_of others) x)) (grind (arith, length-homes_of, taken.len))
+            (omega (arith, taken.within, length-homes_of others)) without (λ h other. sym (kept h (λ e. other (grind (arith, length-homes_of)))));
+        found = ap (list_any test) was ∙ list_any-at test (met A x 0 n) entry (met A x n (w - n)) taken.finds.passes;
+        total_less = less;
+        table = record {
+          tidy = tidy;
+          counted = omega (arith, less);
+          slot_count = subst IsSlotCount (sym taken.len) table.slot_count;
+          near = closed-within A (slot_at others) m x n w entry again (slot-again others) taken.closes.opens longest_reach table.near;
+        };
+        counted = omega (arith, taken.written, taken.closes.opens.from);
+        writes = omega (arith, taken.written, run-above others x (suc w) taken.closes.opens.upto (λ j l. taken.closes.occupied j (omega (arith, l))));
+      }
