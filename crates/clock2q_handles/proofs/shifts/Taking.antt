@@ -1,10 +1,9 @@
 -- What removing the entry that a search found results in.
-use Rattle.std.proofs.Common.{◌≡◌, ℕ, suc, ◌+◌, ◌-◌, ◌%◌, ◌<◌, ◌≤◌, refl, ap, sym, ◌∙◌, subst, arith, Bool, true, false, ◌||◌, List, [], ◌∷◌, ◌++◌, length, Option, Some}
+use Rattle.std.proofs.Common.{◌≡◌, ℕ, suc, ◌+◌, ◌-◌, ◌%◌, ◌<◌, ◌≤◌, refl, ap, sym, ◌∙◌, subst, arith, Bool, true, false, ◌||◌, List, [], ◌∷◌, ◌++◌, length, Option}
 use Rattle.std.specs.List.{list_any}
 use Rattle.clock2q_handles.specs.Found.{FindsAt, TakesOut, TakesOutAt}
 use Rattle.clock2q_handles.specs.Homes.{capacity, listed, total, is_entry_of, removed, without_first}
-use Rattle.clock2q_handles.specs.Layout.{Placed, placed, slot_at, reach, longest_reach, entries, homes_of, met, run, IsTidy}
-use Rattle.clock2q_handles.specs.Shifts.{HasCome}
+use Rattle.clock2q_handles.specs.Layout.{Placed, slot_at, reach, longest_reach, entries, homes_of, met, run, IsTidy}
 use Rattle.clock2q_handles.specs.Slots.{IsSlotCount}
 use Rattle.clock2q_handles.specs.Table.{IsTable}
 use Rattle.clock2q_handles.proofs.layout.Laid.{met-same}
@@ -21,28 +20,30 @@ module _ {E : Type 0} {test : E → Bool} {slots : List (Option (Placed E))} whe
   pub found_occupied : {h s : ℕ} → FindsAt test slots h s → 0 < reach (slot_at slots s)
   found_occupied {h} {s} found = omega (arith, ap reach (slot_from slots h found.distance s found.slot), ap reach found.finds.here)
 
-  -- removing the entry in that slot removes the first that passes
-  pub found_taken : {x s : ℕ} → FindsAt test slots (x % length slots) s → {new : List (Option (Placed E))} {before after : ℕ} → TakesOutAt slots new s before after → TakesOut test slots new x before after
-  found_taken {x} {s} found taken =
-      let d : ℕ = found.distance in
+  -- an entry of the home of x, seen from x
+  pub found_at : {x s : ℕ} → FindsAt test slots (x % length slots) s → FindsAt test slots x s
+  found_at {x} {s} found =
       let past = past_home slots (length slots) (x % length slots) x refl refl in
-      let come : HasCome slots x d s = come_at slots x d s (record { slot = found.slot; within = found.within; passed = found.passed }) in
-      let here : slot_at slots (x + d) ≡ Some (placed d found.finds.entry) = sym (past d) ∙ found.finds.here in
-      let closed = taken.closes x d found.finds.entry come here in
+      let come = come_at slots x found.distance s (record { slot = found.slot; within = found.within; passed = found.passed }) in
       record {
-        distance = d;
-        vacancy = closed.0;
-        within = found.within;
+        distance = found.distance;
+        slot = come.slot;
+        within = come.within;
+        passed = come.passed;
         finds = record {
           entry = found.finds.entry;
-          here = here;
+          here = sym (past found.distance) ∙ found.finds.here;
           passes = found.finds.passes;
-          none_before = ap (list_any test) (met-same (slot_at slots) (slot_at slots) x (x % length slots) 0 d (λ j _ _. sym (past j))) ∙ found.finds.none_before;
+          none_before = ap (list_any test) (met-same (slot_at slots) (slot_at slots) x (x % length slots) 0 found.distance (λ j _ _. sym (past j))) ∙ found.finds.none_before;
         };
-        closes = closed.1;
-        written = closed.2;
-        len = taken.len;
       }
+
+  -- removing the entry in that slot removes the first that passes
+  pub found_taken : {x s : ℕ} → FindsAt test slots (x % length slots) s → {new : List (Option (Placed E))} {before after : ℕ} → TakesOutAt slots new s before after → TakesOut test slots new x before after
+  found_taken {x} {s} at taken =
+      let found = found_at at in
+      let closed = taken.closes x found.distance found.finds.entry (record { slot = found.slot; within = found.within; passed = found.passed }) found.finds.here in
+      record { distance = found.distance; vacancy = closed.0; within = found.within; finds = found.finds; closes = closed.1; written = closed.2; len = taken.len }
 
 -- a list with an element that passes
 list_any-at : {E : Type 0} (test : E → Bool) (xs : List E) (e : E) (ys : List E) → test e ≡ true → list_any test (xs ++ e ∷ ys) ≡ true
