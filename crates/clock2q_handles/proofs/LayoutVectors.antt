@@ -30,80 +30,51 @@ at f v d = Some (placed d (f, v))
 abbrev four : List (List (ℕ × ℕ))
 four = put_each (no_entries 16) (0xAB00000000000005 ∷ 0xAB00010000000005 ∷ 0xAB00000000000006 ∷ 0xCD00000000000005 ∷ []) 0
 
-four-layout : layout four ≡ vacant 5 ++ (at 0xAB 0 0 ∷ at 0xAB 1 1 ∷ at 0xCD 3 2 ∷ at 0xAB 2 2 ∷ []) ++ vacant 7
-unfolding layout spill
-four-layout = refl
-
-four-candidates : map (candidates four) (0xAB00000000000005 ∷ 0xAB00000000000006 ∷ 0xCD00000000000005 ∷ []) ≡ (0 ∷ 1 ∷ []) ∷ (2 ∷ []) ∷ (3 ∷ []) ∷ []
-four-candidates = refl
-
-four-walks : walk four 0xAB00000000000005 ∷ walk four 6 ∷ [] ≡ 4 ∷ 4 ∷ []
-unfolding spill
-four-walks = refl
-
-four-read : homes_of (layout four) ≡ four
+four-table : (layout four ≡ vacant 5 ++ (at 0xAB 0 0 ∷ at 0xAB 1 1 ∷ at 0xCD 3 2 ∷ at 0xAB 2 2 ∷ []) ++ vacant 7)
+    × (map (candidates four) (0xAB00000000000005 ∷ 0xAB00000000000006 ∷ 0xCD00000000000005 ∷ []) ≡ (0 ∷ 1 ∷ []) ∷ (2 ∷ []) ∷ (3 ∷ []) ∷ [])
+    × (walk four 0xAB00000000000005 ∷ walk four 6 ∷ [] ≡ 4 ∷ 4 ∷ [])
+    × (homes_of (layout four) ≡ four)
 unfolding layout spill homes_of
-four-read = refl
+four-table = (refl, refl, refl, refl)
 
 -- the first one removed, under the second hash
 abbrev four_less : Numbers
 four_less = removed eqb four 0xAB00010000000005 0
 
-four_less-found : list_any (is_entry_of eqb 0xAB00010000000005 0) (listed four 0xAB00010000000005) ≡ true
-four_less-found = refl
-
-four_less-layout : layout four_less ≡ vacant 5 ++ (at 0xAB 1 0 ∷ at 0xCD 3 1 ∷ at 0xAB 2 1 ∷ []) ++ vacant 8
+four_less-table : (list_any (is_entry_of eqb 0xAB00010000000005 0) (listed four 0xAB00010000000005) ≡ true)
+    × (layout four_less ≡ vacant 5 ++ (at 0xAB 1 0 ∷ at 0xCD 3 1 ∷ at 0xAB 2 1 ∷ []) ++ vacant 8)
+    × (map (candidates four_less) (0xAB00000000000005 ∷ 0xAB00000000000006 ∷ 0xCD00000000000005 ∷ []) ≡ (1 ∷ []) ∷ (2 ∷ []) ∷ (3 ∷ []) ∷ [])
+    × (walk four_less 0xAB00000000000005 ∷ walk four_less 0xAB00000000000006 ∷ [] ≡ 3 ∷ 3 ∷ [])
 unfolding layout spill
-four_less-layout = refl
-
-four_less-candidates : map (candidates four_less) (0xAB00000000000005 ∷ 0xAB00000000000006 ∷ 0xCD00000000000005 ∷ []) ≡ (1 ∷ []) ∷ (2 ∷ []) ∷ (3 ∷ []) ∷ []
-four_less-candidates = refl
-
-four_less-walks : walk four_less 0xAB00000000000005 ∷ walk four_less 0xAB00000000000006 ∷ [] ≡ 3 ∷ 3 ∷ []
-unfolding spill
-four_less-walks = refl
+four_less-table = (refl, refl, refl, refl)
 
 -- and one more under the first hash
 abbrev five : Numbers
 five = with_handle four 0xAB00000000000005 4
 
-five-layout : layout five ≡ vacant 5 ++ (at 0xAB 0 0 ∷ at 0xAB 1 1 ∷ at 0xCD 3 2 ∷ at 0xAB 4 3 ∷ at 0xAB 2 3 ∷ []) ++ vacant 6
+five-table : (layout five ≡ vacant 5 ++ (at 0xAB 0 0 ∷ at 0xAB 1 1 ∷ at 0xCD 3 2 ∷ at 0xAB 4 3 ∷ at 0xAB 2 3 ∷ []) ++ vacant 6)
+    × (candidates five 0xAB00000000000005 ≡ 0 ∷ 1 ∷ 4 ∷ [])
+    × (walk five 5 ∷ walk five 6 ∷ [] ≡ 5 ∷ 5 ∷ [])
+    × (layout (removed eqb five 0xAB00000000000005 4) ≡ layout four)
 unfolding layout spill
-five-layout = refl
-
-five-candidates : candidates five 0xAB00000000000005 ≡ 0 ∷ 1 ∷ 4 ∷ []
-five-candidates = refl
-
-five-walks : walk five 5 ∷ walk five 6 ∷ [] ≡ 5 ∷ 5 ∷ []
-unfolding spill
-five-walks = refl
-
-five-removed : layout (removed eqb five 0xAB00000000000005 4) ≡ layout four
-unfolding layout spill
-five-removed = refl
+five-table = (refl, refl, refl, refl)
 
 -- handles under 4, 4, 5, 7 and 7
 abbrev figure : Numbers
 figure = put_each (no_entries 16) (4 ∷ 4 ∷ 5 ∷ 7 ∷ 7 ∷ []) 0
 
-figure-layout : layout figure ≡ vacant 4 ++ (at 0 0 0 ∷ at 0 1 1 ∷ at 0 2 1 ∷ at 0 3 0 ∷ at 0 4 1 ∷ []) ++ vacant 7
+figure-table : (layout figure ≡ vacant 4 ++ (at 0 0 0 ∷ at 0 1 1 ∷ at 0 2 1 ∷ at 0 3 0 ∷ at 0 4 1 ∷ []) ++ vacant 7)
+    × (walk figure 5 ≡ 3)
 unfolding layout spill
-figure-layout = refl
-
-figure-walk : walk figure 5 ≡ 3
-unfolding spill
-figure-walk = refl
+figure-table = (refl, refl)
 
 abbrev figure_less : Numbers
 figure_less = removed eqb figure 4 1
 
-figure_less-layout : layout figure_less ≡ vacant 4 ++ (at 0 0 0 ∷ at 0 2 0 ∷ None ∷ at 0 3 0 ∷ at 0 4 1 ∷ []) ++ vacant 7
+figure_less-table : (layout figure_less ≡ vacant 4 ++ (at 0 0 0 ∷ at 0 2 0 ∷ None ∷ at 0 3 0 ∷ at 0 4 1 ∷ []) ++ vacant 7)
+    × (walk figure_less 5 ≡ 2) × (candidates figure_less 5 ≡ 2 ∷ [])
 unfolding layout spill
-figure_less-layout = refl
-
-figure_less-walk : (walk figure_less 5 ≡ 2) × (candidates figure_less 5 ≡ 2 ∷ [])
-unfolding spill
-figure_less-walk = (refl, refl)
+figure_less-table = (refl, refl, refl)
 
 -- a full table, whose one run wraps
 abbrev hash_of : ℕ → ℕ
@@ -120,81 +91,57 @@ abbrev wrapped : ℕ → List (Option (Placed (ℕ × ℕ)))
 wrapped zero = []
 wrapped (suc n) = wrapped n ++ at 0xAB (suc n) (suc n) ∷ []
 
-full-layout : layout full ≡ wrapped 11 ++ vacant 4 ++ at 0xAB 0 0 ∷ []
+full-table : (layout full ≡ wrapped 11 ++ vacant 4 ++ at 0xAB 0 0 ∷ [])
+    × (map (walk full) (15 ∷ 0 ∷ 10 ∷ 11 ∷ []) ≡ 13 ∷ 12 ∷ 2 ∷ 1 ∷ [])
 unfolding layout spill
-full-layout = refl
-
-full-walks : map (walk full) (15 ∷ 0 ∷ 10 ∷ 11 ∷ []) ≡ 13 ∷ 12 ∷ 2 ∷ 1 ∷ []
-unfolding spill
-full-walks = refl
+full-table = (refl, refl)
 
 -- one removed under the other hash, and another put in, for which the table doesn't grow
 abbrev full_less : Numbers
 full_less = removed eqb full 0xAB0000000000001F 5
 
-full_less-candidates : candidates full_less 0xAB0000000000000F ≡ 0 ∷ 1 ∷ 2 ∷ 3 ∷ 4 ∷ 6 ∷ 7 ∷ 8 ∷ 9 ∷ 10 ∷ 11 ∷ []
-full_less-candidates = refl
-
-full_less-walk : walk full_less 15 ≡ 12
+full_less-table : (candidates full_less 0xAB0000000000000F ≡ 0 ∷ 1 ∷ 2 ∷ 3 ∷ 4 ∷ 6 ∷ 7 ∷ 8 ∷ 9 ∷ 10 ∷ 11 ∷ [])
+    × (walk full_less 15 ≡ 12)
 unfolding spill
-full_less-walk = refl
+full_less-table = (refl, refl)
 
 abbrev full_again : Numbers
 full_again = with_handle (grown hash_of full_less) 0xAB0000000000000F 12
 
-full_again-candidates : candidates full_again 0xAB0000000000000F ≡ 0 ∷ 1 ∷ 2 ∷ 3 ∷ 4 ∷ 6 ∷ 7 ∷ 8 ∷ 9 ∷ 10 ∷ 11 ∷ 12 ∷ []
-full_again-candidates = refl
-
-full_again-walk : walk full_again 15 ≡ 13
+full_again-table : (candidates full_again 0xAB0000000000000F ≡ 0 ∷ 1 ∷ 2 ∷ 3 ∷ 4 ∷ 6 ∷ 7 ∷ 8 ∷ 9 ∷ 10 ∷ 11 ∷ 12 ∷ [])
+    × (walk full_again 15 ≡ 13)
+    × (capacity (length full_again) ≡ 12)
 unfolding spill
-full_again-walk = refl
-
-full_again-capacity : capacity (length full_again) ≡ 12
-full_again-capacity = refl
+full_again-table = (refl, refl, refl)
 
 -- the same in 32 slots: the wrapped part comes first
 abbrev wide : Numbers
 wide = rebuilt hash_of 32 full
 
-wide-layout : layout wide ≡ (at 0xAB 3 1 ∷ at 0xAB 5 2 ∷ at 0xAB 7 3 ∷ at 0xAB 9 4 ∷ at 0xAB 11 5 ∷ []) ++ vacant 10
-    ++ (at 0xAB 2 0 ∷ at 0xAB 4 1 ∷ at 0xAB 6 2 ∷ at 0xAB 8 3 ∷ at 0xAB 10 4 ∷ at 0xAB 0 5 ∷ []) ++ vacant 10 ++ at 0xAB 1 0 ∷ []
+wide-table : (layout wide ≡ (at 0xAB 3 1 ∷ at 0xAB 5 2 ∷ at 0xAB 7 3 ∷ at 0xAB 9 4 ∷ at 0xAB 11 5 ∷ []) ++ vacant 10
+    ++ (at 0xAB 2 0 ∷ at 0xAB 4 1 ∷ at 0xAB 6 2 ∷ at 0xAB 8 3 ∷ at 0xAB 10 4 ∷ at 0xAB 0 5 ∷ []) ++ vacant 10 ++ at 0xAB 1 0 ∷ [])
+    × (candidates wide 0xAB0000000000000F ≡ 2 ∷ 4 ∷ 6 ∷ 8 ∷ 10 ∷ 0 ∷ []) × (candidates wide 0xAB0000000000001F ≡ 1 ∷ 3 ∷ 5 ∷ 7 ∷ 9 ∷ 11 ∷ [])
+    × (walk wide 15 ≡ 7)
 unfolding layout spill
-wide-layout = refl
-
-wide-candidates : (candidates wide 0xAB0000000000000F ≡ 2 ∷ 4 ∷ 6 ∷ 8 ∷ 10 ∷ 0 ∷ []) × (candidates wide 0xAB0000000000001F ≡ 1 ∷ 3 ∷ 5 ∷ 7 ∷ 9 ∷ 11 ∷ [])
-unfolding layout spill
-wide-candidates = (refl, refl)
-
-wide-walk : walk wide 15 ≡ 7
-unfolding layout spill
-wide-walk = refl
+wide-table = (refl, refl, refl, refl)
 
 -- a run that wraps past the end: handles under 14, 14, 15, 0 and 0
 abbrev round : Numbers
 round = put_each (no_entries 16) (14 ∷ 14 ∷ 15 ∷ 0 ∷ 0 ∷ []) 0
 
-round-layout : layout round ≡ (at 0 2 1 ∷ at 0 3 1 ∷ at 0 4 2 ∷ []) ++ vacant 11 ++ (at 0 0 0 ∷ at 0 1 1 ∷ [])
-unfolding layout spill
-round-layout = refl
-
-round-walks : walk round 14 ∷ walk round 15 ∷ walk round 0 ∷ [] ≡ 3 ∷ 3 ∷ 4 ∷ []
-unfolding spill
-round-walks = refl
-
-round-read : homes_of (layout round) ≡ round
+round-table : (layout round ≡ (at 0 2 1 ∷ at 0 3 1 ∷ at 0 4 2 ∷ []) ++ vacant 11 ++ (at 0 0 0 ∷ at 0 1 1 ∷ []))
+    × (walk round 14 ∷ walk round 15 ∷ walk round 0 ∷ [] ≡ 3 ∷ 3 ∷ 4 ∷ [])
+    × (homes_of (layout round) ≡ round)
 unfolding layout spill homes_of
-round-read = refl
+round-table = (refl, refl, refl)
 
 abbrev round_less : Numbers
 round_less = removed eqb round 14 0
 
-round_less-layout : layout round_less ≡ (at 0 3 0 ∷ at 0 4 1 ∷ []) ++ vacant 12 ++ (at 0 1 0 ∷ at 0 2 0 ∷ [])
+round_less-table : (layout round_less ≡ (at 0 3 0 ∷ at 0 4 1 ∷ []) ++ vacant 12 ++ (at 0 1 0 ∷ at 0 2 0 ∷ []))
+    × (walk round_less 14 ∷ walk round_less 15 ∷ walk round_less 0 ∷ [] ≡ 2 ∷ 2 ∷ 3 ∷ [])
 unfolding layout spill
-round_less-layout = refl
-
-round_less-walks : walk round_less 14 ∷ walk round_less 15 ∷ walk round_less 0 ∷ [] ≡ 2 ∷ 2 ∷ 3 ∷ []
-unfolding spill
-round_less-walks = refl
+round_less-table = (refl, refl)
 
 -- room for twenty more: the handles' hashes are asked for by slot, and the handles are put in 64 slots
 abbrev round_hash : ℕ → ℕ
@@ -207,13 +154,10 @@ round-asked = refl
 abbrev roomy : Numbers
 roomy = reserved round_hash round 20
 
-roomy-slots : (length roomy ≡ 64) × (capacity (length roomy) ≡ 48)
+roomy-table : (length roomy ≡ 64) × (capacity (length roomy) ≡ 48)
+    × (map (candidates roomy) (14 ∷ 15 ∷ 0 ∷ []) ≡ (0 ∷ 1 ∷ []) ∷ (2 ∷ []) ∷ (3 ∷ 4 ∷ []) ∷ [])
 unfolding layout spill fit
-roomy-slots = (refl, refl)
-
-roomy-candidates : map (candidates roomy) (14 ∷ 15 ∷ 0 ∷ []) ≡ (0 ∷ 1 ∷ []) ∷ (2 ∷ []) ∷ (3 ∷ 4 ∷ []) ∷ []
-unfolding layout spill fit
-roomy-candidates = refl
+roomy-table = (refl, refl, refl)
 
 -- the same homes in another order of insertion have the same slots and displacements
 round-order : map (option_map (λ s. s.displacement)) (layout (put_each (no_entries 16) (0 ∷ 15 ∷ 14 ∷ 0 ∷ 14 ∷ []) 0)) ≡ map (option_map (λ s. s.displacement)) (layout round)

@@ -7,6 +7,7 @@ pub mod Removals
 pub mod Steps
 pub mod Carrying
 pub mod Taking
+pub mod Searching
 pub mod Wrapping
 pub mod Insertions
 pub mod FewEntries

@@ -1,40 +1,42 @@
-use Rattle.std.proofs.Common.{◌≡◌, ◌%◌, suc, Some, length, arith, ap}
-use Rattle.clock2q_handles.specs.Homes.{top}
-use Rattle.clock2q_handles.specs.Shifts.{HasCome}
-use Rattle.clock2q_handles.specs.Slots.{sought, mark_reach}
-use Rattle.clock2q_handles.proofs.shifts.Carrying.{looks_on, looks_end}
+use Rattle.std.proofs.Common.{◌≡◌, ap, ◌∙◌, arith}
+use Rattle.clock2q_handles.specs.Candidates.{IsWalkFor}
+use Rattle.clock2q_handles.specs.Layout.{slot_at}
+use Rattle.clock2q_handles.specs.Slots.{sought, mark_on, mark_reach}
+use Rattle.clock2q_handles.proofs.shifts.Carrying.{walks_begin, walks_on}
+use Rattle.clock2q_handles.proofs.shifts.Moves.{reach_of_meaning}
+use Rattle.clock2q_handles.proofs.walks.Cursors.{goes_on}
 use Rattle.clock2q_handles.proofs.slots.vectors.Slots.gap.Given.{Over}
 use Rattle.clock2q_handles.proofs.slots.vectors.Slots.gap.Goals.{After-next-wanted}
 use Rattle.clock2q_handles.proofs.slots.vectors.Slots.gap.Goals as goal
 
-more : (g : Over) (c : After-next-wanted g)
-    → HasCome c.args.self.now.slots (c.args.hash % length c.args.self.now.slots) (suc c.loop-slot.invariant.come.0) c.after-slot.result
-    × (sought c.next-wanted.result ≡ Some (suc c.loop-slot.invariant.come.0, top c.args.hash))
+pub loop-slot-init : goal.loop-slot-init
+loop-slot-init g c = record {
+  walk = walks_begin c.args.self.now.slots c.requires.tidy c.args.hash (sought c.new-wanted.result) c.home-slot.result c.requires.some (c.home-slot.ensures.home c.requires.some) c.new-wanted.ensures;
+  reads = omega (arith, ap mark_reach c.new-wanted.ensures);
+}
+
+more : (g : Over) (c : After-next-wanted g) → IsWalkFor c.args.self.now.slots c.args.hash (sought c.next-wanted.result) c.after-slot.result
 more g c =
     let slots = c.args.self.now.slots in
-    let l = c.loop-slot.invariant.come in
-    looks_on slots c.requires.tidy (c.args.hash % length slots) (top c.args.hash)
-    l.0 c.loop-slot.slot c.after-slot.result c.ends_walk_for.result (sought c.loop-slot.wanted) (sought c.next-wanted.result) _ l.1 l.2
-    c.ends_walk_for.ensures c.loop-slot-test.true c.read.ensures.meaning c.after-slot.ensures.after c.next-wanted.ensures
+    let far = goes_on slots c.ends_walk_for.result (sought c.loop-slot.wanted) _ c.loop-slot.slot c.ends_walk_for.ensures c.loop-slot-test.true c.read.ensures.meaning in
+    walks_on slots c.requires.tidy c.args.hash (sought c.loop-slot.wanted) (sought c.next-wanted.result) c.loop-slot.slot c.after-slot.result c.loop-slot.invariant.walk far c.next-wanted.ensures c.after-slot.ensures.after
 
 pub loop-slot-smaller : goal.loop-slot-smaller
 loop-slot-smaller g c =
     let next = more g (goal.at.loop-slot-smaller g c).After-next-wanted in
-    omega (arith, next.0.within, ap mark_reach next.1, ap mark_reach c.loop-slot.invariant.come.2)
+    let mark = c.loop-slot.invariant.walk.mark in
+    omega (arith, next.come.within, ap mark_reach next.mark, ap mark_reach (c.next-wanted.ensures ∙ ap mark_on mark), ap mark_reach mark)
 
 pub loop-slot-preserved : goal.loop-slot-preserved
 loop-slot-preserved g c =
-    let next = more g (goal.at.loop-slot-preserved g c).After-next-wanted in
+    let mark = c.loop-slot.invariant.walk.mark in
     record {
-      come = (suc c.loop-slot.invariant.come.0, next.0, next.1);
-      reads = omega (arith, c.loop-slot.invariant.reads, c.read.ensures.counted, ap mark_reach c.loop-slot.invariant.come.2, ap mark_reach next.1);
+      walk = more g (goal.at.loop-slot-preserved g c).After-next-wanted;
+      reads = omega (arith, c.loop-slot.invariant.reads, c.read.ensures.counted, ap mark_reach mark, ap mark_reach (c.next-wanted.ensures ∙ ap mark_on mark));
     }
 
-pub returns : goal.returns
-returns g c =
-    let slots = c.args.self.now.slots in
-    let l = c.loop-slot.invariant.come in
-    grind (
-      arith,
-      looks_end slots c.requires.tidy 0 (top c.args.hash) l.0 c.loop-slot.slot c.ends_walk_for.result (sought c.loop-slot.wanted) _ l.2 c.ends_walk_for.ensures c.loop-slot-test.false c.read.ensures.meaning,
-    )
+pub returns-clause-ends : goal.returns-clause-ends
+returns-clause-ends g c = record {
+  walk = c.loop-slot.invariant.walk;
+  stop = omega (arith, c.ends_walk_for.ensures.0 c.loop-slot-test.false, reach_of_meaning _ (slot_at c.args.self.now.slots c.loop-slot.slot) c.read.ensures.meaning);
+}

@@ -1,12 +1,11 @@
-use Rattle.std.proofs.Common.{◌≡◌, ℕ, ◌+◌, ◌-◌, ◌%◌, Some, length}
-use Rattle.clock2q_handles.specs.Homes.{top}
-use Rattle.clock2q_handles.specs.Shifts.{HasCome}
+use Rattle.std.proofs.Common.{◌≡◌, ◌+◌, ◌-◌, length}
+use Rattle.clock2q_handles.specs.Candidates.{IsWalkFor}
 use Rattle.clock2q_handles.specs.Slots.{sought, mark_reach}
 use Rattle.clock2q_handles.proofs.slots.vectors.Slots.gap.Given as goal
 
 abbrev pub invariant-loop-slot : goal.invariant-loop-slot
 invariant-loop-slot g l = record {
-  come : (d : ℕ) × HasCome l.self.slots (l.hash % length l.self.slots) d l.slot × (sought l.wanted ≡ Some (d, top l.hash));
+  walk : IsWalkFor l.self.slots l.hash (sought l.wanted) l.slot;
   reads : l.reads.total + 1 ≡ l.initial.reads.total + mark_reach (sought l.wanted);
 }
 
