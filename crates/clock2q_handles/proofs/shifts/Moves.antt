@@ -1,9 +1,9 @@
 -- What each slot contains after a write, what the tests of a slot's mark mean, and the loops that walk and move a run's entries.
-use Rattle.std.proofs.Common.{◌≡◌, ◌≢◌, ℕ, suc, ◌+◌, ◌%◌, ◌<◌, ◌≤◌, ◌↔◌, refl, ap, ◌∙◌, arith, Bool, true, false, IsTrue, List, length, set, get_or-set_same}
+use Rattle.std.proofs.Common.{◌≡◌, ◌≢◌, ℕ, ◌+◌, ◌%◌, ◌<◌, ◌≤◌, ◌↔◌, refl, ap, ◌∙◌, arith, Bool, true, false, IsTrue, List, length, set, get_or-set_same}
 use Rattle.std.proofs.Common.{get_or-set_other, length-set, Option, Some, None, IfSome}
 use Rattle.std.proofs.lemmas.Nat.{mod_below}
-use Rattle.clock2q_handles.specs.Layout.{Placed, placed, slot_at, reach, IsTidy}
-use Rattle.clock2q_handles.specs.Shifts.{Opens, moved_on}
+use Rattle.clock2q_handles.specs.Layout.{Placed, slot_at, reach, IsTidy}
+use Rattle.clock2q_handles.specs.Shifts.{moved_on}
 use Rattle.clock2q_handles.specs.Slots.{Mark, cell, mark_of, mark_on, mark_back, mark_reach}
 use Rattle.clock2q_handles.proofs.layout.Periods.{lap, lap-lt, lap-same, rems-differ}
 use Rattle.clock2q_handles.proofs.layout.Reading.{slot-again}
@@ -66,12 +66,6 @@ less_than_lap slots h n tidy some occupied =
     let l : ℕ = lap (length slots) h v.0 in
     grind (arith, occupied l, lap-lt (length slots) h v.0 some, lap-same (slot_at slots) (length slots) (slot-again slots) some h v.0, v.1)
 
--- B is A with the entries after n past h up to d moved back by one: slot d is unchanged
-pub record MovingBack {E : Type 0} (A B : ℕ → Option (Placed E)) (m h n d : ℕ) : Type 0 where
-  pub moved : (j : ℕ) → n ≤ j → j < d → A (h + suc j) ≡ moved_on (B (h + j))
-  pub before : (j : ℕ) → j < n → B (h + j) ≡ A (h + j)
-  pub after : (j : ℕ) → d < j → j < m → B (h + j) ≡ A (h + j)
-
 module _ {E : Type 0} (A : ℕ → Option (Placed E)) (slots slots' : List (Option (Placed E))) (x : Option (Placed E)) (h : ℕ) where
   -- a slot on the lap from h that is written
   pub at_written : (d : ℕ) → d < length slots → slots' ≡ set slots ((h + d) % length slots) x → slot_at slots' (h + d) ≡ x
@@ -80,15 +74,3 @@ module _ {E : Type 0} (A : ℕ → Option (Placed E)) (slots slots' : List (Opti
   -- and one that isn't
   pub at_other : (d j : ℕ) → d < length slots → j < length slots → j ≢ d → slots' ≡ set slots ((h + d) % length slots) x → slot_at slots' (h + j) ≡ slot_at slots (h + j)
   at_other d j within lj ne e = ap (λ s. slot_at s (h + j)) e ∙ slot_at-set_other slots x (h + d) (h + j) (apart_on_lap (length slots) h j d lj within ne)
-
-  -- one more entry has moved back
-  pub moving_back_more : (n d k : ℕ) → k ≡ suc d → n ≤ d → k < length slots → MovingBack A (slot_at slots) (length slots) h n d
-      → slot_at slots (h + k) ≡ moved_on x → slots' ≡ set slots ((h + d) % length slots) x
-      → MovingBack A (slot_at slots') (length slots) h n k
-  moving_back_more n d k next from within so_far is e = grind (arith, at_other, at_written)
-
-  -- once they have moved back, the last slot is emptied
-  pub closed : (n v : ℕ) (entry : E) → n ≤ v → v < length slots → A (h + n) ≡ Some (placed n entry)
-      → MovingBack A (slot_at slots) (length slots) h n v → x ≡ None → slots' ≡ set slots ((h + v) % length slots) x
-      → Opens (slot_at slots') A (length slots) h n v entry
-  closed n v entry from within was done is e = grind (arith, at_written, at_other)

@@ -18,7 +18,7 @@ pub record IsSearching {H : Type 0} (eq : H → H → Bool) (v : H) (slots : Lis
 
 module _ {H : Type 0} (eq : H → H → Bool) (v : H) (slots : List (Option (Placed (ℕ × H)))) (tidy : IsTidy slots) (x : ℕ) where
   pub search_begins : (s : Mark) (n : ℕ) → 0 < length slots → n ≡ x % length slots → s ≡ Some (0, top x) → IsSearching eq v slots x s n
-  search_begins s n some at is = record { at = record { distance = 0; come = come_home slots tidy (x % length slots) (top x) n at (mod_below x (length slots) some); mark = is }; none = refl }
+  search_begins s n some at is = record { at = record { distance = 0; come = come_home slots (x % length slots) n at (mod_below x (length slots) some); mark = is }; none = refl }
 
   module _ {s : Mark} {n : ℕ} (search : IsSearching eq v slots x s n) where
     abbrev d : ℕ

@@ -1,9 +1,10 @@
-use Rattle.std.proofs.Common.{◌≡◌, ◌≤◌, ◌<◌, suc, inl, inr, arith}
+use Rattle.std.proofs.Common.{◌≤◌, ◌<◌, ◌-◌, inl, inr, length, arith}
 use Rattle.std.proofs.lemmas.Bool.{cases_lt}
 use Rattle.clock2q_handles.specs.Layout.{slot_at, reach, longest_reach}
 use Rattle.clock2q_handles.specs.Slots.{mark_reach, meaning}
+use Rattle.clock2q_handles.proofs.layout.Periods.{lap}
 use Rattle.clock2q_handles.proofs.shifts.Moves.{refused, occupied_of_meaning, vacant_of_meaning, reach_of_meaning}
-use Rattle.clock2q_handles.proofs.shifts.Carrying.{IsPassing, pass_lap, pass_goes, pass_room, pass_far}
+use Rattle.clock2q_handles.proofs.shifts.Carrying.{IsPassing, pass_goes, pass_room, pass_far}
 use Rattle.clock2q_handles.proofs.slots.vectors.Slots.has_room.Given.{Over}
 use Rattle.clock2q_handles.proofs.slots.vectors.Slots.has_room.Goals.{After-after-slot}
 use Rattle.clock2q_handles.proofs.slots.vectors.Slots.has_room.Goals as goal
@@ -23,26 +24,21 @@ returns-then-not-can_move_on-clause-far g c =
     pass_far c.args.self.now.slots c.args.gap.now.position c.loop-metadata.invariant.passing c.args.gap.now.mark far
 
 -- the entry there may move on, and the walk continues past it
-on : (g : Over) (c : After-after-slot g) → 0 < reach (slot_at c.args.self.now.slots c.loop-metadata.slot) → reach (slot_at c.args.self.now.slots c.loop-metadata.slot) < longest_reach
-    → (next : IsPassing c.args.self.now.slots c.args.gap.now.position c.after-slot.result) × (next.steps ≡ suc c.loop-metadata.invariant.passing.steps)
-on g c some near = pass_goes c.args.self.now.slots c.args.gap.now.position c.loop-metadata.invariant.passing c.requires.tidy some near c.after-slot.result c.after-slot.ensures.after
+on : (g : Over) (c : After-after-slot g) → IsPassing c.args.self.now.slots c.args.gap.now.position c.after-slot.result
+    × (length c.args.self.now.slots - lap (length c.args.self.now.slots) c.args.gap.now.position c.after-slot.result < length c.args.self.now.slots - lap (length c.args.self.now.slots) c.args.gap.now.position c.loop-metadata.slot)
+on g c =
+    let slots = c.args.self.now.slots in
+    let m = meaning c.read-metadata.result in
+    let some = occupied_of_meaning c.is_empty.result m (slot_at slots c.loop-metadata.slot) c.is_empty.ensures c.if-is_empty.false c.read-metadata.ensures.meaning in
+    let here = reach_of_meaning m (slot_at slots c.loop-metadata.slot) c.read-metadata.ensures.meaning in
+    pass_goes slots c.args.gap.now.position c.loop-metadata.invariant.passing c.requires.tidy some (omega (arith, c.can_move_on.ensures.0 c.if-not-can_move_on.false, here)) c.after-slot.ensures.after
 
 pub loop-metadata-smaller : goal.loop-metadata-smaller
-loop-metadata-smaller g c =
-    let slots = c.args.self.now.slots in
-    let s = c.args.gap.now.position in
-    let some = occupied_of_meaning c.is_empty.result (meaning c.read-metadata.result) (slot_at slots c.loop-metadata.slot) c.is_empty.ensures c.if-is_empty.false c.read-metadata.ensures.meaning in
-    let here = reach_of_meaning (meaning c.read-metadata.result) (slot_at slots c.loop-metadata.slot) c.read-metadata.ensures.meaning in
-    let next = on g (goal.at.loop-metadata-smaller g c).After-after-slot some (omega (arith, c.can_move_on.ensures.0 c.if-not-can_move_on.false, here)) in
-    omega (arith, pass_lap slots s c.loop-metadata.invariant.passing, pass_lap slots s next.0, next.1, next.0.within)
+loop-metadata-smaller g c = (on g (goal.at.loop-metadata-smaller g c).After-after-slot).1
 
 pub loop-metadata-preserved : goal.loop-metadata-preserved
-loop-metadata-preserved g c =
-    let slots = c.args.self.now.slots in
-    let some = occupied_of_meaning c.is_empty.result (meaning c.read-metadata.result) (slot_at slots c.loop-metadata.slot) c.is_empty.ensures c.if-is_empty.false c.read-metadata.ensures.meaning in
-    let here = reach_of_meaning (meaning c.read-metadata.result) (slot_at slots c.loop-metadata.slot) c.read-metadata.ensures.meaning in
-    record {
-      own = c.loop-metadata.invariant.own;
-      passing = (on g (goal.at.loop-metadata-preserved g c).After-after-slot some (omega (arith, c.can_move_on.ensures.0 c.if-not-can_move_on.false, here))).0;
-      counted = omega (arith, c.loop-metadata.invariant.counted, c.read-metadata.ensures.counted);
-    }
+loop-metadata-preserved g c = record {
+  own = c.loop-metadata.invariant.own;
+  passing = (on g (goal.at.loop-metadata-preserved g c).After-after-slot).0;
+  counted = omega (arith, c.loop-metadata.invariant.counted, c.read-metadata.ensures.counted);
+}

@@ -4,7 +4,7 @@ use Rattle.clock2q_handles.specs.Shifts.{HasCome, HasRoomAt, PutsAt}
 use Rattle.clock2q_handles.specs.Slots.{cell, cells, meaning}
 use Rattle.clock2q_handles.proofs.shifts.Cells.{length-cells, mark_read_or, handle_read_at}
 use Rattle.clock2q_handles.proofs.shifts.Moves.{refused}
-use Rattle.clock2q_handles.proofs.shifts.Carrying.{CarryState, carry_slot, carry_lap, carry_room, carry_goes, carry_ends}
+use Rattle.clock2q_handles.proofs.shifts.Carrying.{CarryState, carry_slot, run_nearer, carry_room, carry_goes, carry_ends}
 use Rattle.clock2q_handles.proofs.shifts.Wrapping.{cells_along, cells_back, puts_at_along}
 use Rattle.clock2q_handles.proofs.slots.vectors.Slots.put_at.Given.{Over}
 use Rattle.clock2q_handles.proofs.slots.vectors.Slots.put_at.Goals.{In-loop-there, After-after-slot}
@@ -60,9 +60,7 @@ loop-there-smaller g c =
     let l = before.In-loop-there in
     let next = more g before.After-after-slot (within g l) (tidy g l) (as_many g l) in
     let state = c.loop-there.invariant.state in
-    let was = carry_lap _ (cells c.loop-there.metadata c.loop-there.handles) (tidy g l) state in
-    let is = carry_lap _ (cells c.write.new.metadata c.write.new.handles) (tidy g l) next in
-    omega (arith, was, is, next.within, state.writes, next.writes)
+    run_nearer _ state.run next.run (omega (arith, state.writes, next.writes))
 
 pub loop-there-preserved : goal.loop-there-preserved
 loop-there-preserved g c =

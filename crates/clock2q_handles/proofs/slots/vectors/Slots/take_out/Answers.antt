@@ -4,7 +4,7 @@ use Rattle.clock2q_handles.specs.Layout.{slot_at, IsTidy}
 use Rattle.clock2q_handles.specs.Slots.{cells, meaning}
 use Rattle.clock2q_handles.proofs.shifts.Cells.{length-cells, mark_read_or, handle_read_at, set_empty}
 use Rattle.clock2q_handles.proofs.shifts.Moves.{near_of_meaning}
-use Rattle.clock2q_handles.proofs.shifts.Carrying.{CloseState, close_lap, close_goes, close_ends}
+use Rattle.clock2q_handles.proofs.shifts.Carrying.{CloseState, run_nearer, close_goes, close_ends}
 use Rattle.clock2q_handles.proofs.shifts.Wrapping.{cells_along, cells_back, masked_back, takes_at_along}
 use Rattle.clock2q_handles.proofs.slots.vectors.Slots.take_out.Given.{Over}
 use Rattle.clock2q_handles.proofs.slots.vectors.Slots.take_out.Goals.{After-after-next, After-write}
@@ -41,8 +41,8 @@ more : (g : Over) (c : After-write g) → IsTidy (cells c.as_mut_slice-metadata.
     → CloseState (cells c.as_mut_slice-metadata.result.now c.as_mut_slice-handles.result.now) (cells c.write.new.metadata c.write.new.handles)
     c.args.slot c.after-next.result c.self.inside.writes.total (c.loop-handles.writes.total + 1)
 more g c ordered here on =
-    close_goes (cells c.as_mut_slice-metadata.result.now c.as_mut_slice-handles.result.now) (cells c.loop-handles.metadata c.loop-handles.handles) ordered c.args.slot c.loop-handles.hole _ _ c.loop-handles.invariant.state
-    c.after-next.result on (cells c.write.new.metadata c.write.new.handles) (meaning (get_or c.loop-handles.metadata c.after-next.result (record { word = 0 }))) (meaning c.one_nearer.result)
+    close_goes (cells c.as_mut_slice-metadata.result.now c.as_mut_slice-handles.result.now) (cells c.loop-handles.metadata c.loop-handles.handles) ordered c.loop-handles.invariant.state
+    on (cells c.write.new.metadata c.write.new.handles) (meaning (get_or c.loop-handles.metadata c.after-next.result (record { word = 0 }))) (meaning c.one_nearer.result)
     c.index-handles-next.result
     (mark_read_or c.loop-handles.metadata c.loop-handles.handles c.after-next.result (record { word = 0 }) c.loop-handles.invariant.pair.same here)
     (c.can_move_back.ensures.0 c.if-not-can_move_back.false) c.one_nearer.ensures
@@ -54,9 +54,7 @@ loop-handles-smaller g c =
     let l = before.After-after-next in
     let state = c.loop-handles.invariant.state in
     let then = more g before.After-write (tidy g l) (inside g l) (next g l) in
-    let was = close_lap (cells c.as_mut_slice-metadata.result.now c.as_mut_slice-handles.result.now) (cells c.loop-handles.metadata c.loop-handles.handles) (tidy g l) _ _ _ _ state in
-    let is = close_lap (cells c.as_mut_slice-metadata.result.now c.as_mut_slice-handles.result.now) (cells c.write.new.metadata c.write.new.handles) (tidy g l) _ _ _ _ then in
-    omega (arith, was, is, then.within, state.writes, then.writes)
+    run_nearer _ state.run then.run (omega (arith, state.writes, then.writes))
 
 pub loop-handles-preserved : goal.loop-handles-preserved
 loop-handles-preserved g c =
@@ -86,7 +84,7 @@ returns-clause-taken g c =
     (mark_read_or c.loop-handles.metadata c.loop-handles.handles c.after-next.result (record { word = 0 }) c.loop-handles.invariant.pair.same (inside g l)) in
     let taken : TakesOutAt (cells c.as_mut_slice-metadata.result.now c.as_mut_slice-handles.result.now) (cells (set c.loop-handles.metadata c.loop-handles.hole c.empty.result) c.loop-handles.handles) c.args.slot c.self.inside.writes.total c.tick-2.new.self.total = record {
       closes = λ h n e come was.
-          let ended = close_ends (cells c.as_mut_slice-metadata.result.now c.as_mut_slice-handles.result.now) now (tidy g l) c.args.slot c.loop-handles.hole _ _ c.loop-handles.invariant.state c.after-next.result (next g l) _ near left h n e come was in
+          let ended = close_ends (cells c.as_mut_slice-metadata.result.now c.as_mut_slice-handles.result.now) now (tidy g l) c.loop-handles.invariant.state (next g l) _ near left h n e come was in
           (ended.0, ended.1, omega (arith, ended.2, c.tick-2.ensures.ticked));
       len = ap length left ∙ length-set now c.loop-handles.hole None ∙ c.loop-handles.invariant.state.len;
     } in
