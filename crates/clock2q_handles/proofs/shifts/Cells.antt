@@ -82,35 +82,22 @@ module _ {H : Type 0} where
       → i ≡ 0 → j ≡ 0 → ms' ≡ take n ms ++ replicate (n - i) m → vs' ≡ take n vs ++ replicate (n - j) v → cells ms' vs' ≡ replicate n None
   filled_cells n i j ms ms' vs vs' m v e none-ms none-vs ei ej er es = grind (arith, filled, cells-replicate)
 
-  -- the mark of a slot that is read
-  pub mark_read : (ms : List Metadata) (vs : List H) (n k : ℕ) (m : Metadata) → length vs ≡ length ms
-      → k ≡ n % length (cells ms vs) → k < length ms → m ≡ get_or ms k m → meaning m ≡ mark_of (slot_at (cells ms vs) n)
-  mark_read ms [] n k m same at within is = absurd (omega (arith, same, within))
-  mark_read ms (v ∷ vs) n k m same at within is =
-      grind (arith, mark_of-cell (meaning (get_or ms k m)) (get_or (v ∷ vs) k v), get_or-cells ms (v ∷ vs) k m v same within)
+  -- a slot named by its number
+  slot_within : (ms : List Metadata) (vs : List H) (k : ℕ) → length vs ≡ length ms → k < length ms → slot_at (cells ms vs) k ≡ get_or (cells ms vs) k None
+  slot_within ms vs k same within = ap (λ j. get_or (cells ms vs) j None) (mod-eq_of_lt (omega (arith, within, length-cells ms vs same)))
 
   -- the handle of a slot that is read
-  pub handle_read : (ms : List Metadata) (vs : List H) (n k : ℕ) (m : Metadata) (v : H) → length vs ≡ length ms
-      → k ≡ n % length (cells ms vs) → k < length ms → v ≡ get_or vs k v → IfSome (slot_at (cells ms vs) n) (λ p. v ≡ p.entry.1)
-  handle_read ms vs n k m v same at within is = grind (arith, get_or-cells ms vs k m v same within, handle_of_cell (meaning (get_or ms k m)) v)
-
-  -- the same for a slot named by its number
-  pub at_slot : (ms : List Metadata) (vs : List H) (k : ℕ) → length vs ≡ length ms → k < length ms → k ≡ k % length (cells ms vs)
-  at_slot ms vs k same within = sym (mod-eq_of_lt (omega (arith, within, length-cells ms vs same)))
-
-  pub mark_read_at : (ms : List Metadata) (vs : List H) (k : ℕ) (m : Metadata) → length vs ≡ length ms → k < length ms → m ≡ get_or ms k m → meaning m ≡ mark_of (slot_at (cells ms vs) k)
-  mark_read_at ms vs k m same within is = mark_read ms vs k k m same (at_slot ms vs k same within) within is
-
   pub handle_read_at : (ms : List Metadata) (vs : List H) (k : ℕ) (v : H) → length vs ≡ length ms → k < length ms → v ≡ get_or vs k v → IfSome (slot_at (cells ms vs) k) (λ p. v ≡ p.entry.1)
-  handle_read_at ms vs k v same within is = handle_read ms vs k k (record { word = 0 }) v same (at_slot ms vs k same within) within is
+  handle_read_at ms vs k v same within is =
+      let z : Metadata = record { word = 0 } in
+      grind (arith, slot_within ms vs k same within, get_or-cells ms vs k z v same within, handle_of_cell (meaning (get_or ms k z)) v)
 
+  -- and its mark
   pub mark_read_or : (ms : List Metadata) (vs : List H) (k : ℕ) (z : Metadata) → length vs ≡ length ms → k < length ms → meaning (get_or ms k z) ≡ mark_of (slot_at (cells ms vs) k)
   mark_read_or ms [] k z same within = absurd (omega (arith, same, within))
   mark_read_or ms (v ∷ vs) k z same within =
-      sym (mark_of-cell (meaning (get_or ms k z)) (get_or (v ∷ vs) k v))
-      ∙ ap mark_of (sym (get_or-cells ms (v ∷ vs) k z v same within) ∙ ap (λ j. get_or (cells ms (v ∷ vs)) j None) (at_slot ms (v ∷ vs) k same within))
+      sym (ap mark_of (slot_within ms (v ∷ vs) k same within ∙ get_or-cells ms (v ∷ vs) k z v same within) ∙ mark_of-cell (meaning (get_or ms k z)) (get_or (v ∷ vs) k v))
 
-module _ {H : Type 0} where
   -- a handle that is written alone
   pub handle_replaced_cells : (ms : List Metadata) (vs : List H) (n : ℕ) (v : H) → length vs ≡ length ms → n < length ms
       → cells ms (set vs n v) ≡ set (cells ms vs) n (cell (mark_of (slot_at (cells ms vs) n)) v)

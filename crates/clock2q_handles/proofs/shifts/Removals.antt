@@ -1,6 +1,7 @@
 -- What removing an entry from its home's list results in: the list that a removal specifies, the table as it was before an insertion, and walks that are no longer.
 use Rattle.std.proofs.Common.{◌≡◌, ℕ, suc, ◌+◌, ◌<◌, ◌≤◌, refl, ap, sym, ◌∙◌, arith, Bool, true, false, cond, eq-eqb, List, [], ◌∷◌, ◌++◌, length, set, set-set, append-nil}
 use Rattle.std.proofs.lemmas.List.{set_comm}
+use Rattle.std.proofs.lemmas.List.Folds.{list_any-append}
 use Rattle.std.proofs.Common.{Option, ◌-◌}
 use Rattle.std.specs.List.{list_any}
 use Rattle.std.proofs.Math.Seq.{set-get_or}
@@ -50,14 +51,10 @@ module _ {H : Type 0} (eq : H → H → Bool) where
   pub removed-none : (homes : List (List (ℕ × H))) (x : ℕ) (v : H) → IsNew eq homes x v → removed eq homes x v ≡ homes
   removed-none homes x v none = ap (set homes (home homes x)) (without_first-none (is_entry_of eq x v) (listed homes x) none) ∙ set-get_or homes (home homes x) []
 
-  any_at : (test : ℕ × H → Bool) (es ys : List (ℕ × H)) → list_any test es ≡ true → list_any test (es ++ ys) ≡ true
-  any_at test [] ys some = absurd (cc)
-  any_at test (e ∷ es) ys some = grind (arith, any_at test es ys)
-
   -- an entry that is held is held once another is put in
   pub held-still : (homes : List (List (ℕ × H))) (x y : ℕ) (v w : H) → 0 < length homes → list_any (is_entry_of eq y w) (listed homes y) ≡ true
       → list_any (is_entry_of eq y w) (listed (with_handle homes x v) y) ≡ true
-  held-still homes x y v w some held = grind (arith, listed-with_same, any_at, listed-with_other)
+  held-still homes x y v w some held = grind (arith, listed-with_same, list_any-append, listed-with_other)
 
   -- an entry may be removed after another is put in
   pub exchanged-homes : (homes : List (List (ℕ × H))) (x y : ℕ) (v w : H) → 0 < length homes → list_any (is_entry_of eq y w) (listed homes y) ≡ true

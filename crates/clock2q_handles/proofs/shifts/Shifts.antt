@@ -59,12 +59,11 @@ module _ {E : Type 0} where
   reach-lap : (A : ℕ → Option (Placed E)) (m g : ℕ) → ((k : ℕ) → A (k + m) ≡ A k) → 0 < m → (b : ℕ) → ((j : ℕ) → j < m → reach (A (g + j)) ≤ b) → (k : ℕ) → reach (A k) ≤ b
   reach-lap A m g again some b bound k = omega (arith, bound (lap m g k) (lap-lt m g k some), ap reach (lap-same A m again some g k))
 
-  ordered-lap : (A : ℕ → Option (Placed E)) (m g : ℕ) → ((k : ℕ) → A (k + m) ≡ A k) → 0 < m → ((j : ℕ) → j < m → reach (A (g + suc j)) ≤ suc (reach (A (g + j)))) → IsOrdered A
-  ordered-lap A m g again some next = record {
-    next = λ k.
-        let on = lap-same (λ i. A (suc i)) m (λ i. grind (arith, again (suc i))) some g k in
-        grind (arith, next (lap m g k), lap-lt m g k some, on, lap-same A m again some g k);
-  }
+  next-lap : (A B : ℕ → Option (Placed E)) (m g : ℕ) → ((k : ℕ) → A (k + m) ≡ A k) → ((k : ℕ) → B (k + m) ≡ B k) → 0 < m
+      → ((j : ℕ) → j < m → reach (B (g + suc j)) ≤ suc (reach (A (g + j)))) → (k : ℕ) → reach (B (suc k)) ≤ suc (reach (A k))
+  next-lap A B m g again again' some next k =
+      let on = lap-same (λ i. B (suc i)) m (λ i. grind (arith, again' (suc i))) some g k in
+      grind (arith, next (lap m g k), lap-lt m g k some, on, lap-same A m again some g k)
 
   module _ (A B : ℕ → Option (Placed E)) (m g n v : ℕ) (e : E) (again : (k : ℕ) → A (k + m) ≡ A k) (again' : (k : ℕ) → B (k + m) ≡ B k) (opens : Opens A B m g n v e) where
     put-reach : reach (B (g + n)) ≡ suc n
@@ -78,7 +77,7 @@ module _ {E : Type 0} where
     kept-reach j l (inr after) = ap reach (opens.after j after l)
 
     pub opened-ordered : IsOrdered A → ((j : ℕ) → j < n → j < reach (A (g + j))) → reach (A (g + n)) ≤ n → ((j : ℕ) → j < v → 0 < reach (A (g + j))) → IsOrdered B
-    opened-ordered ordered passed stop full = ordered-lap B m g again' (omega (arith, opens.upto)) step
+    opened-ordered ordered passed stop full = record { next = next-lap B B m g again' again' (omega (arith, opens.upto)) step }
       where
         next : (j : ℕ) → reach (A (g + suc j)) ≤ suc (reach (A (g + j)))
         next j = grind arith
@@ -103,6 +102,20 @@ module _ {E : Type 0} where
           again' g,
         )
 
+    -- no entry reaches more than one slot further than the slot before it allowed
+    pub opened-on : IsOrdered A → ((j : ℕ) → j < n → j < reach (A (g + j))) → (k : ℕ) → reach (B (suc k)) ≤ suc (reach (A k))
+    opened-on ordered passed = next-lap A B m g again again' (omega (arith, opens.upto)) (λ j l. grind (
+      arith,
+      ordered.next (g + j),
+      put-reach,
+      moved-reach j,
+      kept-reach 0,
+      kept-reach (suc j),
+      passed j,
+      again g,
+      again' g,
+    ))
+
     -- the entry past the run is at most at its home
     pub opened-near : IsOrdered A → reach (B (g + suc v)) ≤ 1
     opened-near ordered = elim (cases_lt (suc v) m) [
@@ -111,7 +124,7 @@ module _ {E : Type 0} where
     ]
 
     pub closed-ordered : IsOrdered B → reach (B (g + suc v)) ≤ 1 → ((j : ℕ) → j ≤ v → 0 < reach (B (g + j))) → IsOrdered A
-    closed-ordered ordered near full = ordered-lap A m g again (omega (arith, opens.upto)) step
+    closed-ordered ordered near full = record { next = next-lap A A m g again again (omega (arith, opens.upto)) step }
       where
         next : (j : ℕ) → reach (B (g + suc j)) ≤ suc (reach (B (g + j)))
         next j = grind arith

@@ -1,5 +1,6 @@
 -- What removing the entry that a search found results in.
-use Rattle.std.proofs.Common.{◌≡◌, ℕ, suc, ◌+◌, ◌-◌, ◌%◌, ◌<◌, ◌≤◌, refl, ap, sym, ◌∙◌, subst, arith, Bool, true, false, ◌||◌, List, [], ◌∷◌, ◌++◌, length, Option}
+use Rattle.std.proofs.Common.{◌≡◌, ℕ, suc, ◌+◌, ◌-◌, ◌%◌, ◌<◌, ◌≤◌, refl, ap, sym, ◌∙◌, subst, arith, Bool, true, false, List, ◌∷◌, length, Option}
+use Rattle.std.proofs.lemmas.List.Folds.{list_any-append}
 use Rattle.std.specs.List.{list_any}
 use Rattle.clock2q_handles.specs.Found.{FindsAt, TakesOut, TakesOutAt}
 use Rattle.clock2q_handles.specs.Homes.{capacity, listed, total, is_entry_of, removed, without_first}
@@ -44,11 +45,6 @@ module _ {E : Type 0} {test : E → Bool} {slots : List (Option (Placed E))} whe
       let found = found_at at in
       let closed = taken.closes x found.distance found.finds.entry (record { slot = found.slot; within = found.within; passed = found.passed }) found.finds.here in
       record { distance = found.distance; vacancy = closed.0; within = found.within; finds = found.finds; closes = closed.1; written = closed.2; len = taken.len }
-
--- a list with an element that passes
-list_any-at : {E : Type 0} (test : E → Bool) (xs : List E) (e : E) (ys : List E) → test e ≡ true → list_any test (xs ++ e ∷ ys) ≡ true
-list_any-at test [] e ys passes = ap (λ b. b || list_any test ys) passes
-list_any-at test (x ∷ xs) e ys passes = grind (arith, list_any-at test xs e ys passes)
 
 -- what a removal results in: the lists without the entry, which was there, and the writes
 pub record Removal {H : Type 0} (eq : H → H → Bool) (x : ℕ) (v : H) (others slots : List (Option (Placed (ℕ × H)))) (len before after : ℕ) : Type 0 where
@@ -100,7 +96,7 @@ module _ {H : Type 0} (eq : H → H → Bool) (x : ℕ) (v : H) (others slots : 
       record {
         homes = with_list-is (homes_of others) (homes_of slots) x (without_first test (listed (homes_of others) x)) (grind (arith, length-homes_of, taken.len))
             (omega (arith, taken.within, length-homes_of others)) without (λ h other. sym (kept h (λ e. other (grind (arith, length-homes_of)))));
-        found = ap (list_any test) was ∙ list_any-at test (met A x 0 n) entry (met A x n (w - n)) taken.finds.passes;
+        found = grind (arith, was, taken.finds.passes, list_any-append test (met A x 0 n) (entry ∷ met A x n (w - n)));
         total_less = less;
         table = record {
           tidy = tidy;

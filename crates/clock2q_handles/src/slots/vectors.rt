@@ -127,7 +127,7 @@ impl<H: Copy + Default, A: Allocator> Slots<H, A> {
 
     /// Reads the metadata of a slot, and counts the read.
     #[inline(always)]
-    #[tactic(auto, using(crate::proofs::shifts::Cells::counted_cells, crate::proofs::shifts::Cells::mark_read_at))]
+    #[tactic(auto, using(crate::proofs::shifts::Cells::counted_cells, crate::proofs::shifts::Cells::mark_read_or))]
     pub(crate) fn read(&self, slot: usize, reads: &mut Count) -> Metadata
         requires { slot < length self.now.slots }
         ensures meaning { meaning result ≡ mark_of (slot_at self.now.slots slot) }
