@@ -1,13 +1,12 @@
 -- Two vectors side by side, read and written as one list of slots.
-use Rattle.std.proofs.Common.{◌≡◌, ℕ, zero, suc, ◌-◌, ◌%◌, ◌<◌, List, [], ◌∷◌, length, get_or, take, ◌++◌, refl, sym, ap, ◌∙◌, arith, Some, None, IfSome}
+use Rattle.std.proofs.Common.{◌≡◌, ℕ, zero, suc, ◌+◌, ◌-◌, ◌%◌, ◌<◌, List, [], ◌∷◌, length, get_or, take, ◌++◌, refl, sym, ap, ◌∙◌, arith, Some, None, IfSome}
 use Rattle.std.proofs.Math.ListN.{set, replicate}
 use Rattle.std.proofs.Math.Nat.{sub-zero, mod-eq_of_lt}
 use Rattle.std.proofs.Math.Seq.{take-append_seam, set-get_or}
-use Rattle.std.proofs.lemmas.Nat.{and_mask}
+use Rattle.std.proofs.lemmas.Nat.{and_mask, mod_below}
 use Rattle.std.specs.Int.Bits.{bit_and}
 use Rattle.clock2q_handles.specs.Layout.{slot_at}
 use Rattle.clock2q_handles.specs.Slots.{Mark, meaning, cell, mark_of, cells, SlotsValue, slots_value, IsSlotCount}
-use Rattle.clock2q_handles.specs.Readers.{ReaderValue, reader_value}
 use Rattle.clock2q_handles.specs.declared.metadata.Metadata.{Metadata}
 
 -- masking by a slot count minus one is a remainder
@@ -38,8 +37,17 @@ module _ {H : Type 0} where
   pub words : (ms : List Metadata) (vs : List H) {w : ℕ} {s : SlotsValue H} → length vs ≡ length ms → slots_value (cells ms vs) w ≡ s → length ms ≡ length s.slots
   words ms vs as_many is = sym (length-cells ms vs as_many) ∙ ap (λ t. length t.slots) is
 
-  pub read_words : (ms : List Metadata) (vs : List H) {r h : ℕ} {s : ReaderValue H} → length vs ≡ length ms → reader_value (cells ms vs) r h ≡ s → length ms ≡ length s.slots
-  read_words ms vs as_many is = sym (length-cells ms vs as_many) ∙ ap (λ t. length t.slots) is
+  -- masking by the number of slots minus one is a remainder
+  pub masked : (x mask : ℕ) (ms : List Metadata) (vs : List H) → length vs ≡ length ms → IsSlotCount (length ms) → (0 < length ms → mask + 1 ≡ length ms)
+      → 0 < length (cells ms vs) → bit_and x mask ≡ x % length (cells ms vs)
+  masked x mask ms vs same is_count mask_of some =
+      let len = length-cells ms vs same in
+      let down : mask ≡ length ms - 1 = omega (arith, mask_of (omega (arith, some, len))) in
+      ap (bit_and x) down ∙ slot_mask x (length ms) is_count (omega (arith, some, len)) ∙ ap (λ m. x % m) (sym len)
+
+  pub masked_within : (x mask : ℕ) (ms : List Metadata) (vs : List H) → length vs ≡ length ms → IsSlotCount (length ms) → (0 < length ms → mask + 1 ≡ length ms)
+      → 0 < length (cells ms vs) → bit_and x mask < length (cells ms vs)
+  masked_within x mask ms vs same is_count mask_of some = omega (arith, masked x mask ms vs same is_count mask_of some, mod_below x (length (cells ms vs)) some)
 
   -- the contents of a slot, read off the two vectors
   pub get_or-cells : (ms : List Metadata) (vs : List H) (n : ℕ) (m : Metadata) (v : H) → length vs ≡ length ms

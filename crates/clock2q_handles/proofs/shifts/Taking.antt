@@ -89,10 +89,10 @@ module _ {H : Type 0} (eq : H → H → Bool) (x : ℕ) (v : H) (others slots : 
       let was = own-after slots others m x n w entry taken.len refl taken.closes.opens tidy.ordered table.tidy.ordered taken.closes.ends in
       let kept = others-kept slots others m x n w entry taken.len refl taken.closes.opens tidy.ordered table.tidy.ordered taken.closes.ends in
       let none : list_any test (met A x 0 n) ≡ false =
-          ap (list_any test) (met-same A (slot_at others) x x 0 n (λ j _ l. sym (taken.closes.opens.before j (omega (arith, l))))) ∙ taken.finds.none_before in
+      ap (list_any test) (met-same A (slot_at others) x x 0 n (λ j _ l. sym (taken.closes.opens.before j (omega (arith, l))))) ∙ taken.finds.none_before in
       let less : suc (total (homes_of slots)) ≡ len = omega (arith, fewer, tidy-total slots tidy, tidy-total others table.tidy, table.counted) in
       let without : listed (homes_of slots) x ≡ without_first test (listed (homes_of others) x) =
-          own ∙ sym (ap (without_first test) was ∙ without_first-at test (met A x 0 n) (met A x n (w - n)) entry none taken.finds.passes) in
+      own ∙ sym (ap (without_first test) was ∙ without_first-at test (met A x 0 n) (met A x n (w - n)) entry none taken.finds.passes) in
       record {
         homes = with_list-is (homes_of others) (homes_of slots) x (without_first test (listed (homes_of others) x)) (grind (arith, length-homes_of, taken.len))
             (omega (arith, taken.within, length-homes_of others)) without (λ h other. sym (kept h (λ e. other (grind (arith, length-homes_of)))));

@@ -50,6 +50,7 @@ impl<'a, H: Copy + Default> Reader<'a, H> {
     }
 
     /// Returns the home slot of a hash, if there are slots.
+    #[tactic(auto, using(crate::proofs::shifts::Cells::masked, crate::proofs::shifts::Cells::masked_within))]
     pub(crate) fn home(&self, hash: u64) -> usize
         ensures home { 0 < length self.now.slots → result ≡ hash % length self.now.slots }
         ensures within { 0 < length self.now.slots → result < length self.now.slots }
@@ -91,7 +92,7 @@ impl<'a, H: Copy + Default> Reader<'a, H> {
     }
 
     /// Returns the slot after `slot`: slot 0 after the last.
-    #[tactic(auto, using(crate::proofs::shifts::Cells::slot_mask, crate::proofs::shifts::Cells::counted_cells, std::proofs::lemmas::Nat::mod_below))]
+    #[tactic(auto, using(crate::proofs::shifts::Cells::masked, crate::proofs::shifts::Cells::masked_within, crate::proofs::shifts::Cells::counted_cells))]
     pub(crate) fn after(&self, slot: usize) -> usize
         requires { slot < length self.now.slots }
         ensures after { result ≡ (slot + 1) % length self.now.slots }

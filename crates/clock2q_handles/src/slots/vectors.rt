@@ -108,6 +108,7 @@ impl<H: Copy + Default, A: Allocator> Slots<H, A> {
     }
 
     /// Returns the home slot of a hash, if there are slots.
+    #[tactic(auto, using(crate::proofs::shifts::Cells::masked, crate::proofs::shifts::Cells::masked_within))]
     pub(crate) fn home(&self, hash: u64) -> usize
         ensures home { 0 < length self.now.slots → result ≡ hash % length self.now.slots }
         ensures within { 0 < length self.now.slots → result < length self.now.slots }
