@@ -21,6 +21,7 @@ replace_handle_at-requires g c =
     let slots = c.self.inside.slots.slots in
     omega (arith, found.slot, mod_below (c.args.hash % length slots + found.distance) (length slots) (omega (arith, found.within)))
 
+-- what the new handle results in
 replaced : (g : Over) (c : After-replace_handle_at g) → Replacement g.H.PartialEq.eq c.args.hash c.args.handle c.args.new c.self.inside.slots.slots c.replace_handle_at.new.self.slots c.self.inside.len
 replaced g c =
     subst (λ s. Replacement g.H.PartialEq.eq c.args.hash c.args.handle c.args.new c.self.inside.slots.slots s.slots c.self.inside.len) (sym c.replace_handle_at.ensures)
