@@ -9,11 +9,11 @@ use Rattle.clock2q_handles.specs.Table.{IsTable}
 use Rattle.clock2q_handles.proofs.layout.Walk.{Stops, met-late}
 use Rattle.clock2q_handles.proofs.layout.Reaching.{run-is}
 use Rattle.clock2q_handles.proofs.layout.Reading.{slot-again, slots_again}
-use Rattle.clock2q_handles.proofs.layout.TidyLayout.{length-homes_of, tidy-total}
+use Rattle.clock2q_handles.proofs.layout.TidyLayout.{tidy-total}
 use Rattle.clock2q_handles.proofs.layout.TooLong.{long-by-new, long-by-moved}
 use Rattle.clock2q_handles.proofs.layout.Tables.{table-short}
 use Rattle.clock2q_handles.proofs.shifts.Carrying.{come_at, come_here, come_slot, slot_from_plus}
-use Rattle.clock2q_handles.proofs.shifts.Shifts.{opened-ordered, opened-near, opened-within, opened-entries, own-before, own-after, others-kept, with_list-is}
+use Rattle.clock2q_handles.proofs.shifts.Shifts.{opened-ordered, opened-near, opened-within, opened-entries, own-before, own-after, others-kept, with_list-read}
 use Rattle.clock2q_handles.proofs.shifts.FewEntries.{near_total}
 
 -- what an insertion results in: the lists with the entry, none of which is too long, and the writes
@@ -102,8 +102,7 @@ module _ {H : Type 0} {x : ℕ} {slots : List (Option (Placed (ℕ × H)))} {len
         let kept = others-kept slots others m x n w e refl puts.len opens table.tidy.ordered ordered near in
         let late : met A x n (w - n) ≡ [] = met-late A table.tidy.ordered x n (w - n) (omega (arith, stops.stop)) in
         let put_here : listed (homes_of others) x ≡ listed (homes_of slots) x ++ e ∷ [] = grind (arith, own, is, late, append-nil (met A x 0 n)) in
-        let homes : homes_of others ≡ with_handle (homes_of slots) x v = with_list-is (homes_of slots) (homes_of others) x (listed (homes_of slots) x ++ e ∷ [])
-        (grind (arith, length-homes_of, puts.len)) (omega (arith, come.within, length-homes_of slots)) put_here (λ h other. kept h (λ q. other (grind (arith, length-homes_of)))) in
+        let homes : homes_of others ≡ with_handle (homes_of slots) x v = with_list-read slots others x (listed (homes_of slots) x ++ e ∷ []) puts.len (omega (arith, come.within)) put_here kept in
         let result : IsTable others (len + 1) = record {
           tidy = tidy;
           counted = omega (arith, more, tidy-total slots table.tidy, tidy-total others tidy, table.counted);

@@ -15,7 +15,7 @@ use Rattle.clock2q_handles.proofs.layout.TidyLayout.{length-homes_of, listed-hom
 use Rattle.clock2q_handles.proofs.shifts.Changes.{length-with_list, listed-with_same, listed-with_other, read-split}
 use Rattle.clock2q_handles.proofs.shifts.Carrying.{slot_from}
 use Rattle.clock2q_handles.proofs.shifts.Moves.{apart_on_lap, slot_at-set_same, slot_at-set_other}
-use Rattle.clock2q_handles.proofs.shifts.Shifts.{home_same, with_list-is}
+use Rattle.clock2q_handles.proofs.shifts.Shifts.{home_same, with_list-read}
 use Rattle.clock2q_handles.proofs.shifts.Taking.{found_at}
 
 module _ {E : Type 0} where
@@ -82,11 +82,11 @@ module _ {E : Type 0} where
         let kept : (j : ℕ) → j < m → (j ≡ d → ⊥) → slot_at others (x + j) ≡ slot_at slots (x + j) = λ j l ne. away (x + j) (apart_on_lap m x j d l within ne) in
         let front : met (slot_at others) x 0 d ≡ before = met-same (slot_at others) (slot_at slots) x x 0 d (λ j _ upto. kept j (omega arith) (λ q. omega arith)) in
         let rest : met (slot_at others) x (suc d) (m - suc d) ≡ after = met-same (slot_at others) (slot_at slots) x x (suc d) (m - suc d) (λ j from upto. kept j (omega arith) (λ q. omega arith)) in
-        let elsewhere : (h : ℕ) → h % m ≡ x % m → h % length (homes_of slots) ≡ x % length (homes_of slots) = λ h q. rw length-homes_of q in
-        with_list-is (homes_of slots) (homes_of others) x (with_first test e' (listed (homes_of slots) x)) (grind (arith, length-homes_of, len)) (omega (arith, within, length-homes_of slots))
+        with_list-read slots others x (with_first test e' (listed (homes_of slots) x)) len (omega (arith, within))
         (grind (arith, read-split others x d e' (omega (arith, within, len)) (there (x + d) refl).1, front, rest, len)
         ∙ sym (ap (with_first test e') (read-split slots x d e within here) ∙ with_first-at test before after e e' none passes))
-        (λ h other. let alike = met-alike (slot_at others) (slot_at slots) h 0 m (λ j. other-home h j (λ at q. other (elsewhere h (home_same m h x d (omega (arith, within)) (grind (arith, at, q)))))) in
+        (λ h other.
+        let alike = met-alike (slot_at others) (slot_at slots) h 0 m (λ j. other-home h j (λ at q. other (home_same m h x d (omega (arith, within)) (grind (arith, at, q))))) in
         grind (arith, listed-homes_of others h, len, alike, listed-homes_of slots h))
 
   -- with as many entries each hash's gap stays where it was

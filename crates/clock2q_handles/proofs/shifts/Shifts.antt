@@ -272,10 +272,12 @@ module _ {E : Type 0} where
           let kept = read k c within at (λ q. other (home ∙ ap (λ x. x % m) (omega arith) ∙ add-mod_right g m)) in
           grind (arith, length-homes_of, listed-homes_of slots k, listed-homes_of others k, home, kept, len, len')
 
-  -- lists that differ in one home's
-  pub with_list-is : (homes homes' : List (List E)) (x : ℕ) (es : List E) → length homes' ≡ length homes → 0 < length homes → listed homes' x ≡ es
-      → ((h : ℕ) → (h % length homes ≡ x % length homes → ⊥) → listed homes' h ≡ listed homes h) → homes' ≡ with_list homes x es
-  with_list-is homes homes' x es same some own kept =
-      let len = length-with_list homes x es in
-      let all : (h : ℕ) → listed homes' h ≡ listed (with_list homes x es) h = λ h. grind (arith, listed-with_same, listed-with_other, own, kept h, same) in
-      ext_get_or [] homes' (with_list homes x es) (same ∙ sym len) (λ h l. grind (arith, mod-eq_of_lt l, same, len, all h))
+  -- slots that are read as other slots but for one home's list
+  pub with_list-read : (slots others : List (Option (Placed E))) (x : ℕ) (es : List E) → length others ≡ length slots → 0 < length slots → listed (homes_of others) x ≡ es
+      → ((h : ℕ) → (h % length slots ≡ x % length slots → ⊥) → listed (homes_of others) h ≡ listed (homes_of slots) h) → homes_of others ≡ with_list (homes_of slots) x es
+  with_list-read slots others x es same some own kept =
+      let homes = homes_of slots in
+      let as_many : length (homes_of others) ≡ length homes = length-homes_of others ∙ same ∙ sym (length-homes_of slots) in
+      let len : length (with_list homes x es) ≡ length homes = length-with_list homes x es in
+      let all : (h : ℕ) → listed (homes_of others) h ≡ listed (with_list homes x es) h = λ h. grind (arith, listed-with_same, listed-with_other, own, kept h, length-homes_of slots) in
+      ext_get_or [] (homes_of others) (with_list homes x es) (as_many ∙ sym len) (λ h l. grind (arith, mod-eq_of_lt l, as_many, len, all h))

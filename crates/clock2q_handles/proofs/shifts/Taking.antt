@@ -10,10 +10,10 @@ use Rattle.clock2q_handles.specs.Table.{IsTable}
 use Rattle.clock2q_handles.proofs.layout.Laid.{met-same}
 use Rattle.clock2q_handles.proofs.layout.Reaching.{run-above}
 use Rattle.clock2q_handles.proofs.layout.Reading.{slot-again, slots_again}
-use Rattle.clock2q_handles.proofs.layout.TidyLayout.{length-homes_of, tidy-total}
+use Rattle.clock2q_handles.proofs.layout.TidyLayout.{tidy-total}
 use Rattle.clock2q_handles.proofs.shifts.Carrying.{come_at, slot_from}
 use Rattle.clock2q_handles.proofs.shifts.Removals.{without_first-at}
-use Rattle.clock2q_handles.proofs.shifts.Shifts.{closed-ordered, closed-within, opened-entries, own-before, own-after, others-kept, with_list-is}
+use Rattle.clock2q_handles.proofs.shifts.Shifts.{closed-ordered, closed-within, opened-entries, own-before, own-after, others-kept, with_list-read}
 use Rattle.clock2q_handles.proofs.shifts.Steps.{past_home}
 
 module _ {E : Type 0} {test : E → Bool} {slots : List (Option (Placed E))} where
@@ -94,8 +94,7 @@ module _ {H : Type 0} (eq : H → H → Bool) (x : ℕ) (v : H) (others slots : 
       let without : listed (homes_of slots) x ≡ without_first test (listed (homes_of others) x) =
       own ∙ sym (ap (without_first test) was ∙ without_first-at test (met A x 0 n) (met A x n (w - n)) entry none taken.finds.passes) in
       record {
-        homes = with_list-is (homes_of others) (homes_of slots) x (without_first test (listed (homes_of others) x)) (grind (arith, length-homes_of, taken.len))
-            (omega (arith, taken.within, length-homes_of others)) without (λ h other. sym (kept h (λ e. other (grind (arith, length-homes_of)))));
+        homes = with_list-read others slots x (without_first test (listed (homes_of others) x)) taken.len (omega (arith, taken.within)) without (λ h other. sym (kept h other));
         found = grind (arith, was, taken.finds.passes, list_any-append test (met A x 0 n) (entry ∷ met A x n (w - n)));
         total_less = less;
         table = record {
