@@ -1,4 +1,4 @@
--- What an insertion and a removal do to a table's slots, and to the lists that are read off them.
+-- Lists with another in one home's place, and what is read off a table's slots.
 use Rattle.std.proofs.Common.{◌≡◌, ℕ, suc, ◌+◌, ◌-◌, ◌%◌, ◌<◌, ◌≤◌, inl, inr, refl, ap, sym, ◌∙◌, subst, arith, eq-eqb, List, [], ◌∷◌, ◌++◌, length, get_or-set_same, get_or-set_other}
 use Rattle.std.proofs.Common.{length-set, Option, Some, None}
 use Rattle.std.proofs.lemmas.Bool.{cases_lt}

@@ -1,4 +1,4 @@
--- What each slot contains after a write, what the tests of a slot's mark mean, and the loops that walk and move a run's entries.
+-- What each slot contains after a write, and what the tests of a slot's mark mean.
 use Rattle.std.proofs.Common.{◌≡◌, ◌≢◌, ℕ, ◌+◌, ◌%◌, ◌<◌, ◌≤◌, ◌↔◌, refl, ap, ◌∙◌, arith, Bool, true, false, IsTrue, List, length, set, get_or-set_same}
 use Rattle.std.proofs.Common.{get_or-set_other, length-set, Option, Some, None, IfSome}
 use Rattle.std.proofs.lemmas.Nat.{mod_below}

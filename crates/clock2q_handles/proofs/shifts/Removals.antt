@@ -1,8 +1,8 @@
 -- What removing an entry from its home's list results in: the list that a removal specifies, the table as it was before an insertion, and walks that are no longer.
-use Rattle.std.proofs.Common.{◌≡◌, ℕ, suc, ◌+◌, ◌<◌, ◌≤◌, refl, ap, sym, ◌∙◌, arith, Bool, true, false, cond, eq-eqb, List, [], ◌∷◌, ◌++◌, length, set, set-set, append-nil}
+use Rattle.std.proofs.Common.{◌≡◌, ℕ, suc, ◌<◌, ◌≤◌, refl, ap, sym, ◌∙◌, arith, Bool, true, false, cond, eq-eqb, List, [], ◌∷◌, ◌++◌, length, set, set-set, append-nil}
 use Rattle.std.proofs.lemmas.List.{set_comm}
 use Rattle.std.proofs.lemmas.List.Folds.{list_any-append}
-use Rattle.std.proofs.Common.{Option, ◌-◌}
+use Rattle.std.proofs.Common.{Option}
 use Rattle.std.specs.List.{list_any}
 use Rattle.std.proofs.Math.Seq.{set-get_or}
 use Rattle.clock2q_handles.specs.Homes.{top, capacity, home, listed, total, with_list, put_last, without_first, with_handle, is_entry_of, removed, IsNew}

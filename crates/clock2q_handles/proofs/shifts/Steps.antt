@@ -1,9 +1,9 @@
--- What putting an entry in and removing one do to a table.
-use Rattle.std.proofs.Common.{◌≡◌, ℕ, ◌+◌, ◌-◌, ◌%◌, ◌<◌, ap, sym, ◌∙◌, arith, List, length, Option}
+-- A home's slots and list, by any hash of it, and where a table's entries are.
+use Rattle.std.proofs.Common.{◌≡◌, ℕ, ◌+◌, ◌%◌, ◌<◌, ap, sym, ◌∙◌, arith, List, length, Option}
 use Rattle.std.proofs.lemmas.List.{get_or_past}
 use Rattle.std.proofs.Math.Nat.{mod-mod}
 use Rattle.clock2q_handles.specs.Homes.{listed}
-use Rattle.clock2q_handles.specs.Layout.{Placed, placed, slot_at, homes_of}
+use Rattle.clock2q_handles.specs.Layout.{Placed, slot_at, homes_of}
 use Rattle.clock2q_handles.specs.Table.{IsTable}
 use Rattle.clock2q_handles.specs.TableStep.{table_value}
 use Rattle.clock2q_handles.specs.Changes.{IsLaidOut}
