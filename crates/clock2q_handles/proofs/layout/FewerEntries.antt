@@ -12,7 +12,7 @@ use Rattle.clock2q_handles.specs.Layout.{Placed, window, spill, spill_of, walk, 
 use Rattle.clock2q_handles.specs.TableStep.{put_all, IsHashOf}
 use Rattle.clock2q_handles.proofs.layout.Spill.{Roomy, spill-again, spill-found, spill-step, window-le}
 use Rattle.clock2q_handles.proofs.layout.Periods.{again-times, rem-same}
-use Rattle.clock2q_handles.proofs.layout.Reading.{listed-again}
+use Rattle.clock2q_handles.proofs.layout.Reading.{listed-again, count-again}
 use Rattle.clock2q_handles.proofs.layout.TidyLayout.{capacity-lt, roomy-of, layout-sum}
 use Rattle.clock2q_handles.proofs.shifts.Changes.{length-with_list, listed-with_same, listed-with_other, total-with_list}
 
@@ -37,6 +37,11 @@ module _ {E : Type 0} where
   pub walk-none : (homes : List (List E)) (x : ℕ) → length homes ≡ 0 → walk homes x ≡ 0
   walk-none [] x none = refl
   walk-none (es ∷ homes) x none = absurd (omega arith)
+
+  -- a walk for a home counted past the last
+  pub walk-again : (homes : List (List E)) (n : ℕ) → walk homes (n + length homes) ≡ walk homes n
+  walk-again [] n = refl
+  walk-again (es ∷ homes) n = grind (arith, spill-again, count-again (es ∷ homes))
 
   pub count-with_list : (homes : List (List E)) (x n : ℕ) (es : List E) → 0 < length homes → length es ≤ count homes x → count (with_list homes x es) n ≤ count homes n
   count-with_list homes x n es some l = grind (arith, listed-with_same, listed-with_other)

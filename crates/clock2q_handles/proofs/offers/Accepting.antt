@@ -1,5 +1,5 @@
 -- The candidate that a closure accepts, and those that it rejected before.
-use Rattle.std.proofs.Common.{◌≡◌, ℕ, ◌+◌, ◌-◌, ◌%◌, ◌<◌, ◌≤◌, Bool, true, false, List, [], ◌∷◌, ◌++◌, map, length, Option, Some, None, refl, ap, sym, ◌∙◌, subst, arith}
+use Rattle.std.proofs.Common.{◌≡◌, ℕ, ◌+◌, ◌-◌, ◌%◌, ◌<◌, ◌≤◌, Bool, true, false, List, [], ◌∷◌, ◌++◌, ◌==◌, map, length, Option, Some, None, refl, ap, sym, ◌∙◌, subst, arith}
 use Rattle.std.proofs.lemmas.List.{map-append, append_cancel_right}
 use Rattle.std.proofs.lemmas.List.Elements.{filter-append}
 use Rattle.std.proofs.Math.Seq.{take-append_seam}
@@ -12,10 +12,9 @@ use Rattle.clock2q_handles.specs.Positions.{IsEntryAt}
 use Rattle.clock2q_handles.specs.Slots.{Mark}
 use Rattle.clock2q_handles.proofs.shifts.Changes.{read-split}
 use Rattle.clock2q_handles.proofs.walks.Cursors.{left_is, rem-plus}
-use Rattle.clock2q_handles.proofs.layout.Laid.{met-same}
+use Rattle.clock2q_handles.proofs.layout.Laid.{met-add, met-same}
 use Rattle.clock2q_handles.proofs.walks.Positions.{past_at, here_within, here_entry}
 use Rattle.clock2q_handles.proofs.shifts.Steps.{past_home}
-use Rattle.clock2q_handles.proofs.walks.Yields.{met-split}
 
 module _ {F H : Type 0} (g : Mut F (H × Unit {0}) Bool) where
   -- one more candidate is rejected
@@ -39,13 +38,8 @@ module _ {H : Type 0} (slots : List (Option (Placed (ℕ × H)))) (tidy : IsTidy
   -- the candidates are those that a walk has met and those that it still has to yield
   left_split : (d : ℕ) → d ≤ length slots → left_from slots x 0 ≡ met_before slots x d ++ left_from slots x d
   left_split d within =
-      let A = slot_at slots in
       let g : ℕ = x % length slots in
-      let met_all : d - 0 ≡ d = omega arith in
-      ap (λ es. map (λ e. e.1) (matching x es)) (met-split A g 0 d (length slots) (omega arith) within)
-      ∙ ap (map (λ e. e.1)) (filter-append _ (met A g 0 (d - 0)) (met A g d (length slots - d)))
-      ∙ map-append (λ e. e.1) (matching x (met A g 0 (d - 0))) (matching x (met A g d (length slots - d)))
-      ∙ ap (λ k. map (λ e. e.1) (matching x (met A g 0 k)) ++ left_from slots x d) met_all
+      grind (arith, met-add (slot_at slots) g 0 d (length slots - d), filter-append (λ e. e.0 == top x) (met (slot_at slots) g 0 d), map-append)
 
   -- so the candidates offered before are those that it has met
   pub offered_met : (wanted : Mark) (n : ℕ) (before : List H) (walk : IsWalkFor slots x wanted n) → left_from slots x 0 ≡ before ++ left_at slots wanted n → before ≡ met_before slots x walk.distance
