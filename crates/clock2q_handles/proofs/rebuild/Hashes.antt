@@ -1,5 +1,5 @@
 -- One function that gives each entry's handle a hash of the entry's home and fingerprint: it does so after each change, and through a rebuild.
-use Rattle.std.proofs.Common.{◌≡◌, ℕ, zero, suc, ◌-◌, ◌%◌, ◌<◌, ◌≤◌, inl, inr, refl, ap, sym, ◌∙◌, subst, arith, Bool, true, false, cond, List, [], ◌∷◌, ◌++◌, length, take, drop}
+use Rattle.std.proofs.Common.{◌≡◌, ℕ, zero, suc, ◌+◌, add-one, ◌-◌, ◌%◌, ◌<◌, ◌≤◌, inl, inr, refl, ap, sym, ◌∙◌, subst, arith, Bool, true, false, cond, List, [], ◌∷◌, ◌++◌, length, take, drop}
 use Rattle.std.proofs.Common.{take-append-drop, take-suc, take_all, get_or, append-nil, length-append, Option, Some, None, slice_get, mod-eq_of_lt}
 use Rattle.std.proofs.lemmas.Bool.{cases_eq}
 use Rattle.std.proofs.lemmas.List.{get_or_past, length-replicate}
@@ -16,12 +16,8 @@ use Rattle.clock2q_handles.proofs.layout.FewerEntries.{length-put_all, total-put
 
 module _ {E : Type 0} where
   -- the entries before a slot, once it is passed
-  pub entries-none : (slots : List (Option (Placed E))) (k : ℕ) → k < length slots → get_or slots k None ≡ None → entries (take (suc k) slots) ≡ entries (take k slots)
-  entries-none slots k l none = ap entries (take-suc slots k None l) ∙ filter_map-append (λ s. s) (take k slots) (get_or slots k None ∷ [])
-      ∙ ap (λ o. entries (take k slots) ++ entries (o ∷ [])) none ∙ append-nil (entries (take k slots))
-
-  pub entries-some : (slots : List (Option (Placed E))) (k : ℕ) (s : Placed E) → k < length slots → get_or slots k None ≡ Some s → entries (take (suc k) slots) ≡ entries (take k slots) ++ s ∷ []
-  entries-some slots k s l some = grind (arith, take-suc slots k None l, filter_map-append (λ s. s) (take k slots) (get_or slots k None ∷ []))
+  pub entries-more : (slots : List (Option (Placed E))) (i : ℕ) → i < length slots → entries (take (i + 1) slots) ≡ entries (take i slots) ++ entries (slot_at slots i ∷ [])
+  entries-more slots i l = rw (add-one, take-suc slots i None l, filter_map-append (λ s. s) (take i slots), mod-eq_of_lt l)
 
   pub entries-all : (slots : List (Option (Placed E))) → entries (take (length slots) slots) ≡ entries slots
   entries-all slots = ap entries (take_all (length slots) slots (omega arith))

@@ -1,21 +1,23 @@
 -- A rebuild, slot by slot.
-use Rattle.std.proofs.Common.{◌≡◌, ℕ, ◌+◌, ◌*◌, ◌<◌, refl, ap, sym, ◌∙◌, subst, arith, List, map, take, length, Option, None}
+use Rattle.std.proofs.Common.{◌≡◌, ℕ, ◌+◌, ◌*◌, ◌<◌, refl, ap, sym, ◌∙◌, subst, arith, List, ◌∷◌, map, take, drop, length, length-append, Option, None}
 use Rattle.std.proofs.lemmas.Bool.{cases_lt}
 use Rattle.std.specs.Fn.{Called, Takes, Mut}
-use Rattle.clock2q_handles.specs.Homes.{capacity, total, no_entries}
-use Rattle.clock2q_handles.specs.Layout.{Placed, slot_at, entries, homes_of}
+use Rattle.clock2q_handles.specs.Homes.{capacity, total, no_entries, with_handle}
+use Rattle.clock2q_handles.specs.Layout.{Placed, slot_at, entries, homes_of, IsTooLong}
 use Rattle.clock2q_handles.specs.Moves.{MayMove, Moves}
-use Rattle.clock2q_handles.specs.Rehash.{GivesHashes, Asks}
+use Rattle.clock2q_handles.specs.Rehash.{GivesHashes, AnswersInTurn, Asks}
 use Rattle.clock2q_handles.specs.Candidates.{EndsAt}
 use Rattle.clock2q_handles.specs.Shifts.{HasRoomAt, PutsAt}
 use Rattle.clock2q_handles.specs.Slots.{Mark}
 use Rattle.clock2q_handles.specs.Table.{IsTable}
 use Rattle.clock2q_handles.specs.TableStep.{put_all}
-use Rattle.clock2q_handles.proofs.layout.TidyLayout.{length-homes_of, tidy-layout, tidy-room}
-use Rattle.clock2q_handles.proofs.rebuild.Hashes.{entries-all, rebuilt-total}
-use Rattle.clock2q_handles.proofs.layout.Tables.{table-empty, homes_of-empty}
+use Rattle.clock2q_handles.proofs.layout.FewerEntries.{length-put_all, total-put_all, put_all-push, total-no_entries}
+use Rattle.clock2q_handles.proofs.layout.TidyLayout.{length-homes_of, tidy-layout, tidy-total, tidy-room, capacity-lt}
+use Rattle.clock2q_handles.proofs.layout.TooLong.{rebuilding-short}
+use Rattle.clock2q_handles.proofs.rebuild.Hashes.{entries-more, entries-all, entries-front, hash-slot, rebuilt-total}
+use Rattle.clock2q_handles.proofs.layout.Tables.{table-empty, table-short, homes_of-empty, length-nothing}
 use Rattle.clock2q_handles.proofs.shifts.Insertions.{Insertion, short_room, inserted}
-use Rattle.clock2q_handles.proofs.rebuild.RebuildSteps.{HasCome, Holds, AnswersAt, Asks-push, step_empty, handles_empty, handles_more, step_asks, step_made, step_room, step_short}
+use Rattle.clock2q_handles.proofs.rebuild.RebuildSteps.{Holds, AnswersAt, Asks-push, answers_next, entries-none, held_entry, handles_more, handles_split}
 
 module _ {F H : Type 0} (g : Mut F (H × Unit {0}) ℕ) where
   -- the first i slots of old have been moved, and f has become last
@@ -29,24 +31,26 @@ module _ {F H : Type 0} (g : Mut F (H × Unit {0}) ℕ) where
     abbrev homes : List (List (ℕ × H))
     homes = homes_of old
 
-    come : (i : ℕ) → i < length old → HasCome homes old (total homes) i
-    come i within = record { table = may.table; lists = refl; within = within }
-
     pub moving_begins : MovedSo f f old from from 0
     moving_begins = grind (arith, homes_of-empty (ℕ × H) (length from), table-empty H (length from) may.slot_count)
 
     module _ {last : F} {new : List (Option (Placed (ℕ × H)))} {i : ℕ} (so_far : MovedSo f last old from new i) where
       pub moving_past : i < length old → slot_at old i ≡ None → MovedSo f last old from new (i + 1)
-      moving_past within empty = record {
-        table = so_far.table;
-        len = so_far.len;
-        built = λ key gives. step_empty (come i within) (length from) key empty (so_far.built key gives);
-        asked = λ key gives. subst (λ hs. Asks g key f hs last) (sym (handles_empty (come i within) empty)) (so_far.asked key gives);
-      }
+      moving_past within empty =
+          let same = entries-none old i within empty in
+          record {
+            table = so_far.table;
+            len = so_far.len;
+            built = λ key gives. rw same (so_far.built key gives);
+            asked = λ key gives. rw same (so_far.asked key gives);
+          }
 
       module _ (within : i < length old) {v : H} (holds : Holds old i v) where
         next_at : (key : H → ℕ) → GivesHashes g key homes f → AnswersAt g key last v
-        next_at key gives = step_asks (come i within) holds g key f last gives.in_turn (so_far.asked key gives)
+        next_at key gives =
+            let by_slot = ap (λ s. map (λ p. p.entry.1) (entries s)) (sym (tidy-layout old may.table.tidy)) ∙ handles_split old i v within holds in
+            answers_next g key f (map (λ s. s.entry.1) (entries (take i old))) v (map (λ s. s.entry.1) (entries (drop (i + 1) old))) last
+            (subst (AnswersInTurn g key f) by_slot gives.in_turn) (so_far.asked key gives)
 
         -- f may be called on the handle there
         pub moving_takes : Takes g last (v, tt)
@@ -56,12 +60,27 @@ module _ {F H : Type 0} (g : Mut F (H × Unit {0}) ℕ) where
           answered : (key : H → ℕ) → GivesHashes g key homes f → r ≡ key v
           answered key gives = (next_at key gives).answers r next called
 
+          -- the lists with that entry
+          with_next : (key : H → ℕ) → GivesHashes g key homes f → with_handle (homes_of new) r v ≡ put_all key (no_entries (length from)) (entries (take (i + 1) old))
+          with_next key gives =
+              let s = held_entry old i v within holds in
+              grind (
+                arith,
+                s.1,
+                s.2,
+                answered key gives,
+                so_far.built key gives,
+                entries-more old i within,
+                hash-slot key old may.table.tidy gives.hashes i s.0 s.1,
+                put_all-push key (no_entries (length from)) (entries (take i old)) s.0,
+              )
+
           room : total (homes_of new) < capacity (length new)
           room =
-              let key = may.asked.0 in
-              let gives = may.asked.1 in
-              subst (λ m. total (homes_of new) < capacity m) (length-homes_of new)
-              (step_room (come i within) holds (length from) key gives.hashes (so_far.built key gives) (answered key gives) may.fits)
+              let s = held_entry old i v within holds in
+              let made = so_far.built may.asked.0 may.asked.1 in
+              let few : length (entries (take i old)) < length (entries old) = grind (arith, s.1, entries-more old i within, length-append, entries-front old (i + 1)) in
+              grind (arith, made, few, so_far.len, may.fits, tidy-total old may.table.tidy, total-put_all, total-no_entries may.asked.0 (length from), length-nothing)
 
           -- there are slots to put it in
           pub moving_some : 0 < length new
@@ -71,10 +90,12 @@ module _ {F H : Type 0} (g : Mut F (H × Unit {0}) ℕ) where
           pub moving_room : {mark : Mark} {s : ℕ} → EndsAt new r mark s → HasRoomAt new mark s
           moving_room ends =
               let key = may.asked.0 in
-              let gives = may.asked.1 in
-              short_room so_far.table (record { fits = room; ends = ends }) v
-              (step_short (come i within) holds (length from) key gives.hashes (so_far.built key gives) (answered key gives) may.fits
-              (λ some. let k = may.multiple (omega (arith, some, length-homes_of old)) in (k.0, k.1 ∙ ap (λ m. k.0 * m) (sym (length-homes_of old)))))
+              let k = may.multiple (omega (arith, within)) in
+              let less : total homes < length homes = omega (arith, tidy-room old may.table.tidy, capacity-lt (length homes), length-homes_of old, within) in
+              short_room so_far.table (record { fits = room; ends = ends }) v (λ long. rebuilding-short key homes k.0 (i + 1) less
+              (grind (arith, k.1, so_far.len, room, length-homes_of old)) may.asked.1.hashes (table-short old (total homes) may.table)
+              (subst IsTooLong (with_next key may.asked.1 ∙ ap (λ m. put_all key (no_entries m) (entries (take (i + 1) old))) (k.1 ∙ ap (λ m. k.0 * m) (sym (length-homes_of old)))
+              ∙ ap (λ ss. put_all key (no_entries (k.0 * length homes)) (entries (take (i + 1) ss))) (tidy-layout old may.table.tidy)) long))
 
           pub moving_on : {mark : Mark} {s : ℕ} {others : List (Option (Placed (ℕ × H)))} {before after : ℕ}
               → EndsAt new r mark s → PutsAt new others mark s v before after → MovedSo f next old from others (i + 1)
@@ -83,11 +104,8 @@ module _ {F H : Type 0} (g : Mut F (H × Unit {0}) ℕ) where
               record {
                 table = subst (IsTable others) done.table.counted done.table;
                 len = puts.len ∙ so_far.len;
-                built = λ key gives. done.homes ∙ step_made (come i within) holds (length from) key gives.hashes (so_far.built key gives) (answered key gives);
-                asked = λ key gives.
-                    let more = handles_more (come i within) holds in
-                    subst (λ hs. Asks g key f hs next) (sym more)
-                    (Asks-push g key f (map (λ s. s.entry.1) (entries (take i old))) last v next
+                built = λ key gives. done.homes ∙ with_next key gives;
+                asked = λ key gives. rw (handles_more old i v within holds) (Asks-push g key f (map (λ s. s.entry.1) (entries (take i old))) last v next
                     (so_far.asked key gives) (subst (λ n. Called g last (v, tt) n next) (answered key gives) called));
               }
 
