@@ -2,17 +2,16 @@
 use Rattle.std.proofs.Common.{◌≡◌, ℕ, zero, suc, ◌+◌, ◌-◌, ◌*◌, ◌%◌, ◌<◌, ◌≤◌, inl, inr, refl, ap, ◌∙◌, arith, cond, eqb, eq-eqb, ne_eqb, List, [], ◌∷◌, ◌++◌, length}
 use Rattle.std.proofs.Common.{take, drop, take-append-drop, sum_by, length-append, Option, Some, slice_get}
 use Rattle.std.proofs.lemmas.Bool.{cases_lt}
-use Rattle.std.proofs.lemmas.List.{get_or_past, length-replicate}
+use Rattle.std.proofs.lemmas.List.{length-replicate}
 use Rattle.std.proofs.lemmas.List.Elements.{filter_map-append}
 use Rattle.std.proofs.lemmas.List.Sums.{fold_push, sum_by-cons, sum_by-append}
-use Rattle.std.proofs.Math.ListN.{get_or-replicate}
 use Rattle.std.proofs.Math.Nat.{add-mul-mod_self_right}
 use Rattle.clock2q_handles.specs.Homes.{capacity, listed, count, total, no_entries, with_list, put_last}
 use Rattle.clock2q_handles.specs.Layout.{Placed, window, spill, spill_of, walk, layout, entries}
 use Rattle.clock2q_handles.specs.TableStep.{put_all, IsHashOf}
 use Rattle.clock2q_handles.proofs.layout.Spill.{Roomy, spill-again, spill-found, spill-step, window-le}
 use Rattle.clock2q_handles.proofs.layout.Periods.{again-times, rem-same}
-use Rattle.clock2q_handles.proofs.layout.Reading.{listed-again, count-again}
+use Rattle.clock2q_handles.proofs.layout.Reading.{get_or-same, listed-again, count-again}
 use Rattle.clock2q_handles.proofs.layout.TidyLayout.{capacity-lt, roomy-of, layout-sum}
 use Rattle.clock2q_handles.proofs.shifts.Changes.{length-with_list, listed-with_same, listed-with_other, total-with_list}
 
@@ -120,7 +119,7 @@ module _ {H : Type 0} (key : H → ℕ) where
       )
 
   count-no_entries : (m n : ℕ) → count (no_entries {E = ℕ × H} m) n ≡ 0
-  count-no_entries m n = grind (arith, get_or-replicate, get_or_past, length-replicate)
+  count-no_entries m n = ap length (get_or-same m (n % length (no_entries {E = ℕ × H} m)) [])
 
   pub total-no_entries : (m : ℕ) → total (no_entries {E = ℕ × H} m) ≡ 0
   total-no_entries zero = refl

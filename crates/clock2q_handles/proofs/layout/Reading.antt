@@ -1,5 +1,5 @@
 -- The layout as a list of slots, and the lists read off one.
-use Rattle.std.proofs.Common.{◌≡◌, ℕ, zero, suc, ◌+◌, ◌%◌, ◌<◌, ◌≤◌, inl, inr, refl, ap, sym, ◌∙◌, arith, List, [], ◌∷◌, length, set, get_or, get_or-set_same, get_or-set_other}
+use Rattle.std.proofs.Common.{◌≡◌, ℕ, zero, suc, ◌+◌, ◌%◌, ◌<◌, ◌≤◌, inl, inr, refl, ap, sym, ◌∙◌, arith, List, [], ◌∷◌, length, set, get_or, replicate, get_or-set_same, get_or-set_other}
 use Rattle.std.proofs.Common.{length-set, Option, Some, None, mod-eq_of_lt, slice_get}
 use Rattle.std.proofs.lemmas.Bool.{cases_lt}
 use Rattle.std.proofs.lemmas.List.{get_or_past, length-replicate}
@@ -12,6 +12,10 @@ use Rattle.clock2q_handles.proofs.layout.Spill.{Roomy, spill-again, spill-lt}
 use Rattle.clock2q_handles.proofs.layout.Tiles.{IsGap, apart}
 use Rattle.clock2q_handles.proofs.layout.Periods.{rem-same, rems-differ}
 use Rattle.clock2q_handles.proofs.layout.Laid.{IsLaid}
+
+-- copies of what is read past them
+pub get_or-same : {X : Type 0} (m n : ℕ) (d : X) → get_or (replicate m d) n d ≡ d
+get_or-same m n d = grind (arith, cases_lt n m, get_or-replicate, get_or_past, length-replicate)
 
 module _ {E : Type 0} where
   pub slot-again : (slots : List (Option (Placed E))) (n : ℕ) → slot_at slots (n + length slots) ≡ slot_at slots n
@@ -58,7 +62,7 @@ module _ {E : Type 0} where
   length-layout homes = length-layout_upto homes (length homes)
 
   upto_other : (homes : List (List E)) (p k : ℕ) → ((h i : ℕ) → h < k → i < count homes h → p ≡ (h + spill_of homes h + i) % length homes → ⊥) → get_or (layout_upto homes k) p None ≡ None
-  upto_other homes p zero other = grind (arith, get_or-replicate, get_or_past, length-replicate)
+  upto_other homes p zero other = get_or-same (length homes) p None
   upto_other homes p (suc k) other = grind (arith, put_from_other, length-layout_upto, upto_other homes p k (λ h i l. other h i (omega arith)))
 
   module _ (homes : List (List E)) (roomy : Roomy (count homes) (length homes)) where

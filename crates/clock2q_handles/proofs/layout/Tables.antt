@@ -10,6 +10,7 @@ use Rattle.clock2q_handles.specs.TableStep.{table_value, made_for, fit}
 use Rattle.clock2q_handles.specs.Slots.{IsSlotCount}
 use Rattle.clock2q_handles.specs.Table.{IsTable, IsWhole}
 use Rattle.clock2q_handles.proofs.layout.Laid.{get_some}
+use Rattle.clock2q_handles.proofs.layout.Reading.{get_or-same}
 use Rattle.clock2q_handles.proofs.layout.TidyLayout.{length-homes_of, tidy-layout, tidy-room, read-laid, layout-tidy, layout-read}
 
 module _ (E : Type 0) where
@@ -20,17 +21,6 @@ module _ (E : Type 0) where
   abbrev pub nothing : ℕ → List (List E)
   nothing m = no_entries m
 
-  -- empty slots contain nothing
-  get_or-empty : (m n : ℕ) → get_or (empty m) n None ≡ None
-  get_or-empty zero n = refl
-  get_or-empty (suc m) zero = refl
-  get_or-empty (suc m) (suc n) = get_or-empty m n
-
-  get_or-nothing : (m n : ℕ) → get_or (nothing m) n [] ≡ []
-  get_or-nothing zero n = refl
-  get_or-nothing (suc m) zero = refl
-  get_or-nothing (suc m) (suc n) = get_or-nothing m n
-
   pub total-nothing : (m : ℕ) → total (nothing m) ≡ 0
   total-nothing zero = refl
   total-nothing (suc m) = omega (arith, total-nothing m)
@@ -40,7 +30,7 @@ module _ (E : Type 0) where
 
   empty_upto : (m k : ℕ) → layout_upto (nothing m) k ≡ empty m
   empty_upto m zero = ap empty (length-nothing m)
-  empty_upto m (suc k) = grind (arith, get_or-nothing, empty_upto m k)
+  empty_upto m (suc k) = grind (arith, get_or-same {X = List E}, empty_upto m k)
 
   -- without entries every slot is empty
   pub layout-nothing : (m : ℕ) → layout (nothing m) ≡ empty m
@@ -60,7 +50,7 @@ module _ (H : Type 0) where
     tidy = tidy-empty (ℕ × H) m;
     counted = sym (ap total (homes_of-empty (ℕ × H) m) ∙ total-nothing (ℕ × H) m);
     slot_count = subst IsSlotCount (sym (length-replicate m None)) is_count;
-    near = λ n. omega (arith, ap reach (get_or-empty (ℕ × H) m (n % length (empty (ℕ × H) m))));
+    near = λ n. omega (arith, ap reach (get_or-same {X = Option (Placed (ℕ × H))} m (n % length (empty (ℕ × H) m)) None));
   }
 
   -- and the table has no entries

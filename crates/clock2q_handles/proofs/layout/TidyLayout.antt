@@ -142,21 +142,6 @@ module _ {E : Type 0} where
       → slice_get (listed homes h) i ≡ Some e → slot_at (layout homes) (h + spill_of homes h + i) ≡ Some (placed (spill_of homes h + i) e)
   layout-standing homes l h i e is = (layout-laid homes (roomy-of homes l)).standing h i e is
 
-  -- and the contents of a slot are such an entry
-  pub layout-only : (homes : List (List E)) → total homes < length homes → (n : ℕ) (s : Placed E) → slot_at (layout homes) n ≡ Some s
-      → (h : ℕ) × (i : ℕ) × (slice_get (listed homes h) i ≡ Some s.entry) × (s.displacement ≡ spill_of homes h + i) × ((h + spill_of homes h + i) % length homes ≡ n % length homes)
-  layout-only homes l n s is =
-      let m : ℕ = length homes in
-      let roomy : Roomy (count homes) m = roomy-of homes l in
-      let laid = layout-laid homes roomy in
-      let there = slot-again (layout homes) n in
-      elim (taken (count homes) m roomy (n + m) (omega (arith, spill-lt (count homes) m roomy 0))) [
-        | inl g ↦ absurd (grind (arith, length-layout homes, there, gap-reach m (listed homes) (slot_at (layout homes)) roomy laid (n + m) g))
-        | inr p ↦
-            let r = shows m (listed homes) (slot_at (layout homes)) roomy laid (n + m) p.0 p.1 in
-            (p.0, n + m - (p.0 + spill_of homes p.0), grind (arith, length-layout homes, there, r.1, r.2), grind (arith, length-layout homes, there, r.1, r.2), grind (arith, add-mod_right n m))
-      ]
-
   pub layout-ordered : (homes : List (List E)) → total homes < length homes → IsOrdered (slot_at (layout homes))
   layout-ordered homes l = grind (arith, length-layout homes, slot-again, laid-ordered, roomy-of homes l, layout-laid homes (roomy-of homes l))
 

@@ -1,6 +1,5 @@
 -- The slot counts that a table grows to, and what a rebuild at one results in.
 use Rattle.std.proofs.Common.{◌≡◌, ℕ, suc, ◌*◌, ◌<◌, ◌≤◌, ◌==◌, inl, inr, max, refl, ap, sym, subst, arith, Bool, true, false, cond, List, length}
-use lib.Dec.{T, eqb→eq}
 use Rattle.std.proofs.lemmas.Bool.{cases_lt}
 use Rattle.std.proofs.Math.Nat.{two-pow-succ}
 use Rattle.clock2q_handles.specs.Homes.{capacity, total}
@@ -10,7 +9,7 @@ use Rattle.clock2q_handles.specs.Slots.{IsSlotCount}
 use Rattle.clock2q_handles.proofs.layout.TidyLayout.{capacity-lt}
 use Rattle.clock2q_handles.proofs.layout.TooLong.{rebuilt-reach}
 use Rattle.clock2q_handles.proofs.layout.Periods.{powers-divide}
-use Rattle.clock2q_handles.proofs.rebuild.Hashes.{rebuilt-length, rebuilt-total}
+use Rattle.clock2q_handles.proofs.rebuild.Hashes.{grown_either, rebuilt-length, rebuilt-total}
 
 -- twice the slots, or 16 of them
 pub slot_count_doubled : (n : ℕ) → IsSlotCount n → IsSlotCount (max (n * 2) 16)
@@ -45,14 +44,11 @@ module _ {H : Type 0} (key : H → ℕ) (homes : List (List (ℕ × H))) (m : �
 -- growth before an insertion leaves no home's entries further past it than they were
 pub grown_nearer : {H : Type 0} (key : H → ℕ) (homes : List (List (ℕ × H))) → IsSlotCount (length homes)
     → total homes ≤ capacity (length homes) → (IsFull homes → IsHashOf key homes) → IsNearer homes (grown key homes)
-grown_nearer key homes is_count room hashes =
-    by_fullness (total homes == capacity (length homes)) refl
-  where
-    by_fullness : (b : Bool) → (total homes == capacity (length homes)) ≡ b → IsNearer homes (cond b (rebuilt key (doubled (length homes)) homes) homes)
-    by_fullness false q x = omega arith
-    by_fullness true q x =
-        let more = doubled_more homes (length homes) refl is_count in
-        let less : total homes < max (length homes * 2) 16 = omega (arith, room, more, capacity-lt (max (length homes * 2) 16) (omega arith)) in
-        let reach = rebuilt-reach key homes (max (length homes * 2) 16) room less (doubled_multiple homes (length homes) refl is_count)
-        (hashes (eqb→eq (total homes) (capacity (length homes)) (subst T (sym q) tt))) x in
-        rw (doubled_is homes (length homes) refl is_count) at reach
+grown_nearer key homes is_count room hashes x =
+    elim (grown_either key homes) [
+      | inl full ↦
+          let more = doubled_more homes (length homes) refl is_count in
+          let less : total homes < max (length homes * 2) 16 = omega (arith, room, more, capacity-lt (max (length homes * 2) 16) (omega arith)) in
+          rw (full.1, ← doubled_is homes (length homes) refl is_count) (rebuilt-reach key homes (max (length homes * 2) 16) room less (doubled_multiple homes (length homes) refl is_count) (hashes full.0) x)
+      | inr same ↦ rw same.1 (omega arith)
+    ]

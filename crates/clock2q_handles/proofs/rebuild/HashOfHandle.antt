@@ -1,18 +1,18 @@
 -- Tables in which each handle was put in under the hash that one function gives it.
-use Rattle.std.proofs.Common.{◌≡◌, ◌≢◌, ℕ, ◌<◌, ◌≤◌, ◌==◌, nat_le, zero, suc, Bool, true, false, cond, List, [], ◌∷◌, Option, Some, None, Result, Ok, Err, refl, sym, ap, ◌∙◌, subst, arith}
+use Rattle.std.proofs.Common.{◌≡◌, ◌≢◌, ◌⊎◌, inl, inr, ℕ, ◌<◌, ◌≤◌, ◌==◌, nat_le, zero, suc, Bool, true, false, cond, List, [], ◌∷◌, Option, Some, None, Result, Ok, Err, refl, sym, ap, ◌∙◌, subst, arith}
 use Rattle.std.proofs.Common.{length, slice_get}
 use Rattle.std.specs.Prelude.{OnOk, OnErr, ◌+◌, ◌*◌}
 use Rattle.clock2q_handles.specs.declared.error.TableError.{TableError}
 use Rattle.clock2q_handles.specs.declared.error.TableError.TheVariants.{Memory, Size, RunTooLong}
 use Rattle.clock2q_handles.specs.Offers.{Settles, FindsOrPuts}
 use Rattle.clock2q_handles.specs.Changes.{PutIn}
-use lib.Dec.{T, eqb→eq}
+use Rattle.std.proofs.lemmas.Bool.{cases_cond}
 use Rattle.std.specs.Fn.{Called, Takes, Mut}
 use Rattle.clock2q_handles.specs.Homes.{top, capacity, total, with_handle, removed}
-use Rattle.clock2q_handles.specs.TableStep.{TableValue, IsHashOf, IsShortOf, doubled_until, grown, reserved, rebuilt, doubled, fit}
+use Rattle.clock2q_handles.specs.TableStep.{TableValue, IsHashOf, IsFull, IsShortOf, doubled_until, grown, reserved, rebuilt, doubled, fit}
 use Rattle.clock2q_handles.specs.Rehash.{GivesHashes, AnswersInTurn, AfterGrowth, IsHeld, held_handles}
-use Rattle.clock2q_handles.proofs.rebuild.HeldHandles.{by_slot_held}
-use Rattle.clock2q_handles.proofs.rebuild.Hashes.{hashes-put_last, hashes-rebuilt, hashes-removed, rebuilt-length}
+use Rattle.clock2q_handles.proofs.rebuild.Held.{by_slot_held}
+use Rattle.clock2q_handles.proofs.rebuild.Hashes.{grown_either, hashes-put_last, hashes-rebuilt, hashes-removed, rebuilt-length}
 
 -- doubling leaves a count of slots that isn't 0
 until_some : (e m k : ℕ) → 0 < m → 0 < doubled_until e m k
@@ -23,23 +23,25 @@ pub fit_some : (e : ℕ) → 0 < fit e
 unfolding fit
 fit_some e = until_some e 16 e (omega arith)
 
+-- a table with no slots is full
+some_slots : {H : Type 0} (homes : List (List (ℕ × H))) → (IsFull homes → ⊥) → 0 < length homes
+some_slots [] not_full = absurd (not_full refl)
+some_slots (es ∷ homes) not_full = omega arith
+
+-- an insertion ran out of memory, or did not
+out_of_memory : {X : Type 0} (r : Result X TableError) → (r ≡ Err Memory) ⊎ (r ≢ Err Memory)
+out_of_memory (Ok x) = inr (λ e. absurd (cc))
+out_of_memory (Err Memory) = inl refl
+out_of_memory (Err Size) = inr (λ e. absurd (cc))
+out_of_memory (Err RunTooLong) = inr (λ e. absurd (cc))
+
 module _ {H : Type 0} (key : H → ℕ) where
-  -- a table with no slots is full
-  some_slots : (homes : List (List (ℕ × H))) → (total homes == capacity (length homes)) ≡ false → 0 < length homes
-  some_slots [] q = absurd (cc)
-  some_slots (es ∷ homes) q = omega arith
-
-  grown_by : (homes : List (List (ℕ × H))) (b : Bool) → (total homes == capacity (length homes)) ≡ b → IsHashOf key homes
-      → (0 < length (cond b (rebuilt key (doubled (length homes)) homes) homes)) × IsHashOf key (cond b (rebuilt key (doubled (length homes)) homes) homes)
-  grown_by homes true q hashes = (
-    omega (arith, rebuilt-length key homes (doubled (length homes))),
-    hashes-rebuilt key homes (doubled (length homes)) (omega (arith, eqb→eq (total homes) (capacity (length homes)) (subst T (sym q) tt))) (omega arith) hashes,
-  )
-  grown_by homes false q hashes = (some_slots homes q, hashes)
-
   -- a table that grew if it was full
   pub keyed_grown : (homes : List (List (ℕ × H))) → IsHashOf key homes → (0 < length (grown key homes)) × IsHashOf key (grown key homes)
-  keyed_grown homes hashes = grown_by homes (total homes == capacity (length homes)) refl hashes
+  keyed_grown homes hashes = elim (grown_either key homes) [
+    | inl full ↦ rw full.1 (omega (arith, rebuilt-length key homes (doubled (length homes))), hashes-rebuilt key homes (doubled (length homes)) (omega arith) hashes)
+    | inr same ↦ rw same.1 (some_slots homes same.0, hashes)
+  ]
 
   -- one more handle
   pub keyed_inserted : (homes : List (List (ℕ × H))) (v : H) → IsHashOf key homes → IsHashOf key (with_handle (grown key homes) (key v) v)
@@ -47,51 +49,46 @@ module _ {H : Type 0} (key : H → ℕ) where
       let g = keyed_grown homes hashes in
       hashes-put_last key (grown key homes) (key v) (top (key v), v) g.0 g.1 refl refl
 
-  reserved_by : (homes : List (List (ℕ × H))) (m : ℕ) (b : Bool) → total homes ≤ capacity (length homes) → 0 < m → IsHashOf key homes → IsHashOf key (cond b homes (rebuilt key m homes))
-  reserved_by homes m true room some hashes = hashes
-  reserved_by homes m false room some hashes = hashes-rebuilt key homes m room some hashes
-
   keyed_inserted_under : (homes : List (List (ℕ × H))) (h : ℕ) (v : H) → h ≡ key v → IsHashOf key homes → IsHashOf key (with_handle (grown key homes) h v)
-  keyed_inserted_under homes h v is hashes = subst (λ x. IsHashOf key (with_handle (grown key homes) x v)) (sym is) (keyed_inserted homes v hashes)
+  keyed_inserted_under homes h v is hashes = rw is (keyed_inserted homes v hashes)
+
+  keyed_into : (homes new : List (List (ℕ × H))) (h : ℕ) (v : H) (result : Result (Unit {0}) TableError) → h ≡ key v → PutIn (grown key homes) h v result new → IsHashOf key homes → IsHashOf key new
+  keyed_into homes new h v (Ok r) is put hashes = rw put.0 (keyed_inserted_under homes h v is hashes)
+  keyed_into homes new h v (Err e) is put hashes = rw put.1 (keyed_grown homes hashes).1
 
   keyed_settled : (homes new : List (List (ℕ × H))) (h : ℕ) (v : H) (found : Option H) (result : Result (H × Bool) TableError)
       → h ≡ key v → Settles (grown key homes) h v found result new → IsHashOf key homes → IsHashOf key new
-  keyed_settled homes new h v (Some c) result is s hashes = subst (IsHashOf key) (sym s.1) (keyed_grown homes hashes).1
-  keyed_settled homes new h v None (Ok r) is s hashes = subst (IsHashOf key) (sym s.1) (keyed_inserted_under homes h v is hashes)
-  keyed_settled homes new h v None (Err e) is s hashes = subst (IsHashOf key) (sym s.1) (keyed_grown homes hashes).1
+  keyed_settled homes new h v (Some c) result is s hashes = rw s.1 (keyed_grown homes hashes).1
+  keyed_settled homes new h v None (Ok r) is s hashes = rw s.1 (keyed_inserted_under homes h v is hashes)
+  keyed_settled homes new h v None (Err e) is s hashes = rw s.1 (keyed_grown homes hashes).1
 
   module _ {F : Type 0} (g : Mut F (H × Unit {0}) ℕ) (f : F) (homes new : List (List (ℕ × H))) (h : ℕ) (v : H) where
     -- what an insertion results in, however it ends
     pub keyed_put : (result : Result (Unit {0}) TableError) → (result ≢ Err Memory → AfterGrowth g f homes (λ hs. PutIn hs h v result new)) → (result ≡ Err Memory → new ≡ homes)
         → h ≡ key v → IsHashOf key homes → GivesHashes g key homes f → IsHashOf key new
-    keyed_put (Ok r) put memory is hashes gives = subst (IsHashOf key) (sym (put (λ e. absurd (cc)) key (λ _. gives)).0) (keyed_inserted_under homes h v is hashes)
-    keyed_put (Err Memory) put memory is hashes gives = subst (IsHashOf key) (sym (memory refl)) hashes
-    keyed_put (Err Size) put memory is hashes gives = subst (IsHashOf key) (sym (put (λ e. absurd (cc)) key (λ _. gives)).1) (keyed_grown homes hashes).1
-    keyed_put (Err RunTooLong) put memory is hashes gives = subst (IsHashOf key) (sym (put (λ e. absurd (cc)) key (λ _. gives)).1) (keyed_grown homes hashes).1
-
-    keyed_settles : {M : Type 0} (m : Mut M (H × Unit {0}) Bool) (matches : M) (result : Result (H × Bool) TableError)
-        → (last : M) × AfterGrowth g f homes (λ hs. FindsOrPuts m matches hs h v result new last)
-        → h ≡ key v → IsHashOf key homes → GivesHashes g key homes f → IsHashOf key new
-    keyed_settles m matches result settles is hashes gives =
-        let s = settles.1 key (λ _. gives) in
-        keyed_settled homes new h v s.0 result is s.2 hashes
+    keyed_put result put memory is hashes gives = elim (out_of_memory result) [
+      | inl out ↦ rw (memory out) hashes
+      | inr not_out ↦ keyed_into homes new h v result is (put not_out key (λ _. gives)) hashes
+    ]
 
     -- what a handle that is found or put in results in
     pub keyed_found : {M : Type 0} (m : Mut M (H × Unit {0}) Bool) (matches : M) (result : Result (H × Bool) TableError)
         → (result ≢ Err Memory → (last : M) × AfterGrowth g f homes (λ hs. FindsOrPuts m matches hs h v result new last))
         → (result ≡ Err Memory → new ≡ homes) → h ≡ key v → IsHashOf key homes → GivesHashes g key homes f → IsHashOf key new
-    keyed_found m matches (Ok r) settles memory is hashes gives = keyed_settles m matches (Ok r) (settles (λ e. absurd (cc))) is hashes gives
-    keyed_found m matches (Err Memory) settles memory is hashes gives = subst (IsHashOf key) (sym (memory refl)) hashes
-    keyed_found m matches (Err Size) settles memory is hashes gives = keyed_settles m matches (Err Size) (settles (λ e. absurd (cc))) is hashes gives
-    keyed_found m matches (Err RunTooLong) settles memory is hashes gives = keyed_settles m matches (Err RunTooLong) (settles (λ e. absurd (cc))) is hashes gives
+    keyed_found m matches result settles memory is hashes gives = elim (out_of_memory result) [
+      | inl out ↦ rw (memory out) hashes
+      | inr not_out ↦ let s = (settles not_out).1 key (λ _. gives) in keyed_settled homes new h v s.0 result is s.2 hashes
+    ]
 
     -- what a reservation results in
     pub keyed_reserved : (before after : TableValue H) (n : ℕ) (result : Result (Unit {0}) TableError)
         → OnOk result ((k : H → ℕ) → (IsShortOf homes n → GivesHashes g k homes f) → new ≡ reserved k homes n)
         → OnErr result (after ≡ before) → new ≡ after.homes → before.homes ≡ homes → total homes ≤ capacity (length homes) → IsHashOf key homes → GivesHashes g key homes f → IsHashOf key new
-    keyed_reserved before after n (Ok r) ok err to from room hashes gives =
-        subst (IsHashOf key) (sym (ok key (λ _. gives))) (reserved_by homes (fit (total homes + n)) (nat_le (total homes + n) (capacity (length homes))) room (fit_some (total homes + n)) hashes)
-    keyed_reserved before after n (Err e) ok err to from room hashes gives = subst (IsHashOf key) (sym (to ∙ ap (λ t. t.homes) err ∙ from)) hashes
+    keyed_reserved before after n (Ok r) ok err to from room hashes gives = elim (cases_cond (nat_le (total homes + n) (capacity (length homes))) homes (rebuilt key (fit (total homes + n)) homes) new (ok key (λ _. gives))) [
+      | inl same ↦ rw same hashes
+      | inr more ↦ rw more (hashes-rebuilt key homes (fit (total homes + n)) (fit_some (total homes + n)) hashes)
+    ]
+    keyed_reserved before after n (Err e) ok err to from room hashes gives = rw (to ∙ ap (λ t. t.homes) err ∙ from) hashes
 
   -- one handle less
   pub keyed_removed : (eq : H → H → Bool) (homes : List (List (ℕ × H))) (x : ℕ) (v : H) → IsHashOf key homes → IsHashOf key (removed eq homes x v)

@@ -1,18 +1,20 @@
 -- One function that gives each entry's handle a hash of the entry's home and fingerprint: it does so after each change, and through a rebuild.
-use Rattle.std.proofs.Common.{◌≡◌, ℕ, zero, suc, ◌+◌, add-one, ◌-◌, ◌%◌, ◌<◌, ◌≤◌, inl, inr, refl, ap, sym, ◌∙◌, subst, arith, Bool, true, false, cond, List, [], ◌∷◌, ◌++◌, length, take, drop}
-use Rattle.std.proofs.Common.{take-append-drop, take-suc, take_all, get_or, append-nil, length-append, Option, Some, None, slice_get, mod-eq_of_lt}
+use Rattle.std.proofs.Common.{◌≡◌, ◌⊎◌, ℕ, zero, suc, ◌+◌, add-one, ◌-◌, ◌%◌, ◌<◌, ◌≤◌, inl, inr, refl, ap, sym, ◌∙◌, subst, arith, Bool, true, false, cond, List, [], ◌∷◌, ◌++◌, length, take, drop}
+use Rattle.std.proofs.Common.{take-append-drop, take-suc, take_all, get_or, length-append, Option, Some, None, slice_get, mod-eq_of_lt}
 use Rattle.std.proofs.lemmas.Bool.{cases_eq}
-use Rattle.std.proofs.lemmas.List.{get_or_past, length-replicate}
+use Rattle.std.proofs.lemmas.Bool.Decides.{eqb_tells}
+use Rattle.std.proofs.lemmas.List.{length-replicate}
 use Rattle.std.proofs.lemmas.List.Elements.{filter_map-append}
 use Rattle.std.proofs.lemmas.Option.{slice_get_within}
-use Rattle.std.proofs.Math.ListN.{get_or-replicate}
 use Rattle.clock2q_handles.specs.Homes.{top, capacity, home, listed, total, no_entries, with_list, put_last, without_first, is_entry_of, removed}
 use Rattle.clock2q_handles.specs.Layout.{Placed, slot_at, layout, entries, homes_of, IsTidy}
-use Rattle.clock2q_handles.specs.TableStep.{put_all, rebuilt, IsHashOf}
+use Rattle.clock2q_handles.specs.TableStep.{put_all, rebuilt, grown, doubled, IsFull, IsHashOf}
 use Rattle.clock2q_handles.proofs.layout.Walk.{slice_get-append}
-use Rattle.clock2q_handles.proofs.layout.TidyLayout.{layout-only, capacity-lt, length-homes_of, tidy-layout, tidy-total, layout-total, layout-tidy, layout-read}
+use Rattle.clock2q_handles.proofs.layout.Reading.{get_or-same}
+use Rattle.clock2q_handles.proofs.layout.TidyLayout.{tidy-layout, layout-total, layout-tidy, layout-read}
 use Rattle.clock2q_handles.proofs.shifts.Changes.{length-with_list, listed-with_same, listed-with_other}
 use Rattle.clock2q_handles.proofs.layout.FewerEntries.{length-put_all, total-put_all, total-no_entries}
+use Rattle.clock2q_handles.proofs.rebuild.HeldHandles.{IsEntry, some_homes, layout-all}
 
 module _ {E : Type 0} where
   -- the entries before a slot, once it is passed
@@ -37,20 +39,40 @@ module _ {E : Type 0} where
       let r = entries-from slots i s is in
       (suc r.0, omega arith, r.2)
 
+  -- so it is one of the lists' entries
+  pub entry_laid : (homes : List (List E)) (i : ℕ) (s : Placed E) → slice_get (entries (layout homes)) i ≡ Some s → IsEntry homes s.entry
+  entry_laid homes i s is = let r = entries-from (layout homes) i s is in layout-all homes r.0 s r.2
+
   kept_by : (test : E → Bool) (x : E) (es : List E) (i : ℕ) (e : E) (b : Bool) → ((i : ℕ) → slice_get (without_first test es) i ≡ Some e → (j : ℕ) × (slice_get es j ≡ Some e))
       → slice_get (cond b es (x ∷ without_first test es)) i ≡ Some e → (j : ℕ) × (slice_get (x ∷ es) j ≡ Some e)
   kept_by test x es i e true rest is = (suc i, is)
   kept_by test x es zero e false rest is = (0, is)
-  kept_by test x es (suc i) e false rest is =
-      let r = rest i is in
-      (suc r.0, r.1)
+  kept_by test x es (suc i) e false rest is = (suc (rest i is).0, (rest i is).1)
 
   -- what is left of a list was in it
-  pub without_first-from : (test : E → Bool) (es : List E) (e : E) (i : ℕ) → slice_get (without_first test es) i ≡ Some e → (j : ℕ) × (slice_get es j ≡ Some e)
+  without_first-from : (test : E → Bool) (es : List E) (e : E) (i : ℕ) → slice_get (without_first test es) i ≡ Some e → (j : ℕ) × (slice_get es j ≡ Some e)
   without_first-from test [] e i is = absurd (cc)
   without_first-from test (x ∷ es) e i is = kept_by test x es i e (test x) (without_first-from test es e) is
 
+  -- an element of a list with one more is that or an element before
+  pub slice_get-push : (xs : List E) (e f : E) (i : ℕ) → slice_get (xs ++ e ∷ []) i ≡ Some f → (slice_get xs i ≡ Some f) ⊎ (f ≡ e)
+  slice_get-push xs e f i is = grind (arith, slice_get-append xs (e ∷ []) i f is, slice_get_within (e ∷ []) (i - length xs) f)
+
 module _ {H : Type 0} (key : H → ℕ) where
+  -- what a table is before an insertion
+  pub grown_either : (homes : List (List (ℕ × H))) → (IsFull homes × (grown key homes ≡ rebuilt key (doubled (length homes)) homes)) ⊎ ((IsFull homes → ⊥) × (grown key homes ≡ homes))
+  grown_either homes = grind (arith, eqb_tells (total homes) (capacity (length homes)))
+
+  pub put_some : (homes : List (List (ℕ × H))) (e : ℕ × H) → 0 < length homes → 0 < length (put_last homes (key e.1) e)
+  put_some homes e some = omega (arith, some, length-with_list homes (key e.1) (listed homes (key e.1) ++ e ∷ []))
+
+  -- what each entry that is put in keeps, all keep
+  pub put_all-keeps : (P : List (List (ℕ × H)) → Type 0) (es : List (Placed (ℕ × H))) (homes : List (List (ℕ × H))) → 0 < length homes
+      → ((hs : List (List (ℕ × H))) (i : ℕ) (s : Placed (ℕ × H)) → 0 < length hs → slice_get es i ≡ Some s → P hs → P (put_last hs (key s.entry.1) s.entry)) → P homes → P (put_all key homes es)
+  put_all-keeps P [] homes some keeps p = p
+  put_all-keeps P (s ∷ es) homes some keeps p =
+      put_all-keeps P es (put_last homes (key s.entry.1) s.entry) (put_some homes s.entry some) (λ hs i t there is. keeps hs (suc i) t there is) (keeps homes 0 s some refl p)
+
   -- an entry of any home, counted past the last
   pub hash-at : (homes : List (List (ℕ × H))) → IsHashOf key homes → 0 < length homes → (n i : ℕ) (e : ℕ × H)
       → slice_get (listed homes n) i ≡ Some e → (home homes (key e.1) ≡ home homes n) × (top (key e.1) ≡ e.0)
@@ -58,21 +80,20 @@ module _ {H : Type 0} (key : H → ℕ) where
       let q : n % length homes % length homes ≡ n % length homes = mod-eq_of_lt (omega arith) in
       hashes (n % length homes) i e (omega arith) (ap (λ x. slice_get (get_or homes x []) i) q ∙ is)
 
+  hash_of : (homes : List (List (ℕ × H))) → IsHashOf key homes → (e : ℕ × H) → IsEntry homes e → top (key e.1) ≡ e.0
+  hash_of homes hashes e at = (hash-at homes hashes (some_homes homes at.0 at.1 e at.2) at.0 at.1 e at.2).1
+
   -- an entry in a slot
   pub hash-slot : (slots : List (Option (Placed (ℕ × H)))) → IsTidy slots → IsHashOf key (homes_of slots) → (n : ℕ) (s : Placed (ℕ × H)) → slot_at slots n ≡ Some s → top (key s.entry.1) ≡ s.entry.0
   hash-slot slots tidy hashes n s is =
-      let homes : List (List (ℕ × H)) = homes_of slots in
-      let some : 0 < length slots = grind (arith, is, get_or_past slots (n % length slots) None) in
-      let room : total homes < length homes = omega (arith, tidy.room, tidy-total slots tidy, capacity-lt (length slots) some, length-homes_of slots) in
-      let r = layout-only homes room n s (ap (λ x. slot_at x n) (sym (tidy-layout slots tidy)) ∙ is) in
-      (hash-at homes hashes (omega (arith, room)) r.0 r.1 s.entry r.2).1
+      hash_of (homes_of slots) hashes s.entry (layout-all (homes_of slots) (n % length slots) s (ap (λ x. get_or x (n % length slots) None) (sym (tidy-layout slots tidy)) ∙ is))
 
   -- homes without entries need no hashes
   pub hashes-none : (m : ℕ) → IsHashOf key (no_entries m)
-  hashes-none m h i e l is = grind (arith, get_or-replicate, length-replicate, mod-eq_of_lt, slice_get_within)
+  hashes-none m h i e l is = let no = ap (λ xs. slice_get xs i) (sym (get_or-same m (h % length (no_entries {E = ℕ × H} m)) [])) ∙ is in absurd (cc)
 
   -- a list in place of a home's, each entry of which has a hash of that home
-  pub hashes-with_list : (homes : List (List (ℕ × H))) (x : ℕ) (es : List (ℕ × H)) → IsHashOf key homes
+  hashes-with_list : (homes : List (List (ℕ × H))) (x : ℕ) (es : List (ℕ × H)) → IsHashOf key homes
       → ((i : ℕ) (e : ℕ × H) → slice_get es i ≡ Some e → (home homes (key e.1) ≡ home homes x) × (top (key e.1) ≡ e.0)) → IsHashOf key (with_list homes x es)
   hashes-with_list homes x es hashes new h i e l is =
       grind (arith, length-with_list, mod-eq_of_lt, cases_eq, new i e, listed-with_same, hashes h i e, listed-with_other)
@@ -81,10 +102,7 @@ module _ {H : Type 0} (key : H → ℕ) where
   pub hashes-put_last : (homes : List (List (ℕ × H))) (x : ℕ) (e : ℕ × H) → 0 < length homes → IsHashOf key homes
       → home homes (key e.1) ≡ home homes x → top (key e.1) ≡ e.0 → IsHashOf key (put_last homes x e)
   hashes-put_last homes x e some hashes into fingerprint =
-      hashes-with_list homes x (listed homes x ++ e ∷ []) hashes (λ i f is. elim (slice_get-append (listed homes x) (e ∷ []) i f is) [
-        | inl old ↦ hash-at homes hashes some x i f old
-        | inr new ↦ grind (arith, new.1, slice_get_within (e ∷ []) (i - length (listed homes x)) f new.1)
-      ])
+      hashes-with_list homes x (listed homes x ++ e ∷ []) hashes (λ i f is. grind (arith, slice_get-push (listed homes x) e f i is, hash-at homes hashes some x i f, into, fingerprint))
 
   -- an entry removed
   pub hashes-removed : (eq : H → H → Bool) (homes : List (List (ℕ × H))) (x : ℕ) (v : H) → 0 < length homes → IsHashOf key homes → IsHashOf key (removed eq homes x v)
@@ -95,21 +113,13 @@ module _ {H : Type 0} (key : H → ℕ) where
   -- entries put in one after another
   pub hashes-put_all : (homes : List (List (ℕ × H))) (es : List (Placed (ℕ × H))) → 0 < length homes → IsHashOf key homes
       → ((i : ℕ) (s : Placed (ℕ × H)) → slice_get es i ≡ Some s → top (key s.entry.1) ≡ s.entry.0) → IsHashOf key (put_all key homes es)
-  hashes-put_all homes [] some hashes all = hashes
-  hashes-put_all homes (s ∷ es) some hashes all =
-      grind (
-        arith,
-        length-with_list,
-        hashes-put_last,
-        hashes-put_all (put_last homes (key s.entry.1) s.entry) es (omega (arith, some, length-with_list homes (key s.entry.1) (listed homes (key s.entry.1) ++ s.entry ∷ []))) (hashes-put_last homes (key s.entry.1) s.entry some hashes refl (all 0 s refl)) (λ i t is. all (suc i) t is),
-      )
+  hashes-put_all homes es some hashes all =
+      put_all-keeps (IsHashOf key) es homes some (λ hs i s there is so_far. hashes-put_last hs (key s.entry.1) s.entry there so_far refl (all i s is)) hashes
 
   -- the entries keep their fingerprints and homes through a rebuild
-  pub hashes-rebuilt : (homes : List (List (ℕ × H))) (m : ℕ) → total homes ≤ capacity (length homes) → 0 < m → IsHashOf key homes → IsHashOf key (rebuilt key m homes)
-  hashes-rebuilt homes m room some hashes = hashes-put_all (no_entries m) (entries (layout homes)) (omega (arith, some, length-replicate {A = List (ℕ × H)} m [])) (hashes-none m) (λ i s is.
-      let r = entries-from (layout homes) i s is in
-      let q : r.0 % length (layout homes) ≡ r.0 = mod-eq_of_lt r.1 in
-      hash-slot (layout homes) (layout-tidy homes room) (subst (IsHashOf key) (sym (layout-read homes room)) hashes) r.0 s (ap (λ x. get_or (layout homes) x None) q ∙ r.2))
+  pub hashes-rebuilt : (homes : List (List (ℕ × H))) (m : ℕ) → 0 < m → IsHashOf key homes → IsHashOf key (rebuilt key m homes)
+  hashes-rebuilt homes m some hashes =
+      hashes-put_all (no_entries m) (entries (layout homes)) (omega (arith, some, length-replicate {A = List (ℕ × H)} m [])) (hashes-none m) (λ i s is. hash_of homes hashes s.entry (entry_laid homes i s is))
 
   pub rebuilt-length : (homes : List (List (ℕ × H))) (m : ℕ) → length (rebuilt key m homes) ≡ m
   rebuilt-length homes m = length-put_all key (no_entries m) (entries (layout homes)) ∙ length-replicate m []

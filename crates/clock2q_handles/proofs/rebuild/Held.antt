@@ -1,20 +1,18 @@
 -- Held handles stay held: through growth and insertions, and as what a lookup yields.
 use Rattle.std.proofs.Common.{◌≡◌, ℕ, zero, suc, ◌+◌, ◌%◌, ◌<◌, ◌≤◌, ◌⊎◌, inl, inr, ◌==◌, refl, ap, sym, ◌∙◌, subst, arith, Bool, true, false, cond, List, [], ◌∷◌, ◌++◌, length, get_or, map}
-use Rattle.std.proofs.Common.{Option, Some, None, slice_get, mod-eq_of_lt}
-use lib.Dec.{T, eqb→eq}
+use Rattle.std.proofs.Common.{Option, Some, None, slice_get}
 use Rattle.std.specs.List.{filter}
 use Rattle.std.proofs.lemmas.Bool.{eq-eqb}
-use Rattle.std.proofs.lemmas.Option.{slice_get_within}
-use Rattle.std.proofs.Math.ListN.{get_or-replicate}
 use Rattle.std.proofs.lemmas.List.{length-replicate}
 use Rattle.clock2q_handles.specs.Homes.{top, capacity, listed, total, candidates, no_entries, put_last}
 use Rattle.clock2q_handles.specs.Layout.{Placed, placed, layout, entries, spill_of}
 use Rattle.clock2q_handles.specs.TableStep.{put_all, rebuilt, grown, doubled, IsHashOf}
-use Rattle.clock2q_handles.specs.Rehash.{IsHeld}
-use Rattle.clock2q_handles.proofs.layout.Walk.{slice_get-append}
-use Rattle.clock2q_handles.proofs.layout.TidyLayout.{layout-only, layout-standing, layout-total, capacity-lt}
+use Rattle.clock2q_handles.specs.Rehash.{IsHeld, held_handles}
+use Rattle.clock2q_handles.proofs.layout.Reading.{get_or-same}
+use Rattle.clock2q_handles.proofs.layout.TidyLayout.{layout-standing, capacity-lt}
 use Rattle.clock2q_handles.proofs.shifts.Changes.{length-with_list, listed-with_same, listed-with_other}
-use Rattle.clock2q_handles.proofs.rebuild.Hashes.{entries-from, hash-at}
+use Rattle.clock2q_handles.proofs.rebuild.HeldHandles.{IsEntry, some_homes}
+use Rattle.clock2q_handles.proofs.rebuild.Hashes.{entry_laid, hash-at, grown_either, put_some, put_all-keeps, slice_get-push}
 
 pub slice_get-left : {E : Type 0} (xs ys : List E) (i : ℕ) (e : E) → slice_get xs i ≡ Some e → slice_get (xs ++ ys) i ≡ Some e
 slice_get-left [] ys i e is = absurd (cc)
@@ -24,10 +22,6 @@ slice_get-left (x ∷ xs) ys (suc i) e is = slice_get-left xs ys i e is
 pub slice_get-last : {E : Type 0} (xs : List E) (e : E) → slice_get (xs ++ e ∷ []) (length xs) ≡ Some e
 slice_get-last [] e = refl
 slice_get-last (x ∷ xs) e = slice_get-last xs e
-
-slice_get-only : {E : Type 0} (e f : E) (i : ℕ) → slice_get (e ∷ []) i ≡ Some f → f ≡ e
-slice_get-only e f zero is = cc
-slice_get-only e f (suc i) is = absurd (cc)
 
 -- the contents of a slot are one of the entries
 entries-to : {E : Type 0} (slots : List (Option (Placed E))) (n : ℕ) (s : Placed E) → get_or slots n None ≡ Some s → (i : ℕ) × (slice_get (entries slots) i ≡ Some s)
@@ -40,14 +34,6 @@ entries-to (Some t ∷ slots) (suc n) s is =
     (suc r.0, r.1)
 
 module _ {H : Type 0} where
-  -- some home has the entry
-  abbrev pub IsEntry : List (List (ℕ × H)) → ℕ × H → Type 0
-  IsEntry homes e = (n : ℕ) × (i : ℕ) × (slice_get (listed homes n) i ≡ Some e)
-
-  has_homes : (homes : List (List (ℕ × H))) (e : ℕ × H) → IsEntry homes e → 0 < length homes
-  has_homes [] e at = absurd (cc)
-  has_homes (es ∷ homes) e at = omega arith
-
   pub entry_held : (homes : List (List (ℕ × H))) (e : ℕ × H) (v : H) → e.1 ≡ v → IsEntry homes e → IsHeld homes v
   entry_held homes e v is at = (at.0, at.1, e, at.2, is)
 
@@ -68,85 +54,56 @@ module _ {H : Type 0} where
 
     -- and no other
     pub entry_from : IsEntry (put_last homes x e) f → IsEntry homes f ⊎ (f ≡ e)
-    entry_from at = grind (arith, slice_get-append, put_same, slice_get-only, listed-with_other)
+    entry_from at = grind (arith, slice_get-push, put_same, listed-with_other)
 
 module _ {H : Type 0} (key : H → ℕ) where
-  put_some : (homes : List (List (ℕ × H))) (s : Placed (ℕ × H)) → 0 < length homes → 0 < length (put_last homes (key s.entry.1) s.entry)
-  put_some homes s some = omega (arith, some, length-with_list homes (key s.entry.1) (listed homes (key s.entry.1) ++ s.entry ∷ []))
-
-  all_kept : (homes : List (List (ℕ × H))) (es : List (Placed (ℕ × H))) (f : ℕ × H) → 0 < length homes → IsEntry homes f → IsEntry (put_all key homes es) f
-  all_kept homes [] f some at = at
-  all_kept homes (s ∷ es) f some at = all_kept (put_last homes (key s.entry.1) s.entry) es f (put_some homes s some) (entry_kept homes (key s.entry.1) s.entry f some at)
-
   all_new : (homes : List (List (ℕ × H))) (es : List (Placed (ℕ × H))) (i : ℕ) (s : Placed (ℕ × H)) → 0 < length homes → slice_get es i ≡ Some s → IsEntry (put_all key homes es) s.entry
   all_new homes [] i s some is = absurd (cc)
   all_new homes (t ∷ es) zero s some is =
-      grind (arith, all_kept (put_last homes (key t.entry.1) t.entry) es t.entry (put_some homes t some) (entry_new homes (key t.entry.1) t.entry t.entry some))
-  all_new homes (t ∷ es) (suc i) s some is = all_new (put_last homes (key t.entry.1) t.entry) es i s (put_some homes t some) is
+      let more = put_last homes (key t.entry.1) t.entry in
+      let kept = put_all-keeps key (λ hs. IsEntry hs t.entry) es more (put_some key homes t.entry some) (λ hs i u there _ at. entry_kept hs (key u.entry.1) u.entry t.entry there at)
+      (entry_new homes (key t.entry.1) t.entry t.entry some) in
+      let q : t ≡ s = cc in
+      subst (λ u. IsEntry (put_all key more es) u.entry) q kept
+  all_new homes (t ∷ es) (suc i) s some is = all_new (put_last homes (key t.entry.1) t.entry) es i s (put_some key homes t.entry some) is
 
-  all_from : (homes : List (List (ℕ × H))) (es : List (Placed (ℕ × H))) (f : ℕ × H) → 0 < length homes → IsEntry (put_all key homes es) f
-      → IsEntry homes f ⊎ ((i : ℕ) × (s : Placed (ℕ × H)) × (slice_get es i ≡ Some s) × (s.entry ≡ f))
-  all_from homes [] f some at = inl at
-  all_from homes (s ∷ es) f some at = elim (all_from (put_last homes (key s.entry.1) s.entry) es f (put_some homes s some) at) [
-    | inl before ↦ elim (entry_from homes (key s.entry.1) s.entry f some before) [
-      | inl old ↦ inl old
-      | inr new ↦ inr (0, s, refl, sym new)
-    ]
-    | inr later ↦ inr (suc later.0, later.1, later.2, later.3)
-  ]
-
-  none_there : (m : ℕ) (e : ℕ × H) → 0 < m → IsEntry (no_entries m) e → ⊥
-  none_there m e some at = grind (arith, get_or-replicate, length-replicate, slice_get_within)
-
-  module _ (homes : List (List (ℕ × H))) (m : ℕ) (room : total homes ≤ capacity (length homes)) (some : 0 < m) where
+  module _ (homes : List (List (ℕ × H))) (m : ℕ) (some : 0 < m) where
     fresh : 0 < length (no_entries {E = ℕ × H} m)
     fresh = omega (arith, some, length-replicate {A = List (ℕ × H)} m [])
 
-    less : 0 < length homes → total homes < length homes
-    less there = omega (arith, room, capacity-lt (length homes) there)
-
     -- a rebuild keeps each entry
-    rebuilt_kept : (e : ℕ × H) → IsEntry homes e → IsEntry (rebuilt key m homes) e
-    rebuilt_kept e at =
+    rebuilt_kept : total homes ≤ capacity (length homes) → (e : ℕ × H) → IsEntry homes e → IsEntry (rebuilt key m homes) e
+    rebuilt_kept room e at =
         let d : ℕ = spill_of homes at.0 + at.1 in
-        let in_slot = layout-standing homes (less (has_homes homes e at)) at.0 at.1 e at.2 in
-        let r = entries-to (layout homes) ((at.0 + spill_of homes at.0 + at.1) % length (layout homes)) (placed d e) in_slot in
+        let less : total homes < length homes = omega (arith, room, capacity-lt (length homes) (some_homes homes at.0 at.1 e at.2)) in
+        let r = entries-to (layout homes) ((at.0 + spill_of homes at.0 + at.1) % length (layout homes)) (placed d e) (layout-standing homes less at.0 at.1 e at.2) in
         all_new (no_entries m) (entries (layout homes)) r.0 (placed d e) fresh r.1
 
     -- and brings in no other
     rebuilt_from : (e : ℕ × H) → IsEntry (rebuilt key m homes) e → IsEntry homes e
-    rebuilt_from e at =
-        elim (all_from (no_entries m) (entries (layout homes)) e fresh at) [
-          | inl none ↦ absurd (none_there m e some none)
-          | inr one ↦
-              let r = entries-from (layout homes) one.0 one.1 one.2 in
-              let there : 0 < length homes = grind (arith, slice_get_within (entries (layout homes)) one.0 one.1 one.2, layout-total homes room, room) in
-              let o = layout-only homes (less there) r.0 one.1 (grind (arith, mod-eq_of_lt r.1, r.2)) in
-              subst (IsEntry homes) one.3 (o.0, o.1, o.2)
-        ]
+    rebuilt_from e =
+        put_all-keeps key (λ hs. IsEntry hs e → IsEntry homes e) (entries (layout homes)) (no_entries m) fresh (λ hs i s there is from at. elim (entry_from hs (key s.entry.1) s.entry e there at) [
+          | inl old ↦ from old
+          | inr new ↦ rw new (entry_laid homes i s is)
+        ]) (λ at. let no = ap (λ xs. slice_get xs at.1) (sym (get_or-same m (at.0 % length (no_entries {E = ℕ × H} m)) [])) ∙ at.2 in absurd (cc))
 
   -- so an insertion finds the same handles held as before the table grew
   module _ (homes : List (List (ℕ × H))) (v : H) where
-    abbrev full_room : (total homes == capacity (length homes)) ≡ true → total homes ≤ capacity (length homes)
-    full_room q = let full : total homes ≡ capacity (length homes) = eqb→eq (total homes) (capacity (length homes)) (subst T (sym q) tt) in omega (arith, full)
-
-    kept_by : (b : Bool) → (total homes == capacity (length homes)) ≡ b → IsHeld homes v → IsHeld (cond b (rebuilt key (doubled (length homes)) homes) homes) v
-    kept_by false q at = at
-    kept_by true q at =
-        let e = held_entry homes v at in
-        entry_held (rebuilt key (doubled (length homes)) homes) e.0 v e.2 (rebuilt_kept homes (doubled (length homes)) (full_room q) (omega arith) e.0 e.1)
-
     pub grown_kept : IsHeld homes v → IsHeld (grown key homes) v
-    grown_kept at = kept_by (total homes == capacity (length homes)) refl at
-
-    from_by : (b : Bool) → (total homes == capacity (length homes)) ≡ b → IsHeld (cond b (rebuilt key (doubled (length homes)) homes) homes) v → IsHeld homes v
-    from_by false q at = at
-    from_by true q at =
-        let e = held_entry (rebuilt key (doubled (length homes)) homes) v at in
-        entry_held homes e.0 v e.2 (rebuilt_from homes (doubled (length homes)) (full_room q) (omega arith) e.0 e.1)
+    grown_kept at =
+        let e = held_entry homes v at in
+        elim (grown_either key homes) [
+          | inl full ↦ rw full.1 (entry_held (rebuilt key (doubled (length homes)) homes) e.0 v e.2 (rebuilt_kept homes (doubled (length homes)) (omega arith) (omega (arith, full.0)) e.0 e.1))
+          | inr same ↦ rw same.1 at
+        ]
 
     pub grown_from : IsHeld (grown key homes) v → IsHeld homes v
-    grown_from at = from_by (total homes == capacity (length homes)) refl at
+    grown_from at = elim (grown_either key homes) [
+      | inl full ↦
+          let e = held_entry (rebuilt key (doubled (length homes)) homes) v (rw full.1 at at) in
+          entry_held homes e.0 v e.2 (rebuilt_from homes (doubled (length homes)) (omega arith) e.0 e.1)
+      | inr same ↦ rw same.1 at at
+    ]
 
 module _ {H : Type 0} where
   passing : (test : ℕ × H → Bool) (es : List (ℕ × H)) (i : ℕ) (e : ℕ × H) → slice_get es i ≡ Some e → test e ≡ true → (j : ℕ) × (slice_get (map (λ e. e.1) (filter test es)) j ≡ Some e.1)
@@ -183,7 +140,18 @@ module _ {H : Type 0} where
   -- and a held handle is a candidate of the hash that it was put in under
   pub held_candidate : (key : H → ℕ) (homes : List (List (ℕ × H))) (v : H) → IsHashOf key homes → IsHeld homes v → (i : ℕ) × (slice_get (candidates homes (key v)) i ≡ Some v)
   held_candidate key homes v hashes at =
-      let hashed = hash-at key homes hashes (has_homes homes at.2 (at.0, at.1, at.3)) at.0 at.1 at.2 at.3 in
+      let hashed = hash-at key homes hashes (some_homes homes at.0 at.1 at.2 at.3) at.0 at.1 at.2 at.3 in
       let here : slice_get (listed homes (key at.2.1)) at.1 ≡ Some at.2 = grind (arith, hashed.0, at.3) in
       let r = passing (λ f. f.0 == top (key at.2.1)) (listed homes (key at.2.1)) at.1 at.2 here (eq-eqb at.2.0 (top (key at.2.1)) (sym hashed.1)) in
       subst (λ w. (i : ℕ) × (slice_get (candidates homes (key w)) i ≡ Some w)) at.4 r
+
+  by_slot : (es : List (Placed (ℕ × H))) (i : ℕ) (v : H) → slice_get (map (λ s. s.entry.1) es) i ≡ Some v → (s : Placed (ℕ × H)) × (slice_get es i ≡ Some s) × (s.entry.1 ≡ v)
+  by_slot [] i v is = absurd (cc)
+  by_slot (s ∷ es) zero v is = (s, refl, cc)
+  by_slot (s ∷ es) (suc i) v is = by_slot es i v is
+
+  -- each handle by slot is one that is held
+  pub by_slot_held : (homes : List (List (ℕ × H))) (i : ℕ) (v : H) → slice_get (held_handles homes) i ≡ Some v → IsHeld homes v
+  by_slot_held homes i v is =
+      let s = by_slot (entries (layout homes)) i v is in
+      entry_held homes s.0.entry v s.2 (entry_laid homes i s.0 s.1)

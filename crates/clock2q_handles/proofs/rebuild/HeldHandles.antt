@@ -1,16 +1,14 @@
--- The handles by slot are those that are held.
-use Rattle.std.proofs.Common.{◌≡◌, ◌⊎◌, ◌+◌, ◌%◌, ℕ, zero, suc, inl, inr, refl, sym, ◌∙◌, subst, List, [], ◌∷◌, length, get_or, set, replicate, map, Option, Some, None, slice_get}
+-- What is in a slot of the layout is an entry of the lists.
+use Rattle.std.proofs.Common.{◌≡◌, ◌⊎◌, ℕ, zero, suc, ◌+◌, ◌%◌, ◌<◌, inl, inr, refl, sym, ◌∙◌, subst, arith, List, [], ◌∷◌, length, get_or, set, replicate, Option, Some, None, slice_get}
 use Rattle.clock2q_handles.specs.Homes.{listed}
-use Rattle.clock2q_handles.specs.Layout.{Placed, placed, layout, layout_upto, put_from, spill_of, entries}
-use Rattle.clock2q_handles.specs.Rehash.{IsHeld, held_handles}
-use Rattle.clock2q_handles.proofs.rebuild.Hashes.{entries-from}
-use Rattle.clock2q_handles.proofs.rebuild.Held.{IsEntry}
-
--- every entry in a slot satisfies P
-abbrev AllPlaced : {E : Type 0} → (E → Type 0) → List (Option (Placed E)) → Type 0
-AllPlaced {E} P slots = (n : ℕ) (s : Placed E) → get_or slots n None ≡ Some s → P s.entry
+use Rattle.clock2q_handles.specs.Layout.{Placed, placed, layout, layout_upto, put_from, spill_of}
+use Rattle.clock2q_handles.proofs.layout.Reading.{get_or-same}
 
 module _ {E : Type 0} where
+  -- every entry in a slot satisfies P
+  abbrev AllPlaced : (E → Type 0) → List (Option (Placed E)) → Type 0
+  AllPlaced P slots = (n : ℕ) (s : Placed E) → get_or slots n None ≡ Some s → P s.entry
+
   -- an entry in a slot after a write was written, or was in a slot before
   set_from : (slots : List (Option (Placed E))) (k n : ℕ) (x : Option (Placed E)) (s : Placed E) → get_or (set slots k x) n None ≡ Some s → (x ≡ Some s) ⊎ (get_or slots n None ≡ Some s)
   set_from [] k n x s is = inr is
@@ -19,44 +17,27 @@ module _ {E : Type 0} where
   set_from (y ∷ ys) (suc k) zero x s is = inr is
   set_from (y ∷ ys) (suc k) (suc n) x s is = set_from ys k n x s is
 
-  none_in : (m n : ℕ) → get_or (replicate {A = Option (Placed E)} m None) n None ≡ None
-  none_in zero n = refl
-  none_in (suc m) zero = refl
-  none_in (suc m) (suc n) = none_in m n
-
   put_from-all : (P : E → Type 0) (slots : List (Option (Placed E))) (k d : ℕ) (es : List E)
       → AllPlaced P slots → ((i : ℕ) (e : E) → slice_get es i ≡ Some e → P e) → AllPlaced P (put_from slots k d es)
   put_from-all P slots k d [] all new = all
   put_from-all P slots k d (e ∷ es) all new =
-      put_from-all P (set slots (k % length slots) (Some (placed d e))) (suc k) (suc d) es (λ n s is. elim (set_from slots (k % length slots) n (Some (placed d e)) s is) [
-        | inl here ↦
-            let q : placed d e ≡ s = cc in
-            subst (λ t. P t.entry) q (new 0 e refl)
-        | inr before ↦ all n s before
-      ]) (λ i f is. new (suc i) f is)
+      put_from-all P (set slots (k % length slots) (Some (placed d e))) (suc k) (suc d) es
+      (λ n s is. grind (arith, set_from slots (k % length slots) n (Some (placed d e)) s is, new 0 e refl, all n s)) (λ i f is. new (suc i) f is)
 
-module _ {H : Type 0} (homes : List (List (ℕ × H))) where
-  none-all : AllPlaced (IsEntry homes) (replicate (length homes) None)
-  none-all n s is = let no = sym (none_in (length homes) n) ∙ is in absurd (cc)
+  -- some home has the entry
+  abbrev pub IsEntry : List (List E) → E → Type 0
+  IsEntry homes e = (n : ℕ) × (i : ℕ) × (slice_get (listed homes n) i ≡ Some e)
 
-  upto-all : (k : ℕ) → AllPlaced (IsEntry homes) (layout_upto homes k)
-  upto-all zero = none-all
-  upto-all (suc h) =
-      put_from-all (IsEntry homes) (layout_upto homes h) (h + spill_of homes h) (spill_of homes h) (listed homes h) (upto-all h) (λ i e is. (h, i, is))
+  -- if there is an entry, there are slots
+  pub some_homes : (homes : List (List E)) (x i : ℕ) (e : E) → slice_get (listed homes x) i ≡ Some e → 0 < length homes
+  some_homes [] x i e is = absurd (cc)
+  some_homes (es ∷ homes) x i e is = omega arith
 
-  layout-all : AllPlaced (IsEntry homes) (layout homes)
+  upto-all : (homes : List (List E)) (k : ℕ) → AllPlaced (IsEntry homes) (layout_upto homes k)
+  upto-all homes zero = λ n s is. let no = sym (get_or-same (length homes) n None) ∙ is in absurd (cc)
+  upto-all homes (suc h) =
+      put_from-all (IsEntry homes) (layout_upto homes h) (h + spill_of homes h) (spill_of homes h) (listed homes h) (upto-all homes h) (λ i e is. (h, i, is))
+
+  pub layout-all : (homes : List (List E)) → AllPlaced (IsEntry homes) (layout homes)
   unfolding layout
-  layout-all = upto-all (length homes)
-
-  by_slot : (es : List (Placed (ℕ × H))) (i : ℕ) (v : H) → slice_get (map (λ s. s.entry.1) es) i ≡ Some v → (s : Placed (ℕ × H)) × (slice_get es i ≡ Some s) × (s.entry.1 ≡ v)
-  by_slot [] i v is = absurd (cc)
-  by_slot (s ∷ es) zero v is = (s, refl, cc)
-  by_slot (s ∷ es) (suc i) v is = by_slot es i v is
-
-  -- each handle by slot is one that is held
-  pub by_slot_held : (i : ℕ) (v : H) → slice_get (held_handles homes) i ≡ Some v → IsHeld homes v
-  by_slot_held i v is =
-      let s = by_slot (entries (layout homes)) i v is in
-      let r = entries-from (layout homes) i s.0 s.1 in
-      let e = layout-all r.0 s.0 r.2 in
-      (e.0, e.1, s.0.entry, e.2, s.2)
+  layout-all homes = upto-all homes (length homes)

@@ -20,15 +20,12 @@ use Rattle.clock2q_handles.proofs.shifts.Changes.{read-split, read-count}
 use Rattle.clock2q_handles.proofs.shifts.Steps.{past_home}
 use Rattle.clock2q_handles.proofs.walks.Yields.{walk-at, walk-beyond}
 
+pub use Rattle.clock2q_handles.proofs.rebuild.HeldHandles.{some_homes}
+
 module _ {E : Type 0} where
   slice_get-seam : (xs ys : List E) (e : E) → slice_get (xs ++ e ∷ ys) (length xs) ≡ Some e
   slice_get-seam [] ys e = refl
   slice_get-seam (x ∷ xs) ys e = slice_get-seam xs ys e
-
-  -- if there is an entry, there are slots
-  pub some_homes : (homes : List (List E)) (x i : ℕ) (e : E) → slice_get (listed homes x) i ≡ Some e → 0 < length homes
-  some_homes [] x i e is = absurd (cc)
-  some_homes (es ∷ homes) x i e is = omega arith
 
   -- the slot of an entry, by its displacement
   pub position_at : (slots : List (Option (Placed E))) (x i n : ℕ) (e : E) → IsEntryAt (homes_of slots) x i e n → n ≡ (x + (spill_of (homes_of slots) x + i)) % length slots
