@@ -1,6 +1,6 @@
 -- Fewer entries push less, in as many homes or in a multiple: what that means for a removal and a rebuild. And what a rebuild does to the lists.
-use Rattle.std.proofs.Common.{◌≡◌, ℕ, zero, suc, ◌+◌, ◌-◌, ◌*◌, ◌%◌, ◌<◌, ◌≤◌, inl, inr, refl, ap, ◌∙◌, arith, cond, eqb, eq-eqb, ne_eqb, List, [], ◌∷◌, ◌++◌, length}
-use Rattle.std.proofs.Common.{take, drop, take-append-drop, sum_by, length-append, Option, Some, slice_get}
+use Rattle.std.proofs.Common.{◌≡◌, ℕ, zero, suc, ◌+◌, ◌-◌, ◌*◌, ◌%◌, ◌<◌, ◌≤◌, inl, inr, refl, ap, sym, ◌∙◌, arith, cond, eqb, eq-eqb, ne_eqb, List, [], ◌∷◌, ◌++◌, length}
+use Rattle.std.proofs.Common.{take, drop, get_or, take-append-drop, sum_by, length-append, Option, Some, slice_get}
 use Rattle.std.proofs.lemmas.Bool.{cases_lt}
 use Rattle.std.proofs.lemmas.List.{length-replicate}
 use Rattle.std.proofs.lemmas.List.Elements.{filter_map-append}
@@ -41,6 +41,10 @@ module _ {E : Type 0} where
   pub walk-again : (homes : List (List E)) (n : ℕ) → walk homes (n + length homes) ≡ walk homes n
   walk-again [] n = refl
   walk-again (es ∷ homes) n = grind (arith, spill-again, count-again (es ∷ homes))
+
+  -- an entry put last is last in the list of its home
+  pub listed-put_last : (homes : List (List E)) (x n : ℕ) (e : E) → 0 < length homes → n % length homes ≡ x % length homes → listed (put_last homes x e) n ≡ listed homes n ++ e ∷ []
+  listed-put_last homes x n e some same = listed-with_same homes x n (listed homes x ++ e ∷ []) some same ∙ ap (λ k. get_or homes k [] ++ e ∷ []) (sym same)
 
   pub count-with_list : (homes : List (List E)) (x n : ℕ) (es : List E) → 0 < length homes → length es ≤ count homes x → count (with_list homes x es) n ≤ count homes n
   count-with_list homes x n es some l = grind (arith, listed-with_same, listed-with_other)
@@ -92,7 +96,7 @@ module _ {H : Type 0} (key : H → ℕ) where
   shares_one m n e = grind arith
 
   count-put_last : (homes : List (List (ℕ × H))) (m n : ℕ) (e : ℕ × H) → length homes ≡ m → 0 < m → count (put_last homes (key e.1) e) n ≡ count homes n + shares m n e
-  count-put_last homes m n e len some = grind (arith, eq-eqb, listed-with_same, length-append, ne_eqb, listed-with_other)
+  count-put_last homes m n e len some = grind (arith, eq-eqb, listed-put_last, length-append, ne_eqb, listed-with_other)
 
   pub length-put_all : (homes : List (List (ℕ × H))) (es : List (Placed (ℕ × H))) → length (put_all key homes es) ≡ length homes
   length-put_all homes [] = refl

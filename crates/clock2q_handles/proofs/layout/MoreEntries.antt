@@ -3,9 +3,9 @@ use Rattle.std.proofs.Common.{◌≡◌, ℕ, zero, suc, ◌+◌, ◌-◌, ◌%�
 use Rattle.std.proofs.lemmas.Bool.{cases_eq}
 use Rattle.clock2q_handles.specs.Homes.{listed, count, put_last}
 use Rattle.clock2q_handles.specs.Layout.{window, spill, walk}
-use Rattle.clock2q_handles.proofs.layout.FewerEntries.{walk-is}
+use Rattle.clock2q_handles.proofs.layout.FewerEntries.{walk-is, listed-put_last}
 use Rattle.clock2q_handles.proofs.layout.Spill.{spill-above, spill-found, window-same}
-use Rattle.clock2q_handles.proofs.shifts.Changes.{length-with_list, listed-with_same, listed-with_other}
+use Rattle.clock2q_handles.proofs.shifts.Changes.{length-with_list, listed-with_other}
 
 -- two slots within a lap aren't the same
 apart : (m a j k : ℕ) → j < k → k < j + m → (a + j) % m ≡ (a + k) % m → ⊥
@@ -34,23 +34,20 @@ module _ (c d : ℕ → ℕ) (m x : ℕ) (some : 0 < m) (other : (n : ℕ) → (
       omega (arith, r.1, r.2, same, spill-above c m h r.0 r.1)
 
 module _ {E : Type 0} (homes : List (List E)) (x : ℕ) (e : E) (some : 0 < length homes) where
-  abbrev es : List E
-  es = listed homes x ++ e ∷ []
-
   abbrev more : List (List E)
   more = put_last homes x e
 
   len : length more ≡ length homes
-  len = length-with_list homes x es
+  len = length-with_list homes x (listed homes x ++ e ∷ [])
 
   at : (n : ℕ) → n % length homes ≡ x % length homes → count more n ≡ count homes n + 1
-  at n same = omega (arith, ap length (listed-with_same homes x n es some same), length-append (listed homes x) (e ∷ []), ap (λ k. length (get_or homes k [])) same)
+  at n same = grind (arith, listed-put_last homes x n e some same, length-append (listed homes n) (e ∷ []))
 
   away : (n : ℕ) → (n % length homes ≡ x % length homes → ⊥) → count more n ≡ count homes n
-  away n other = ap length (listed-with_other homes x n es other)
+  away n other = ap length (listed-with_other homes x n (listed homes x ++ e ∷ []) other)
 
   one : (n : ℕ) → count more n ≤ count homes n + 1
-  one n = elim (cases_eq (n % length homes) (x % length homes)) [ inl same ↦ omega (arith, at n same) | inr other ↦ omega (arith, away n other) ]
+  one n = grind (arith, cases_eq (n % length homes) (x % length homes), at n, away n)
 
   -- no walk becomes more than one slot longer
   pub walk-more : (y : ℕ) → walk more y ≤ walk homes y + 1

@@ -10,7 +10,8 @@ use Rattle.clock2q_handles.specs.TableStep.{put_all, rebuilt, grown, doubled, Is
 use Rattle.clock2q_handles.specs.Rehash.{IsHeld, held_handles}
 use Rattle.clock2q_handles.proofs.layout.Reading.{get_or-same}
 use Rattle.clock2q_handles.proofs.layout.TidyLayout.{layout-standing, capacity-lt}
-use Rattle.clock2q_handles.proofs.shifts.Changes.{length-with_list, listed-with_same, listed-with_other}
+use Rattle.clock2q_handles.proofs.shifts.Changes.{listed-with_other}
+use Rattle.clock2q_handles.proofs.layout.FewerEntries.{listed-put_last}
 use Rattle.clock2q_handles.proofs.rebuild.HeldHandles.{IsEntry, some_homes}
 use Rattle.clock2q_handles.proofs.rebuild.Hashes.{entry_laid, hash-at, grown_either, put_some, put_all-keeps, slice_get-push}
 
@@ -41,20 +42,17 @@ module _ {H : Type 0} where
   held_entry homes v at = (at.2, (at.0, at.1, at.3), at.4)
 
   module _ (homes : List (List (ℕ × H))) (x : ℕ) (e f : ℕ × H) (some : 0 < length homes) where
-    put_same : (n : ℕ) → n % length homes ≡ x % length homes → listed (put_last homes x e) n ≡ listed homes n ++ e ∷ []
-    put_same n same = listed-with_same homes x n (listed homes x ++ e ∷ []) some same ∙ ap (λ k. get_or homes k [] ++ e ∷ []) (sym same)
-
     -- an entry stays when one is put in
     pub entry_kept : IsEntry homes f → IsEntry (put_last homes x e) f
-    entry_kept at = grind (arith, put_same, slice_get-left, listed-with_other)
+    entry_kept at = grind (arith, listed-put_last, slice_get-left, listed-with_other)
 
     -- the new one is there
     pub entry_new : IsEntry (put_last homes x e) e
-    entry_new = (x, length (listed homes x), ap (λ es. slice_get es (length (listed homes x))) (put_same x refl) ∙ slice_get-last (listed homes x) e)
+    entry_new = (x, length (listed homes x), ap (λ es. slice_get es (length (listed homes x))) (listed-put_last homes x x e some refl) ∙ slice_get-last (listed homes x) e)
 
     -- and no other
     pub entry_from : IsEntry (put_last homes x e) f → IsEntry homes f ⊎ (f ≡ e)
-    entry_from at = grind (arith, slice_get-push, put_same, listed-with_other)
+    entry_from at = grind (arith, slice_get-push, listed-put_last, listed-with_other)
 
 module _ {H : Type 0} (key : H → ℕ) where
   all_new : (homes : List (List (ℕ × H))) (es : List (Placed (ℕ × H))) (i : ℕ) (s : Placed (ℕ × H)) → 0 < length homes → slice_get es i ≡ Some s → IsEntry (put_all key homes es) s.entry
