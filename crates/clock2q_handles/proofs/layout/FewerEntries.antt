@@ -4,7 +4,7 @@ use Rattle.std.proofs.Common.{take, drop, get_or, take-append-drop, sum_by, leng
 use Rattle.std.proofs.lemmas.Bool.{cases_lt}
 use Rattle.std.proofs.lemmas.List.{length-replicate}
 use Rattle.std.proofs.lemmas.List.Elements.{filter_map-append}
-use Rattle.std.proofs.lemmas.List.Sums.{fold_push, sum_by-cons, sum_by-append}
+use Rattle.std.proofs.lemmas.List.Sums.{fold_push, sum_by-cons, sum_by-append, sum_by-le-sum_by}
 use Rattle.std.proofs.Math.Nat.{add-mul-mod_self_right}
 use Rattle.clock2q_handles.specs.Homes.{capacity, listed, count, total, no_entries, with_list, put_last}
 use Rattle.clock2q_handles.specs.Layout.{Placed, window, spill, spill_of, walk, layout, entries}
@@ -12,7 +12,7 @@ use Rattle.clock2q_handles.specs.TableStep.{put_all, IsHashOf}
 use Rattle.clock2q_handles.proofs.layout.Spill.{Roomy, spill-again, spill-found, spill-step, window-le}
 use Rattle.clock2q_handles.proofs.layout.Periods.{again-times, rem-same}
 use Rattle.clock2q_handles.proofs.layout.Reading.{get_or-same, listed-again, count-again}
-use Rattle.clock2q_handles.proofs.layout.TidyLayout.{capacity-lt, roomy-of, layout-sum}
+use Rattle.clock2q_handles.proofs.layout.TidyLayout.{capacity-lt, roomy-of, layout-sum, sum_by_one}
 use Rattle.clock2q_handles.proofs.shifts.Changes.{length-with_list, listed-with_same, listed-with_other, total-with_list}
 
 -- a window of any length holds no more than its slots and what is spilled after it
@@ -70,22 +70,14 @@ module _ {E : Type 0} where
     | inr none ↦ omega (arith, walk-none (with_list homes x es) y (omega (arith, length-with_list homes x es)))
   ]
 
-window_none : (f : ℕ → ℕ) (k : ℕ) → ((j : ℕ) → j < k → f j ≡ 0) → window f 0 k ≡ 0
-window_none f zero none = refl
-window_none f (suc k) none = grind (arith, window_none f k (λ j l. none j (omega arith)))
-
--- a sum with at most one nonzero term
-window_one : (f : ℕ → ℕ) (g k : ℕ) → ((j : ℕ) → j < k → (j ≡ g → ⊥) → f j ≡ 0) → window f 0 k ≤ f g
-window_one f g zero none = omega arith
-window_one f g (suc k) none = grind (arith, window_none, window_one f g k (λ j l. none j (omega arith)))
+-- a sum with at most one nonzero term, and before that term
+window_one : (f : ℕ → ℕ) (g k : ℕ) → ((j : ℕ) → j < k → (j ≡ g → ⊥) → f j ≡ 0) → (window f 0 k ≤ f g) × (k ≤ g → window f 0 k ≡ 0)
+window_one f g zero none = (omega arith, λ _. refl)
+window_one f g (suc k) none = grind (arith, window_one f g k (λ j l. none j (omega arith)))
 
 sum_by_none : {X : Type 0} (w : X → ℕ) (xs : List X) → ((i : ℕ) (x : X) → slice_get xs i ≡ Some x → w x ≡ 0) → sum_by w xs ≡ 0
 sum_by_none w [] none = refl
 sum_by_none w (x ∷ xs) none = omega (arith, sum_by-cons w x xs, none 0 x refl, sum_by_none w xs (λ i y is. none (suc i) y is))
-
-sum_by_all : {X : Type 0} (w : X → ℕ) (xs : List X) → ((x : X) → w x ≤ 1) → sum_by w xs ≤ length xs
-sum_by_all w [] one = omega arith
-sum_by_all w (x ∷ xs) one = omega (arith, sum_by-cons w x xs, one x, sum_by_all w xs one)
 
 module _ {H : Type 0} (key : H → ℕ) where
   -- whether e belongs in the home of n among m
@@ -138,7 +130,7 @@ module _ {H : Type 0} (key : H → ℕ) where
       let one = window_one (λ h. sum_by w (listed homes h)) (n % m) m (λ h l other. sum_by_none w (listed homes h) (λ i e is.
       grind (arith, (hashes h i e l is).0, ne_eqb (n % (k * m)) (key e.1 % (k * m)), rem (key e.1), rem n))) in
       let here = rem-same (listed homes) m (listed-again homes) n in
-      grind (arith, layout-sum w homes room, one, sum_by_all w (listed homes (n % m)) (shares_one (k * m) n), here)
+      grind (arith, layout-sum w homes room, one.0, sum_by-le-sum_by w (λ _. 1) (listed homes (n % m)) (shares_one (k * m) n), sum_by_one, here)
 
   sum_by_front : (w : Placed (ℕ × H) → ℕ) (slots : List (Option (Placed (ℕ × H)))) (i : ℕ) → sum_by w (entries (take i slots)) ≤ sum_by w (entries slots)
   sum_by_front w slots i =

@@ -45,13 +45,11 @@ module _ {E : Type 0} where
   met-last A h d (suc k) = grind (arith, append_assoc, met-last A h (suc d) k)
 
   pub met-add : (A : ℕ → Option (Placed E)) (h d k l : ℕ) → met A h d (k + l) ≡ met A h d k ++ met A h (d + k) l
-  met-add A h d k zero = grind (arith, append-nil (met A h d k))
-  met-add A h d k (suc l) =
-      let e : k + suc l ≡ suc (k + l) = omega arith in
-      let s : d + (k + l) ≡ d + k + l = omega arith in
-      ap (met A h d) e ∙ met-last A h d (k + l) ∙ ap (λ xs. xs ++ at_home (A (h + (d + (k + l)))) (d + (k + l))) (met-add A h d k l)
-      ∙ append_assoc (met A h d k) (met A h (d + k) l) (at_home (A (h + (d + (k + l)))) (d + (k + l)))
-      ∙ ap (λ x. met A h d k ++ (met A h (d + k) l ++ at_home (A (h + x)) x)) s ∙ ap (λ xs. met A h d k ++ xs) (sym (met-last A h (d + k) l))
+  met-add A h d zero l = grind arith
+  met-add A h d (suc k) l =
+      let e : suc k + l ≡ suc (k + l) = omega arith in
+      let s : suc d + k ≡ d + suc k = omega arith in
+      grind (arith, e, s, met-add A h (suc d) k l, append_assoc (at_home (A (h + d)) d) (met A h (suc d) k) (met A h (suc d + k) l))
 
   pub met-same : (A B : ℕ → Option (Placed E)) (g h d k : ℕ) → ((j : ℕ) → d ≤ j → j < d + k → A (g + j) ≡ B (h + j)) → met A g d k ≡ met B h d k
   met-same A B g h d zero same = refl

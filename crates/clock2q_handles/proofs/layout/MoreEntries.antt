@@ -1,36 +1,29 @@
 -- One entry more makes no walk more than one slot longer.
-use Rattle.std.proofs.Common.{◌≡◌, ℕ, zero, suc, ◌+◌, ◌-◌, ◌%◌, ◌<◌, ◌≤◌, inl, inr, sym, ap, ◌∙◌, arith, List, [], ◌∷◌, ◌++◌, length, length-append, get_or, div-add-mod', mul-le-mul_right}
+use Rattle.std.proofs.Common.{◌≡◌, ℕ, zero, suc, ◌+◌, ◌-◌, ◌%◌, ◌<◌, ◌≤◌, inl, inr, sym, ap, ◌∙◌, arith, List, [], ◌∷◌, ◌++◌, length, length-append}
 use Rattle.std.proofs.lemmas.Bool.{cases_eq}
 use Rattle.clock2q_handles.specs.Homes.{listed, count, put_last}
 use Rattle.clock2q_handles.specs.Layout.{window, spill, walk}
 use Rattle.clock2q_handles.proofs.layout.FewerEntries.{walk-is, listed-put_last}
+use Rattle.clock2q_handles.proofs.layout.Periods.{rems-differ}
 use Rattle.clock2q_handles.proofs.layout.Spill.{spill-above, spill-found, window-same}
 use Rattle.clock2q_handles.proofs.shifts.Changes.{length-with_list, listed-with_other}
-
--- two slots within a lap aren't the same
-apart : (m a j k : ℕ) → j < k → k < j + m → (a + j) % m ≡ (a + k) % m → ⊥
-apart m a j k below within same = grind (arith, div-add-mod', mul-le-mul_right)
 
 -- counts that differ at one home, by one at most
 module _ (c d : ℕ → ℕ) (m x : ℕ) (some : 0 < m) (other : (n : ℕ) → (n % m ≡ x % m → ⊥) → d n ≡ c n) (one : (n : ℕ) → d n ≤ c n + 1) where
   window_more : (a k : ℕ) → k ≤ m → window d a k ≤ window c a k + 1
   window_more a zero l = omega arith
-  window_more a (suc k) l = grind (arith, window-same, apart, window_more a k (omega (arith, l)))
+  window_more a (suc k) l = grind (arith, window-same, rems-differ, window_more a k (omega (arith, l)))
 
   -- push no home's entries more than one slot further
   spill_more : (h : ℕ) → spill d m h ≤ spill c m h + 1
-  spill_more h =
-      let r = spill-found d m h some in
-      omega (arith, r.1, r.2, window_more (h + m - r.0) r.0 (omega (arith, r.1)), spill-above c m h r.0 r.1)
+  spill_more h = grind (arith, spill-found d m h some, window_more, spill-above)
 
   -- and not those of that home
   spill_own : (h : ℕ) → h % m ≡ x % m → spill d m h ≤ spill c m h
   spill_own h at =
       let r = spill-found d m h some in
       let same = window-same d c (h + m - r.0) r.0 (λ j below.
-      let e : h + m - r.0 + j ≡ h + (m - r.0 + j) = omega (arith, r.1) in
-      let z : h + 0 ≡ h = omega arith in
-      other (h + m - r.0 + j) (λ q. apart m h 0 (m - r.0 + j) (omega (arith, r.1)) (omega (arith, below, r.1)) (ap (λ k. k % m) z ∙ at ∙ sym q ∙ ap (λ k. k % m) e))) in
+      other (h + m - r.0 + j) (λ q. rems-differ m h (h + m - r.0 + j) (omega (arith, r.1)) (omega (arith, below, r.1)) (at ∙ sym q))) in
       omega (arith, r.1, r.2, same, spill-above c m h r.0 r.1)
 
 module _ {E : Type 0} (homes : List (List E)) (x : ℕ) (e : E) (some : 0 < length homes) where

@@ -1,8 +1,11 @@
 -- No placement of the same entries does better than the layout: the homes of a window that is overfull have too many entries for nearer slots.
-use Rattle.std.proofs.Common.{◌≡◌, ℕ, zero, suc, ◌+◌, ◌-◌, ◌%◌, ◌<◌, ◌≤◌, ◌⊎◌, inl, inr, refl, sym, arith, true, eqb, eqb-true, eq-eqb, ne_eqb, List, [], ◌∷◌, length}
-use Rattle.std.proofs.Common.{mod-eq_of_lt}
-use Rattle.std.specs.List.{IsDistinct, AllByRecursion, list_any}
+use Rattle.std.proofs.Common.{◌≡◌, ◌≢◌, ℕ, zero, suc, ◌+◌, ◌-◌, ◌%◌, ◌<◌, ◌≤◌, ◌⊎◌, inl, inr, refl, sym, ap, ◌∙◌, arith, cond, nat_le, eqb, eqb-true, List, map, length, get_or, mod-eq_of_lt}
+use Rattle.std.specs.List.{AllPairs, range_with_len}
 use Rattle.std.proofs.lemmas.Bool.{cases_lt}
+use Rattle.std.proofs.lemmas.Bool.Decides.{Decides-eqb, leb_tells}
+use Rattle.std.proofs.lemmas.List.Folds.{Any-from_list_any}
+use Rattle.std.proofs.lemmas.List.FromFn.{length-map-range_with_len, get_or-map-range_with_len}
+use Rattle.std.proofs.lemmas.Map.Made.{IsDistinct-from_AllPairs}
 use Rattle.std.proofs.lemmas.Map.Steps.{length-le_from_distinct_below}
 use Rattle.std.proofs.Math.Nat.{add-mod_right}
 use Rattle.clock2q_handles.specs.Homes.{capacity, count, total}
@@ -12,81 +15,33 @@ use Rattle.clock2q_handles.proofs.layout.Periods.{rem-same, rems-differ}
 use Rattle.clock2q_handles.proofs.layout.Reading.{count-again}
 use Rattle.clock2q_handles.proofs.layout.TidyLayout.{capacity-lt}
 
--- g 0 .. g (n - 1), the last first, and then the rest
-abbrev row_onto : (ℕ → ℕ) → ℕ → List ℕ → List ℕ
-row_onto g zero rest = rest
-row_onto g (suc n) rest = g n ∷ row_onto g n rest
+-- where number k is among rows of c 0, c 1 .. numbers: its row, and its place there
+abbrev locate : (ℕ → ℕ) → ℕ → ℕ → ℕ × ℕ
+locate c zero k = (0, k)
+locate c (suc n) k = cond (nat_le (window c 0 n) k) (n, k - window c 0 n) (locate c n k)
 
--- the rows f t 0 .. f t (c t - 1), for each t below n
-abbrev rows : (ℕ → ℕ → ℕ) → (ℕ → ℕ) → ℕ → List ℕ
-rows f c zero = []
-rows f c (suc n) = row_onto (f n) (c n) (rows f c n)
-
-length-row_onto : (g : ℕ → ℕ) (n : ℕ) (rest : List ℕ) → length (row_onto g n rest) ≡ length rest + n
-length-row_onto g zero rest = omega arith
-length-row_onto g (suc n) rest = omega (arith, length-row_onto g n rest)
-
-length-rows : (f : ℕ → ℕ → ℕ) (c : ℕ → ℕ) (n : ℕ) → length (rows f c n) ≡ window c 0 n
-length-rows f c zero = refl
-length-rows f c (suc n) = grind (arith, length-row_onto, length-rows f c n)
-
-among : (q x : ℕ) (xs : List ℕ) → list_any (eqb q) (x ∷ xs) ≡ true → (q ≡ x) ⊎ (list_any (eqb q) xs ≡ true)
-among q x xs h = grind (arith, eqb-true)
-
-among_rest : (q x : ℕ) (xs : List ℕ) → list_any (eqb q) xs ≡ true → list_any (eqb q) (x ∷ xs) ≡ true
-among_rest q x xs h = grind arith
-
-all_among : (P : ℕ → Type 0) (xs : List ℕ) → ((y : ℕ) → list_any (eqb y) xs ≡ true → P y) → AllByRecursion P xs
-all_among P [] h = tt
-all_among P (x ∷ xs) h = (h x (rw (eq-eqb x x refl)), all_among P xs (λ y l. h y (among_rest y x xs l)))
-
-among-row_onto : (q : ℕ) (g : ℕ → ℕ) (n : ℕ) (rest : List ℕ) → list_any (eqb q) (row_onto g n rest) ≡ true → ((j : ℕ) × (j < n) × (g j ≡ q)) ⊎ (list_any (eqb q) rest ≡ true)
-among-row_onto q g zero rest h = inr h
-among-row_onto q g (suc n) rest h = elim (among q (g n) (row_onto g n rest) h) [
-  | inl here ↦ inl (n, omega arith, sym here)
-  | inr later ↦ elim (among-row_onto q g n rest later) [ inl r ↦ inl (r.0, omega arith, r.2) | inr r ↦ inr r ]
+located : (c : ℕ → ℕ) (n k : ℕ) → k < window c 0 n → let at = locate c n k in (at.0 < n) × (at.1 < c at.0) × (k ≡ window c 0 at.0 + at.1)
+located c zero k l = absurd (omega (arith, l))
+located c (suc n) k l = elim (leb_tells (window c 0 n) k) [
+  | inl from ↦ let z : 0 + n ≡ n = omega arith in rw (from.0, locate) (omega arith, omega (arith, ap c z), omega arith)
+  | inr before ↦ rw (before.0, locate) (let r = located c n k before.1 in (omega arith, r.1, r.2))
 ]
-
-among-rows : (q : ℕ) (f : ℕ → ℕ → ℕ) (c : ℕ → ℕ) (n : ℕ) → list_any (eqb q) (rows f c n) ≡ true → (t : ℕ) × (j : ℕ) × (t < n) × (j < c t) × (f t j ≡ q)
-among-rows q f c zero h = absurd (cc)
-among-rows q f c (suc n) h = elim (among-row_onto q (f n) (c n) (rows f c n) h) [
-  | inl r ↦ (n, r.0, omega arith, r.1, r.2)
-  | inr later ↦
-      let r = among-rows q f c n later in
-      (r.0, r.1, omega arith, r.3, r.4)
-]
-
-distinct-row_onto : (g : ℕ → ℕ) (n : ℕ) (rest : List ℕ) → IsDistinct eqb rest → ((i j : ℕ) → i < j → j < n → g i ≡ g j → ⊥)
-    → ((j : ℕ) → j < n → list_any (eqb (g j)) rest ≡ true → ⊥) → IsDistinct eqb (row_onto g n rest)
-unfolding IsDistinct
-distinct-row_onto g zero rest d inj other = d
-distinct-row_onto g (suc n) rest d inj other = grind (arith, all_among, ne_eqb, among-row_onto, distinct-row_onto g n rest d)
-
-distinct-rows : (f : ℕ → ℕ → ℕ) (c : ℕ → ℕ) (n : ℕ) → ((t j u k : ℕ) → t < n → j < c t → u < n → k < c u → f t j ≡ f u k → (t ≡ u) × (j ≡ k)) → IsDistinct eqb (rows f c n)
-unfolding IsDistinct
-distinct-rows f c zero inj = tt
-distinct-rows f c (suc n) inj = grind (arith, distinct-row_onto, among-rows, distinct-rows f c n (λ t j u k lt lj lu lk. inj t j u k (omega arith) lj (omega arith) lk))
 
 -- there are at most b distinct numbers below b
-pub pairs-fit : (f : ℕ → ℕ → ℕ) (c : ℕ → ℕ) (n b : ℕ) → ((t j u k : ℕ) → t < n → j < c t → u < n → k < c u → f t j ≡ f u k → (t ≡ u) × (j ≡ k))
-    → ((t j : ℕ) → t < n → j < c t → f t j < b) → window c 0 n ≤ b
-pairs-fit f c n b inj below = grind (arith, length-rows f c n, length-le_from_distinct_below, distinct-rows f c n inj, among-rows)
+pigeons : (f : ℕ → ℕ) (n b : ℕ) → ((i j : ℕ) → i < j → j < n → f i ≡ f j → ⊥) → ((i : ℕ) → i < n → f i < b) → n ≤ b
+pigeons f n b apart below =
+    let xs : List ℕ = map f (range_with_len 0 n) in
+    let len : length xs ≡ n = length-map-range_with_len f 0 n in
+    let at : (i d : ℕ) → i < n → get_or xs i d ≡ f i = λ i d l. get_or-map-range_with_len f 0 n i i d l (omega arith) in
+    let pairs : AllPairs (λ x y. x ≢ y) xs = λ i j d l u e. apart i j l (omega (arith, u, len)) (sym (at i d (omega (arith, l, u, len))) ∙ e ∙ at j d (omega (arith, u, len))) in
+    omega (arith, len, length-le_from_distinct_below xs b (IsDistinct-from_AllPairs Decides-eqb xs pairs) (λ q among.
+    let r = Any-from_list_any (eqb q) xs among in
+    grind (arith, below r.0, at r.0 r.1, len, r.2, r.3, eqb-true q r.1 r.4)))
 
 -- one of them is at least b, or all are below
-some_in_row : (g : ℕ → ℕ) (n b : ℕ) → ((j : ℕ) × (j < n) × (b ≤ g j)) ⊎ ((j : ℕ) → j < n → g j < b)
-some_in_row g zero b = inr (λ j l. absurd (omega arith))
-some_in_row g (suc n) b = grind (arith, some_in_row g n b, cases_lt (g n) b)
-
-some_in_rows : (f : ℕ → ℕ → ℕ) (c : ℕ → ℕ) (n b : ℕ) → ((t : ℕ) × (j : ℕ) × (t < n) × (j < c t) × (b ≤ f t j)) ⊎ ((t j : ℕ) → t < n → j < c t → f t j < b)
-some_in_rows f c zero b = inr (λ t j l. absurd (omega arith))
-some_in_rows f c (suc n) b =
-    elim (some_in_rows f c n b) [
-      | inl r ↦ inl (r.0, r.1, omega arith, r.3, r.4)
-      | inr all ↦ elim (some_in_row (f n) (c n) b) [
-        | inl r ↦ inl (n, r.0, omega arith, r.1, r.2)
-        | inr row ↦ inr (λ t j l lj. grind (arith, all t j, row j))
-      ]
-    ]
+some_upto : (g : ℕ → ℕ) (n b : ℕ) → ((j : ℕ) × (j < n) × (b ≤ g j)) ⊎ ((j : ℕ) → j < n → g j < b)
+some_upto g zero b = inr (λ j l. absurd (omega arith))
+some_upto g (suc n) b = grind (arith, some_upto g n b, cases_lt (g n) b)
 
 window-from : (c : ℕ → ℕ) (a k : ℕ) → window (λ t. c (a + t)) 0 k ≡ window c a k
 window-from c a zero = refl
@@ -105,9 +60,12 @@ module _ {E : Type 0} (homes : List (List E)) (room : total homes < length homes
   abbrev from_home : ℕ → ℕ
   from_home t = (h + length homes - wide + t) % length homes
 
-  -- how far from the window's start an entry of home t is
+  -- how far from its home an entry of home t is, and from the window's start
+  abbrev distance : ℕ → ℕ → ℕ
+  distance t j = (place (from_home t) j + length homes - from_home t) % length homes
+
   abbrev offset : ℕ → ℕ → ℕ
-  offset t j = t + (place (from_home t) j + length homes - from_home t) % length homes
+  offset t j = t + distance t j
 
   wide_lt : wide < length homes
   wide_lt = (spill-found (count homes) (length homes) h (omega arith)).1
@@ -150,19 +108,24 @@ module _ {E : Type 0} (homes : List (List E)) (room : total homes < length homes
 
   some_past : ReachesPast homes place (spill_of homes h + count homes h - 1)
   some_past =
-      elim (some_in_rows (λ t j. (place (from_home t) j + length homes - from_home t) % length homes)
-      (λ t. count homes (h + length homes - wide + t)) (suc wide) (spill_of homes h + count homes h - 1)) [
-        | inl r ↦ (from_home r.0, r.1, home_lt r.0, omega (arith, home_count r.0, r.3), r.4)
+      let c : ℕ → ℕ = λ t. count homes (h + length homes - wide + t) in
+      let most : ℕ = spill_of homes h + count homes h - 1 in
+      elim (some_upto (λ k. distance (locate c (suc wide) k).0 (locate c (suc wide) k).1) (window c 0 (suc wide)) most) [
+        | inl r ↦
+            let p = located c (suc wide) r.0 r.1 in
+            (from_home (locate c (suc wide) r.0).0, (locate c (suc wide) r.0).1, home_lt (locate c (suc wide) r.0).0, omega (arith, home_count (locate c (suc wide) r.0).0, p.1), r.2)
         | inr all ↦ absurd (omega (
           arith,
           overfull,
-          pairs-fit offset (λ t. count homes (h + length homes - wide + t))
-              (suc wide) (spill_of homes h + count homes h - 1 + wide) offsets_apart (λ t j lt lj. omega (arith, all t j lt lj)),
+          pigeons (λ k. (locate c (suc wide) k).0 + distance (locate c (suc wide) k).0 (locate c (suc wide) k).1) (window c 0 (suc wide)) (most + wide)
+              (λ i j l u e. let p = located c (suc wide) i (omega arith) in
+              let q = located c (suc wide) j u in
+              let same = offsets_apart (locate c (suc wide) i).0 (locate c (suc wide) i).1 (locate c (suc wide) j).0 (locate c (suc wide) j).1 p.0 p.1 q.0 q.1 e in
+              omega (arith, l, p.2, q.2, ap (window c 0) same.0, same.1))
+              (λ k l. omega (arith, all k l, (located c (suc wide) k l).0)),
         ))
       ]
 
 -- however a table's entries are placed, some entry is as far past its home as any in the layout
 pub best-placed : {E : Type 0} (homes : List (List E)) → total homes ≤ capacity (length homes) → IsBestPlaced homes
-best-placed homes room place placement h i within l =
-    let r = some_past homes (omega (arith, capacity-lt (length homes) (omega arith))) place placement h within (omega arith) in
-    (r.0, r.1, r.2, r.3, omega (arith, r.4))
+best-placed homes room place placement h i within l = grind (arith, some_past homes (omega (arith, capacity-lt (length homes) (omega arith))) place placement h within (omega arith))

@@ -11,9 +11,7 @@ module _ {E : Type 0} where
 
   pub occupied-is : (A : ℕ → Option (Placed E)) (h v k : ℕ) → v < k → A (h + v) ≡ None → ((j : ℕ) → j < v → 1 ≤ reach (A (h + j))) → occupied A h k ≡ v
   occupied-is A h zero zero l hole full = absurd (omega arith)
-  occupied-is A h zero (suc k) l hole full =
-      let e : h ≡ h + 0 = omega arith in
-      occupied-none A h k (ap A e ∙ hole)
+  occupied-is A h zero (suc k) l hole full = grind (arith, occupied-none)
   occupied-is A h (suc v) zero l hole full = absurd (omega arith)
   occupied-is A h (suc v) (suc k) l hole full =
       let s : suc h + v ≡ h + suc v = omega arith in

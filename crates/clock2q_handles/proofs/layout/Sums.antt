@@ -1,5 +1,5 @@
 -- The sums of the entries: by slots, by homes, and as a list in the order of the slots.
-use Rattle.std.proofs.Common.{◌≡◌, ℕ, zero, suc, ◌+◌, ◌-◌, ◌≤◌, inl, inr, refl, ap, arith, List, [], ◌∷◌, length, take, take_all, get_or, sum_by, Option, Some, None}
+use Rattle.std.proofs.Common.{◌≡◌, ℕ, zero, suc, ◌+◌, ◌-◌, ◌≤◌, inl, inr, refl, ap, ◌∙◌, arith, List, [], ◌∷◌, length, take, take_all, get_or, sum_by, Option, Some, None}
 use Rattle.std.proofs.lemmas.Bool.{cases_lt}
 use Rattle.std.proofs.lemmas.List.Sums.{sum_by-cons, sum_by_push}
 use Rattle.clock2q_handles.specs.Layout.{Placed, window, spill, entries}
@@ -38,30 +38,24 @@ module _ {E : Type 0} where
 
     -- the slots of the k homes from z on
     homes_sum : (z : ℕ) → spill (counts L) m z ≡ 0 → (k : ℕ) → window (λ n. weight w (A n)) z (k + spill (counts L) m (z + k)) ≡ window (λ h. sum_by w (L h)) z k
-    homes_sum z start zero =
-        let e : 0 + spill (counts L) m (z + 0) ≡ 0 = (
-        let o : z + 0 ≡ z = omega arith in
-        omega (arith, ap (spill (counts L) m) o)) in
-        ap (window (λ n. weight w (A n)) z) e
+    homes_sum z start zero = grind (arith, counts)
     homes_sum z start (suc k) =
-        let step : spill (counts L) m (suc (z + k)) ≡ spill (counts L) m (z + k) + counts L (z + k) - 1 = spill-step (counts L) m roomy (z + k) in
-        let o : z + suc k ≡ suc (z + k) = omega arith in
-        let p : z + (k + spill (counts L) m (z + k)) ≡ z + k + spill (counts L) m (z + k) = omega arith in
-        let part : window (λ n. weight w (A n)) z (k + spill (counts L) m (z + k) + counts L (z + k)) ≡ window (λ h. sum_by w (L h)) z (suc k) =
-        omega (
+        let c : ℕ = counts L (z + k) in
+        let s : ℕ = spill (counts L) m (z + k) in
+        let part : window (λ n. weight w (A n)) z (k + s + c) ≡ window (λ h. sum_by w (L h)) z (suc k) = grind (
           arith,
           homes_sum z start k,
-          window-add (λ n. weight w (A n)) z (k + spill (counts L) m (z + k)) (counts L (z + k)),
-          ap (λ x. window (λ n. weight w (A n)) x (counts L (z + k))) p,
-          part_sum (z + k) (counts L (z + k)) (omega arith),
-          ap (sum_by w) (take_all (counts L (z + k)) (L (z + k)) (omega arith)),
+          window-add (λ n. weight w (A n)) z (k + s) c,
+          part_sum (z + k) c,
+          take_all c (L (z + k)),
         ) in
-        elim (cases_lt 0 (spill (counts L) m (z + k) + counts L (z + k))) [
-          | inl more ↦ grind (arith, part, step, ap (spill (counts L) m) o)
+        let step : spill (counts L) m (z + suc k) ≡ s + c - 1 = grind (arith, spill-step (counts L) m roomy (z + k)) in
+        elim (cases_lt 0 (s + c)) [
+          | inl more ↦ let e : suc k + spill (counts L) m (z + suc k) ≡ k + s + c = omega (arith, step) in ap (window (λ n. weight w (A n)) z) e ∙ part
           | inr none ↦
-              let e : suc k + spill (counts L) m (z + suc k) ≡ suc k = omega (arith, step, ap (spill (counts L) m) o) in
-              let q : k + spill (counts L) m (z + k) + counts L (z + k) ≡ k = omega arith in
-              let empty : A (z + k) ≡ None = laid.rest (z + k) (record { spilled = omega arith; counted = omega arith }) in
+              let e : suc k + spill (counts L) m (z + suc k) ≡ suc k = omega (arith, step) in
+              let q : k + s + c ≡ k = omega arith in
+              let empty = laid.rest (z + k) (record { spilled = omega arith; counted = omega arith }) in
               omega (arith, ap (window (λ n. weight w (A n)) z) e, ap (window (λ n. weight w (A n)) z) q, part, ap (weight w) empty)
         ]
 

@@ -45,14 +45,7 @@ module _ {E : Type 0} where
 
   get-read_upto : (slots : List (Option (Placed E))) (k h : ℕ) → h < k → get_or (read_upto slots k) h [] ≡ met (slot_at slots) h 0 (length slots)
   get-read_upto slots zero h l = absurd (omega arith)
-  get-read_upto slots (suc k) h l =
-      grind (
-        arith,
-        length-read_upto slots k,
-        get_or-append (read_upto slots k),
-        get-read_upto slots k h,
-        get_or_at (read_upto slots k) (met (slot_at slots) k 0 (length slots)) [] [] h,
-      )
+  get-read_upto slots (suc k) h l = grind (arith, length-read_upto, get_or-append, get-read_upto slots k h, get_or_at)
 
   pub length-homes_of : (slots : List (Option (Placed E))) → length (homes_of slots) ≡ length slots
   unfolding homes_of

@@ -31,11 +31,9 @@ module _ {E : Type 0} where
 
   -- it is enough to find such a home, counted past the last
   too-long-at : (homes : List (List E)) → total homes < length homes → (n : ℕ) → 0 < count homes n → 2 ^ 24 ≤ spill_of homes n + count homes n → IsTooLong homes
-  too-long-at homes room n some far =
+  too-long-at homes room n some far = 
       let m : ℕ = length homes in
-      let c = rem-same (count homes) m (count-again homes) n in
-      let s = rem-same (spill (count homes) m) m (spill-again (count homes) m (count-again homes)) n in
-      (n % m, omega arith, omega (arith, c), omega (arith, c, s))
+      grind (arith, rem-same (count homes) m (count-again homes) n, rem-same (spill (count homes) m) m (spill-again (count homes) m (count-again homes)) n)
 
   module _ (slots : List (Option (Placed E))) (tidy : IsTidy slots) where
     read_roomy : 0 < length slots → Roomy (count (homes_of slots)) (length slots)
@@ -134,15 +132,11 @@ module _ {E : Type 0} where
 
       -- the new entry would be too far
       pub long-by-new : 2 ^ 24 ≤ suc d → IsTooLong more
-      long-by-new far =
-          let v = first-vacant some_slots h in
-          new_long v.0 v.1 v.2 v.3 far
+      long-by-new far = grind (arith, first-vacant some_slots h, new_long)
 
       -- an entry after it would
       pub long-by-moved : (j : ℕ) → d ≤ j → ((i : ℕ) → d ≤ i → i ≤ j → 1 ≤ reach (slot_at slots (h + i))) → 2 ^ 24 ≤ suc (reach (slot_at slots (h + j))) → IsTooLong more
-      long-by-moved j from full far =
-          let v = first-vacant some_slots h in
-          moved_long v.0 v.1 v.2 v.3 j from (grind (arith, v.2, stops.before v.0, full v.0)) far
+      long-by-moved j from full far = grind (arith, first-vacant some_slots h, moved_long)
 
 -- a rebuild to k times the slots never makes the table too long on its way
 pub rebuilding-short : {H : Type 0} (key : H → ℕ) (homes : List (List (ℕ × H))) (k i : ℕ) → total homes < length homes → 0 < k * length homes

@@ -41,10 +41,7 @@ module _ {E : Type 0} (A : ℕ → Option (Placed E)) (ordered : IsOrdered A) wh
   -- past its stop a walk meets no entry of its home
   pub met-late : (h n k : ℕ) → reach (A (h + n)) ≤ n → met A h n k ≡ []
   met-late h n zero l = refl
-  met-late h n (suc k) l =
-      let here : at_home (A (h + n)) n ≡ [] = at_home-other (A (h + n)) n (λ e. omega arith) in
-      let next : reach (A (h + suc n)) ≤ suc n = omega (arith, after h 0 n (omega arith) (suc n) (omega arith)) in
-      ap (λ xs. xs ++ met A h (suc n) k) here ∙ met-late h (suc n) k next
+  met-late h n (suc k) l = grind (arith, at_home-other, after, met-late h (suc n) k)
 
   stop_upto : (h t k : ℕ) → ((n : ℕ) × (n < k) × Stops A h t n) ⊎ ((j : ℕ) → j < k → j + t < reach (A (h + j)))
   stop_upto h t zero = inr (λ j l. absurd (omega arith))
@@ -78,67 +75,48 @@ module _ {E : Type 0} (A : ℕ → Option (Placed E)) (ordered : IsOrdered A) wh
     pushed-le : (h : ℕ) → pushed h ≤ ending h
     pushed-le h = grind (arith, cases_lt (ending h) (pushed h), ending h, pushed h, pushed-stops h, ending-stops h)
 
-    one_on : (h : ℕ) → Stops A (suc h) 1 (ending h - 1)
-    one_on h =
-        record {
-          before = λ j l. grind (arith, (ending-stops h).before (suc j));
-          stop = grind (arith, (ending-stops h).stop, ordered.next h);
-        }
-
     pushed-step : (h : ℕ) → pushed (suc h) ≡ ending h - 1
-    pushed-step h = stops-unique (suc h) 1 (pushed (suc h)) (ending h - 1) (pushed-stops (suc h)) (one_on h)
-
-    stops-again : (h t n : ℕ) → Stops A h t n → Stops A (h + m) t n
-    stops-again h t n s =
-        let same : (j : ℕ) → A (h + m + j) ≡ A (h + j) = λ j. let e : h + m + j ≡ h + j + m = omega arith in ap A e ∙ again (h + j) in
-        record { before = λ j l. omega (arith, s.before j l, ap reach (same j)); stop = omega (arith, s.stop, ap reach (same n)) }
+    pushed-step h = stops-unique (suc h) 1 (pushed (suc h)) (ending h - 1) (pushed-stops (suc h)) (record {
+      before = λ j l. grind (arith, (ending-stops h).before (suc j));
+      stop = grind (arith, (ending-stops h).stop, ordered.next h);
+    })
 
     pushed-again : (h : ℕ) → pushed (h + m) ≡ pushed h
-    pushed-again h = stops-unique (h + m) 1 (pushed (h + m)) (pushed h) (pushed-stops (h + m)) (stops-again h 1 (pushed h) (pushed-stops h))
+    pushed-again h =
+        let same : (j : ℕ) → reach (A (h + m + j)) ≡ reach (A (h + j)) = λ j. let e : h + m + j ≡ h + j + m = omega arith in ap reach (ap A e ∙ again (h + j)) in
+        let s = pushed-stops h in
+        stops-unique (h + m) 1 (pushed (h + m)) (pushed h) (pushed-stops (h + m)) (record { before = λ j l. omega (arith, s.before j l, same j); stop = omega (arith, s.stop, same (pushed h)) })
 
     met_next : (h k : ℕ) → met A h 0 (suc k) ≡ met A h 0 k ++ at_home (A (h + k)) k
     met_next h k = grind (arith, met-last)
 
-    at_home_there : (h k : ℕ) → pushed h ≤ k → k < ending h → reach (A (h + k)) ≡ suc k
-    at_home_there h k from upto = omega (arith, after h 1 (pushed h) (pushed-stops h).stop k from, (ending-stops h).before k upto)
-
-    at_home_early : (h k : ℕ) → k < pushed h → at_home (A (h + k)) k ≡ []
-    at_home_early h k l = at_home-other (A (h + k)) k (λ e. omega (arith, (pushed-stops h).before k l))
-
-    at_home_late : (h k : ℕ) → ending h ≤ k → at_home (A (h + k)) k ≡ []
-    at_home_late h k l = at_home-other (A (h + k)) k (λ e. omega (arith, after h 0 (ending h) (ending-stops h).stop k l))
+    -- a slot k past h: one of the home's own entries, or none
+    own : (h k : ℕ) → ((pushed h ≤ k) × (k < ending h) × ((e : E) × (A (h + k) ≡ Some (placed k e)) × (at_home (A (h + k)) k ≡ e ∷ []))) ⊎ (((k < pushed h) ⊎ (ending h ≤ k)) × (at_home (A (h + k)) k ≡ []))
+    own h k = elim (cases_lt k (pushed h)) [
+      | inl early ↦ inr (inl early, at_home-other (A (h + k)) k (λ e. omega (arith, (pushed-stops h).before k early)))
+      | inr from ↦ elim (cases_lt k (ending h)) [
+        | inl upto ↦ inl (from, upto, at_home-own (A (h + k)) k (omega (arith, after h 1 (pushed h) (pushed-stops h).stop k from, (ending-stops h).before k upto)))
+        | inr late ↦ inr (inr late, at_home-other (A (h + k)) k (λ e. omega (arith, after h 0 (ending h) (ending-stops h).stop k late)))
+      ]
+    ]
 
     -- among the first k slots a walk meets the home's entries from the pushed ones on
     pub met-length : (h k : ℕ) → length (met A h 0 k) ≡ min k (ending h) - min k (pushed h)
     met-length h zero = omega arith
-    met-length h (suc k) =
-        let sum : length (met A h 0 (suc k)) ≡ length (met A h 0 k) + length (at_home (A (h + k)) k) = ap length (met_next h k) ∙ length-append (met A h 0 k) (at_home (A (h + k)) k) in
-        let l : pushed h ≤ ending h = pushed-le h in
-        elim (cases_lt k (pushed h)) [
-          | inl early ↦ omega (arith, sum, met-length h k, ap length (at_home_early h k early))
-          | inr from ↦ elim (cases_lt k (ending h)) [
-            | inl upto ↦ omega (arith, sum, met-length h k, ap length (at_home-own (A (h + k)) k (at_home_there h k from upto)).2)
-            | inr late ↦ omega (arith, sum, met-length h k, ap length (at_home_late h k late))
-          ]
-        ]
+    met-length h (suc k) = grind (arith, met_next h k, length-append (met A h 0 k) (at_home (A (h + k)) k), own h k, met-length h k, pushed-le h)
 
     pub met-entry : (h k i : ℕ) (e : E) → slice_get (met A h 0 k) i ≡ Some e → A (h + (pushed h + i)) ≡ Some (placed (pushed h + i) e)
     met-entry h zero i e is = absurd (cc)
     met-entry h (suc k) i e is = elim (slice_get-append (met A h 0 k) (at_home (A (h + k)) k) i e (ap (λ xs. slice_get xs i) (sym (met_next h k)) ∙ is)) [
       | inl front ↦ met-entry h k i e front
-      | inr last ↦ elim (cases_lt k (pushed h)) [
-        | inl early ↦ absurd (omega (arith, slice_get_within (at_home (A (h + k)) k) (i - length (met A h 0 k)) e last.1, ap length (at_home_early h k early)))
-        | inr from ↦ elim (cases_lt k (ending h)) [
-          | inl upto ↦
-              let own = at_home-own (A (h + k)) k (at_home_there h k from upto) in
-              let at : i ≡ k - pushed h = omega (arith, last.0, met-length h k, slice_get_within (at_home (A (h + k)) k) (i - length (met A h 0 k)) e last.1, ap length own.2) in
-              let z : i - length (met A h 0 k) ≡ 0 = omega (arith, met-length h k) in
-              let is_own : Some own.0 ≡ Some e = ap (λ xs. slice_get xs 0) (sym own.2) ∙ ap (slice_get (at_home (A (h + k)) k)) (sym z) ∙ last.1 in
-              let s : own.0 ≡ e = cc in
-              let p : pushed h + i ≡ k = omega arith in
-              ap (λ x. A (h + x)) p ∙ own.1 ∙ ap (λ x. Some (placed k x)) s ∙ ap (λ x. Some (placed x e)) (sym p)
-          | inr late ↦ absurd (omega (arith, slice_get_within (at_home (A (h + k)) k) (i - length (met A h 0 k)) e last.1, ap length (at_home_late h k late)))
-        ]
+      | inr last ↦ elim (own h k) [
+        | inl own ↦
+            let z : i - length (met A h 0 k) ≡ 0 = omega (arith, slice_get_within (at_home (A (h + k)) k) (i - length (met A h 0 k)) e last.1, ap length own.2.2) in
+            let at : pushed h + i ≡ k = omega (arith, last.0, met-length h k, z, own.0, own.1) in
+            let is_own : Some own.2.0 ≡ Some e = rw (own.2.2, z) at last.1 in
+            let s : own.2.0 ≡ e = cc in
+            rw (at, own.2.1, s)
+        | inr none ↦ absurd (omega (arith, slice_get_within (at_home (A (h + k)) k) (i - length (met A h 0 k)) e last.1, ap length none.1))
       ]
     ]
 
