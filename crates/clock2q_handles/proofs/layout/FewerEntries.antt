@@ -46,29 +46,29 @@ module _ {E : Type 0} where
   pub listed-put_last : (homes : List (List E)) (x n : ℕ) (e : E) → 0 < length homes → n % length homes ≡ x % length homes → listed (put_last homes x e) n ≡ listed homes n ++ e ∷ []
   listed-put_last homes x n e some same = listed-with_same homes x n (listed homes x ++ e ∷ []) some same ∙ ap (λ k. get_or homes k [] ++ e ∷ []) (sym same)
 
+  pub total-put_last : (homes : List (List E)) (x : ℕ) (e : E) → 0 < length homes → total (put_last homes x e) ≡ suc (total homes)
+  total-put_last homes x e some = omega (arith, total-with_list homes x (listed homes x ++ e ∷ []) some, length-append (listed homes x) (e ∷ []))
+
   pub count-with_list : (homes : List (List E)) (x n : ℕ) (es : List E) → 0 < length homes → length es ≤ count homes x → count (with_list homes x es) n ≤ count homes n
   count-with_list homes x n es some l = grind (arith, listed-with_same, listed-with_other)
 
+  -- as many homes, none of which has more entries, push no home further
+  pub spill_of-fewer : (homes fewer : List (List E)) → total homes < length homes → length fewer ≡ length homes → ((n : ℕ) → count fewer n ≤ count homes n) → (n : ℕ) → spill_of fewer n ≤ spill_of homes n
+  spill_of-fewer homes fewer room as_many below n =
+      let one : 1 * length homes ≡ length homes = omega arith in
+      grind (arith, as_many, one, spill-fewer (count homes) (count fewer) (length homes) 1 (roomy-of homes room) (omega (arith, room)) below n)
+
   -- a list that is no longer than before lengthens no walk
   pub shorter-walk : (homes : List (List E)) (x y : ℕ) (es : List E) → total homes ≤ capacity (length homes) → length es ≤ count homes x → walk (with_list homes x es) y ≤ walk homes y
-  shorter-walk homes x y es room l = elim (cases_lt 0 (length homes)) [
-    | inl some ↦
-        let m : ℕ = length homes in
-        let less : List (List E) = with_list homes x es in
-        let len : length less ≡ m = length-with_list homes x es in
-        let one : 1 * m ≡ m = omega arith in
-        let roomy : Roomy (count homes) m = roomy-of homes (omega (arith, capacity-lt m some)) in
-        omega (
-          arith,
-          walk-is homes y some,
-          walk-is less y (omega arith),
-          ap (λ w. spill (count less) w y) len,
-          ap (λ w. spill (count less) w y) one,
-          spill-fewer (count homes) (count less) m 1 roomy (omega arith) (λ n. count-with_list homes x n es some l) y,
-          count-with_list homes x y es some l,
-        )
-    | inr none ↦ omega (arith, walk-none (with_list homes x es) y (omega (arith, length-with_list homes x es)))
-  ]
+  shorter-walk homes x y es room l =
+      let less = with_list homes x es in
+      let len = length-with_list homes x es in
+      elim (cases_lt 0 (length homes)) [
+        | inl some ↦
+            let below = λ (n : ℕ). count-with_list homes x n es some l in
+            omega (arith, walk-is homes y some, walk-is less y (omega (arith, some, len)), below y, spill_of-fewer homes less (omega (arith, room, capacity-lt (length homes) some)) len below y)
+        | inr none ↦ omega (arith, walk-none less y (omega (arith, none, len)))
+      ]
 
 -- a sum with at most one nonzero term, and before that term
 window_one : (f : ℕ → ℕ) (g k : ℕ) → ((j : ℕ) → j < k → (j ≡ g → ⊥) → f j ≡ 0) → (window f 0 k ≤ f g) × (k ≤ g → window f 0 k ≡ 0)
@@ -93,9 +93,6 @@ module _ {H : Type 0} (key : H → ℕ) where
   pub length-put_all : (homes : List (List (ℕ × H))) (es : List (Placed (ℕ × H))) → length (put_all key homes es) ≡ length homes
   length-put_all homes [] = refl
   length-put_all homes (s ∷ es) = grind (arith, length-put_all (put_last homes (key s.entry.1) s.entry) es, length-with_list homes (key s.entry.1))
-
-  pub total-put_last : (homes : List (List (ℕ × H))) (x : ℕ) (e : ℕ × H) → 0 < length homes → total (put_last homes x e) ≡ suc (total homes)
-  total-put_last homes x e some = omega (arith, total-with_list homes x (listed homes x ++ e ∷ []) some, length-append (listed homes x) (e ∷ []))
 
   pub total-put_all : (homes : List (List (ℕ × H))) (es : List (Placed (ℕ × H))) → 0 < length homes → total (put_all key homes es) ≡ total homes + length es
   total-put_all homes [] some = omega arith

@@ -1,5 +1,5 @@
 -- Slots in which each home's entries are where the layout says: what each slot contains, that they are in order, and that each home's list can be read off them.
-use Rattle.std.proofs.Common.{◌≡◌, ℕ, zero, suc, ◌+◌, ◌-◌, ◌<◌, ◌≤◌, inl, inr, refl, ap, sym, ◌∙◌, arith, eq-eqb, ne_eqb, List, [], ◌∷◌, ◌++◌, length, take, take_all, Option, Some, None}
+use Rattle.std.proofs.Common.{◌≡◌, ℕ, zero, suc, ◌+◌, ◌-◌, ◌<◌, ◌≤◌, ◌⊎◌, inl, inr, refl, ap, sym, ◌∙◌, arith, eq-eqb, ne_eqb, List, [], ◌∷◌, ◌++◌, length, take, take_all, Option, Some, None}
 use Rattle.std.proofs.Common.{append_assoc, append-nil, slice_get}
 use Rattle.std.proofs.lemmas.Bool.{cases_lt}
 use Rattle.clock2q_handles.specs.Layout.{Placed, placed, spill, reach, at_home, met, IsOrdered}
@@ -71,48 +71,32 @@ module _ {E : Type 0} where
     pub gap-reach : (n : ℕ) → IsGap (counts L) m n → reach (A n) ≡ 0
     gap-reach n g = ap reach (laid.rest n g)
 
+    -- a slot is a gap and empty, or part of a home, and if of an earlier one, something is spilled there
+    pub seen : (n : ℕ) → spill (counts L) m 0 ≤ n
+        → (IsGap (counts L) m n × (reach (A n) ≡ 0)) ⊎ ((g : ℕ) × IsPartOf (counts L) m g n × (reach (A n) ≡ suc (n - g)) × (g < n → 1 ≤ spill (counts L) m n))
+    seen n l = elim (taken (counts L) m roomy n l) [
+      | inl g ↦ inl (g, gap-reach n g)
+      | inr p ↦ inr (p.0, p.1, part-reach n p.0 p.1, λ below. omega (arith, apart (counts L) m roomy p.0 n below))
+    ]
+
     -- an empty slot is a gap
     pub none-gap : (n : ℕ) → spill (counts L) m 0 ≤ n → A n ≡ None → IsGap (counts L) m n
-    none-gap n l none = elim (taken (counts L) m roomy n l) [
-      | inl g ↦ g
-      | inr p ↦ absurd (omega (arith, part-reach n p.0 p.1, ap reach none))
-    ]
+    none-gap n l none = grind (arith, seen n l)
 
     -- if an entry is away from its home, something is spilled
     pub far-spilled : (n : ℕ) → spill (counts L) m 0 ≤ n → 2 ≤ reach (A n) → 1 ≤ spill (counts L) m n
-    far-spilled n l far = elim (taken (counts L) m roomy n l) [
-      | inl g ↦ absurd (omega (arith, gap-reach n g))
-      | inr p ↦ omega (arith, part-reach n p.0 p.1, apart (counts L) m roomy p.0 n (omega (arith, part-reach n p.0 p.1)))
-    ]
+    far-spilled n l far = grind (arith, seen n l)
 
     -- and if one is at home, or there is none, nothing is
     pub near-unspilled : (n : ℕ) → spill (counts L) m 0 ≤ n → reach (A n) ≤ 1 → spill (counts L) m n ≡ 0
-    near-unspilled n l near = elim (taken (counts L) m roomy n l) [
-      | inl g ↦ g.spilled
-      | inr p ↦ grind (arith, part-reach n p.0 p.1)
-    ]
-
-    not_before : (n g : ℕ) → IsGap (counts L) m n → g ≤ n → IsPartOf (counts L) m g (suc n) → ⊥
-    not_before n g gap l p = elim (cases_lt g n) [
-      | inl below ↦ omega (arith, apart (counts L) m roomy g n below)
-      | inr from ↦ grind arith
-    ]
-
-    order_between : (n g h : ℕ) → IsPartOf (counts L) m g (suc n) → IsPartOf (counts L) m h n → suc n - g ≤ suc (n - h)
-    order_between n g h p q = elim (cases_lt g h) [
-      | inl below ↦ absurd (omega (arith, apart (counts L) m roomy g h below))
-      | inr from ↦ omega arith
-    ]
+    near-unspilled n l near = grind (arith, seen n l)
 
     order_at : (n : ℕ) → spill (counts L) m 0 ≤ n → reach (A (suc n)) ≤ suc (reach (A n))
-    order_at n l = elim (taken (counts L) m roomy (suc n) (omega arith)) [
-      | inl g ↦ omega (arith, gap-reach (suc n) g)
-      | inr p ↦ elim (taken (counts L) m roomy n l) [
-        | inl g ↦ elim (cases_lt n p.0) [
-          | inl at ↦ omega (arith, part-reach (suc n) p.0 p.1)
-          | inr before ↦ absurd (not_before n p.0 g before p.1)
-        ]
-        | inr q ↦ omega (arith, part-reach (suc n) p.0 p.1, part-reach n q.0 q.1, order_between n p.0 q.0 p.1 q.1)
+    order_at n l = elim (seen (suc n) (omega arith)) [
+      | inl g ↦ omega (arith, g.1)
+      | inr p ↦ elim (seen n l) [
+        | inl g ↦ grind (arith, p.2, p.3, g.0.spilled, g.0.counted, spill-step (counts L) m roomy n)
+        | inr q ↦ grind (arith, p.1, p.2, q.1, q.2, cases_lt p.0 q.0, apart (counts L) m roomy p.0 q.0)
       ]
     ]
 

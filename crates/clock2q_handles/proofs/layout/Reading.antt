@@ -41,10 +41,10 @@ module _ {E : Type 0} where
   put_from_other m slots n d [] p len other = refl
   put_from_other m slots n d (e ∷ es) p len other =
       let z : n + 0 ≡ n = omega arith in
-      put_from_other m (set slots (n % length slots) (Some (placed d e))) (suc n) (suc d) es p (length-set slots (n % length slots) (Some (placed d e)) ∙ len) (λ i l q.
+      let rest = put_from_other m (set slots (n % length slots) (Some (placed d e))) (suc n) (suc d) es p (length-set slots (n % length slots) (Some (placed d e)) ∙ len) (λ i l q.
       let s : suc n + i ≡ n + suc i = omega arith in
-      other (suc i) (omega arith) (q ∙ ap (λ x. x % m) s))
-      ∙ get_or-set_other slots (n % length slots) p (Some (placed d e)) None (λ q. other 0 (omega arith) (q ∙ ap (λ x. n % x) len ∙ ap (λ x. x % m) (sym z)))
+      other (suc i) (omega arith) (q ∙ ap (λ x. x % m) s)) in
+      grind (arith, rest, z, other 0, len, get_or-set_other slots (n % length slots) p (Some (placed d e)) None)
 
   put_from_at : (m : ℕ) (slots : List (Option (Placed E))) (n d : ℕ) (es : List E) (i : ℕ) (e : E) → length slots ≡ m → 0 < m
       → length es ≤ m → slice_get es i ≡ Some e → get_or (put_from slots n d es) ((n + i) % m) None ≡ Some (placed (d + i) e)
@@ -77,12 +77,7 @@ module _ {E : Type 0} where
               (omega (arith, apart (count homes) (length homes) roomy k (h + length homes) (omega arith), spill-again (count homes) (length homes) roomy.again h)))
               ∙ upto_at k (omega arith) h i e below is
           | inr from ↦
-              let fits : count homes k ≤ length homes = omega (
-                arith,
-                apart (count homes) (length homes) roomy k (suc k) (omega arith),
-                spill-lt (count homes)
-                    (length homes) roomy (suc k),
-              ) in
+              let fits : count homes k ≤ length homes = omega (arith, apart (count homes) (length homes) roomy k (suc k) (omega arith), spill-lt (count homes) (length homes) roomy (suc k)) in
               grind (arith, put_from_at (length homes) (layout_upto homes k) (k + spill_of homes k) (spill_of homes k) (listed homes k) i e (length-layout_upto homes k))
         ]
 

@@ -38,7 +38,7 @@ largest-above f (suc n) k l = elim (cases_lt k n) [
 
 pub largest-found : (f : ℕ → ℕ) (n : ℕ) → (k : ℕ) × (k < suc n) × (f k ≡ largest f (suc n))
 largest-found f zero = (0, omega arith, omega arith)
-largest-found f (suc n) =
+largest-found f (suc n) = 
     let r = largest-found f n in
     elim (cases_lt (f (suc n)) (largest f (suc n))) [ inl below ↦ (r.0, omega arith, omega arith) | inr above ↦ (suc n, omega arith, omega arith) ]
 
@@ -70,9 +70,7 @@ module _ (c : ℕ → ℕ) (m : ℕ) (roomy : Roomy c m) where
   within_lap a k l = grind (arith, window-add c a k (m - k), window-lap c m roomy.again a)
 
   pub spill-lt : (h : ℕ) → spill c m h < m
-  spill-lt h =
-      let r = spill-found c m h (omega (arith, roomy.room)) in
-      omega (arith, roomy.room, within_lap (h + m - r.0) r.0 (omega arith))
+  spill-lt h = grind (arith, spill-found c m h (omega (arith, roomy.room)), within_lap)
 
   spill_up : (h : ℕ) → spill c m h + c h ≤ suc (spill c m (suc h))
   spill_up h =

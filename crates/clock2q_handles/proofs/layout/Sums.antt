@@ -24,8 +24,7 @@ module _ {E : Type 0} where
   -- the entries by slot have the same sum as the slots
   pub entries-sum : (w : E → ℕ) (slots : List (Option (Placed E))) → sum_by (λ s. w s.entry) (entries slots) ≡ window (λ n. weight w (get_or slots n None)) 0 (length slots)
   entries-sum w [] = refl
-  entries-sum w (None ∷ slots) =
-      omega (arith, entries-sum w slots, window-front (λ n. weight w (get_or (None ∷ slots) n None)) 0 (length slots), window-shift (λ n. weight w (get_or (None ∷ slots) n None)) 0 (length slots))
+  entries-sum w (None ∷ slots) = grind (arith, entries-sum w slots, window-front, window-shift)
   entries-sum w (Some s ∷ slots) = grind (arith, entries-sum w slots, sum_by-cons (λ s. w s.entry) s (entries slots), window-front, window-shift)
 
   module _ (m : ℕ) (L : ℕ → List E) (A : ℕ → Option (Placed E)) (roomy : Roomy (counts L) m) (laid : IsLaid m L A) (w : E → ℕ) where

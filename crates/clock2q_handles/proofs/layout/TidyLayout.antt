@@ -1,16 +1,14 @@
 -- A table's slots are tidy exactly if they are the layout of few enough entries, which are then those read off them.
-use Rattle.std.proofs.Common.{◌≡◌, ℕ, zero, suc, ◌-◌, ◌+◌, ◌%◌, ◌<◌, ◌≤◌, inl, inr, refl, ap, sym, ◌∙◌, subst, arith, List, [], ◌∷◌, length, take, take_all, get_or, length-append, ext_get_or}
+use Rattle.std.proofs.Common.{◌≡◌, ℕ, zero, suc, ◌-◌, ◌+◌, ◌%◌, ◌<◌, ◌≤◌, refl, ap, sym, ◌∙◌, subst, arith, List, [], ◌∷◌, length, take, take_all, get_or, length-append, ext_get_or}
 use Rattle.std.proofs.Common.{sum_by, Option, Some, None, slice_get, mod-eq_of_lt, add-one}
 use Rattle.std.proofs.lemmas.List.{get_or_past, get_or_at}
 use Rattle.std.proofs.lemmas.List.Sums.{sum_by_more, sum_by-cons}
 use Rattle.std.proofs.Math.ListN.{get_or-append}
-use Rattle.std.proofs.Math.Nat.{add-mod_right}
 use Rattle.clock2q_handles.specs.Homes.{capacity, listed, count, total}
 use Rattle.clock2q_handles.specs.Layout.{placed, spill_of, Placed, window, slot_at, layout, entries, met, read_upto, homes_of, IsOrdered, IsTidy}
-use Rattle.clock2q_handles.proofs.layout.Spill.{Roomy, spill-lt, window-same}
+use Rattle.clock2q_handles.proofs.layout.Spill.{Roomy, window-same}
 use Rattle.clock2q_handles.proofs.layout.Periods.{rem-same}
-use Rattle.clock2q_handles.proofs.layout.Tiles.{taken}
-use Rattle.clock2q_handles.proofs.layout.Laid.{shows, gap-reach, IsLaid, laid-ordered, laid-met, laid-same, met-again}
+use Rattle.clock2q_handles.proofs.layout.Laid.{IsLaid, laid-ordered, laid-met, laid-same, met-again}
 use Rattle.clock2q_handles.proofs.layout.Walk.{lists-roomy, ordered-laid}
 use Rattle.clock2q_handles.proofs.layout.Sums.{weight, entries-sum, laid-sum}
 use Rattle.clock2q_handles.proofs.layout.Reading.{slot-again, slots_again, listed-again, count-again, length-layout, layout-laid}
@@ -27,10 +25,8 @@ module _ {E : Type 0} where
   sum-upto : (w : List E → ℕ) (homes : List (List E)) (k : ℕ) → k ≤ length homes → window (λ h. w (listed homes h)) 0 k ≡ sum_by w (take k homes)
   sum-upto w homes zero l = refl
   sum-upto w homes (suc k) l =
-      let s : get_or homes ((0 + k) % length homes) [] ≡ get_or homes k [] = (
-      let e : 0 + k ≡ k = omega arith in
-      ap (λ x. get_or homes (x % length homes) []) e ∙ ap (λ x. get_or homes x []) (mod-eq_of_lt l)) in
-      omega (arith, sum-upto w homes k (omega arith), ap w s, rw add-one at (sum_by_more w homes k [] l))
+      let s : listed homes (0 + k) ≡ get_or homes k [] = grind (arith, mod-eq_of_lt l) in
+      grind (arith, s, sum-upto w homes k (omega arith), rw add-one at (sum_by_more w homes k [] l))
 
   -- the sum over the homes is that over their lists
   pub sum-window : (w : List E → ℕ) (homes : List (List E)) → window (λ h. w (listed homes h)) 0 (length homes) ≡ sum_by w homes
@@ -68,10 +64,7 @@ module _ {E : Type 0} where
 
   -- slot lists of one length that show the same are the same
   pub same-slots : (slots others : List (Option (Placed E))) → length slots ≡ length others → ((n : ℕ) → slot_at slots n ≡ slot_at others n) → slots ≡ others
-  same-slots slots others len same = ext_get_or None slots others len (λ i l.
-      let a : i % length slots ≡ i = mod-eq_of_lt l in
-      let b : i % length others ≡ i = mod-eq_of_lt (omega arith) in
-      ap (λ x. get_or slots x None) (sym a) ∙ same i ∙ ap (λ x. get_or others x None) b)
+  same-slots slots others len same = ext_get_or None slots others len (λ i l. grind (arith, same i, mod-eq_of_lt l, mod-eq_of_lt {n = i} {m = length others}))
 
   -- slots that lay out lists are their layout
   pub laid-layout : (homes : List (List E)) (slots : List (Option (Placed E))) → total homes < length homes

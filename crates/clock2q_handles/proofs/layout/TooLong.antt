@@ -1,19 +1,18 @@
 -- When a table's entries are too far past their homes: what that takes, where it shows in the slots, and when an insertion makes it so.
-use Rattle.std.proofs.Common.{◌≡◌, ℕ, zero, suc, ◌+◌, ◌-◌, ◌*◌, ◌%◌, ◌^◌, ◌<◌, ◌≤◌, ◌⊎◌, inl, inr, ap, ◌∙◌, arith, List, [], ◌∷◌, ◌++◌, length, take, length-append, Option, None}
+use Rattle.std.proofs.Common.{◌≡◌, ℕ, zero, suc, ◌+◌, ◌-◌, ◌*◌, ◌^◌, ◌<◌, ◌≤◌, ◌⊎◌, inl, inr, ap, ◌∙◌, arith, List, [], ◌∷◌, ◌++◌, length, take, length-append, Option, None}
 use Rattle.std.proofs.lemmas.Bool.{cases_lt}
 use Rattle.clock2q_handles.specs.Homes.{capacity, listed, count, total, no_entries, put_last}
 use Rattle.clock2q_handles.specs.Layout.{Placed, spill, spill_of, slot_at, layout, entries, reach, homes_of, IsTidy, IsTooLong}
 use Rattle.clock2q_handles.specs.TableStep.{put_all, rebuilt, IsHashOf}
 use Rattle.clock2q_handles.proofs.layout.Spill.{Roomy, spill-again, spill-found, spill-lt, within_lap}
-use Rattle.clock2q_handles.proofs.layout.Tiles.{taken}
 use Rattle.clock2q_handles.proofs.layout.Periods.{rem-same}
-use Rattle.clock2q_handles.proofs.layout.Laid.{part-reach, gap-reach, reach-none}
+use Rattle.clock2q_handles.proofs.layout.Laid.{seen, reach-none}
 use Rattle.clock2q_handles.proofs.layout.Walk.{Stops, after}
 use Rattle.clock2q_handles.proofs.layout.Reading.{slot-again, count-again}
 use Rattle.clock2q_handles.proofs.layout.TidyLayout.{capacity-lt, roomy-of, sum-window, length-homes_of, tidy-vacant, read-laid, read-room}
 use Rattle.clock2q_handles.proofs.layout.Gaps.{IsOneMore}
-use Rattle.clock2q_handles.proofs.shifts.Changes.{length-with_list, listed-with_same, total-with_list, vacant_within, read-stop, one-put, roomy_at, other_at}
-use Rattle.clock2q_handles.proofs.layout.FewerEntries.{rebuilding-count, rebuilding-reach}
+use Rattle.clock2q_handles.proofs.shifts.Changes.{length-with_list, vacant_within, read-stop, one-put, roomy_at, other_at}
+use Rattle.clock2q_handles.proofs.layout.FewerEntries.{listed-put_last, total-put_last, rebuilding-count, rebuilding-reach}
 use Rattle.clock2q_handles.proofs.rebuild.Hashes.{entries-all, rebuilt-length, rebuilt-total}
 
 module _ {E : Type 0} where
@@ -31,7 +30,7 @@ module _ {E : Type 0} where
 
   -- it is enough to find such a home, counted past the last
   too-long-at : (homes : List (List E)) → total homes < length homes → (n : ℕ) → 0 < count homes n → 2 ^ 24 ≤ spill_of homes n + count homes n → IsTooLong homes
-  too-long-at homes room n some far = 
+  too-long-at homes room n some far =
       let m : ℕ = length homes in
       grind (arith, rem-same (count homes) m (count-again homes) n, rem-same (spill (count homes) m) m (spill-again (count homes) m (count-again homes)) n)
 
@@ -67,7 +66,7 @@ module _ {E : Type 0} where
       some_slots = omega arith
 
       more_total : total more ≡ suc (total (homes_of slots))
-      more_total = omega (arith, total-with_list (homes_of slots) h (listed (homes_of slots) h ++ e ∷ []) (omega (arith, length-homes_of slots)), length-append (listed (homes_of slots) h) (e ∷ []))
+      more_total = total-put_last (homes_of slots) h e (omega (arith, length-homes_of slots))
 
       more_length : length more ≡ length slots
       more_length = length-with_list (homes_of slots) h (listed (homes_of slots) h ++ e ∷ []) ∙ length-homes_of slots
@@ -76,7 +75,7 @@ module _ {E : Type 0} where
       more_room = omega (arith, more_total, capacity-lt (length slots) some_slots)
 
       more_here : count more h ≡ suc (count (homes_of slots) h)
-      more_here = grind (arith, listed-with_same, length-homes_of, length-append)
+      more_here = grind (arith, listed-put_last (homes_of slots) h h e, length-homes_of, length-append)
 
       stop_sum : d ≡ spill (count (homes_of slots)) (length slots) h + count (homes_of slots) h
       stop_sum = read-stop slots tidy some_slots h d stops ∙ ap (λ x. spill (count (homes_of slots)) x h + count (homes_of slots) h) (length-homes_of slots)
@@ -86,9 +85,6 @@ module _ {E : Type 0} where
         one = one-put (length slots) h v (listed (homes_of slots)) (listed more) (slot_at slots) (read_roomy some_slots) (roomy_at more (length slots) more_length more_room) within more_here
             (λ n q. ap length (other_at (homes_of slots) (length slots) h (listed (homes_of slots) h ++ e ∷ []) (length-homes_of slots) n q))
             (read-laid slots tidy some_slots) (slot-again slots) hole full
-
-        there : h + suc v + (length slots - suc v) ≡ h + length slots
-        there = omega arith
 
         same_spill : spill (count more) (length slots) h ≡ spill (count (homes_of slots)) (length slots) h
         same_spill =
@@ -112,22 +108,16 @@ module _ {E : Type 0} where
             let n : ℕ = h + j + m in
             let same : reach (slot_at slots n) ≡ reach (slot_at slots (h + j)) = ap reach (slot-again slots (h + j)) in
             let near : reach (slot_at slots (h + j)) ≤ j + 0 = after (slot_at slots) tidy.ordered h 0 d stops.stop j from in
-            elim (taken c m (read_roomy some_slots) n (omega (arith, spill-lt c m (read_roomy some_slots) 0))) [
-              | inl g ↦ absurd (omega (
-                arith,
-                same,
-                gap-reach m (listed (homes_of slots)) (slot_at slots) (read_roomy some_slots)
-                    (read-laid slots tidy some_slots) n g,
-                far,
-              ))
+            elim (seen m (listed (homes_of slots)) (slot_at slots) (read_roomy some_slots) (read-laid slots tidy some_slots) n (omega (arith, spill-lt c m (read_roomy some_slots) 0))) [
+              | inl g ↦ absurd (omega (arith, same, g.1, far))
               | inr p ↦
-                  let r : reach (slot_at slots n) ≡ suc (n - p.0) = part-reach m (listed (homes_of slots)) (slot_at slots) (read_roomy some_slots)
-                  (read-laid slots tidy some_slots) n p.0 p.1 in
                   let k : ℕ = p.0 - (h + suc v) in
-                  let q : h + suc v + k ≡ p.0 = omega (arith, r, same, near) in
-                  let sp : spill (count more) m p.0 ≡ suc (spill c m p.0) = omega (arith, one.spills k (omega (arith, r, same, near)), r, same, near, ap (spill c m) q, ap (spill (count more) m) q) in
-                  let ct : count more p.0 ≡ c p.0 = omega (arith, one.same k (omega (arith, r, same, near)) (λ z. omega (arith, r, same, near)), ap c q, ap (count more) q) in
-                  too-long-at more (omega (arith, more_room, more_length)) p.0 (omega (arith, ct)) (omega (arith, far, r, same, sp, ct, ap (λ x. spill (count more) x p.0) more_length))
+                  let within_lap : k < m = omega (arith, p.2, same, near) in
+                  let q : h + suc v + k ≡ p.0 = omega (arith, p.2, same, near) in
+                  let sp = rw q at (one.spills k within_lap) in
+                  let ct = rw q at (one.same k within_lap (λ z. omega (arith, p.2, same, near))) in
+                  too-long-at more (omega (arith, more_room, more_length)) p.0 (omega (arith, ct, p.1.from, p.1.upto))
+                  (omega (arith, far, p.1.from, p.1.upto, p.2, same, near, sp, ct, ap (λ x. spill (count more) x p.0) more_length))
             ]
 
       -- the new entry would be too far

@@ -1,5 +1,5 @@
 -- Slots in order, as a walk from a home sees them: entries of earlier homes, its own, and then an empty slot or an entry nearer its home. They are the layout of the lists that are read off them.
-use Rattle.std.proofs.Common.{◌≡◌, ℕ, zero, suc, ◌+◌, ◌-◌, ◌<◌, ◌≤◌, ◌⊎◌, inl, inr, min, refl, ap, sym, ◌∙◌, arith, List, [], ◌∷◌, ◌++◌, length, Option, Some, None, append-nil, length-append}
+use Rattle.std.proofs.Common.{◌≡◌, ℕ, zero, suc, ◌+◌, ◌-◌, ◌<◌, ◌≤◌, ◌⊎◌, inl, inr, min, refl, ap, sym, ◌∙◌, subst, arith, List, [], ◌∷◌, ◌++◌, length, Option, Some, None, append-nil, length-append}
 use Rattle.std.proofs.Common.{slice_get}
 use Rattle.std.proofs.lemmas.Bool.{cases_lt}
 use Rattle.std.proofs.lemmas.Option.{slice_get_within}
@@ -130,34 +130,19 @@ module _ {E : Type 0} (A : ℕ → Option (Placed E)) (ordered : IsOrdered A) wh
     pub lists-again : (h : ℕ) → lists (h + m) ≡ lists h
     lists-again h = met-again A m h 0 m again
 
-    lap_sum : (z k : ℕ) → window (counts lists) z k + pushed z ≤ pushed (z + k) + k
-    lap_sum z zero = grind (arith, pushed)
-    lap_sum z (suc k) = grind (arith, pushed, lap_sum z k, lists-length (z + k), pushed-step (z + k), pushed-le (z + k))
-
     ending_at_vacant : ending v ≡ 0
     ending_at_vacant = grind (arith, cases_lt 0 (ending v), ending v, ending-stops v)
+
+    lap_sum : (k : ℕ) → suc (window (counts lists) v (suc k)) ≤ pushed (v + suc k) + suc k
+    lap_sum zero = grind (arith, lists-length v, ending_at_vacant)
+    lap_sum (suc k) = grind (arith, lap_sum k, lists-length (v + suc k), pushed-step (v + suc k), pushed-le (v + suc k))
 
     pub lists-roomy : Roomy (counts lists) m
     lists-roomy = record {
       again = λ n. ap length (lists-again n);
       room =
-          let k : ℕ = m - 1 in
-          let e : m ≡ suc k = omega arith in
-          let s : suc v + k ≡ v + m = omega arith in
-          let none : counts lists v ≡ 0 = omega (arith, lists-length v, ending_at_vacant) in
-          omega (
-            arith,
-            window-lap (counts lists) m (λ n. ap length (lists-again n)) (suc v),
-            ap (window (counts lists) (suc v)) e,
-            lap_sum (suc v) k,
-            ap pushed s,
-            pushed-again v,
-            pushed-le v,
-            ending_at_vacant,
-            none,
-            ap length (lists-again v),
-            ap (counts lists) s,
-          );
+          let e : suc (m - 1) ≡ m = omega arith in
+          omega (arith, window-lap (counts lists) m (λ n. ap length (lists-again n)) v, subst (λ k. suc (window (counts lists) v k) ≤ pushed (v + k) + k) e (lap_sum (m - 1)), pushed-again v, pushed-le v, ending_at_vacant);
     }
 
     spill_from : (j : ℕ) → j ≤ m → spill (counts lists) m (suc v + j) ≡ pushed (suc v + j)
@@ -189,10 +174,7 @@ module _ {E : Type 0} (A : ℕ → Option (Placed E)) (ordered : IsOrdered A) wh
 
     -- an entry's displacement: what is spilled at its home, and the home's entries before it
     pub met-count : (h d : ℕ) → reach (A (h + d)) ≡ suc d → spill (counts lists) m h + length (met A h 0 d) ≡ d
-    met-count h d r =
-        let from : pushed h ≤ d = elim (cases_lt d (pushed h)) [ inl early ↦ absurd (omega (arith, (pushed-stops h).before d early)) | inr from ↦ from ] in
-        let upto : d < ending h = elim (cases_lt d (ending h)) [ inl upto ↦ upto | inr late ↦ absurd (omega (arith, after h 0 (ending h) (ending-stops h).stop d late)) ] in
-        omega (arith, met-length h d, spill-pushed h)
+    met-count h d r = grind (arith, own h d, at_home-own (A (h + d)) d r, met-length h d, spill-pushed h)
 
     -- a home's list is what its walk meets up to the stop
     pub met-stop : (h n : ℕ) → n ≤ m → Stops A h 0 n → lists h ≡ met A h 0 n

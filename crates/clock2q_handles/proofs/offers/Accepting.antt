@@ -1,12 +1,12 @@
 -- The candidate that a closure accepts, and those that it rejected before.
-use Rattle.std.proofs.Common.{◌≡◌, ℕ, ◌+◌, ◌-◌, ◌%◌, ◌<◌, ◌≤◌, Bool, true, false, List, [], ◌∷◌, ◌++◌, ◌==◌, map, length, Option, Some, None, refl, ap, sym, ◌∙◌, subst, arith}
+use Rattle.std.proofs.Common.{◌≡◌, ℕ, ◌+◌, ◌-◌, ◌%◌, ◌<◌, ◌≤◌, Bool, true, false, List, [], ◌∷◌, ◌++◌, ◌==◌, length, Option, Some, None, refl, ap, sym, ◌∙◌, subst, arith}
 use Rattle.std.proofs.lemmas.List.{map-append, append_cancel_right}
 use Rattle.std.proofs.lemmas.List.Elements.{filter-append}
 use Rattle.std.proofs.Math.Seq.{take-append_seam}
 use Rattle.std.specs.Fn.{Called, Mut}
 use Rattle.clock2q_handles.specs.Homes.{top, candidates_before}
 use Rattle.clock2q_handles.specs.Layout.{Placed, placed, slot_at, reach, met, homes_of, IsTidy}
-use Rattle.clock2q_handles.specs.Candidates.{left_at, left_from, matching, met_before, IsWalkFor, IsFoundAt}
+use Rattle.clock2q_handles.specs.Candidates.{left_at, left_from, met_before, IsWalkFor, IsFoundAt}
 use Rattle.clock2q_handles.specs.Offers.{Offers}
 use Rattle.clock2q_handles.specs.Positions.{IsEntryAt}
 use Rattle.clock2q_handles.specs.Slots.{Mark}

@@ -1,5 +1,5 @@
 -- The slot counts that a table grows to, and what a rebuild at one results in.
-use Rattle.std.proofs.Common.{◌≡◌, ℕ, suc, ◌*◌, ◌<◌, ◌≤◌, ◌==◌, inl, inr, max, refl, ap, sym, subst, arith, Bool, true, false, cond, List, length}
+use Rattle.std.proofs.Common.{◌≡◌, ℕ, suc, ◌*◌, ◌<◌, ◌≤◌, inl, inr, max, refl, ap, arith, List, length}
 use Rattle.std.proofs.lemmas.Bool.{cases_lt}
 use Rattle.std.proofs.Math.Nat.{two-pow-succ}
 use Rattle.clock2q_handles.specs.Homes.{capacity, total}

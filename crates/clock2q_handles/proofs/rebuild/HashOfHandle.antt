@@ -1,5 +1,5 @@
 -- Tables in which each handle was put in under the hash that one function gives it.
-use Rattle.std.proofs.Common.{◌≡◌, ◌≢◌, ◌⊎◌, inl, inr, ℕ, ◌<◌, ◌≤◌, ◌==◌, nat_le, zero, suc, Bool, true, false, cond, List, [], ◌∷◌, Option, Some, None, Result, Ok, Err, refl, sym, ap, ◌∙◌, subst, arith}
+use Rattle.std.proofs.Common.{◌≡◌, ◌≢◌, ◌⊎◌, inl, inr, ℕ, ◌<◌, ◌≤◌, nat_le, zero, suc, Bool, List, [], ◌∷◌, Option, Some, None, Result, Ok, Err, refl, ap, ◌∙◌, arith}
 use Rattle.std.proofs.Common.{length, slice_get}
 use Rattle.std.specs.Prelude.{OnOk, OnErr, ◌+◌, ◌*◌}
 use Rattle.clock2q_handles.specs.declared.error.TableError.{TableError}

@@ -1,5 +1,5 @@
 -- One function that gives each entry's handle a hash of the entry's home and fingerprint: it does so after each change, and through a rebuild.
-use Rattle.std.proofs.Common.{◌≡◌, ◌⊎◌, ℕ, zero, suc, ◌+◌, add-one, ◌-◌, ◌%◌, ◌<◌, ◌≤◌, inl, inr, refl, ap, sym, ◌∙◌, subst, arith, Bool, true, false, cond, List, [], ◌∷◌, ◌++◌, length, take, drop}
+use Rattle.std.proofs.Common.{◌≡◌, ◌⊎◌, ℕ, zero, suc, ◌+◌, add-one, ◌-◌, ◌%◌, ◌<◌, ◌≤◌, refl, ap, sym, ◌∙◌, arith, Bool, true, false, cond, List, [], ◌∷◌, ◌++◌, length, take, drop}
 use Rattle.std.proofs.Common.{take-append-drop, take-suc, take_all, get_or, length-append, Option, Some, None, slice_get, mod-eq_of_lt}
 use Rattle.std.proofs.lemmas.Bool.{cases_eq}
 use Rattle.std.proofs.lemmas.Bool.Decides.{eqb_tells}
@@ -11,7 +11,7 @@ use Rattle.clock2q_handles.specs.Layout.{Placed, slot_at, layout, entries, homes
 use Rattle.clock2q_handles.specs.TableStep.{put_all, rebuilt, grown, doubled, IsFull, IsHashOf}
 use Rattle.clock2q_handles.proofs.layout.Walk.{slice_get-append}
 use Rattle.clock2q_handles.proofs.layout.Reading.{get_or-same}
-use Rattle.clock2q_handles.proofs.layout.TidyLayout.{tidy-layout, layout-total, layout-tidy, layout-read}
+use Rattle.clock2q_handles.proofs.layout.TidyLayout.{tidy-layout, layout-total}
 use Rattle.clock2q_handles.proofs.shifts.Changes.{length-with_list, listed-with_same, listed-with_other}
 use Rattle.clock2q_handles.proofs.layout.FewerEntries.{length-put_all, total-put_all, total-no_entries}
 use Rattle.clock2q_handles.proofs.rebuild.HeldHandles.{IsEntry, some_homes, layout-all}

@@ -1,5 +1,5 @@
 -- What is in a slot of the layout is an entry of the lists.
-use Rattle.std.proofs.Common.{◌≡◌, ◌⊎◌, ℕ, zero, suc, ◌+◌, ◌%◌, ◌<◌, inl, inr, refl, sym, ◌∙◌, subst, arith, List, [], ◌∷◌, length, get_or, set, replicate, Option, Some, None, slice_get}
+use Rattle.std.proofs.Common.{◌≡◌, ◌⊎◌, ℕ, zero, suc, ◌+◌, ◌%◌, ◌<◌, inl, inr, refl, sym, ◌∙◌, arith, List, [], ◌∷◌, length, get_or, set, Option, Some, None, slice_get}
 use Rattle.clock2q_handles.specs.Homes.{listed}
 use Rattle.clock2q_handles.specs.Layout.{Placed, placed, layout, layout_upto, put_from, spill_of}
 use Rattle.clock2q_handles.proofs.layout.Reading.{get_or-same}

@@ -1,5 +1,5 @@
 -- A rebuild, slot by slot.
-use Rattle.std.proofs.Common.{◌≡◌, ℕ, ◌+◌, ◌*◌, ◌<◌, refl, ap, sym, ◌∙◌, subst, arith, List, ◌∷◌, map, take, drop, length, length-append, Option, None}
+use Rattle.std.proofs.Common.{◌≡◌, ℕ, ◌+◌, ◌*◌, ◌<◌, ap, sym, ◌∙◌, subst, arith, List, map, take, drop, length, length-append, Option, None}
 use Rattle.std.proofs.lemmas.Bool.{cases_lt}
 use Rattle.std.specs.Fn.{Called, Takes, Mut}
 use Rattle.clock2q_handles.specs.Homes.{capacity, total, no_entries, with_handle}
@@ -11,7 +11,7 @@ use Rattle.clock2q_handles.specs.Shifts.{HasRoomAt, PutsAt}
 use Rattle.clock2q_handles.specs.Slots.{Mark}
 use Rattle.clock2q_handles.specs.Table.{IsTable}
 use Rattle.clock2q_handles.specs.TableStep.{put_all}
-use Rattle.clock2q_handles.proofs.layout.FewerEntries.{length-put_all, total-put_all, put_all-push, total-no_entries}
+use Rattle.clock2q_handles.proofs.layout.FewerEntries.{total-put_all, put_all-push, total-no_entries}
 use Rattle.clock2q_handles.proofs.layout.TidyLayout.{length-homes_of, tidy-layout, tidy-total, tidy-room, capacity-lt}
 use Rattle.clock2q_handles.proofs.layout.TooLong.{rebuilding-short}
 use Rattle.clock2q_handles.proofs.rebuild.Hashes.{entries-more, entries-all, entries-front, hash-slot, rebuilt-total}

@@ -1,5 +1,5 @@
 -- Lookups that keep a slot and what they look for there: how far they are, and what a step does to what is left.
-use Rattle.std.proofs.Common.{◌≡◌, ◌≢◌, ℕ, suc, ◌+◌, ◌-◌, ◌%◌, ◌<◌, ◌≤◌, refl, ap, sym, ◌∙◌, subst, arith, ◌==◌, eq-eqb, List, [], ◌∷◌, ◌++◌, map, filter, length, get_or, Option, Some, None, IfSome}
+use Rattle.std.proofs.Common.{◌≡◌, ◌≢◌, ℕ, suc, ◌+◌, ◌-◌, ◌%◌, ◌<◌, ◌≤◌, refl, ap, sym, ◌∙◌, arith, ◌==◌, eq-eqb, List, [], ◌∷◌, ◌++◌, map, filter, length, get_or, Option, Some, None, IfSome}
 use Rattle.std.specs.Prelude.{IsSome, IsTrue, Bool, true, false, ◌↔◌}
 use Rattle.std.proofs.lemmas.Bool.{cases_lt, eqb-true, and_parts}
 use Rattle.std.proofs.lemmas.Bool.Decides.{eqb_tells}

@@ -1,6 +1,6 @@
 -- What an insertion and a removal do to the candidates of any hash.
-use Rattle.std.proofs.Common.{◌≡◌, ℕ, ◌<◌, inl, inr, refl, ap, sym, ◌∙◌, arith, Bool, ◌&&◌, ◌==◌, eq-eqb, ne_eqb, eqb-true, List, [], ◌∷◌, ◌++◌, map, filter, length, get_or, append-nil}
-use Rattle.std.proofs.lemmas.Bool.{cases_eq, cases_Bool, and_parts}
+use Rattle.std.proofs.Common.{◌≡◌, ℕ, ◌<◌, inl, inr, refl, ap, sym, ◌∙◌, arith, Bool, ◌==◌, eq-eqb, ne_eqb, eqb-true, List, [], ◌∷◌, ◌++◌, map, filter, length, get_or, append-nil}
+use Rattle.std.proofs.lemmas.Bool.{cases_eq, cases_Bool}
 use Rattle.std.proofs.lemmas.List.{map-append}
 use Rattle.std.proofs.lemmas.List.Elements.{filter-append}
 use Rattle.clock2q_handles.specs.Homes.{top, home, listed, without_first, with_handle, is_entry_of, removed, candidates}

@@ -3,7 +3,7 @@ use Rattle.std.proofs.Common.{◌≡◌, ℕ, suc, ◌+◌, ◌-◌, ◌%◌, �
 use Rattle.std.specs.Prelude.{IsSome}
 use Rattle.std.proofs.Math.Nat.{add-mod_right}
 use Rattle.std.proofs.Math.Seq.{set-append_seam}
-use Rattle.clock2q_handles.specs.Homes.{top, listed, count, with_list}
+use Rattle.clock2q_handles.specs.Homes.{top, count, with_list}
 use Rattle.clock2q_handles.specs.Layout.{Placed, placed, slot_at, reach, met, homes_of, layout, spill_of, IsTidy}
 use Rattle.clock2q_handles.specs.Slots.{Mark}
 use Rattle.clock2q_handles.specs.Candidates.{end_at, IsLookup, IsWalkFor, EndsAt}

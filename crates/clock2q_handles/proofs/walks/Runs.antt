@@ -1,13 +1,13 @@
 -- Runs of occupied slots: fewer entries in the homes lengthen none, and as many in each home change none. The same of walks.
 use Rattle.std.proofs.Common.{◌≡◌, ℕ, zero, suc, ◌+◌, ◌<◌, ◌≤◌, ap, sym, ◌∙◌, arith, Bool, List, length, Option, None}
 use Rattle.clock2q_handles.specs.Homes.{capacity, listed, count, total, without_first, is_entry_of, removed}
-use Rattle.clock2q_handles.specs.Layout.{Placed, spill, spill_of, slot_at, layout, walk, occupied, run}
+use Rattle.clock2q_handles.specs.Layout.{Placed, spill, spill_of, slot_at, layout, occupied, run}
 use Rattle.clock2q_handles.proofs.layout.Spill.{Roomy, window-le, spill-lt}
 use Rattle.clock2q_handles.proofs.layout.Tiles.{IsGap}
 use Rattle.clock2q_handles.proofs.layout.Laid.{none-gap}
 use Rattle.clock2q_handles.proofs.layout.Reading.{slots_again, length-layout, layout-laid}
 use Rattle.clock2q_handles.proofs.layout.TidyLayout.{capacity-lt, sum-window, roomy-of}
-use Rattle.clock2q_handles.proofs.layout.FewerEntries.{spill-fewer, walk-is, walk-none, count-with_list}
+use Rattle.clock2q_handles.proofs.layout.FewerEntries.{spill_of-fewer, count-with_list}
 use Rattle.clock2q_handles.proofs.shifts.Changes.{length-with_list}
 use Rattle.clock2q_handles.proofs.shifts.Removals.{length-without_first}
 
@@ -34,7 +34,7 @@ module _ {E : Type 0} where
       roomy_fewer = roomy-of fewer (omega (arith, room, total-fewer, as_many, capacity-lt (length homes) some))
 
       spills : (n : ℕ) → spill_of fewer n ≤ spill_of homes n
-      spills n = grind (arith, as_many, spill-fewer (count homes) (count fewer) (length homes) 1 roomy (omega (arith, some)) (below some) n)
+      spills = spill_of-fewer homes fewer (omega (arith, room, capacity-lt (length homes) some)) as_many (below some)
 
       still_empty : (n : ℕ) → slot_at (layout homes) n ≡ None → slot_at (layout fewer) n ≡ None
       still_empty n none =
@@ -48,10 +48,6 @@ module _ {E : Type 0} where
     -- no run is longer
     pub run-fewer : (y : ℕ) → run (layout fewer) y ≤ run (layout homes) y
     run-fewer y = grind (arith, length-layout, occupied-fewer, still_empty)
-
-    -- nor any walk
-    pub walk-fewer : (y : ℕ) → walk fewer y ≤ walk homes y
-    walk-fewer y = grind (arith, walk-is, spills, walk-none)
 
 module _ {H : Type 0} (eq : H → H → Bool) (homes : List (List (ℕ × H))) (x : ℕ) (v : H) (room : total homes ≤ capacity (length homes)) where
   abbrev less : List (ℕ × H)

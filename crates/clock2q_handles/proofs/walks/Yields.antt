@@ -1,6 +1,5 @@
 -- Lookups: the candidates that are left, and the slots that a walk reads.
-use Rattle.std.proofs.Common.{◌≡◌, ℕ, suc, ◌+◌, ◌-◌, ◌%◌, ◌<◌, ◌≤◌, inl, inr, refl, ap, sym, arith, List, [], ◌∷◌, drop, length, slice_get, Option, Some, None}
-use Rattle.std.proofs.lemmas.Bool.{cases_lt}
+use Rattle.std.proofs.Common.{◌≡◌, ℕ, ◌+◌, ◌-◌, ◌%◌, ◌<◌, ◌≤◌, refl, ap, sym, arith, List, [], ◌∷◌, drop, length, slice_get, Option, Some, None}
 use Rattle.clock2q_handles.specs.Homes.{candidates}
 use Rattle.clock2q_handles.specs.Layout.{Placed, slot_at, reach, homes_of, walk, IsTidy}
 use Rattle.clock2q_handles.specs.Candidates.{left_from}
@@ -8,7 +7,7 @@ use Rattle.clock2q_handles.proofs.layout.Walk.{Stops, after, stop}
 use Rattle.clock2q_handles.proofs.layout.Reading.{slot-again}
 use Rattle.clock2q_handles.proofs.layout.TidyLayout.{length-homes_of, listed-homes_of, tidy-vacant}
 use Rattle.clock2q_handles.proofs.shifts.Changes.{read-stop}
-use Rattle.clock2q_handles.proofs.layout.FewerEntries.{walk-is, walk-none}
+use Rattle.clock2q_handles.proofs.layout.FewerEntries.{walk-is}
 use Rattle.clock2q_handles.proofs.shifts.Steps.{listed-home}
 use Rattle.std.specs.Iterator.{MakesProgress, item_count}
 
