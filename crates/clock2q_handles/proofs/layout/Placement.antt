@@ -57,74 +57,58 @@ module _ {E : Type 0} (homes : List (List E)) (room : total homes < length homes
   abbrev wide : ℕ
   wide = (spill-found (count homes) (length homes) h (omega arith)).0
 
-  abbrev from_home : ℕ → ℕ
-  from_home t = (h + length homes - wide + t) % length homes
+  abbrev start : ℕ
+  start = h + length homes - wide
 
-  -- how far from its home an entry of home t is, and from the window's start
-  abbrev distance : ℕ → ℕ → ℕ
-  distance t j = (place (from_home t) j + length homes - from_home t) % length homes
+  abbrev counted : ℕ → ℕ
+  counted t = count homes (start + t)
 
-  abbrev offset : ℕ → ℕ → ℕ
-  offset t j = t + distance t j
+  -- their entries by number: the home among these, and the place in its list
+  abbrev at : ℕ → ℕ × ℕ
+  at k = locate counted (suc wide) k
 
-  wide_lt : wide < length homes
-  wide_lt = (spill-found (count homes) (length homes) h (omega arith)).1
+  abbrev home_of : ℕ → ℕ
+  home_of k = (start + (at k).0) % length homes
 
-  wide_sum : window (count homes) (h + length homes - wide) wide ≡ spill_of homes h + wide
-  wide_sum = (spill-found (count homes) (length homes) h (omega arith)).2
+  -- how far from its home an entry is
+  abbrev far : ℕ → ℕ
+  far k = (place (home_of k) (at k).1 + length homes - home_of k) % length homes
 
-  home_lt : (t : ℕ) → from_home t < length homes
-  home_lt t = omega arith
+  in_home : (k : ℕ) → k < window counted 0 (suc wide) → (home_of k < length homes) × ((at k).1 < count homes (home_of k))
+  in_home k l = (omega arith, omega (arith, rem-same (count homes) (length homes) (count-again homes) (start + (at k).0), (located counted (suc wide) k l).1))
 
-  home_count : (t : ℕ) → count homes (from_home t) ≡ count homes (h + length homes - wide + t)
-  home_count t = rem-same (count homes) (length homes) (count-again homes) (h + length homes - wide + t)
-
-  slot_of : (t j : ℕ) → j < count homes (h + length homes - wide + t) → (h + length homes - wide + offset t j) % length homes ≡ place (from_home t) j
-  slot_of t j l =
+  slot_of : (k : ℕ) → k < window counted 0 (suc wide) → (start + ((at k).0 + far k)) % length homes ≡ place (home_of k) (at k).1
+  slot_of k l =
       let m : ℕ = length homes in
-      let d : ℕ = (place (from_home t) j + m - from_home t) % m in
-      let around = rem-same (λ x. (x + d) % m) m (λ n. grind (arith, add-mod_right (n + d) m)) (h + m - wide + t) in
-      grind (arith, around, round_trip m (from_home t) (place (from_home t) j), home_lt t, placement.within (from_home t) j, home_count t)
+      let around = rem-same (λ x. (x + far k) % m) m (λ n. grind (arith, add-mod_right (n + far k) m)) (start + (at k).0) in
+      let own = in_home k l in
+      grind (arith, around, round_trip m (home_of k) (place (home_of k) (at k).1), own, placement.within (home_of k) (at k).1)
 
-  offsets_apart : (t j u k : ℕ) → t < suc wide → j < count homes (h + length homes - wide + t)
-      → u < suc wide → k < count homes (h + length homes - wide + u) → offset t j ≡ offset u k → (t ≡ u) × (j ≡ k)
-  offsets_apart t j u k lt lj lu lk e =
-      let m : ℕ = length homes in
-      let here = home_count t in
-      let there = home_count u in
-      grind (
-        arith,
-        slot_of t j lj,
-        slot_of u k lk,
-        placement.apart (from_home t) j (from_home u) k (home_lt t) (omega arith) (home_lt u) (omega arith),
-        rems-differ m (h + m - wide + t) (h + m - wide + u),
-        rems-differ m (h + m - wide + u) (h + m - wide + t),
-        wide_lt,
-      )
+  offsets_apart : (i j : ℕ) → i < j → j < window counted 0 (suc wide) → (at i).0 + far i ≡ (at j).0 + far j → ⊥
+  offsets_apart i j l u e =
+      let p = located counted (suc wide) i (omega arith) in
+      let q = located counted (suc wide) j u in
+      let own = in_home i (omega arith) in
+      let own' = in_home j u in
+      let slots = slot_of i (omega arith) in
+      let slots' = slot_of j u in
+      let same = placement.apart (home_of i) (at i).1 (home_of j) (at j).1 own.0 own.1 own'.0 own'.1 (sym slots ∙ ap (λ d. (start + d) % length homes) e ∙ slots') in
+      let wide_lt = (spill-found (count homes) (length homes) h (omega arith)).1 in
+      grind (arith, p, q, same, wide_lt, rems-differ (length homes) (start + (at i).0) (start + (at j).0), rems-differ (length homes) (start + (at j).0) (start + (at i).0))
 
   -- too many for nearer slots
-  overfull : window (λ t. count homes (h + length homes - wide + t)) 0 (suc wide) ≡ suc (spill_of homes h + count homes h - 1 + wide)
-  overfull = grind (arith, wide_lt, window-from (count homes) (h + length homes - wide) (suc wide), wide_sum, count-again homes h)
+  overfull : window counted 0 (suc wide) ≡ suc (spill_of homes h + count homes h - 1 + wide)
+  overfull =
+      let found = spill-found (count homes) (length homes) h (omega arith) in
+      grind (arith, found.1, found.2, window-from (count homes) start (suc wide), count-again homes h)
 
   some_past : ReachesPast homes place (spill_of homes h + count homes h - 1)
-  some_past =
-      let c : ℕ → ℕ = λ t. count homes (h + length homes - wide + t) in
-      let most : ℕ = spill_of homes h + count homes h - 1 in
-      elim (some_upto (λ k. distance (locate c (suc wide) k).0 (locate c (suc wide) k).1) (window c 0 (suc wide)) most) [
-        | inl r ↦
-            let p = located c (suc wide) r.0 r.1 in
-            (from_home (locate c (suc wide) r.0).0, (locate c (suc wide) r.0).1, home_lt (locate c (suc wide) r.0).0, omega (arith, home_count (locate c (suc wide) r.0).0, p.1), r.2)
-        | inr all ↦ absurd (omega (
-          arith,
-          overfull,
-          pigeons (λ k. (locate c (suc wide) k).0 + distance (locate c (suc wide) k).0 (locate c (suc wide) k).1) (window c 0 (suc wide)) (most + wide)
-              (λ i j l u e. let p = located c (suc wide) i (omega arith) in
-              let q = located c (suc wide) j u in
-              let same = offsets_apart (locate c (suc wide) i).0 (locate c (suc wide) i).1 (locate c (suc wide) j).0 (locate c (suc wide) j).1 p.0 p.1 q.0 q.1 e in
-              omega (arith, l, p.2, q.2, ap (window c 0) same.0, same.1))
-              (λ k l. omega (arith, all k l, (located c (suc wide) k l).0)),
-        ))
-      ]
+  some_past = elim (some_upto far (window counted 0 (suc wide)) (spill_of homes h + count homes h - 1)) [
+    | inl r ↦ let own = in_home r.0 r.1 in (home_of r.0, (at r.0).1, own.0, own.1, r.2)
+    | inr all ↦
+        let fits = pigeons (λ k. (at k).0 + far k) (window counted 0 (suc wide)) (spill_of homes h + count homes h - 1 + wide) offsets_apart (λ k l. omega (arith, all k l, (located counted (suc wide) k l).0)) in
+        absurd (omega (arith, overfull, fits))
+  ]
 
 -- however a table's entries are placed, some entry is as far past its home as any in the layout
 pub best-placed : {E : Type 0} (homes : List (List E)) → total homes ≤ capacity (length homes) → IsBestPlaced homes

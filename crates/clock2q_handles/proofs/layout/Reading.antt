@@ -86,17 +86,11 @@ module _ {E : Type 0} where
     at_slot n = ap (λ x. get_or (layout_upto homes (length homes)) (n % x) None) (length-layout homes)
 
     gap_other : (n : ℕ) → n < length homes → IsGap (count homes) (length homes) n → (h i : ℕ) → h < length homes → i < count homes h → n ≡ (h + spill_of homes h + i) % length homes → ⊥
-    gap_other n l g h i lh li e =
-        grind (
-          arith,
-          mod-eq_of_lt l,
-          apart (count homes) (length homes) roomy h n,
-          apart (count homes) (length homes) roomy h (n + length homes),
-          spill-again (count homes) (length homes) roomy.again n,
-          rems-differ (length homes) (h + spill_of homes h + i) n,
-          rems-differ (length homes) (h + spill_of homes h + i) (n + length homes),
-          add-mod_right n (length homes),
-        )
+    gap_other n l g h i lh li e = 
+        let clear = apart (count homes) (length homes) roomy h in
+        let differ = rems-differ (length homes) (h + spill_of homes h + i) in
+        let around = spill-again (count homes) (length homes) roomy.again n in
+        grind (arith, mod-eq_of_lt l, clear n, clear (n + length homes), around, differ n, differ (n + length homes), add-mod_right n (length homes))
 
     -- the layout lays out the lists
     pub layout-laid : IsLaid (length homes) (listed homes) (slot_at (layout homes))

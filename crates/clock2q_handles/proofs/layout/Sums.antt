@@ -41,13 +41,8 @@ module _ {E : Type 0} where
     homes_sum z start (suc k) =
         let c : ℕ = counts L (z + k) in
         let s : ℕ = spill (counts L) m (z + k) in
-        let part : window (λ n. weight w (A n)) z (k + s + c) ≡ window (λ h. sum_by w (L h)) z (suc k) = grind (
-          arith,
-          homes_sum z start k,
-          window-add (λ n. weight w (A n)) z (k + s) c,
-          part_sum (z + k) c,
-          take_all c (L (z + k)),
-        ) in
+        let more = window-add (λ n. weight w (A n)) z (k + s) c in
+        let part : window (λ n. weight w (A n)) z (k + s + c) ≡ window (λ h. sum_by w (L h)) z (suc k) = grind (arith, more, homes_sum z start k, part_sum (z + k) c, take_all c (L (z + k))) in
         let step : spill (counts L) m (z + suc k) ≡ s + c - 1 = grind (arith, spill-step (counts L) m roomy (z + k)) in
         elim (cases_lt 0 (s + c)) [
           | inl more ↦ let e : suc k + spill (counts L) m (z + suc k) ≡ k + s + c = omega (arith, step) in ap (window (λ n. weight w (A n)) z) e ∙ part

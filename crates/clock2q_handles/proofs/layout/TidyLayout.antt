@@ -53,14 +53,9 @@ module _ {E : Type 0} where
   -- the list of a home, read off the slots
   pub listed-homes_of : (slots : List (Option (Placed E))) (h : ℕ) → listed (homes_of slots) h ≡ met (slot_at slots) h 0 (length slots)
   unfolding homes_of
-  listed-homes_of slots h =
-      grind (
-        arith,
-        length-homes_of slots,
-        get-read_upto slots (length slots) (h % length slots),
-        rem-same (λ x. met (slot_at slots) x 0 (length slots)) (length slots) (met-slots slots) h,
-        get_or_past (homes_of slots) (h % length (homes_of slots)) [],
-      )
+  listed-homes_of slots h = 
+      let here = rem-same (λ x. met (slot_at slots) x 0 (length slots)) (length slots) (met-slots slots) h in
+      grind (arith, length-homes_of slots, get-read_upto slots (length slots) (h % length slots), here, get_or_past (homes_of slots))
 
   -- slot lists of one length that show the same are the same
   pub same-slots : (slots others : List (Option (Placed E))) → length slots ≡ length others → ((n : ℕ) → slot_at slots n ≡ slot_at others n) → slots ≡ others

@@ -20,9 +20,12 @@ slice_get-left [] ys i e is = absurd (cc)
 slice_get-left (x ∷ xs) ys zero e is = is
 slice_get-left (x ∷ xs) ys (suc i) e is = slice_get-left xs ys i e is
 
+pub slice_get-seam : {E : Type 0} (xs ys : List E) (e : E) → slice_get (xs ++ e ∷ ys) (length xs) ≡ Some e
+slice_get-seam [] ys e = refl
+slice_get-seam (x ∷ xs) ys e = slice_get-seam xs ys e
+
 pub slice_get-last : {E : Type 0} (xs : List E) (e : E) → slice_get (xs ++ e ∷ []) (length xs) ≡ Some e
-slice_get-last [] e = refl
-slice_get-last (x ∷ xs) e = slice_get-last xs e
+slice_get-last xs e = slice_get-seam xs [] e
 
 -- the contents of a slot are one of the entries
 entries-to : {E : Type 0} (slots : List (Option (Placed E))) (n : ℕ) (s : Placed E) → get_or slots n None ≡ Some s → (i : ℕ) × (slice_get (entries slots) i ≡ Some s)

@@ -117,19 +117,12 @@ module _ {H : Type 0} (slots : List (Option (Placed (ℕ × H)))) where
 
   pub lookup_ends : (s : Mark) (n : ℕ) → IsSome s → IsLookup slots s n → reach (slot_at slots n) < mark_reach s → (left_at slots s n ≡ []) × (unread_at slots s n ≡ 1)
   lookup_ends None n some lookup near = absurd (cc)
-  lookup_ends (Some s) n some lookup near =
+  lookup_ends (Some s) n some lookup near = 
       let on = lookup.walk in
       let here = home_here slots lookup.tidy s.0 s.1 n on in
-      grind (
-        arith,
-        home_is slots lookup.tidy s.0 s.1 n on,
-        here,
-        met-late (slot_at slots) lookup.tidy.ordered (on.hash % length slots) s.0 (length slots - s.0),
-        unread_is slots lookup.tidy s.0 s.1 n on,
-        walk-at slots lookup.tidy on.hash s.0,
-        on.passed,
-        walk_here slots lookup.tidy s.0 s.1 n on,
-      )
+      let late = met-late (slot_at slots) lookup.tidy.ordered (on.hash % length slots) s.0 (length slots - s.0) in
+      let unread = unread_is slots lookup.tidy s.0 s.1 n on in
+      grind (arith, home_is slots lookup.tidy s.0 s.1 n on, here, late, unread, walk-at slots lookup.tidy on.hash s.0, on.passed, walk_here slots lookup.tidy s.0 s.1 n on)
 
   -- a slot that doesn't end a lookup is followed by the next
   pub lookup_steps : (s s' : Mark) (n n' : ℕ) → IsSome s → s' ≡ mark_on s → n' ≡ (n + 1) % length slots → IsLookup slots s n → mark_reach s ≤ reach (slot_at slots n) → HasStepped slots s s' n n'
@@ -140,15 +133,11 @@ module _ {H : Type 0} (slots : List (Option (Placed (ℕ × H)))) where
       let goes : IsOnWalk slots (suc s.0) s.1 n' = walk_goes slots tidy s.0 s.1 n on (omega (arith, far)) n' at in
       let more = left_more slots tidy s.0 s.1 n on in
       let left = left_is slots tidy (suc s.0) s.1 n' goes in
+      let beyond = walk-beyond slots tidy on.hash s.0 (some_slots slots tidy s.0 s.1 n on) (omega (arith, far, ap reach (walk_here slots tidy s.0 s.1 n on))) in
       rw is (record {
         lookup = record { tidy = tidy; near = lookup.near; walk = goes };
         some = refl;
-        read = omega (
-          arith,
-          unread_is slots tidy s.0 s.1 n on,
-          unread_is slots tidy (suc s.0) s.1 n' goes,
-          (walk-beyond slots tidy on.hash s.0 (some_slots slots tidy s.0 s.1 n on) (omega (arith, far, ap reach (walk_here slots tidy s.0 s.1 n on)))).0,
-        );
+        read = omega (arith, unread_is slots tidy s.0 s.1 n on, unread_is slots tidy (suc s.0) s.1 n' goes, beyond.0);
         skips = λ other. grind (arith, more, left, candidate_in-other (slot_at slots n) s.0 s.1 other);
         takes = λ r mark handle. grind (arith, more, left, candidate_in-here (slot_at slots n) s.0 s.1 r mark handle);
       })

@@ -1,5 +1,5 @@
 -- Where a home's entries are and its walks end, as slots show it.
-use Rattle.std.proofs.Common.{◌≡◌, ℕ, suc, ◌+◌, ◌-◌, ◌%◌, ◌<◌, refl, ap, sym, ◌∙◌, arith, List, [], ◌∷◌, ◌++◌, length, Option, Some, None, slice_get}
+use Rattle.std.proofs.Common.{◌≡◌, ℕ, suc, ◌+◌, ◌-◌, ◌%◌, ◌<◌, refl, ap, sym, ◌∙◌, arith, List, ◌∷◌, ◌++◌, length, Option, Some, None, slice_get}
 use Rattle.std.specs.Prelude.{IsSome}
 use Rattle.std.proofs.Math.Nat.{add-mod_right}
 use Rattle.std.proofs.Math.Seq.{set-append_seam}
@@ -20,13 +20,10 @@ use Rattle.clock2q_handles.proofs.shifts.Changes.{read-split, read-count}
 use Rattle.clock2q_handles.proofs.shifts.Steps.{past_home}
 use Rattle.clock2q_handles.proofs.walks.Yields.{walk-at, walk-beyond}
 
+use Rattle.clock2q_handles.proofs.rebuild.Held.{slice_get-seam}
 pub use Rattle.clock2q_handles.proofs.rebuild.HeldHandles.{some_homes}
 
 module _ {E : Type 0} where
-  slice_get-seam : (xs ys : List E) (e : E) → slice_get (xs ++ e ∷ ys) (length xs) ≡ Some e
-  slice_get-seam [] ys e = refl
-  slice_get-seam (x ∷ xs) ys e = slice_get-seam xs ys e
-
   -- the slot of an entry, by its displacement
   pub position_at : (slots : List (Option (Placed E))) (x i n : ℕ) (e : E) → IsEntryAt (homes_of slots) x i e n → n ≡ (x + (spill_of (homes_of slots) x + i)) % length slots
   position_at slots x i n e entry_at = grind (arith, length-homes_of)
@@ -69,39 +66,23 @@ module _ {E : Type 0} where
       -- and with another in its place
       pub here_with : (i : ℕ) (e' : E) → i ≡ length (met (slot_at slots) x 0 d)
           → with_list (homes_of slots) x (met (slot_at slots) x 0 d ++ e' ∷ met (slot_at slots) x (suc d) (length slots - suc d)) ≡ with_entry (homes_of slots) x i e'
-      here_with i e' at =
-          grind (
-            arith,
-            read-split slots x d e here_within here,
-            set-append_seam (met (slot_at slots) x 0 d) e (met (slot_at slots) x (suc d) (length slots - suc d)) e',
-          )
+      here_with i e' at = grind (arith, read-split slots x d e here_within here, set-append_seam (met (slot_at slots) x 0 d) e)
 
 -- the gap of a hash is that of its home
 gap-home : {E : Type 0} (homes : List (List E)) (x f : ℕ) → gap_from homes (x % length homes) f ≡ gap_from homes x f
-gap-home homes x f =
+gap-home homes x f = 
     rem-same (λ h. gap_from homes h f) (length homes) (λ h.
-    grind (
-      arith,
-      spill-again (count homes) (length homes) (count-again homes) h,
-      count-again homes h,
-      add-mod_right (h + spill_of homes h + count homes h)
-          (length homes),
-    )) x
+    let around = add-mod_right (h + spill_of homes h + count homes h) (length homes) in
+    grind (arith, spill-again (count homes) (length homes) (count-again homes) h, count-again homes h, around)) x
 
 module _ {H : Type 0} (slots : List (Option (Placed (ℕ × H)))) (tidy : IsTidy slots) (some : 0 < length slots) (x : ℕ) where
   -- a walk ends at the gap
   pub ends_gap : (n : ℕ) (s : Mark) → EndsAt slots x s n → gap_value n s ≡ gap_of (homes_of slots) x
-  ends_gap n s ends =
+  ends_gap n s ends = 
       let d : ℕ = ends.walk.distance in
       let past = past_home slots (length slots) (x % length slots) x refl refl in
-      grind (
-        arith,
-        past_at slots tidy some x d n ends.walk.come.slot,
-        walk-at slots tidy x d some (λ j l. omega (arith, ends.walk.come.passed j l, ap reach (past j))),
-        walk-is (homes_of slots) x,
-        rem-plus (length slots) x d,
-        length-homes_of slots,
-      )
+      let read = walk-at slots tidy x d some (λ j l. omega (arith, ends.walk.come.passed j l, ap reach (past j))) in
+      grind (arith, past_at slots tidy some x d n ends.walk.come.slot, read, walk-is (homes_of slots) x, rem-plus (length slots) x d, length-homes_of slots)
 
   -- and so the gap is where one ends
   pub gap_ends : (g : GapValue) → g ≡ gap_of (homes_of slots) x → EndsAt slots x g.mark g.position
@@ -119,14 +100,10 @@ module _ {H : Type 0} (slots : List (Option (Placed (ℕ × H)))) (tidy : IsTidy
 module _ {H : Type 0} (slots : List (Option (Placed (ℕ × H)))) where
   -- a walk for x ends at the gap of x, wherever it is
   pub end_of : (x : ℕ) (s : Mark) (n : ℕ) → IsWalkFor slots x s n → end_at slots s n ≡ Some (gap_of (homes_of slots) x)
-  end_of x s n walk =
-      grind (
-        arith,
-        home_of_walk slots x walk.distance n walk.come.within,
-        rem-plus (length slots) x walk.distance,
-        length-homes_of slots,
-        gap-home (homes_of slots) x (top x),
-      )
+  end_of x s n walk = 
+      let home = home_of_walk slots x walk.distance n walk.come.within in
+      let around = rem-plus (length slots) x walk.distance in
+      grind (arith, home, around, length-homes_of slots, gap-home (homes_of slots) x (top x))
 
   -- a lookup that has an end looks for something
   pub some_sought : (s : Mark) (n : ℕ) → IsSome (end_at slots s n) → IsSome s

@@ -38,15 +38,7 @@ returns-in-Err-clause-gap g c =
     ∙ end_is slots (sought c.self.inside.wanted) c.in-Err.gap.mark c.self.inside.slot c.in-Err.gap.position some c.self.invariant c.in-Err.ensures.ends
 
 pub returns-in-Ok-clause-within : goal.returns-in-Ok-clause-within
-returns-in-Ok-clause-within g c =
-    omega (
-      arith,
-      (on g (goal.at.returns-in-Ok-clause-within g c).After-handle-handle).read,
-      c.in-Ok.ensures.read,
-      ap (λ t. t.reads) c.self.view_is,
-      ap (λ t. t.unread) c.self.view_is,
-      c.handle-handle.ensures.reads,
-    )
+returns-in-Ok-clause-within g c = grind (arith, on)
 
 pub returns-in-Ok-clause-end : goal.returns-in-Ok-clause-end
 returns-in-Ok-clause-end g c =
