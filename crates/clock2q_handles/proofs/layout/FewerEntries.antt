@@ -103,7 +103,7 @@ module _ {H : Type 0} (key : H → ℕ) where
 
   count-put_all : (homes : List (List (ℕ × H))) (m n : ℕ) (es : List (Placed (ℕ × H))) → length homes ≡ m → 0 < m → count (put_all key homes es) n ≡ count homes n + sum_by (λ s. shares m n s.entry) es
   count-put_all homes m n [] len some = omega arith
-  count-put_all homes m n (s ∷ es) len some = 
+  count-put_all homes m n (s ∷ es) len some =
       let so_far = count-put_all (put_last homes (key s.entry.1) s.entry) m n es (length-with_list homes (key s.entry.1) (listed homes (key s.entry.1) ++ s.entry ∷ []) ∙ len) some in
       omega (arith, so_far, count-put_last homes m n s.entry len some, sum_by-cons (λ s. shares m n s.entry) s es)
 
@@ -134,7 +134,7 @@ module _ {H : Type 0} (key : H → ℕ) where
   -- while a table is rebuilt to k times its slots, no home has more entries than the home that they came from
   pub rebuilding-count : (homes : List (List (ℕ × H))) (k i n : ℕ) → total homes < length homes → 0 < k * length homes
       → IsHashOf key homes → count (put_all key (no_entries (k * length homes)) (entries (take i (layout homes)))) n ≤ count homes n
-  rebuilding-count homes k i n room some hashes = 
+  rebuilding-count homes k i n room some hashes =
       let m : ℕ = k * length homes in
       let made = count-put_all (no_entries m) m n (entries (take i (layout homes))) (length-replicate m []) some in
       omega (arith, made, count-no_entries m n, sum_by_front (λ s. shares m n s.entry) (layout homes) i, shares_below homes k n room hashes)

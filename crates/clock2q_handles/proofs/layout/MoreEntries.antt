@@ -1,5 +1,5 @@
 -- One entry more makes no walk more than one slot longer.
-use Rattle.std.proofs.Common.{◌≡◌, ℕ, zero, suc, ◌+◌, ◌-◌, ◌%◌, ◌<◌, ◌≤◌, inl, inr, sym, ap, ◌∙◌, arith, List, [], ◌∷◌, ◌++◌, length, length-append}
+use Rattle.std.proofs.Common.{◌≡◌, ℕ, zero, suc, ◌+◌, ◌-◌, ◌%◌, ◌<◌, ◌≤◌, sym, ap, ◌∙◌, arith, List, [], ◌∷◌, ◌++◌, length, length-append}
 use Rattle.std.proofs.lemmas.Bool.{cases_eq}
 use Rattle.clock2q_handles.specs.Homes.{listed, count, put_last}
 use Rattle.clock2q_handles.specs.Layout.{window, spill, walk}
@@ -46,9 +46,6 @@ module _ {E : Type 0} (homes : List (List E)) (x : ℕ) (e : E) (some : 0 < leng
   pub walk-more : (y : ℕ) → walk more y ≤ walk homes y + 1
   walk-more y =
       let spilled = ap (λ m. spill (count more) m y) len in
-      let was = walk-is homes y some in
-      let now = walk-is more y (omega (arith, some, len)) in
-      elim (cases_eq (y % length homes) (x % length homes)) [
-        | inl same ↦ omega (arith, was, now, spilled, spill_own (count homes) (count more) (length homes) x some away one y same, at y same)
-        | inr other ↦ omega (arith, was, now, spilled, spill_more (count homes) (count more) (length homes) x some away one y, away y other)
-      ]
+      let further = spill_more (count homes) (count more) (length homes) x some away one y in
+      let own = spill_own (count homes) (count more) (length homes) x some away one y in
+      grind (arith, spilled, further, own, walk-is homes y some, walk-is more y (omega (arith, some, len)), cases_eq (y % length homes) (x % length homes), at y, away y)

@@ -34,9 +34,13 @@ pigeons f n b apart below =
     let len : length xs ≡ n = length-map-range_with_len f 0 n in
     let at : (i d : ℕ) → i < n → get_or xs i d ≡ f i = λ i d l. get_or-map-range_with_len f 0 n i i d l (omega arith) in
     let pairs : AllPairs (λ x y. x ≢ y) xs = λ i j d l u e. apart i j l (omega (arith, u, len)) (sym (at i d (omega (arith, l, u, len))) ∙ e ∙ at j d (omega (arith, u, len))) in
-    omega (arith, len, length-le_from_distinct_below xs b (IsDistinct-from_AllPairs Decides-eqb xs pairs) (λ q among.
-    let r = Any-from_list_any (eqb q) xs among in
-    grind (arith, below r.0, at r.0 r.1, len, r.2, r.3, eqb-true q r.1 r.4)))
+    omega (
+      arith,
+      len,
+      length-le_from_distinct_below xs b (IsDistinct-from_AllPairs Decides-eqb xs pairs) (λ q among.
+          let r = Any-from_list_any (eqb q) xs among in
+          grind (arith, below r.0, at r.0 r.1, len, r.2, r.3, eqb-true q r.1 r.4)),
+    )
 
 -- one of them is at least b, or all are below
 some_upto : (g : ℕ → ℕ) (n b : ℕ) → ((j : ℕ) × (j < n) × (b ≤ g j)) ⊎ ((j : ℕ) → j < n → g j < b)

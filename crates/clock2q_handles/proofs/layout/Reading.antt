@@ -86,7 +86,7 @@ module _ {E : Type 0} where
     at_slot n = ap (λ x. get_or (layout_upto homes (length homes)) (n % x) None) (length-layout homes)
 
     gap_other : (n : ℕ) → n < length homes → IsGap (count homes) (length homes) n → (h i : ℕ) → h < length homes → i < count homes h → n ≡ (h + spill_of homes h + i) % length homes → ⊥
-    gap_other n l g h i lh li e = 
+    gap_other n l g h i lh li e =
         let clear = apart (count homes) (length homes) roomy h in
         let differ = rems-differ (length homes) (h + spill_of homes h + i) in
         let around = spill-again (count homes) (length homes) roomy.again n in

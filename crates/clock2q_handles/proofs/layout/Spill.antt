@@ -38,7 +38,7 @@ largest-above f (suc n) k l = elim (cases_lt k n) [
 
 pub largest-found : (f : ℕ → ℕ) (n : ℕ) → (k : ℕ) × (k < suc n) × (f k ≡ largest f (suc n))
 largest-found f zero = (0, omega arith, omega arith)
-largest-found f (suc n) = 
+largest-found f (suc n) =
     let r = largest-found f n in
     elim (cases_lt (f (suc n)) (largest f (suc n))) [ inl below ↦ (r.0, omega arith, omega arith) | inr above ↦ (suc n, omega arith, omega arith) ]
 

@@ -53,7 +53,7 @@ module _ {E : Type 0} where
   -- the list of a home, read off the slots
   pub listed-homes_of : (slots : List (Option (Placed E))) (h : ℕ) → listed (homes_of slots) h ≡ met (slot_at slots) h 0 (length slots)
   unfolding homes_of
-  listed-homes_of slots h = 
+  listed-homes_of slots h =
       let here = rem-same (λ x. met (slot_at slots) x 0 (length slots)) (length slots) (met-slots slots) h in
       grind (arith, length-homes_of slots, get-read_upto slots (length slots) (h % length slots), here, get_or_past (homes_of slots))
 

@@ -87,7 +87,7 @@ module _ {E : Type 0} where
             (read-laid slots tidy some_slots) (slot-again slots) hole full
 
         same_spill : spill (count more) (length slots) h ≡ spill (count (homes_of slots)) (length slots) h
-        same_spill = 
+        same_spill =
             let before = spill-again (count (homes_of slots)) (length slots) (read_roomy some_slots).again h in
             let after = spill-again (count more) (length slots) (roomy_at more (length slots) more_length more_room).again h in
             grind (arith, one.spills (length slots - suc v), before, after)
@@ -132,7 +132,7 @@ module _ {H : Type 0} (key : H → ℕ) (homes : List (List (ℕ × H))) (m : �
     (fits : total homes < m) (multiple : 0 < length homes → (k : ℕ) × (m ≡ k * length homes)) (hashes : IsHashOf key homes) where
   -- a rebuild gives no home a longer reach than the home that its entries came from had
   pub rebuilt-reach : (n : ℕ) → spill_of (rebuilt key m homes) n + count (rebuilt key m homes) n ≤ spill_of homes n + count homes n
-  rebuilt-reach n = 
+  rebuilt-reach n =
       let total_is = rebuilt-total key homes m room (omega arith) in
       let reach = reach-total (rebuilt key m homes) (omega (arith, rebuilt-length key homes m, total_is)) n in
       grind (arith, cases_lt 0 (length homes), capacity-lt, entries-all (layout homes), rebuilding-reach, reach, rebuilt-length, total_is)

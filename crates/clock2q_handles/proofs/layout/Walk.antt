@@ -30,10 +30,7 @@ module _ {E : Type 0} (A : ℕ → Option (Placed E)) (ordered : IsOrdered A) wh
 
   -- so every slot before another with such an entry has one
   pub passed : (h t n : ℕ) → n + t < reach (A (h + n)) → (j : ℕ) → j ≤ n → j + t < reach (A (h + j))
-  passed h t n far j l = elim (cases_lt (j + t) (reach (A (h + j)))) [
-    | inl far_too ↦ far_too
-    | inr near ↦ absurd (omega (arith, after h t j near n l))
-  ]
+  passed h t n far j l = grind (arith, cases_lt (j + t) (reach (A (h + j))), after h t j)
 
   pub stops-unique : (h t n k : ℕ) → Stops A h t n → Stops A h t k → n ≡ k
   stops-unique h t n k p q = grind arith

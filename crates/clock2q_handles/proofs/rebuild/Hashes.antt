@@ -1,7 +1,7 @@
 -- One function that gives each entry's handle a hash of the entry's home and fingerprint: it does so after each change, and through a rebuild.
-use Rattle.std.proofs.Common.{◌≡◌, ◌⊎◌, ℕ, zero, suc, ◌+◌, add-one, ◌-◌, ◌%◌, ◌<◌, ◌≤◌, refl, ap, sym, ◌∙◌, arith, Bool, true, false, cond, List, [], ◌∷◌, ◌++◌, length, take, drop}
+use Rattle.std.proofs.Common.{◌≡◌, ◌⊎◌, inl, inr, ℕ, zero, suc, ◌+◌, add-one, ◌-◌, ◌%◌, ◌<◌, ◌≤◌, refl, ap, sym, ◌∙◌, arith, Bool, List, [], ◌∷◌, ◌++◌, length, take, drop}
 use Rattle.std.proofs.Common.{take-append-drop, take-suc, take_all, get_or, length-append, Option, Some, None, slice_get, mod-eq_of_lt}
-use Rattle.std.proofs.lemmas.Bool.{cases_eq}
+use Rattle.std.proofs.lemmas.Bool.{cases_eq, cases_Bool}
 use Rattle.std.proofs.lemmas.Bool.Decides.{eqb_tells}
 use Rattle.std.proofs.lemmas.List.{length-replicate}
 use Rattle.std.proofs.lemmas.List.Elements.{filter_map-append}
@@ -43,16 +43,12 @@ module _ {E : Type 0} where
   pub entry_laid : (homes : List (List E)) (i : ℕ) (s : Placed E) → slice_get (entries (layout homes)) i ≡ Some s → IsEntry homes s.entry
   entry_laid homes i s is = let r = entries-from (layout homes) i s is in layout-all homes r.0 s r.2
 
-  kept_by : (test : E → Bool) (x : E) (es : List E) (i : ℕ) (e : E) (b : Bool) → ((i : ℕ) → slice_get (without_first test es) i ≡ Some e → (j : ℕ) × (slice_get es j ≡ Some e))
-      → slice_get (cond b es (x ∷ without_first test es)) i ≡ Some e → (j : ℕ) × (slice_get (x ∷ es) j ≡ Some e)
-  kept_by test x es i e true rest is = (suc i, is)
-  kept_by test x es zero e false rest is = (0, is)
-  kept_by test x es (suc i) e false rest is = (suc (rest i is).0, (rest i is).1)
-
   -- what is left of a list was in it
   without_first-from : (test : E → Bool) (es : List E) (e : E) (i : ℕ) → slice_get (without_first test es) i ≡ Some e → (j : ℕ) × (slice_get es j ≡ Some e)
   without_first-from test [] e i is = absurd (cc)
-  without_first-from test (x ∷ es) e i is = kept_by test x es i e (test x) (without_first-from test es e) is
+  without_first-from test (x ∷ es) e zero is = elim (cases_Bool (test x)) [ inl on ↦ (1, rw on at is) | inr off ↦ (0, rw off at is) ]
+  without_first-from test (x ∷ es) e (suc i) is =
+      elim (cases_Bool (test x)) [ inl on ↦ (suc (suc i), rw on at is) | inr off ↦ let r = without_first-from test es e i (rw off at is) in (suc r.0, r.1) ]
 
   -- an element of a list with one more is that or an element before
   pub slice_get-push : (xs : List E) (e f : E) (i : ℕ) → slice_get (xs ++ e ∷ []) i ≡ Some f → (slice_get xs i ≡ Some f) ⊎ (f ≡ e)

@@ -1,8 +1,8 @@
 -- Held handles stay held: through growth and insertions, and as what a lookup yields.
-use Rattle.std.proofs.Common.{◌≡◌, ℕ, zero, suc, ◌+◌, ◌%◌, ◌<◌, ◌≤◌, ◌⊎◌, inl, inr, ◌==◌, refl, ap, sym, ◌∙◌, subst, arith, Bool, true, false, cond, List, [], ◌∷◌, ◌++◌, length, get_or, map}
+use Rattle.std.proofs.Common.{◌≡◌, ℕ, zero, suc, ◌+◌, ◌%◌, ◌<◌, ◌≤◌, ◌⊎◌, inl, inr, ◌==◌, refl, ap, sym, ◌∙◌, subst, arith, Bool, true, List, [], ◌∷◌, ◌++◌, length, get_or, map}
 use Rattle.std.proofs.Common.{Option, Some, None, slice_get}
 use Rattle.std.specs.List.{filter}
-use Rattle.std.proofs.lemmas.Bool.{eq-eqb}
+use Rattle.std.proofs.lemmas.Bool.{eq-eqb, cases_Bool}
 use Rattle.std.proofs.lemmas.List.{length-replicate}
 use Rattle.clock2q_handles.specs.Homes.{top, capacity, listed, total, candidates, no_entries, put_last}
 use Rattle.clock2q_handles.specs.Layout.{Placed, placed, layout, entries, spill_of}
@@ -113,26 +113,22 @@ module _ {H : Type 0} where
       let q : x ≡ e = cc in
       (0, rw (ap test q ∙ passes) (ap (λ y. Some y.1) q))
   passing test (x ∷ es) (suc i) e is passes =
-      further (test x) (passing test es i e is passes)
-    where
-      further : (b : Bool) → (j : ℕ) × (slice_get (map (λ e. e.1) (filter test es)) j ≡ Some e.1) → (j : ℕ) × (slice_get (map (λ e. e.1) (cond b (x ∷ filter test es) (filter test es))) j ≡ Some e.1)
-      further true r = (suc r.0, r.1)
-      further false r = r
+      let r = passing test es i e is passes in
+      elim (cases_Bool (test x)) [ inl on ↦ (suc r.0, rw on r.1) | inr off ↦ (r.0, rw off r.1) ]
 
-  passed : (test : ℕ × H → Bool) (es : List (ℕ × H)) (j : ℕ) (v : H) → slice_get (map (λ e. e.1) (filter test es)) j ≡ Some v → (i : ℕ) × (e : ℕ × H) × (slice_get es i ≡ Some e) × (e.1 ≡ v)
+  -- a handle that is yielded is that of an entry
+  abbrev HasEntry : List (ℕ × H) → H → Type 0
+  HasEntry es v = (i : ℕ) × (e : ℕ × H) × (slice_get es i ≡ Some e) × (e.1 ≡ v)
+
+  later : (x : ℕ × H) (es : List (ℕ × H)) (v : H) → HasEntry es v → HasEntry (x ∷ es) v
+  later x es v r = (suc r.0, r.1, r.2, r.3)
+
+  passed : (test : ℕ × H → Bool) (es : List (ℕ × H)) (j : ℕ) (v : H) → slice_get (map (λ e. e.1) (filter test es)) j ≡ Some v → HasEntry es v
   passed test [] j v is = absurd (cc)
-  passed test (x ∷ es) j v is = by_test (test x) j is (λ k at. passed test es k v at)
-    where
-      by_test : (b : Bool) (j : ℕ) → slice_get (map (λ e. e.1) (cond b (x ∷ filter test es) (filter test es))) j ≡ Some v
-          → ((k : ℕ) → slice_get (map (λ e. e.1) (filter test es)) k ≡ Some v → (i : ℕ) × (e : ℕ × H) × (slice_get es i ≡ Some e) × (e.1 ≡ v))
-          → (i : ℕ) × (e : ℕ × H) × (slice_get (x ∷ es) i ≡ Some e) × (e.1 ≡ v)
-      by_test true zero is rest = (0, x, refl, cc)
-      by_test true (suc j) is rest =
-          let r = rest j is in
-          (suc r.0, r.1, r.2, r.3)
-      by_test false j is rest =
-          let r = rest j is in
-          (suc r.0, r.1, r.2, r.3)
+  passed test (x ∷ es) zero v is =
+      elim (cases_Bool (test x)) [ inl on ↦ let first : Some x.1 ≡ Some v = rw on at is in (0, x, refl, cc) | inr off ↦ later x es v (passed test es zero v (rw off at is)) ]
+  passed test (x ∷ es) (suc j) v is =
+      elim (cases_Bool (test x)) [ inl on ↦ later x es v (passed test es j v (rw on at is)) | inr off ↦ later x es v (passed test es (suc j) v (rw off at is)) ]
 
   -- each candidate is held
   pub candidate_held : (homes : List (List (ℕ × H))) (x i : ℕ) (v : H) → slice_get (candidates homes x) i ≡ Some v → IsHeld homes v

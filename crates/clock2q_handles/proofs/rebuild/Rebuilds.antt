@@ -62,7 +62,7 @@ module _ {F H : Type 0} (g : Mut F (H × Unit {0}) ℕ) where
 
           -- the lists with that entry
           with_next : (key : H → ℕ) → GivesHashes g key homes f → with_handle (homes_of new) r v ≡ put_all key (no_entries (length from)) (entries (take (i + 1) old))
-          with_next key gives = 
+          with_next key gives =
               let s = held_entry old i v within holds in
               let hash = hash-slot key old may.table.tidy gives.hashes i s.0 s.1 in
               let push = put_all-push key (no_entries (length from)) (entries (take i old)) s.0 in

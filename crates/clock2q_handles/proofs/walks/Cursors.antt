@@ -117,7 +117,7 @@ module _ {H : Type 0} (slots : List (Option (Placed (ℕ × H)))) where
 
   pub lookup_ends : (s : Mark) (n : ℕ) → IsSome s → IsLookup slots s n → reach (slot_at slots n) < mark_reach s → (left_at slots s n ≡ []) × (unread_at slots s n ≡ 1)
   lookup_ends None n some lookup near = absurd (cc)
-  lookup_ends (Some s) n some lookup near = 
+  lookup_ends (Some s) n some lookup near =
       let on = lookup.walk in
       let here = home_here slots lookup.tidy s.0 s.1 n on in
       let late = met-late (slot_at slots) lookup.tidy.ordered (on.hash % length slots) s.0 (length slots - s.0) in

@@ -19,7 +19,6 @@ use Rattle.clock2q_handles.proofs.layout.Walk.{stop}
 use Rattle.clock2q_handles.proofs.shifts.Changes.{read-split, read-count}
 use Rattle.clock2q_handles.proofs.shifts.Steps.{past_home}
 use Rattle.clock2q_handles.proofs.walks.Yields.{walk-at, walk-beyond}
-
 use Rattle.clock2q_handles.proofs.rebuild.Held.{slice_get-seam}
 pub use Rattle.clock2q_handles.proofs.rebuild.HeldHandles.{some_homes}
 
@@ -70,7 +69,7 @@ module _ {E : Type 0} where
 
 -- the gap of a hash is that of its home
 gap-home : {E : Type 0} (homes : List (List E)) (x f : ℕ) → gap_from homes (x % length homes) f ≡ gap_from homes x f
-gap-home homes x f = 
+gap-home homes x f =
     rem-same (λ h. gap_from homes h f) (length homes) (λ h.
     let around = add-mod_right (h + spill_of homes h + count homes h) (length homes) in
     grind (arith, spill-again (count homes) (length homes) (count-again homes) h, count-again homes h, around)) x
@@ -78,7 +77,7 @@ gap-home homes x f =
 module _ {H : Type 0} (slots : List (Option (Placed (ℕ × H)))) (tidy : IsTidy slots) (some : 0 < length slots) (x : ℕ) where
   -- a walk ends at the gap
   pub ends_gap : (n : ℕ) (s : Mark) → EndsAt slots x s n → gap_value n s ≡ gap_of (homes_of slots) x
-  ends_gap n s ends = 
+  ends_gap n s ends =
       let d : ℕ = ends.walk.distance in
       let past = past_home slots (length slots) (x % length slots) x refl refl in
       let read = walk-at slots tidy x d some (λ j l. omega (arith, ends.walk.come.passed j l, ap reach (past j))) in
@@ -100,7 +99,7 @@ module _ {H : Type 0} (slots : List (Option (Placed (ℕ × H)))) (tidy : IsTidy
 module _ {H : Type 0} (slots : List (Option (Placed (ℕ × H)))) where
   -- a walk for x ends at the gap of x, wherever it is
   pub end_of : (x : ℕ) (s : Mark) (n : ℕ) → IsWalkFor slots x s n → end_at slots s n ≡ Some (gap_of (homes_of slots) x)
-  end_of x s n walk = 
+  end_of x s n walk =
       let home = home_of_walk slots x walk.distance n walk.come.within in
       let around = rem-plus (length slots) x walk.distance in
       grind (arith, home, around, length-homes_of slots, gap-home (homes_of slots) x (top x))
