@@ -47,14 +47,11 @@ module _ {E : Type 0} where
   unfolding homes_of
   length-homes_of slots = length-read_upto slots (length slots)
 
-  pub met-slots : (slots : List (Option (Placed E))) (h : ℕ) → met (slot_at slots) (h + length slots) 0 (length slots) ≡ met (slot_at slots) h 0 (length slots)
-  met-slots slots h = met-again (slot_at slots) (length slots) h 0 (length slots) (slot-again slots)
-
   -- the list of a home, read off the slots
   pub listed-homes_of : (slots : List (Option (Placed E))) (h : ℕ) → listed (homes_of slots) h ≡ met (slot_at slots) h 0 (length slots)
   unfolding homes_of
   listed-homes_of slots h =
-      let here = rem-same (λ x. met (slot_at slots) x 0 (length slots)) (length slots) (met-slots slots) h in
+      let here = rem-same (λ x. met (slot_at slots) x 0 (length slots)) (length slots) (λ n. met-again (slot_at slots) (length slots) n 0 (length slots) (slot-again slots)) h in
       grind (arith, length-homes_of slots, get-read_upto slots (length slots) (h % length slots), here, get_or_past (homes_of slots))
 
   -- slot lists of one length that show the same are the same
@@ -75,12 +72,11 @@ module _ {E : Type 0} where
       let r = vacant_in slots (omega arith) in
       (suc r.0, omega arith, r.2)
 
-  -- a table with fewer entries than slots has an empty slot
-  pub vacant-slot : (slots : List (Option (Placed E))) → length (entries slots) < length slots → (v : ℕ) × (slot_at slots v ≡ None)
-  vacant-slot slots l = grind (arith, vacant_in, mod-eq_of_lt)
-
+  -- a tidy table has an empty slot
   pub tidy-vacant : (slots : List (Option (Placed E))) → IsTidy slots → 0 < length slots → (v : ℕ) × (slot_at slots v ≡ None)
-  tidy-vacant slots tidy some = vacant-slot slots (omega (arith, tidy.room, capacity-lt (length slots) some))
+  tidy-vacant slots tidy some =
+      let v = vacant_in slots (omega (arith, tidy.room, capacity-lt (length slots) some)) in
+      (v.0, ap (λ n. get_or slots n None) (mod-eq_of_lt v.1) ∙ v.2)
 
   module _ (slots : List (Option (Placed E))) (tidy : IsTidy slots) (some : 0 < length slots) where
     abbrev vacancy : (v : ℕ) × (slot_at slots v ≡ None)
@@ -98,11 +94,8 @@ module _ {E : Type 0} where
         let same = window-same (count (homes_of slots)) (λ n. length (met (slot_at slots) n 0 m)) 0 m (λ j _. ap length (listed-homes_of slots (0 + j))) in
         grind (arith, r.room, sum-window length (homes_of slots), length-homes_of slots, same)
 
-    read-laid-homes : IsLaid (length (homes_of slots)) (listed (homes_of slots)) (slot_at slots)
-    read-laid-homes = subst (λ m. IsLaid m (listed (homes_of slots)) (slot_at slots)) (sym (length-homes_of slots)) read-laid
-
     pub read-layout : slots ≡ layout (homes_of slots)
-    read-layout = laid-layout (homes_of slots) slots (omega (arith, read-room, length-homes_of slots)) (sym (length-homes_of slots)) read-laid-homes
+    read-layout = laid-layout (homes_of slots) slots (omega (arith, read-room, length-homes_of slots)) (sym (length-homes_of slots)) (rw (length-homes_of slots) read-laid)
 
   -- the entries of a layout have the same sum by slot as by home
   pub layout-sum : (w : E → ℕ) (homes : List (List E)) → total homes < length homes → sum_by (λ s. w s.entry) (entries (layout homes)) ≡ window (λ h. sum_by w (listed homes h)) 0 (length homes)

@@ -80,48 +80,46 @@ module _ {E : Type 0} where
       stop_sum : d ≡ spill (count (homes_of slots)) (length slots) h + count (homes_of slots) h
       stop_sum = read-stop slots tidy some_slots h d stops ∙ ap (λ x. spill (count (homes_of slots)) x h + count (homes_of slots) h) (length-homes_of slots)
 
-      module _ (v : ℕ) (within : v < length slots) (hole : slot_at slots (h + v) ≡ None) (full : (j : ℕ) → j < v → 1 ≤ reach (slot_at slots (h + j))) where
-        one : IsOneMore (count (homes_of slots)) (count more) (length slots) (h + suc v) (length slots - suc v)
-        one = one-put (length slots) h v (listed (homes_of slots)) (listed more) (slot_at slots) (read_roomy some_slots) (roomy_at more (length slots) more_length more_room) within more_here
-            (λ n q. ap length (other_at (homes_of slots) (length slots) h (listed (homes_of slots) h ++ e ∷ []) (length-homes_of slots) n q))
-            (read-laid slots tidy some_slots) (slot-again slots) hole full
+      free : (v : ℕ) × (v < length slots) × (slot_at slots (h + v) ≡ None) × ((j : ℕ) → j < v → 1 ≤ reach (slot_at slots (h + j)))
+      free = first-vacant some_slots h
 
-        same_spill : spill (count more) (length slots) h ≡ spill (count (homes_of slots)) (length slots) h
-        same_spill =
-            let before = spill-again (count (homes_of slots)) (length slots) (read_roomy some_slots).again h in
-            let after = spill-again (count more) (length slots) (roomy_at more (length slots) more_length more_room).again h in
-            grind (arith, one.spills (length slots - suc v), before, after)
+      one : IsOneMore (count (homes_of slots)) (count more) (length slots) (h + suc free.0) (length slots - suc free.0)
+      one = one-put (length slots) h free.0 (listed (homes_of slots)) (listed more) (slot_at slots) (read_roomy some_slots) (roomy_at more (length slots) more_length more_room) free.1 more_here
+          (λ n q. ap length (other_at (homes_of slots) (length slots) h (listed (homes_of slots) h ++ e ∷ []) (length-homes_of slots) n q))
+          (read-laid slots tidy some_slots) (slot-again slots) free.2 free.3
 
-        new_long : 2 ^ 24 ≤ suc d → IsTooLong more
-        new_long far =
-            too-long-at more (omega (arith, more_room, more_length)) h (omega (arith, more_here)) (omega (arith, far, stop_sum, same_spill, more_here, ap (λ x. spill (count more) x h) more_length))
-
-        moved_long : (j : ℕ) → d ≤ j → j < v → 2 ^ 24 ≤ suc (reach (slot_at slots (h + j))) → IsTooLong more
-        moved_long j from upto far =
-            let c : ℕ → ℕ = count (homes_of slots) in
-            let m : ℕ = length slots in
-            let n : ℕ = h + j + m in
-            let same : reach (slot_at slots n) ≡ reach (slot_at slots (h + j)) = ap reach (slot-again slots (h + j)) in
-            let near : reach (slot_at slots (h + j)) ≤ j + 0 = after (slot_at slots) tidy.ordered h 0 d stops.stop j from in
-            elim (seen m (listed (homes_of slots)) (slot_at slots) (read_roomy some_slots) (read-laid slots tidy some_slots) n (omega (arith, spill-lt c m (read_roomy some_slots) 0))) [
-              | inl g ↦ absurd (omega (arith, same, g.1, far))
-              | inr p ↦
-                  let k : ℕ = p.0 - (h + suc v) in
-                  let within_lap : k < m = omega (arith, p.2, same, near) in
-                  let q : h + suc v + k ≡ p.0 = omega (arith, p.2, same, near) in
-                  let sp = rw q at (one.spills k within_lap) in
-                  let ct = rw q at (one.same k within_lap (λ z. omega (arith, p.2, same, near))) in
-                  too-long-at more (omega (arith, more_room, more_length)) p.0 (omega (arith, ct, p.1.from, p.1.upto))
-                  (omega (arith, far, p.1.from, p.1.upto, p.2, same, near, sp, ct, ap (λ x. spill (count more) x p.0) more_length))
-            ]
+      same_spill : spill (count more) (length slots) h ≡ spill (count (homes_of slots)) (length slots) h
+      same_spill =
+          let before = spill-again (count (homes_of slots)) (length slots) (read_roomy some_slots).again h in
+          let after = spill-again (count more) (length slots) (roomy_at more (length slots) more_length more_room).again h in
+          grind (arith, one.spills (length slots - suc free.0), before, after)
 
       -- the new entry would be too far
       pub long-by-new : 2 ^ 24 ≤ suc d → IsTooLong more
-      long-by-new far = grind (arith, first-vacant some_slots h, new_long)
+      long-by-new far =
+          too-long-at more (omega (arith, more_room, more_length)) h (omega (arith, more_here)) (omega (arith, far, stop_sum, same_spill, more_here, ap (λ x. spill (count more) x h) more_length))
 
       -- an entry after it would
       pub long-by-moved : (j : ℕ) → d ≤ j → ((i : ℕ) → d ≤ i → i ≤ j → 1 ≤ reach (slot_at slots (h + i))) → 2 ^ 24 ≤ suc (reach (slot_at slots (h + j))) → IsTooLong more
-      long-by-moved j from full far = grind (arith, first-vacant some_slots h, moved_long)
+      long-by-moved j from full far =
+          let lap : free.0 < length slots = free.1 in
+          let upto : j < free.0 = grind (arith, free.2, stops.before free.0, full free.0) in
+          let c : ℕ → ℕ = count (homes_of slots) in
+          let m : ℕ = length slots in
+          let n : ℕ = h + j + m in
+          let same : reach (slot_at slots n) ≡ reach (slot_at slots (h + j)) = ap reach (slot-again slots (h + j)) in
+          let near : reach (slot_at slots (h + j)) ≤ j + 0 = after (slot_at slots) tidy.ordered h 0 d stops.stop j from in
+          elim (seen m (listed (homes_of slots)) (slot_at slots) (read_roomy some_slots) (read-laid slots tidy some_slots) n (omega (arith, spill-lt c m (read_roomy some_slots) 0))) [
+            | inl g ↦ absurd (omega (arith, same, g.1, far))
+            | inr p ↦
+                let k : ℕ = p.0 - (h + suc free.0) in
+                let within_lap : k < m = omega (arith, p.2, same, near) in
+                let q : h + suc free.0 + k ≡ p.0 = omega (arith, p.2, same, near) in
+                let sp = rw q at (one.spills k within_lap) in
+                let ct = rw q at (one.same k within_lap (λ z. omega (arith, p.2, same, near))) in
+                too-long-at more (omega (arith, more_room, more_length)) p.0 (omega (arith, ct, p.1.from, p.1.upto))
+                (omega (arith, far, p.1.from, p.1.upto, p.2, same, near, sp, ct, ap (λ x. spill (count more) x p.0) more_length))
+          ]
 
 -- a rebuild to k times the slots never makes the table too long on its way
 pub rebuilding-short : {H : Type 0} (key : H → ℕ) (homes : List (List (ℕ × H))) (k i : ℕ) → total homes < length homes → 0 < k * length homes

@@ -49,17 +49,14 @@ module _ {H : Type 0} (key : H → ℕ) where
       let g = keyed_grown homes hashes in
       hashes-put_last key (grown key homes) (key v) (top (key v), v) g.0 g.1 refl refl
 
-  keyed_inserted_under : (homes : List (List (ℕ × H))) (h : ℕ) (v : H) → h ≡ key v → IsHashOf key homes → IsHashOf key (with_handle (grown key homes) h v)
-  keyed_inserted_under homes h v is hashes = rw is (keyed_inserted homes v hashes)
-
   keyed_into : (homes new : List (List (ℕ × H))) (h : ℕ) (v : H) (result : Result (Unit {0}) TableError) → h ≡ key v → PutIn (grown key homes) h v result new → IsHashOf key homes → IsHashOf key new
-  keyed_into homes new h v (Ok r) is put hashes = rw put.0 (keyed_inserted_under homes h v is hashes)
+  keyed_into homes new h v (Ok r) is put hashes = rw (put.0, is) (keyed_inserted homes v hashes)
   keyed_into homes new h v (Err e) is put hashes = rw put.1 (keyed_grown homes hashes).1
 
   keyed_settled : (homes new : List (List (ℕ × H))) (h : ℕ) (v : H) (found : Option H) (result : Result (H × Bool) TableError)
       → h ≡ key v → Settles (grown key homes) h v found result new → IsHashOf key homes → IsHashOf key new
   keyed_settled homes new h v (Some c) result is s hashes = rw s.1 (keyed_grown homes hashes).1
-  keyed_settled homes new h v None (Ok r) is s hashes = rw s.1 (keyed_inserted_under homes h v is hashes)
+  keyed_settled homes new h v None (Ok r) is s hashes = rw (s.1, is) (keyed_inserted homes v hashes)
   keyed_settled homes new h v None (Err e) is s hashes = rw s.1 (keyed_grown homes hashes).1
 
   module _ {F : Type 0} (g : Mut F (H × Unit {0}) ℕ) (f : F) (homes new : List (List (ℕ × H))) (h : ℕ) (v : H) where
