@@ -65,18 +65,12 @@ module _ {E : Type 0} where
         let i : ℕ = n - (h + spill (counts L) m h) in
         grind (arith, get_some (L h) i (omega arith))
 
-    pub part-reach : (n h : ℕ) → IsPartOf (counts L) m h n → reach (A n) ≡ suc (n - h)
-    part-reach n h p = ap reach (shows n h p).1
-
-    pub gap-reach : (n : ℕ) → IsGap (counts L) m n → reach (A n) ≡ 0
-    gap-reach n g = ap reach (laid.rest n g)
-
     -- a slot is a gap and empty, or part of a home, and if of an earlier one, something is spilled there
     pub seen : (n : ℕ) → spill (counts L) m 0 ≤ n
         → (IsGap (counts L) m n × (reach (A n) ≡ 0)) ⊎ ((g : ℕ) × IsPartOf (counts L) m g n × (reach (A n) ≡ suc (n - g)) × (g < n → 1 ≤ spill (counts L) m n))
     seen n l = elim (taken (counts L) m roomy n l) [
-      | inl g ↦ inl (g, gap-reach n g)
-      | inr p ↦ inr (p.0, p.1, part-reach n p.0 p.1, λ below. omega (arith, apart (counts L) m roomy p.0 n below))
+      | inl g ↦ inl (g, ap reach (laid.rest n g))
+      | inr p ↦ inr (p.0, p.1, ap reach (shows n p.0 p.1).1, λ below. omega (arith, apart (counts L) m roomy p.0 n below))
     ]
 
     -- an empty slot is a gap
@@ -102,9 +96,9 @@ module _ {E : Type 0} where
 
     -- no other home's entry looks like one of home h
     not_own : (h k : ℕ) → spill (counts L) m 0 ≤ h → (IsPartOf (counts L) m h (h + k) → ⊥) → at_home (A (h + k)) k ≡ []
-    not_own h k l other = at_home-other (A (h + k)) k (λ r. elim (taken (counts L) m roomy (h + k) (omega arith)) [
-      | inl g ↦ omega (arith, gap-reach (h + k) g)
-      | inr p ↦ other (record { from = grind (arith, part-reach (h + k) p.0 p.1); upto = grind (arith, part-reach (h + k) p.0 p.1) })
+    not_own h k l other = at_home-other (A (h + k)) k (λ r. elim (seen (h + k) (omega arith)) [
+      | inl g ↦ omega (arith, g.1)
+      | inr p ↦ other (record { from = grind (arith, p.1, p.2); upto = grind (arith, p.1, p.2) })
     ])
 
     own : (h k : ℕ) → IsPartOf (counts L) m h (h + k) → (e : E) × (at_home (A (h + k)) k ≡ e ∷ []) × (slice_get (L h) (k - spill (counts L) m h) ≡ Some e)

@@ -4,7 +4,7 @@ use Rattle.std.specs.Prelude.{IsSome}
 use Rattle.std.proofs.Math.Nat.{add-mod_right}
 use Rattle.std.proofs.Math.Seq.{set-append_seam}
 use Rattle.clock2q_handles.specs.Homes.{top, count, with_list}
-use Rattle.clock2q_handles.specs.Layout.{Placed, placed, slot_at, reach, met, homes_of, layout, spill_of, IsTidy}
+use Rattle.clock2q_handles.specs.Layout.{Placed, placed, slot_at, reach, met, homes_of, spill_of, IsTidy}
 use Rattle.clock2q_handles.specs.Slots.{Mark}
 use Rattle.clock2q_handles.specs.Candidates.{end_at, IsLookup, IsWalkFor, EndsAt}
 use Rattle.clock2q_handles.specs.Positions.{IsEntryAt, GapValue, gap_value, gap_from, gap_of, with_entry}
@@ -41,9 +41,8 @@ module _ {E : Type 0} where
     standing x i n e entry_at =
         let homes = homes_of slots in
         let room : 0 < length homes = omega (arith, some, length-homes_of slots) in
-        let q : x + (spill_of homes x + i) ≡ x + spill_of homes x + i = omega arith in
-        ap (λ s. slot_at s (x + (spill_of homes x + i))) (tidy-layout slots tidy) ∙ ap (slot_at (layout homes)) q
-        ∙ layout-standing homes (omega (arith, tidy-room slots tidy, capacity-lt (length homes) room)) x i e entry_at.entry
+        let there = layout-standing homes (omega (arith, tidy-room slots tidy, capacity-lt (length homes) room)) x i e entry_at.entry in
+        grind (arith, tidy-layout slots tidy, there)
 
     module _ (x d : ℕ) (e : E) (here : slot_at slots (x + d) ≡ Some (placed d e)) where
       -- it is within a lap
