@@ -8,7 +8,7 @@ use Rattle.clock2q_handles.specs.Homes.{capacity, no_entries}
 use Rattle.clock2q_handles.specs.TableStep.{made_for, fit}
 use Rattle.clock2q_directory.specs.declared.keys.store.Entry.{Entry}
 use Rattle.clock2q_directory.specs.Indexes.{IsIndex}
-use Rattle.clock2q_directory.specs.Index.{IndexState, index_state, emptied, index_for, index_room, small_table, middle_table, most_entries, is_shared, slots, places, slots_in, places_in, slot_entries, place_entries}
+use Rattle.clock2q_directory.specs.Index.{IndexState, index_state, emptied, index_for, index_room, most_entries, is_shared, slots, places, slots_in, places_in, slot_entries}
 use Rattle.clock2q_directory.proofs.Views.{IsLikeBefore}
 use Rattle.clock2q_directory.proofs.Indexes.{IsIndex-cleared, fits_new}
 
@@ -36,13 +36,7 @@ made-none zero = (0, refl)
 made-none (suc k) = (fit (suc k), refl)
 
 room_enough : (n : ℕ) → 0 < n → n < index_room n
-room_enough n some = elim (leb_tells n small_table) [
-  | inl q ↦ rw q.0 (omega arith)
-  | inr q ↦ elim (leb_tells n middle_table) [
-    | inl r ↦ rw (q.0, r.0) (omega arith)
-    | inr r ↦ rw (q.0, r.0) (omega arith)
-  ]
-]
+room_enough n some = grind (arith, leb_tells)
 
 made_enough : (n : ℕ) → 0 < n → n < capacity (length (made_for {H = ℕ} (index_room n)))
 made_enough n some = omega (arith, room_enough n some, fits_new (index_room n))
@@ -110,16 +104,7 @@ module _ (s p : ℕ) (least : 0 < s) (slots_few : s < 2 ^ 24) (places_few : p < 
 
 -- a cleared index has the tables that it had, with as many slots
 pub cleared_like : (v : IndexState) → IsLikeBefore v (emptied v)
-cleared_like v =
-    let n : length (no_entries {E = ℕ × ℕ} (length v.own)) ≡ length v.own = length-replicate {A = List (ℕ × ℕ)} (length v.own) [] in
-    let m : length (slots_in (no_entries (length v.shared))) ≡ length (slots_in v.shared) =
-    as_many (length v.shared) ∙ length-replicate {A = List (ℕ × ℕ)} (length v.shared) [] ∙ sym (length-map v.shared slot_entries) in
-    let k : length (places_in (no_entries (length v.shared))) ≡ length (places_in v.shared) =
-    ap (λ (z : List (List (ℕ × ℕ))). length z) (places_in-none (length v.shared)) ∙ length-replicate {A = List (ℕ × ℕ)} (length v.shared) [] ∙ sym (length-map v.shared place_entries) in
-    elim (cases_Bool (length v.own == 0)) [
-      | inl e ↦ record { shared = ap (λ z. z == 0) n; slots = m; places = rw (n, e) k }
-      | inr e ↦ record { shared = ap (λ z. z == 0) n; slots = m; places = rw (n, e) n }
-    ]
+cleared_like v = grind (arith, length-replicate, as_many, length-map, places_in-none)
 
 -- and no resident's slot
 pub slots-cleared : (v : IndexState) → slots (emptied v) ≡ no_entries (length (slots v))

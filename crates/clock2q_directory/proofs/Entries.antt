@@ -108,12 +108,7 @@ module _ {K V : Type 0} where
 
   pub values-written : (s : ℕ) (e : Entry K V) (es : List (Entry K V)) → s ≤ length es
       → map (λ e. e.value) (written s e es) ≡ (if nat_lt s (length (map (λ (e : Entry K V). e.value) es)) then slice_set (map (λ e. e.value) es) s e.value else map (λ e. e.value) es ++ e.value ∷ [])
-  values-written s e es h =
-      elim (cases_lt s (length es)) [
-        | inl below ↦ rw (lt-ltb s (length (map (λ (e : Entry K V). e.value) es)) (omega (arith, below, length-values es))) (values-set s e es below)
-        | inr above ↦ rw (le-ltb s (length (map (λ (e : Entry K V). e.value) es)) (omega (arith, above, length-values es)))
-            (ap (λ z. map (λ e. e.value) z) (written-push s e es (omega (arith, above, h))) ∙ map-append (λ e. e.value) es (e ∷ []))
-      ]
+  values-written s e es h = grind (arith, cases_lt, lt-ltb, length-values, values-set, le-ltb, written-push, map-append)
 
   -- Keys at places
 
@@ -148,9 +143,7 @@ module _ {K V : Type 0} where
 
   pub entries-agree : (keys keys' : List (Entry K V)) (ps : List ℕ) → ((t : ℕ) → has t ps ≡ true → slice_get keys' t ≡ slice_get keys t) → entries_of keys' ps ≡ entries_of keys ps
   entries-agree keys keys' [] h = refl
-  entries-agree keys keys' (p ∷ ps) h =
-      ap (λ z. cons_option (elim z [ None ↦ None | Some e ↦ Some (e.hash, e.key) ]) (entries_of keys' ps)) (h p (has_first p ps))
-      ∙ ap (λ z. cons_option (hashed_at keys p) z) (entries-agree keys keys' ps (λ t g. h t (has_later t p ps g)))
+  entries-agree keys keys' (p ∷ ps) h = grind (arith, entries-agree keys keys' ps, has_first, has_later)
 
   pub entries-cons : (keys : List (Entry K V)) (p : ℕ) (e : ℕ × K) (ps : List ℕ) → hashed_at keys p ≡ Some e → entries_of keys (p ∷ ps) ≡ e ∷ entries_of keys ps
   entries-cons keys p e ps h = ap (λ z. cons_option z (entries_of keys ps)) h
@@ -170,10 +163,7 @@ module _ {K V : Type 0} where
 
   pub all_entry : (P : ℕ × K → Type 0) (keys : List (Entry K V)) (ps : List ℕ) (t : ℕ) (e : ℕ × K) → AllByRecursion P (entries_of keys ps) → has t ps ≡ true → hashed_at keys t ≡ Some e → P e
   all_entry P keys [] t e a h s = absurd (both_ways false refl h)
-  all_entry P keys (p ∷ ps) t e a h s = elim (or_cases (eqb t p) (has t ps) h) [
-    | inl q ↦ (subst (λ z. AllByRecursion P (cons_option z (entries_of keys ps))) (subst (λ z. hashed_at keys z ≡ Some e) (eqb-true t p q) s) a).0
-    | inr q ↦ all_entry P keys ps t e (all_tail P (hashed_at keys p) (entries_of keys ps) a) q s
-  ]
+  all_entry P keys (p ∷ ps) t e a h s = grind (arith, all_entry P keys ps t e, or_cases, eqb-true, all_tail)
 
   module _ (eq : K → K → Bool) where
     pub any_entry : (key : K) (keys : List (Entry K V)) (ps : List ℕ) (t : ℕ) (e : ℕ × K) → has t ps ≡ true → hashed_at keys t ≡ Some e → eq key e.1 ≡ true → has_key eq key (entries_of keys ps) ≡ true
@@ -188,22 +178,4 @@ module _ {K V : Type 0} where
     pub same_place : IsEquivalence eq → (key : K) (keys : List (Entry K V)) (ps : List ℕ) → AllDistinct eq (entries_of keys ps) → (t u : ℕ) → has t ps ≡ true → has u ps ≡ true
         → is_key_at eq key keys t ≡ true → is_key_at eq key keys u ≡ true → eqb t u ≡ true
     same_place laws key keys [] d t u ht hu kt ku = absurd (both_ways false refl ht)
-    same_place laws key keys (p ∷ ps) d t u ht hu kt ku =
-        let e = key_there eq key keys t kt in
-        let f = key_there eq key keys u ku in
-        elim (or_cases (eqb t p) (has t ps) ht) [
-          | inl q ↦ elim (or_cases (eqb u p) (has u ps) hu) [
-            | inl r ↦ eq-eqb t u (eqb-true t p q ∙ sym (eqb-true u p r))
-            | inr r ↦
-                let d' : AllDistinct eq (e.0 ∷ entries_of keys ps) =
-                subst (λ z. AllDistinct eq (cons_option z (entries_of keys ps))) (subst (λ z. hashed_at keys z ≡ Some e.0) (eqb-true t p q) e.1) d in
-                absurd (both_ways (has_key eq e.0.1 (entries_of keys ps)) d'.0 (any_entry e.0.1 keys ps u f.0 r f.1 (sym (laws.congr key e.0.1 f.0.1 e.2) ∙ f.2)))
-          ]
-          | inr q ↦ elim (or_cases (eqb u p) (has u ps) hu) [
-            | inl r ↦
-                let d' : AllDistinct eq (f.0 ∷ entries_of keys ps) =
-                subst (λ z. AllDistinct eq (cons_option z (entries_of keys ps))) (subst (λ z. hashed_at keys z ≡ Some f.0) (eqb-true u p r) f.1) d in
-                absurd (both_ways (has_key eq f.0.1 (entries_of keys ps)) d'.0 (any_entry f.0.1 keys ps t e.0 q e.1 (sym (laws.congr key f.0.1 e.0.1 f.2) ∙ e.2)))
-            | inr r ↦ same_place laws key keys ps (distinct_tail eq (hashed_at keys p) (entries_of keys ps) d) t u q r kt ku
-          ]
-        ]
+    same_place laws key keys (p ∷ ps) d t u ht hu kt ku = grind (arith, same_place laws key keys ps, key_there, or_cases, eq-eqb, eqb-true, any_entry, distinct_tail)

@@ -67,21 +67,13 @@ module _ {K V : Type 0} (eq : K → K → Bool) where
   forgets_one : (key : K) (keys : List (Entry K V)) (p : ℕ) (ps : List ℕ) → is_key_at eq key keys p ≡ true → ((t : ℕ) → has t ps ≡ true → eqb t p ≡ false → is_key_at eq key keys t ≡ false)
       → entries_of keys (without p ps) ≡ forgotten eq key (entries_of keys ps)
   forgets_one key keys p [] k h = refl
-  forgets_one key keys p (q ∷ ps) k h =
-      let rest = forgets_one key keys p ps k (λ t g d. h t (has_later t q ps g) d) in
-      elim (cases_Bool (eqb q p)) [
-        | inl e ↦ rw e (rest ∙ sym (forgotten_gone eq key (hashed_at keys q) (entries_of keys ps) (is_of-at eq key keys q ∙ subst (λ z. is_key_at eq key keys z ≡ true) (sym (eqb-true q p e)) k)))
-        | inr e ↦ rw e (ap (λ z. cons_option (hashed_at keys q) z) rest ∙ sym (forgotten_kept eq key (hashed_at keys q) (entries_of keys ps) (is_of-at eq key keys q ∙ h q (has_first q ps) e)))
-      ]
+  forgets_one key keys p (q ∷ ps) k h = grind (arith, forgets_one key keys p ps k, has_later, forgotten_gone, is_of-at, eqb-true, forgotten_kept, has_first)
 
   -- no place has the key
   forgets_none : (key : K) (keys : List (Entry K V)) (ps : List ℕ) → ((t : ℕ) → has t ps ≡ true → is_key_at eq key keys t ≡ false)
       → (has_key eq key (entries_of keys ps) ≡ false) × (forgotten eq key (entries_of keys ps) ≡ entries_of keys ps)
   forgets_none key keys [] h = (refl, refl)
-  forgets_none key keys (p ∷ ps) h =
-      let rest = forgets_none key keys ps (λ t g. h t (has_later t p ps g)) in
-      let this = is_of-at eq key keys p ∙ h p (has_first p ps) in
-      (any_none eq key (hashed_at keys p) (entries_of keys ps) this rest.0, forgotten_kept eq key (hashed_at keys p) (entries_of keys ps) this ∙ ap (λ z. cons_option (hashed_at keys p) z) rest.1)
+  forgets_none key keys (p ∷ ps) h = grind (arith, forgets_none key keys ps, has_later, is_of-at, has_first, any_none, forgotten_kept)
 
   -- the place beside a key is the first that has it
   place_beside : (key : K) (keys : List (Entry K V)) (n : ℕ) (ps : List ℕ) → n ≤ length keys → AllBelow n ps
@@ -138,10 +130,7 @@ module _ {K V : Type 0} {eq : K → K → Bool} (laws : IsEquivalence eq) (hash 
     place_held = h.indexed.listed hash place ∙ rw (there.0, named-own (known.places index) keys.entries hash place hash_there_now) refl
 
     others_differ : (t : ℕ) → has t order.places ≡ true → eqb t place ≡ false → is_key_at eq key keys.entries t ≡ false
-    others_differ t g d = elim (cases_Bool (is_key_at eq key keys.entries t)) [
-      | inl k ↦ absurd (both_ways (eqb t place) d (same_place eq laws key keys.entries order.places h.distinct t place g there.0 k there.1))
-      | inr k ↦ k
-    ]
+    others_differ t g d = grind (arith, same_place, there)
 
     pub forgets : {order' : PlaceOrder} → IsWholeOrder order' → order' ≡ record order { places = without place order.places; free = place ∷ order.free; accesses = order.accesses + 7 }
         → Forgets eq hash key (remembered_from index order keys) (forgotten_at hash place index) order' keys

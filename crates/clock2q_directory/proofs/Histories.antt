@@ -67,8 +67,7 @@ module _ {K V : Type 0} {eq : K → K → Bool} {index : IndexState} {order : Pl
 pub shown-as : {K : Type 0} {entries entries' : List (ℕ × K)} {limit limit' : ℕ} (places : Places) (accesses : ℕ) {comparisons comparisons' : ℕ}
     → entries' ≡ entries → limit' ≡ limit → comparisons' ≡ comparisons
     → remembered entries' limit' places accesses comparisons' ≡ remembered entries limit places accesses comparisons
-shown-as {K} {entries} {entries'} {limit} {limit'} places accesses {comparisons} {comparisons'} e l q =
-    ap (λ z. remembered z limit' places accesses comparisons') e ∙ ap (λ z. remembered entries z places accesses comparisons') l ∙ ap (λ z. remembered entries limit places accesses z) q
+shown-as {K} {entries} {entries'} {limit} {limit'} places accesses {comparisons} {comparisons'} e l q = grind arith
 
 pub IsWholeHistory-from : {K : Type 0} {eq : K → K → Bool} {index : IndexState} {order : PlaceOrder} {keys : KeyPlaces K Unit} → IsHistory eq index order keys
     → IsWholeHistory eq (remembered_from index order keys)

@@ -5,7 +5,7 @@ use Rattle.std.proofs.lemmas.Bool.{both_ways, cases_Bool}
 use Rattle.std.proofs.lemmas.Bool.Decides.{leb_tells}
 use Rattle.std.proofs.lemmas.List.{length-append, length-replicate}
 use Rattle.clock2q_queues.specs.Rings.{has, without, AllApart}
-use Rattle.clock2q_handles.specs.Homes.{top, home, no_entries, capacity, listed, count, total, candidates, with_handle, removed, is_entry_of, without_first}
+use Rattle.clock2q_handles.specs.Homes.{top, home, no_entries, capacity, listed, total, candidates, with_handle, removed, is_entry_of, without_first}
 use Rattle.clock2q_directory.specs.Keys.{hash_at}
 use Rattle.clock2q_handles.specs.TableStep.{fit, doubled_until, made_for}
 use Rattle.clock2q_directory.specs.Indexes.{IsIndex, is_alike, is_named}
@@ -54,10 +54,7 @@ one_if false = 0
 
 length-without_first : {E : Type 0} (test : E → Bool) (es : List E) → length (without_first test es) + one_if (list_any test es) ≡ length es
 length-without_first test [] = refl
-length-without_first test (e ∷ es) = elim (cases_Bool (test e)) [
-  | inl h ↦ rw h (let n : length es + 1 ≡ suc (length es) = omega arith in n)
-  | inr h ↦ rw h (omega (arith, length-without_first test es))
-]
+length-without_first test (e ∷ es) = grind (arith, length-without_first test es)
 
 -- an entry of the hash is a candidate
 pub any-candidate : (x p : ℕ) (es : List (ℕ × ℕ)) → list_any (is_entry_of eqb x p) es ≡ has p (map (λ e. e.1) (filter (λ e. e.0 == top x) es))
@@ -88,9 +85,7 @@ pub length-taken : (index : List (List (ℕ × ℕ))) (hash place : ℕ) → len
 length-taken index hash place = length-with_list index hash (without_first (is_entry_of eqb hash place) (listed index hash))
 
 alike_parts : (index : List (List (ℕ × ℕ))) (x y : ℕ) → is_alike index x y ≡ true → (home index x ≡ home index y) × (top x ≡ top y)
-alike_parts index x y h =
-    let p = and_parts (home index x == home index y) (top x == top y) h in
-    (eqb-true _ _ p.0, eqb-true _ _ p.1)
+alike_parts index x y h = grind (arith, and_parts, eqb-true)
 
 not_alike : (index : List (List (ℕ × ℕ))) (x y : ℕ) → is_alike index x y ≡ false → (home index x ≡ home index y) × (top x ≡ top y) → ⊥
 not_alike index x y h p = both_ways (is_alike index x y) h (rw (p.0, p.1, eqb_self (home index y), eqb_self (top y)) refl)
@@ -112,36 +107,10 @@ module _ {K V : Type 0} where
   module _ (index : List (List (ℕ × ℕ))) (keys keys' : List (Entry K V)) (places : List ℕ) (place hash : ℕ) (i : IsIndex index keys places) (some : 0 < length index)
       (absent : has place places ≡ false) (same : (q : ℕ) → has q places ≡ true → hash_at keys' q ≡ hash_at keys q) (at : hash_at keys' place ≡ Some hash) where
     still_named : (x q : ℕ) → (has q places && is_named index keys x q) ≡ (has q places && is_named (with_handle index hash place) keys' x q)
-    still_named x q = elim (cases_Bool (has q places)) [
-      | inl h ↦ rw h (sym (named-length index (with_handle index hash place) keys' x q (length-put index hash place) ∙ named-kept index keys keys' x q (same q h)))
-      | inr h ↦ rw h refl
-    ]
+    still_named x q = grind (arith, named-length, length-put, named-kept)
 
     listed-put : (x q : ℕ) → has q (candidates (with_handle index hash place) x) ≡ (has q (place ∷ places) && is_named (with_handle index hash place) keys' x q)
-    listed-put x q = elim (cases_Bool (is_alike index x hash)) [
-      | inl a ↦
-          let p = alike_parts index x hash a in
-          let cs = candidates-inserted index hash x place some p.0 p.1 in
-          let met : has q (candidates (with_handle index hash place) x) ≡ (has q (candidates index x) || (eqb q place || false)) =
-          ap (λ z. has q z) cs ∙ has-append q (candidates index x) (place ∷ []) in
-          elim (cases_Bool (eqb q place)) [
-            | inl e ↦
-                let n : is_named (with_handle index hash place) keys' x q ≡ true = ap (λ z. is_named (with_handle index hash place) keys' x z) (eqb-true q place e)
-                ∙ named-length index (with_handle index hash place) keys' x place (length-put index hash place) ∙ named-as index keys' x place hash at ∙ a in
-                met ∙ rw (e, n) (or_true (has q (candidates index x)))
-            | inr e ↦ met ∙ rw e (or_false (has q (candidates index x)) ∙ i.listed x q ∙ still_named x q)
-          ]
-      | inr a ↦
-          let cs = candidates-inserted_other index hash x place some (not_alike index x hash a) in
-          ap (λ z. has q z) cs ∙ i.listed x q ∙ elim (cases_Bool (eqb q place)) [
-            | inl e ↦
-                let n : is_named (with_handle index hash place) keys' x q ≡ false = ap (λ z. is_named (with_handle index hash place) keys' x z) (eqb-true q place e)
-                ∙ named-length index (with_handle index hash place) keys' x place (length-put index hash place) ∙ named-as index keys' x place hash at ∙ a in
-                let h : has q places ≡ false = subst (λ z. has z places ≡ false) (sym (eqb-true q place e)) absent in
-                rw (e, n, h) refl
-            | inr e ↦ still_named x q ∙ rw e refl
-          ]
-    ]
+    listed-put x q = grind (arith, alike_parts, candidates-inserted, has-append, eqb-true, named-length, length-put, named-as, or_true, or_false, still_named, candidates-inserted_other, not_alike)
 
     pub IsIndex-put : IsIndex (with_handle index hash place) keys' (place ∷ places)
     IsIndex-put = record {
@@ -182,13 +151,7 @@ module _ {K V : Type 0} where
         ]
 
     pub taken-counted : total (removed eqb index hash place) + one_if (has place places) ≡ length places
-    taken-counted =
-        let test = is_entry_of eqb hash place in
-        let named : is_named index keys hash place ≡ true = named-as index keys hash place hash at ∙ rw (eqb_self (home index hash), eqb_self (top hash)) refl in
-        let any : list_any test (listed index hash) ≡ has place places = any-candidate hash place (listed index hash) ∙ i.listed hash place ∙ rw named (and_true (has place places)) in
-        let n : length (without_first test (listed index hash)) + one_if (has place places) ≡ count index hash =
-        ap (λ z. length (without_first test (listed index hash)) + one_if z) (sym any) ∙ length-without_first test (listed index hash) in
-        omega (arith, total-with_list index hash (without_first test (listed index hash)) some, n, i.counted)
+    taken-counted = grind (arith, named-as, eqb_self, any-candidate, and_true, length-without_first, total-with_list)
 
     length-left : length (without place places) + one_if (has place places) ≡ length places
     length-left = elim (cases_Bool (has place places)) [
@@ -254,10 +217,7 @@ module _ {K V : Type 0} where
 
 enough : (e k m : ℕ) → 16 ≤ m → e ≤ capacity m + k → e ≤ capacity (doubled_until e m k)
 enough e zero m l h = omega (arith, h)
-enough e (suc k) m l h = elim (leb_tells e (capacity m)) [
-  | inl q ↦ rw (q.0, doubled_until) q.1
-  | inr q ↦ rw (q.0, doubled_until) (enough e k (2 * m) (omega (arith, l)) (omega (arith, l, h, q.1)))
-]
+enough e (suc k) m l h = grind (arith, enough e k (2 * m), leb_tells)
 
 -- a table that is made for `n` entries has room for them
 pub fits_new : (n : ℕ) → n ≤ capacity (length (made_for {H = ℕ} n))

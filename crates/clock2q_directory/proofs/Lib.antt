@@ -13,5 +13,5 @@ pub mod Views
 pub mod Sorted
 mod WorkedPlaces
 pub mod Taking
-pub mod Charging
+pub mod Succession
 pub mod WithHash

@@ -35,22 +35,14 @@ module _ (h : ℕ) (hs : List ℕ) where
 
 -- what a stored number says is below every place's number, or from the first on
 pub says-slot : {h s : ℕ} → Handle.Resident s ≡ unpacked h → (h ≡ s) × (h < first_remembered)
-says-slot {h} {s} e = elim (cases_Bool (ltb h first_remembered)) [
-  | inl l ↦ let q : Handle.Resident s ≡ Handle.Resident h = e ∙ rw l refl in (cc, ltb-true h first_remembered l)
-  | inr l ↦ let q : Handle.Resident s ≡ Handle.Remembered (h - first_remembered) = e ∙ rw l refl in absurd (cc)
-]
+says-slot {h} {s} e = grind (arith, ltb-true)
 
 pub says-place : {h p : ℕ} → Handle.Remembered p ≡ unpacked h → (h - first_remembered ≡ p) × (first_remembered ≤ h)
-says-place {h} {p} e = elim (cases_Bool (ltb h first_remembered)) [
-  | inl l ↦ let q : Handle.Remembered p ≡ Handle.Resident h = e ∙ rw l refl in absurd (cc)
-  | inr l ↦ let q : Handle.Remembered p ≡ Handle.Remembered (h - first_remembered) = e ∙ rw l refl in (cc, ltb-false h first_remembered l)
-]
+says-place {h} {p} e = grind (arith, ltb-false)
 
 -- if the next handle is a slot's, that slot is the next among the slots
 pub next-slot : {h s : ℕ} (handles : List ℕ) → Some h ≡ slice_get handles 0 → Handle.Resident s ≡ unpacked h → slots_among handles ≡ s ∷ slots_among (drop 1 handles)
-next-slot {h} {s} handles is says =
-    let q = says-slot says in
-    ap slots_among (begins_with is) ∙ slots-first h (drop 1 handles) q.1 ∙ ap (λ z. z ∷ slots_among (drop 1 handles)) q.0
+next-slot {h} {s} handles is says = grind (arith, says-slot, begins_with, slots-first)
 
 -- it is the next to be compared
 pub asked-slot : {test : ℕ → Bool} {n bound : ℕ} {all : List ℕ} {asked : ℕ} (handles : List ℕ) {h s : ℕ} → Asked test n bound all asked (slots_among handles)
@@ -143,11 +135,7 @@ module _ (a b : ℕ → Bool) (end : Option GapValue) where
       resident-there = (subst (λ z. AllByRecursion (λ s. s < n) z) slots_are on.slots).0
 
       pub resident-found : true ≡ a s → (Found.Resident s ≡ first_known a b end all) × (p' + 1 ≤ p + length (slots_among all)) × (q' ≤ q + length (places_among all))
-      resident-found it = let q = says-slot says in (
-        sym (on.first ∙ rw (lt-ltb h first_remembered q.1, q.0, sym it) refl),
-        omega (arith, on.asked_most, ap (λ (z : List ℕ). length z) slots_are),
-        omega (arith, on.comparisons_most),
-      )
+      resident-found it = grind (arith, says-slot, lt-ltb, slots_are)
 
     module _ {t : ℕ} (says : Handle.Remembered t ≡ unpacked h) where
       places_still : places_among (h ∷ left) ≡ t ∷ places_among left
@@ -157,11 +145,7 @@ module _ (a b : ℕ → Bool) (end : Option GapValue) where
       place-there = (subst (λ z. AllByRecursion (λ s. s < m) z) places_still on.places).0
 
       pub place-found : true ≡ b t → (Found.Remembered t ≡ first_known a b end all) × (p' ≤ p + length (slots_among all)) × (q' + 1 ≤ q + length (places_among all))
-      place-found it = let q = says-place says in (
-        sym (on.first ∙ rw (le-ltb h first_remembered q.1, q.0, sym it) refl),
-        omega (arith, on.asked_most),
-        omega (arith, on.comparisons_most, ap (λ (z : List ℕ). length z) places_still),
-      )
+      place-found it = grind (arith, says-place, le-ltb, places_still)
 
 -- the slots that a lookup in the table of the slots finds
 pub slots-read : (index : IndexState) (x : ℕ) {handles : List ℕ} → handles ≡ candidates index.shared x → slots_among handles ≡ candidates (known.slots index) x

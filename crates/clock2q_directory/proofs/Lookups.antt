@@ -7,7 +7,7 @@ use Rattle.clock2q_handles.specs.Homes.{candidates}
 use Rattle.clock2q_directory.specs.declared.keys.store.Entry.{Entry}
 use Rattle.clock2q_queues.specs.Rings.{has}
 use Rattle.clock2q_directory.specs.Keys.{hash_at, entries_of, is_key_at, comparisons_of}
-use Rattle.clock2q_directory.specs.Indexes.{IsIndex, AllDistinct, HasHash, is_named}
+use Rattle.clock2q_directory.specs.Indexes.{IsIndex, AllDistinct, HasHash}
 use Rattle.clock2q_queues.proofs.Rings.{has_first, has_later}
 use Rattle.clock2q_directory.proofs.Entries.{key_there, hash_of_hashed, all_entry, same_place}
 use Rattle.clock2q_directory.proofs.Indexes.{named-own, candidate_there}
@@ -66,24 +66,17 @@ module _ {K V : Type 0} (eq : K → K → Bool) (hash : ℕ) (key : K) (index : 
       hash_of_hashed keys t e.0 e.1 ∙ ap (λ z. Some z) (all_entry (λ e. eq key e.1 ≡ true → e.0 ≡ hash) keys places t e.0 hashed g e.1 e.2)
 
   pub candidate : (t : ℕ) → has t places ≡ true → is_key_at eq key keys t ≡ true → has t (candidates index hash) ≡ true
-  candidate t g k =
-      let named : is_named index keys hash t ≡ true = named-own index keys hash t (hash_there t g k) in
-      i.listed hash t ∙ rw (g, named) refl
+  candidate t g k = grind (arith, named-own, hash_there)
 
   -- the first candidate that has the key is the place of the list that has it, or there is none
   pub lookup : IsEquivalence eq → AllDistinct eq (entries_of keys places) → find (is_key_at eq key keys) (candidates index hash) ≡ find (is_key_at eq key keys) places
-  lookup laws distinct = find-same (is_key_at eq key keys) (candidates index hash) places
-      (λ t h. (candidate_there index keys places hash t i h).0) candidate
-      (λ t u g h k l. same_place eq laws key keys places distinct t u g h k l)
+  lookup laws distinct = grind (arith, find-same, candidate_there, candidate, same_place)
 
 -- Comparisons
 
 pub comparisons-most : (test : ℕ → Bool) (cs : List ℕ) → comparisons_of test cs ≤ length cs
 comparisons-most test [] = omega arith
-comparisons-most test (c ∷ cs) = elim (cases_Bool (test c)) [
-  | inl h ↦ rw h (omega arith)
-  | inr h ↦ rw h (omega (arith, comparisons-most test cs))
-]
+comparisons-most test (c ∷ cs) = grind (arith, comparisons-most test cs)
 
 pub comparisons-within : (test : ℕ → Bool) {places all : List ℕ} (n : ℕ) → places ≡ all → length all ≡ n → comparisons_of test places ≤ n
 comparisons-within test {places} n same is = omega (arith, comparisons-most test places, ap (λ (z : List ℕ). length z) same, is)
@@ -105,6 +98,4 @@ pub record Asked (test : ℕ → Bool) (n bound : ℕ) (all : List ℕ) (asked :
 
 pub asked-found : {test : ℕ → Bool} {n bound : ℕ} {all : List ℕ} {asked : ℕ} (place : ℕ) (left : List ℕ) → Asked test n bound all asked (place ∷ left) → true ≡ test place
     → (Some place ≡ find test all) × (asked + 1 ≡ n + comparisons_of test all)
-asked-found {test} place left a it =
-    let m : comparisons_of test (place ∷ left) ≡ 1 = rw (sym it) refl in
-    (sym (a.found ∙ rw (sym it) refl), omega (arith, a.comparisons, m))
+asked-found {test} place left a it = grind arith

@@ -1,13 +1,12 @@
 -- What the changes of an index cost at most, in the state before the first of them.
-use Rattle.std.proofs.Common.{ℕ, ◌+◌, ◌≤◌, eqb, ltb, Option, Some, None, List, length, inl, inr, arith}
+use Rattle.std.proofs.Common.{ℕ, ◌+◌, ◌≤◌, eqb, Option, Some, None, List, length, inl, inr, arith}
 use Rattle.std.specs.List.{last_or}
 use Rattle.std.proofs.lemmas.Bool.{cases_Bool}
 use Rattle.clock2q_handles.specs.Homes.{total, capacity, removed}
 use Rattle.clock2q_handles.proofs.Removals.{removed-walk}
 use Rattle.clock2q_handles.proofs.Runs.{removed-room, removed-run}
-use Rattle.clock2q_queues.specs.Order.{place_for}
 use Rattle.clock2q_directory.specs.Accesses.{most_changed}
-use Rattle.clock2q_directory.specs.Index.{IndexState, IsWithinCapacity, is_shared, first_remembered, left, remembered_at, forgotten_at, most_reached}
+use Rattle.clock2q_directory.specs.Index.{IndexState, IsWithinCapacity, is_shared, left, remembered_at, forgotten_at, most_reached}
 use Rattle.clock2q_directory.specs.History.{Places, pushed_places, freed_place, taking_oldest}
 
 module _ (homes : List (List (ℕ × ℕ))) (room : total homes ≤ capacity (length homes)) (x h : ℕ) where
@@ -27,26 +26,11 @@ module _ (v : IndexState) (within : IsWithinCapacity v) where
 
   -- the resident at a slot leaves
   pub left-dear : (x s : ℕ) → IsNoDearer v (left x s v)
-  left-dear x s = record {
-    shared = removed-changed v.shared within.shared x s;
-    own = λ y. omega arith;
-    within = record { shared = removed-room eqb v.shared x s within.shared; own = within.own };
-  }
+  left-dear x s = grind (arith, removed-changed, removed-room)
 
   -- the key at a place is forgotten
   pub forgotten-dear : (x p : ℕ) → IsNoDearer v (forgotten_at x p v)
-  forgotten-dear x p = elim (cases_Bool (is_shared v)) [
-    | inl h ↦ rw h (record {
-      shared = removed-changed v.shared within.shared x (first_remembered + p);
-      own = λ y. omega arith;
-      within = record { shared = removed-room eqb v.shared x (first_remembered + p) within.shared; own = within.own };
-    })
-    | inr h ↦ rw h (record {
-      shared = λ y. omega arith;
-      own = removed-changed v.own within.own x p;
-      within = record { shared = within.shared; own = removed-room eqb v.own x p within.own };
-    })
-  ]
+  forgotten-dear x p = grind (arith, removed-changed, removed-room)
 
   pub forgotten-accesses : (x p : ℕ) → (forgotten_at x p v).accesses ≤ v.accesses + most_reached v x
   forgotten-accesses x p = elim (cases_Bool (is_shared v)) [ inl h ↦ rw h (omega arith) | inr h ↦ rw h (omega arith) ]
@@ -74,18 +58,7 @@ module _ (p : Places) (within : IsWithinCapacity p.index) where
   module _ (limit hash slot oldest : ℕ) where
     oldest_accesses : (o : Option ℕ) → (taking_oldest hash slot oldest o p).index.accesses ≤ p.index.accesses + most_reached p.index hash + reached_oldest p.index oldest o
     oldest_accesses None = omega arith
-    oldest_accesses (Some place) =
-        let d = forgotten-dear p.index within oldest place in
-        omega (
-          arith,
-          forgotten-accesses p.index within oldest place,
-          remembered-accesses (forgotten_at oldest place p.index) d.within hash slot place,
-          d.shared hash,
-          d.own hash,
-        )
+    oldest_accesses (Some place) = grind (arith, forgotten-dear, forgotten-accesses, remembered-accesses)
 
     pub pushed-accesses : (pushed_places limit hash slot oldest p).index.accesses ≤ p.index.accesses + most_reached p.index hash + reached_oldest p.index oldest (last_or None p.taken)
-    pushed-accesses = elim (cases_Bool (ltb (length p.taken) limit)) [
-      | inl few ↦ rw few (omega (arith, remembered-accesses p.index within hash slot (place_for (length p.taken) p.free)))
-      | inr full ↦ rw full (oldest_accesses (last_or None p.taken))
-    ]
+    pushed-accesses = grind (arith, remembered-accesses, oldest_accesses)

@@ -2,7 +2,7 @@
 use Rattle.std.proofs.Common.{◌≡◌, ℕ, zero, suc, ◌+◌, ◌-◌, ◌<◌, ◌≤◌, Bool, true, false, eqb, ltb, Option, Some, None, slice_get, List, [], ◌∷◌, length, take, inl, inr, refl, sym, ap, ◌∙◌, subst, arith}
 use Rattle.std.specs.Prelude.{if◌then◌else◌}
 use Rattle.std.specs.List.{last_or}
-use Rattle.std.proofs.lemmas.Bool.{both_ways, cases_Bool, eq-eqb, le-ltb}
+use Rattle.std.proofs.lemmas.Bool.{cases_Bool, eq-eqb, le-ltb}
 use Rattle.clock2q_handles.specs.Homes.{removed}
 use Rattle.clock2q_directory.specs.Index as known
 use Rattle.clock2q_directory.specs.Index.{IndexState, first_remembered, left, remembered_at, forgotten_at, HasPlaceRoom, IsHeld}
@@ -48,8 +48,7 @@ pushed-nowhere {index = index} {order} hash slot oldest h none =
 -- and its key is not remembered
 pub none-kept : {K V : Type 0} {eq : K → K → Bool} {index : IndexState} {order : PlaceOrder} {keys : KeyPlaces K V} (e : ℕ × K) → IsHistory eq index order keys → order.limit ≡ 0
     → entries_of keys.entries order.places ≡ take order.limit (e ∷ entries_of keys.entries order.places)
-none-kept {order = order} {keys} e h none =
-    ap (λ z. entries_of keys.entries z) (no-place order.places (omega (arith, h.whole.within, none))) ∙ ap (λ n. take n (e ∷ entries_of keys.entries order.places)) (sym none)
+none-kept {order = order} {keys} e h none = grind (arith, no-place)
 
 -- the slots after a key leaves
 module _ (limit hash slot oldest : ℕ) (p : Places) (below : slot < first_remembered) where
@@ -108,9 +107,7 @@ module _ {K : Type 0} {eq : K → K → Bool} {index index1 : IndexState} {order
     at_place = ap (λ z. slice_get z place) wrote ∙ slice_get-written place (entry hash key tt) keys.entries m.next
 
     others_kept : (t : ℕ) → has t fewer ≡ true → slice_get keys'.entries t ≡ slice_get keys.entries t
-    others_kept t g =
-        let d : eqb t place ≡ false = differs t place fewer g m.absent in
-        ap (λ z. slice_get z t) wrote ∙ slice_get-written_other place t (entry hash key tt) keys.entries m.next (λ e. both_ways (eqb t place) d (eq-eqb t place e))
+    others_kept t g = grind (arith, differs, slice_get, wrote, slice_get-written_other, eq-eqb)
 
     entries_now : entries_of keys'.entries order'.places ≡ take order.limit ((hash, key) ∷ entries_of keys.entries order.places)
     entries_now =

@@ -1,5 +1,5 @@
 -- The slots and the places of an index, and how each of its calls changes them.
-use Rattle.std.proofs.Common.{◌≡◌, ℕ, zero, suc, ◌+◌, ◌-◌, ◌%◌, ◌<◌, Bool, true, false, not, ◌&&◌, ◌||◌, ◌==◌, if◌then◌else◌, eqb, ltb, Some, List, [], ◌∷◌, ◌++◌, length, map, set, get_or, inl, inr, refl, sym, ap, ◌∙◌, subst, arith, append-nil, eqb-true, eq-eqb, ne_eqb, lt-ltb, le-ltb, ltb-false}
+use Rattle.std.proofs.Common.{◌≡◌, ℕ, zero, suc, ◌+◌, ◌-◌, ◌%◌, ◌<◌, Bool, true, false, not, ◌&&◌, ◌||◌, if◌then◌else◌, eqb, ltb, Some, List, [], ◌∷◌, ◌++◌, length, map, set, get_or, inl, inr, refl, sym, ap, ◌∙◌, subst, arith, append-nil, eqb-true, eq-eqb, ne_eqb, lt-ltb, le-ltb, ltb-false}
 use Rattle.std.specs.List.{filter, list_any}
 use Rattle.std.proofs.lemmas.Bool.{both_ways, cases_Bool, cases_eq, eqb-false}
 use Rattle.std.proofs.lemmas.List.{append_assoc, length-append, length-map, map-set, set-get_or}
@@ -24,35 +24,17 @@ module _ {E : Type 0} (keep test : E → Bool) where
   -- one that is kept may be taken out before or after
   kept-without_first : ((e : E) → test e ≡ true → keep e ≡ true) → (es : List E) → filter keep (without_first test es) ≡ without_first test (filter keep es)
   kept-without_first kept [] = refl
-  kept-without_first kept (e ∷ es) = elim (cases_Bool (test e)) [
-    | inl t ↦ rw (t, kept e t) (rw t refl)
-    | inr t ↦ elim (cases_Bool (keep e)) [
-      | inl k ↦ rw (t, k) (rw t (ap (λ zs. e ∷ zs) (kept-without_first kept es)))
-      | inr k ↦ rw (t, k) (kept-without_first kept es)
-    ]
-  ]
+  kept-without_first kept (e ∷ es) = grind (arith, kept-without_first kept es)
 
   -- taking out one that isn't kept doesn't change those kept
   lost-without_first : ((e : E) → test e ≡ true → keep e ≡ false) → (es : List E) → filter keep (without_first test es) ≡ filter keep es
   lost-without_first lost [] = refl
-  lost-without_first lost (e ∷ es) = elim (cases_Bool (test e)) [
-    | inl t ↦ rw (t, lost e t) refl
-    | inr t ↦ elim (cases_Bool (keep e)) [
-      | inl k ↦ rw (t, k) (ap (λ zs. e ∷ zs) (lost-without_first lost es))
-      | inr k ↦ rw (t, k) (lost-without_first lost es)
-    ]
-  ]
+  lost-without_first lost (e ∷ es) = grind (arith, lost-without_first lost es)
 
   -- putting one that isn't kept in its place is the same as taking it out
   kept-with_first : (new : E) → keep new ≡ false → ((e : E) → test e ≡ true → keep e ≡ true) → (es : List E) → filter keep (with_first test new es) ≡ without_first test (filter keep es)
   kept-with_first new none kept [] = refl
-  kept-with_first new none kept (e ∷ es) = elim (cases_Bool (test e)) [
-    | inl t ↦ rw (t, kept e t, none) (rw t refl)
-    | inr t ↦ elim (cases_Bool (keep e)) [
-      | inl k ↦ rw (t, k) (rw t (ap (λ zs. e ∷ zs) (kept-with_first new none kept es)))
-      | inr k ↦ rw (t, k) (kept-with_first new none kept es)
-    ]
-  ]
+  kept-with_first new none kept (e ∷ es) = grind (arith, kept-with_first new none kept es)
 
   -- one that is among those kept is among all
   any-kept : (es : List E) → list_any test (filter keep es) ≡ true → list_any test es ≡ true
@@ -81,12 +63,7 @@ place_is_no_slot x p e h = let q : e.1 ≡ first_remembered + p = eqb-true e.1 (
 
 -- a handle past the slots is a place's if it is that place past them
 pub place_of : (h p : ℕ) → ltb h first_remembered ≡ false → eqb h (first_remembered + p) ≡ eqb (h - first_remembered) p
-place_of h p past =
-    let l = ltb-false h first_remembered past in
-    elim (cases_Bool (eqb h (first_remembered + p))) [
-      | inl e ↦ let q = eqb-true h (first_remembered + p) e in e ∙ sym (eq-eqb (h - first_remembered) p (omega (arith, q)))
-      | inr e ↦ e ∙ sym (ne_eqb (h - first_remembered) p (λ q. eqb-false h (first_remembered + p) e (omega (arith, q, l))))
-    ]
+place_of h p past = grind (arith, ltb-false, eqb-true, eq-eqb, ne_eqb, eqb-false)
 
 place_back : (p : ℕ) → first_remembered + p - first_remembered ≡ p
 place_back p = omega arith
@@ -94,29 +71,13 @@ place_back p = omega arith
 -- taking a place's handle out of the entries takes the place out of the places
 places-without_first : (x p : ℕ) (es : List (ℕ × ℕ)) → place_entries (without_first (is_entry_of eqb x (first_remembered + p)) es) ≡ without_first (is_entry_of eqb x p) (place_entries es)
 places-without_first x p [] = refl
-places-without_first x p (e ∷ es) = elim (cases_Bool (is_entry_of eqb x (first_remembered + p) e)) [
-  | inl t ↦
-      let b : ltb e.1 first_remembered ≡ false = place_is_no_slot x p e t in
-      let t' : is_entry_of eqb x p (e.0, e.1 - first_remembered) ≡ true = ap (λ z. (e.0 == top x) && z) (sym (place_of e.1 p b)) ∙ t in
-      rw (t, b) (rw t' refl)
-  | inr t ↦ elim (cases_Bool (ltb e.1 first_remembered)) [
-    | inl b ↦ rw (t, b) (places-without_first x p es)
-    | inr b ↦
-        let t' : is_entry_of eqb x p (e.0, e.1 - first_remembered) ≡ false = ap (λ z. (e.0 == top x) && z) (sym (place_of e.1 p b)) ∙ t in
-        rw (t, b) (rw t' (ap (λ zs. (e.0, e.1 - first_remembered) ∷ zs) (places-without_first x p es)))
-  ]
-]
+places-without_first x p (e ∷ es) = grind (arith, places-without_first x p es, place_is_no_slot, place_of)
 
 places-slot_added : (x s : ℕ) (es : List (ℕ × ℕ)) → s < first_remembered → place_entries (es ++ (top x, s) ∷ []) ≡ place_entries es
-places-slot_added x s es below =
-    let b : ltb s first_remembered ≡ true = lt-ltb s first_remembered below in
-    ap (λ zs. map (λ (e : ℕ × ℕ). (e.0, e.1 - first_remembered)) zs)
-    (filter-append (λ (e : ℕ × ℕ). not (ltb e.1 first_remembered)) es ((top x, s) ∷ []) ∙ rw b (append-nil _))
+places-slot_added x s es below = grind (arith, lt-ltb, filter-append, append-nil)
 
 slots-slot_added : (x s : ℕ) (es : List (ℕ × ℕ)) → s < first_remembered → slot_entries (es ++ (top x, s) ∷ []) ≡ slot_entries es ++ (top x, s) ∷ []
-slots-slot_added x s es below =
-    let b : ltb s first_remembered ≡ true = lt-ltb s first_remembered below in
-    filter-append (λ (e : ℕ × ℕ). ltb e.1 first_remembered) es ((top x, s) ∷ []) ∙ rw b refl
+slots-slot_added x s es below = grind (arith, lt-ltb, filter-append)
 
 -- a place that is put in for a slot goes between the places before it and those after it
 pub record IsPutBetween (x p : ℕ) (es es' : List (ℕ × ℕ)) : Type 0 where
@@ -176,38 +137,18 @@ module _ {E F : Type 0} (view : List E → List F) (empty : view [] ≡ []) wher
 
 top-slots : (x : ℕ) (es : List (ℕ × ℕ)) → with_top x (slot_entries es) ≡ slots_among (with_top x es)
 top-slots x [] = refl
-top-slots x (e ∷ es) = elim (cases_Bool (e.0 == top x)) [
-  | inl t ↦ elim (cases_Bool (ltb e.1 first_remembered)) [
-    | inl b ↦ rw (t, b) (rw t (ap (λ zs. e.1 ∷ zs) (top-slots x es)))
-    | inr b ↦ rw (t, b) (top-slots x es)
-  ]
-  | inr t ↦ elim (cases_Bool (ltb e.1 first_remembered)) [
-    | inl b ↦ rw (t, b) (rw t (top-slots x es))
-    | inr b ↦ rw (t, b) (top-slots x es)
-  ]
-]
+top-slots x (e ∷ es) = grind (arith, top-slots x es)
 
 top-places : (x : ℕ) (es : List (ℕ × ℕ)) → with_top x (place_entries es) ≡ places_among (with_top x es)
 top-places x [] = refl
-top-places x (e ∷ es) = elim (cases_Bool (e.0 == top x)) [
-  | inl t ↦ elim (cases_Bool (ltb e.1 first_remembered)) [
-    | inl b ↦ rw (t, b) (top-places x es)
-    | inr b ↦ rw (t, b) (rw t (ap (λ zs. (e.1 - first_remembered) ∷ zs) (top-places x es)))
-  ]
-  | inr t ↦ elim (cases_Bool (ltb e.1 first_remembered)) [
-    | inl b ↦ rw (t, b) (top-places x es)
-    | inr b ↦ rw (t, b) (rw t (top-places x es))
-  ]
-]
+top-places x (e ∷ es) = grind (arith, top-places x es)
 
 -- a lookup's slots and places are those of the views
 pub candidates-slots : (v : IndexState) (x : ℕ) → candidates (slots v) x ≡ slots_among (candidates v.shared x)
 candidates-slots v x = ap (λ es. with_top x es) (listed-view slot_entries refl v.shared x) ∙ top-slots x (listed v.shared x)
 
 pub candidates-places : (v : IndexState) (x : ℕ) → is_shared v ≡ true → candidates (places v) x ≡ places_among (candidates v.shared x)
-candidates-places v x shared =
-    ap (λ b. candidates (if b then places_in v.shared else v.own) x) shared
-    ∙ ap (λ es. with_top x es) (listed-view place_entries refl v.shared x) ∙ top-places x (listed v.shared x)
+candidates-places v x shared = grind (arith, with_top, listed-view, top-places)
 
 pub candidates-own : (v : IndexState) (x : ℕ) → is_shared v ≡ false → candidates (places v) x ≡ candidates v.own x
 candidates-own v x own = ap (λ b. candidates (if b then places_in v.shared else v.own) x) own
@@ -215,9 +156,7 @@ candidates-own v x own = ap (λ b. candidates (if b then places_in v.shared else
 -- A slot put in
 
 pub slots-entered : (v : IndexState) (x s : ℕ) → s < first_remembered → slots (entered x s v) ≡ with_handle (slots v) x s
-slots-entered v x s below =
-    view-with_list slot_entries refl v.shared x (listed v.shared x ++ (top x, s) ∷ [])
-    ∙ ap (λ es. with_list (slots v) x es) (slots-slot_added x s (listed v.shared x) below ∙ ap (λ es. es ++ (top x, s) ∷ []) (sym (listed-view slot_entries refl v.shared x)))
+slots-entered v x s below = grind (arith, view-with_list, slots-slot_added, listed-view)
 
 -- the places among the slots are unchanged
 pub others-entered : (homes : List (List (ℕ × ℕ))) (x s : ℕ) → s < first_remembered → places_in (with_handle homes x s) ≡ places_in homes
@@ -229,20 +168,13 @@ places-entered v x s below = ap (λ homes. if is_shared v then homes else v.own)
 -- A slot taken out
 
 taken_slots : (homes : List (List (ℕ × ℕ))) (x s : ℕ) → s < first_remembered → slots_in (removed eqb homes x s) ≡ removed eqb (slots_in homes) x s
-taken_slots homes x s below =
-    view-with_list slot_entries refl homes x (without_first (is_entry_of eqb x s) (listed homes x))
-    ∙ ap (λ es. with_list (slots_in homes) x es)
-    (kept-without_first (λ e. ltb e.1 first_remembered) (is_entry_of eqb x s) (slot_is_below x s below) (listed homes x)
-    ∙ ap (λ es. without_first (is_entry_of eqb x s) es) (sym (listed-view slot_entries refl homes x)))
+taken_slots homes x s below = grind (arith, view-with_list, kept-without_first, slot_is_below, listed-view)
 
 pub slots-left : (v : IndexState) (x s : ℕ) → s < first_remembered → slots (left x s v) ≡ removed eqb (slots v) x s
 slots-left v x s below = taken_slots v.shared x s below
 
 pub others-left : (homes : List (List (ℕ × ℕ))) (x s : ℕ) → s < first_remembered → places_in (removed eqb homes x s) ≡ places_in homes
-others-left homes x s below =
-    view-unseen place_entries refl homes x (without_first (is_entry_of eqb x s) (listed homes x))
-    (ap (λ zs. map (λ (e : ℕ × ℕ). (e.0, e.1 - first_remembered)) zs)
-    (lost-without_first (λ (e : ℕ × ℕ). not (ltb e.1 first_remembered)) (is_entry_of eqb x s) (slot_is_no_place x s below) (listed homes x)))
+others-left homes x s below = grind (arith, view-unseen, lost-without_first, slot_is_no_place)
 
 pub places-left : (v : IndexState) (x s : ℕ) → s < first_remembered → places (left x s v) ≡ places v
 places-left v x s below = ap (λ homes. if is_shared v then homes else v.own) (others-left v.shared x s below)
@@ -250,17 +182,10 @@ places-left v x s below = ap (λ homes. if is_shared v then homes else v.own) (o
 -- A place put in for a slot
 
 handle_replaced_slots : (homes : List (List (ℕ × ℕ))) (x s p : ℕ) → s < first_remembered → slots_in (handle_replaced eqb homes x s (first_remembered + p)) ≡ removed eqb (slots_in homes) x s
-handle_replaced_slots homes x s p below =
-    view-with_list slot_entries refl homes x (with_first (is_entry_of eqb x s) (top x, first_remembered + p) (listed homes x))
-    ∙ ap (λ es. with_list (slots_in homes) x es)
-    (kept-with_first (λ e. ltb e.1 first_remembered) (is_entry_of eqb x s) (top x, first_remembered + p) (place_is_past p) (slot_is_below x s below) (listed homes x)
-    ∙ ap (λ es. without_first (is_entry_of eqb x s) es) (sym (listed-view slot_entries refl homes x)))
+handle_replaced_slots homes x s p below = grind (arith, view-with_list, kept-with_first, place_is_past, slot_is_below, listed-view)
 
 pub slots-remembered : (v : IndexState) (x s p : ℕ) → s < first_remembered → slots (remembered_at x s p v) ≡ removed eqb (slots v) x s
-slots-remembered v x s p below = elim (cases_Bool (is_shared v)) [
-  | inl h ↦ rw h (handle_replaced_slots v.shared x s p below)
-  | inr h ↦ rw h (taken_slots v.shared x s below)
-]
+slots-remembered v x s p below = grind (arith, handle_replaced_slots, taken_slots)
 
 -- an entry put in somewhere in its home's list
 or_turned : (a b c : Bool) → (a || (b || c)) ≡ ((a || c) || b)
@@ -272,15 +197,10 @@ or_turned false false false = refl
 
 top-append : (y : ℕ) (es fs : List (ℕ × ℕ)) → with_top y (es ++ fs) ≡ with_top y es ++ with_top y fs
 top-append y [] fs = refl
-top-append y (e ∷ es) fs = elim (cases_Bool (e.0 == top y)) [
-  | inl t ↦ rw t (ap (λ zs. e.1 ∷ zs) (top-append y es fs))
-  | inr t ↦ rw t (top-append y es fs)
-]
+top-append y (e ∷ es) fs = grind (arith, top-append y es fs)
 
 has-turned : (q : ℕ) (ks ms ns : List ℕ) → has q (ks ++ (ms ++ ns)) ≡ has q ((ks ++ ns) ++ ms)
-has-turned q ks ms ns =
-    has-append q ks (ms ++ ns) ∙ ap (λ b. has q ks || b) (has-append q ms ns) ∙ or_turned (has q ks) (has q ms) (has q ns)
-    ∙ ap (λ b. b || has q ms) (sym (has-append q ks ns)) ∙ sym (has-append q (ks ++ ns) ms)
+has-turned q ks ms ns = grind (arith, has-append, or_turned)
 
 AllApart-moved : (ks ms ns : List ℕ) → AllApart ((ks ++ ns) ++ ms) → AllApart (ks ++ (ms ++ ns))
 AllApart-moved ks ms ns a =
@@ -290,15 +210,10 @@ AllApart-moved ks ms ns a =
 
 module _ (homes : List (List (ℕ × ℕ))) (x p : ℕ) (ms ns : List (ℕ × ℕ)) (some : 0 < length homes) (parts : listed homes x ≡ ms ++ ns) where
   here_between : (y : ℕ) → home homes y ≡ home homes x → candidates (with_list homes x (ms ++ (top x, p) ∷ ns)) y ≡ with_top y ms ++ (with_top y ((top x, p) ∷ []) ++ with_top y ns)
-  here_between y same =
-      ap (λ es. with_top y es) (listed-with_same homes x y (ms ++ (top x, p) ∷ ns) some same)
-      ∙ top-append y ms ((top x, p) ∷ ns) ∙ ap (λ zs. with_top y ms ++ zs) (top-append y ((top x, p) ∷ []) ns)
+  here_between y same = grind (arith, with_top, listed-with_same, top-append)
 
   here_last : (y : ℕ) → home homes y ≡ home homes x → candidates (with_handle homes x p) y ≡ (with_top y ms ++ with_top y ns) ++ with_top y ((top x, p) ∷ [])
-  here_last y same =
-      ap (λ es. with_top y es) (listed-with_same homes x y (listed homes x ++ (top x, p) ∷ []) some same)
-      ∙ ap (λ es. with_top y (es ++ (top x, p) ∷ [])) parts
-      ∙ top-append y (ms ++ ns) ((top x, p) ∷ []) ∙ ap (λ zs. zs ++ with_top y ((top x, p) ∷ [])) (top-append y ms ns)
+  here_last y same = grind (arith, with_top, listed-with_same, top-append)
 
   elsewhere : (y : ℕ) → (home homes y ≡ home homes x → ⊥) → candidates (with_list homes x (ms ++ (top x, p) ∷ ns)) y ≡ candidates (with_handle homes x p) y
   elsewhere y far =
@@ -320,15 +235,7 @@ module _ (homes : List (List (ℕ × ℕ))) (x p : ℕ) (ms ns : List (ℕ × �
   ]
 
   total-between : total (with_list homes x (ms ++ (top x, p) ∷ ns)) ≡ total (with_handle homes x p)
-  total-between =
-      omega (
-        arith,
-        total-with_list homes x (ms ++ (top x, p) ∷ ns) some,
-        total-put homes x p some,
-        length-append ms ((top x, p) ∷ ns),
-        length-append ms ns,
-        ap (λ (z : List (ℕ × ℕ)). length z) parts,
-      )
+  total-between = grind (arith, total-with_list, total-put, length-append)
 
   length-between : length (with_list homes x (ms ++ (top x, p) ∷ ns)) ≡ length (with_handle homes x p)
   length-between = length-with_list homes x (ms ++ (top x, p) ∷ ns) ∙ sym (length-put homes x p)
@@ -363,9 +270,7 @@ places-remembered_shared : (v : IndexState) (x s p : ℕ) → is_shared v ≡ tr
 places-remembered_shared v x s p h = rw h (rw h refl)
 
 places-remembered_own : (v : IndexState) (x s p : ℕ) → is_shared v ≡ false → places (remembered_at x s p v) ≡ with_handle v.own x p
-places-remembered_own v x s p h =
-    let h' : (length (with_handle v.own x p) == 0) ≡ false = ap (λ n. n == 0) (length-put v.own x p) ∙ h in
-    rw h (rw h' refl)
+places-remembered_own v x s p h = grind (arith, length-put)
 
 pub IsIndex-remembered : {K V : Type 0} (v : IndexState) (keys keys' : List (Entry K V)) (ps : List ℕ) (x s p : ℕ) → s < first_remembered → IsIndex (places v) keys ps → 0 < length (places v)
     → has s (candidates (slots v) x) ≡ true → has p ps ≡ false → ((q : ℕ) → has q ps ≡ true → hash_at keys' q ≡ hash_at keys q) → hash_at keys' p ≡ Some x
@@ -386,29 +291,16 @@ IsIndex-remembered v keys keys' ps x s p below i some held absent same at =
 -- A place taken out
 
 others-forgotten : (homes : List (List (ℕ × ℕ))) (x p : ℕ) → slots_in (removed eqb homes x (first_remembered + p)) ≡ slots_in homes
-others-forgotten homes x p =
-    view-unseen slot_entries refl homes x (without_first (is_entry_of eqb x (first_remembered + p)) (listed homes x))
-    (lost-without_first (λ (e : ℕ × ℕ). ltb e.1 first_remembered) (is_entry_of eqb x (first_remembered + p)) (place_is_no_slot x p) (listed homes x))
+others-forgotten homes x p = grind (arith, view-unseen, lost-without_first, place_is_no_slot)
 
 taken_places : (homes : List (List (ℕ × ℕ))) (x p : ℕ) → places_in (removed eqb homes x (first_remembered + p)) ≡ removed eqb (places_in homes) x p
-taken_places homes x p =
-    view-with_list place_entries refl homes x (without_first (is_entry_of eqb x (first_remembered + p)) (listed homes x))
-    ∙ ap (λ es. with_list (places_in homes) x es)
-    (places-without_first x p (listed homes x) ∙ ap (λ es. without_first (is_entry_of eqb x p) es) (sym (listed-view place_entries refl homes x)))
+taken_places homes x p = grind (arith, view-with_list, places-without_first, listed-view)
 
 pub slots-forgotten : (v : IndexState) (x p : ℕ) → slots (forgotten_at x p v) ≡ slots v
-slots-forgotten v x p = elim (cases_Bool (is_shared v)) [
-  | inl h ↦ rw h (others-forgotten v.shared x p)
-  | inr h ↦ rw h refl
-]
+slots-forgotten v x p = grind (arith, others-forgotten)
 
 pub places-forgotten : (v : IndexState) (x p : ℕ) → places (forgotten_at x p v) ≡ removed eqb (places v) x p
-places-forgotten v x p = elim (cases_Bool (is_shared v)) [
-  | inl h ↦ rw h (rw h (taken_places v.shared x p))
-  | inr h ↦
-      let h' : (length (removed eqb v.own x p) == 0) ≡ false = ap (λ n. n == 0) (length-taken v.own x p) ∙ h in
-      rw h (rw h' refl)
-]
+places-forgotten v x p = grind (arith, taken_places, length-taken)
 
 -- the places are in the same table as before, and each table has as many slots
 pub record IsLikeBefore (v w : IndexState) : Type 0 where
@@ -417,20 +309,7 @@ pub record IsLikeBefore (v w : IndexState) : Type 0 where
   pub places : length (places w) ≡ length (places v)
 
 like : (v w : IndexState) → length w.shared ≡ length v.shared → length w.own ≡ length v.own → IsLikeBefore v w
-like v w shared own =
-    let same : is_shared w ≡ is_shared v = ap (λ n. n == 0) own in
-    record {
-      shared = same;
-      slots = length-map w.shared slot_entries ∙ shared ∙ sym (length-map v.shared slot_entries);
-      places = elim (cases_Bool (is_shared v)) [
-        | inl h ↦
-            let h' : is_shared w ≡ true = same ∙ h in
-            rw (h, h') (length-map w.shared place_entries ∙ shared ∙ sym (length-map v.shared place_entries))
-        | inr h ↦
-            let h' : is_shared w ≡ false = same ∙ h in
-            rw (h, h') own
-      ];
-    }
+like v w shared own = grind (arith, length-map)
 
 pub entered-like : (v : IndexState) (x s : ℕ) → IsLikeBefore v (entered x s v)
 entered-like v x s = like v (entered x s v) (length-put v.shared x s) refl

@@ -3,12 +3,12 @@ use Rattle.std.specs.Prelude.{◌≡◌, ℕ, ◌+◌, ◌-◌, ◌*◌, ◌^◌
 use Rattle.std.specs.List.{filter}
 use Rattle.std.specs.Coded.{Coded, code_by, coded×, coded_ℕ, coded_list}
 use Rattle.clock2q_handles.specs.Homes.{candidates, total, capacity, no_entries, with_handle, removed}
-use Rattle.clock2q_handles.specs.Layout.{walk}
+use Rattle.clock2q_handles.specs.Layout.{layout, walk}
 use Rattle.clock2q_handles.specs.Positions.{GapValue, gap_of, handle_replaced}
-use Rattle.clock2q_handles.specs.TableStep.{made_for}
+use Rattle.clock2q_handles.specs.TableStep.{TableValue, made_for}
 use Rattle.clock2q_queues.specs.Rings.{has}
 use Rattle.clock2q_directory.specs.declared.handle.Handle.{Handle}
-use Rattle.clock2q_directory.specs.Accesses.{CountedTable, most_changed}
+use Rattle.clock2q_directory.specs.Accesses.{most_changed}
 use mathlib.Core.Path.{refl}
 
 -- a resident's handle is its slot, and a remembered key's handle is this plus its place
@@ -64,9 +64,9 @@ pub record IndexState : Type 0 where
 abbrev pub index_state : List (List (ℕ × ℕ)) → List (List (ℕ × ℕ)) → IndexState
 index_state shared own = record { shared = shared; own = own; accesses = 0 }
 
--- an index of two tables
-abbrev pub index_of : CountedTable → CountedTable → IndexState
-index_of shared own = record { shared = shared.homes; own = own.homes; accesses = shared.accesses + own.accesses }
+-- an index of two tables, which was charged so many accesses
+abbrev pub index_of : TableValue ℕ → TableValue ℕ → ℕ → IndexState
+index_of shared own charged = record { shared = shared.homes; own = own.homes; accesses = charged }
 
 abbrev pub homes_code : Coded (List (List (ℕ × ℕ)))
 homes_code = coded_list (coded_list (coded× coded_ℕ coded_ℕ))
@@ -179,6 +179,13 @@ pub record IsSorted (v : IndexState) : Type 0 where
   pub some : 0 < length v.shared
   pub apart : is_shared v ≡ false → total (places_in v.shared) ≡ 0
   pub takes : is_shared v ≡ false → 0 < capacity (length v.own)
+
+-- two tables have such lists, and each has its entries laid out in its slots; all slots that were read and written are charged
+pub record IsIndexed (shared own : TableValue ℕ) (charged : ℕ) : Type 0 where
+  pub sorted : IsSorted (index_state shared.homes own.homes)
+  pub shared_laid : shared.slots ≡ layout shared.homes
+  pub own_laid : own.slots ≡ layout own.homes
+  pub counted : shared.reads + shared.writes + (own.reads + own.writes) ≤ charged
 
 -- one more slot fits, and makes no run too long
 pub record HasSlotRoom (v : IndexState) : Type 0 where

@@ -1,18 +1,17 @@
 //! The index of a cache: where each known key is, under the key's hash.
-ghost use Rattle.std.specs.Prelude.{◌≡◌, ◌+◌, ◌^◌, ◌<◌, true, Some, IfOk, IfSome, IfNone};
+ghost use Rattle.std.specs.Prelude.{◌≡◌, ◌+◌, ◌^◌, ◌<◌, ℕ, true, Some, IfOk, IfSome, IfNone};
 ghost use Rattle.clock2q_handles.specs.Homes.{candidates};
 ghost use Rattle.clock2q_queues.specs.Rings.{has};
 ghost use Rattle.clock2q_handles.specs.Layout.{walk};
 ghost use Rattle.clock2q_handles.specs.Positions.{gap_of};
-ghost use Rattle.clock2q_directory.specs.Index.{emptied, index_for, index_room, is_shared, places, entered, entered_from, left, looked_up, remembered_at, forgotten_at, HasSlotRoom, HasPlaceRoom, HasRoomBeside, IsGapFor, IsHeld, IsWithinCapacity, forgotten_if};
+ghost use Rattle.clock2q_directory.specs.Index.{emptied, index_for, index_room, is_shared, places, entered, entered_from, left, looked_up, remembered_at, HasSlotRoom, HasPlaceRoom, HasRoomBeside, IsGapFor, IsHeld, IsWithinCapacity, forgotten_if};
 
-mod counted_table;
 mod succession;
 
 use crate::handle::Handle;
-use crate::index::counted_table::CountedTable;
 use crate::place::Place;
-use clock2q_handles::{Candidates, Gap};
+use clock2q_count::Count;
+use clock2q_handles::{Candidates, Gap, Table};
 use std::alloc::{AllocError, Allocator, Global};
 use std::marker::Model;
 
@@ -48,6 +47,12 @@ pub fn index_room(most: usize) -> usize
 /// neither. If one table would have so many entries that a run could become too long, the places
 /// have a table of their own.
 ///
+/// Each call is charged the slots of both tables that it reads and writes at most, and contracts see
+/// the sum: a change takes the walk of a hash, and its run twice, each with the slot of one more entry.
+/// All slots that the tables count are within that sum. A lookup borrows the index, so its reads are
+/// counted in the [`Candidates`] that it returns; whoever can change the index charges it the most that
+/// these may read.
+///
 /// # Example
 ///
 /// ```
@@ -55,24 +60,25 @@ pub fn index_room(most: usize) -> usize
 /// index.add_slot(None, 7, 0);
 /// index.remember(7, 0, Place::new(0));
 /// index.add_slot(None, 9, 0);
-/// index.forget(7, 0);
+/// index.forget(Some(7), Place::new(0));
 /// ```
 #[derive(Drop)]
 pub struct Index<A: Allocator = Global> {
-    shared: CountedTable<A>,
-    own: CountedTable<A>,
+    shared: Table<u32, A>,
+    own: Table<u32, A>,
+    charged: Count,
 }
 
 impl<A: Allocator> Model for Index<A> {
-    ghost use Rattle.clock2q_directory.specs.Index.{IndexState, IsSorted, index_code, index_of, index_state};
+    ghost use Rattle.clock2q_directory.specs.Index.{IndexState, IsIndexed, index_code, index_of};
 
     ghost Value = { IndexState };
 
     ghost coded = { index_code };
 
-    ghost view = { λ i. index_of i.shared i.own };
+    ghost view = { λ i. index_of i.shared i.own i.charged.total };
 
-    ghost invariant = { λ i. IsSorted (index_state i.shared.homes i.own.homes) };
+    ghost invariant = { λ i. IsIndexed i.shared i.own i.charged.total };
 }
 
 impl<A: Allocator + Copy> Index<A> {
@@ -90,10 +96,18 @@ impl<A: Allocator + Copy> Index<A> {
     {
         let is_shared = slots + places <= MOST_ENTRIES;
         let most = if is_shared { slots + places } else { slots };
-        let shared = CountedTable::with_capacity(alloc, index_room(most))?;
+        let Ok(shared) = Table::with_capacity(alloc, index_room(most)) else {
+            return Err(AllocError);
+        };
         let beside = if is_shared { 0 } else { places.max(1) };
-        let own = CountedTable::with_capacity(alloc, index_room(beside))?;
-        Ok(Index { shared, own })
+        let Ok(own) = Table::with_capacity(alloc, index_room(beside)) else {
+            return Err(AllocError);
+        };
+        Ok(Index {
+            shared,
+            own,
+            charged: Count::new(),
+        })
     }
 }
 
@@ -104,7 +118,7 @@ impl<A: Allocator> Index<A> {
         ensures shared { result ≡ is_shared self.now }
         ensures within { IsWithinCapacity self.now }
     {
-        let _ = self.shared.capacity(); // whose contract says that its entries fit
+        let _ = (self.shared.len(), self.own.len()); // whose contract says that the entries fit
         self.own.capacity() == 0
     }
 
@@ -131,8 +145,7 @@ impl<A: Allocator> Index<A> {
     pub fn charge_lookup(&mut self, hash: u64)
         ensures looked { self.new ≡ looked_up hash self.old }
     {
-        self.shared.charge_lookup(hash);
-        self.own.charge_lookup(hash);
+        charge(&self.shared, &self.own, &mut self.charged, &hash); // a walk in each
     }
 
     /// Adds the slot of a key that becomes resident, at the gap for its hash if a lookup found that.
@@ -143,7 +156,8 @@ impl<A: Allocator> Index<A> {
         requires gap { IsGapFor gap hash self.old }
         ensures entered { self.new ≡ entered hash slot self.old }
     {
-        self.shared.insert(gap, hash, slot);
+        charge(&self.shared, &self.own, &mut self.charged, &hash);
+        self.shared.insert_at_gap(gap, hash, slot);
     }
 
     /// Adds the slot of a key that becomes resident in place of another, which leaves.
@@ -154,6 +168,12 @@ impl<A: Allocator> Index<A> {
         requires room { HasRoomBeside self.old }
         ensures renewed { self.new ≡ entered_from self.old hash slot (left old_hash slot self.old) }
     {
+        charge(
+            &self.shared,
+            &self.own,
+            &mut self.charged,
+            &(hash, old_hash),
+        );
         self.shared.exchange(gap, hash, slot, old_hash, slot);
     }
 
@@ -163,6 +183,7 @@ impl<A: Allocator> Index<A> {
         requires held { IsHeld hash slot self.old }
         ensures left { self.new ≡ left hash slot self.old }
     {
+        charge(&self.shared, &self.own, &mut self.charged, &hash);
         self.shared.remove_existing(hash, slot);
     }
 
@@ -174,23 +195,30 @@ impl<A: Allocator> Index<A> {
         requires room { HasPlaceRoom self.old }
         ensures remembered { self.new ≡ remembered_at hash slot place self.old }
     {
-        if self.is_shared() {
+        let is_shared = self.is_shared();
+        charge(&self.shared, &self.own, &mut self.charged, &hash);
+        if is_shared {
             let handle = Handle::Remembered(place).pack();
             self.shared.replace_handle(hash, slot, handle);
         } else {
             self.shared.remove_existing(hash, slot);
-            self.own.insert(None, hash, place.number());
+            self.own.insert_at_gap(None, hash, place.number());
         }
     }
 
-    /// Removes the place of a key that is forgotten.
+    /// Removes the place of a key that is forgotten, if one is: the key's hash tells.
     #[inline(always)]
-    pub fn forget(&mut self, hash: u64, place: Place)
+    pub fn forget(&mut self, hash: Option<u64>, place: Place)
         requires short { place < 2 ^ 31 }
-        requires held { has place (candidates (places self.old) hash) ≡ true }
-        ensures forgotten { self.new ≡ forgotten_at hash place self.old }
+        requires held { IfSome hash (λ hash. has place (candidates (places self.old) hash) ≡ true) }
+        ensures forgotten { self.new ≡ forgotten_if hash place self.old }
     {
-        if self.is_shared() {
+        let Some(hash) = hash else {
+            return;
+        };
+        let is_shared = self.is_shared();
+        charge(&self.shared, &self.own, &mut self.charged, &hash);
+        if is_shared {
             let handle = Handle::Remembered(place).pack();
             self.shared.remove_existing(hash, handle);
         } else {
@@ -198,24 +226,26 @@ impl<A: Allocator> Index<A> {
         }
     }
 
-    /// Removes the place of the oldest key, if one is forgotten.
-    #[inline(always)]
-    pub fn forget_oldest(&mut self, oldest: Option<u64>, place: Place)
-        requires short { place < 2 ^ 31 }
-        requires held { IfSome oldest
-            (λ oldest. has place (candidates (places self.old) oldest) ≡ true) }
-        ensures forgotten { self.new ≡ forgotten_if oldest place self.old }
-    {
-        if let Some(oldest) = oldest {
-            self.forget(oldest, place);
-        }
-    }
-
     /// Removes every slot and place.
     pub fn clear(&mut self)
         ensures cleared { self.new ≡ emptied self.old }
     {
+        charge(&self.shared, &self.own, &mut self.charged, &());
         self.shared.clear();
         self.own.clear();
     }
+}
+
+/// Charges a number of slots of two tables that the proof of the call picks, which may depend on
+/// what the other arguments refer to.
+fn charge<X, A: Allocator>(
+    _shared: &Table<u32, A>,
+    _own: &Table<u32, A>,
+    charged: &mut Count,
+    _seen: &X,
+)
+    ghost more: { ℕ }
+    ensures charged { charged.new.total ≡ charged.old.total + more }
+{
+    charged.raise(&());
 }

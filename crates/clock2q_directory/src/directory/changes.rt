@@ -75,7 +75,7 @@ impl<K: Eq, V, A: Allocator> Directory<K, V, A> {
             hash,
             key,
         );
-        self.index.forget_oldest(oldest, place);
+        self.index.forget(oldest, place);
         self.index.remember(hash, slot, place);
         key
     }
@@ -105,7 +105,7 @@ impl<K: Eq, V, A: Allocator> Directory<K, V, A> {
         let Some(place) = place else {
             return false;
         };
-        self.index.forget(hash, place);
+        self.index.forget(Some(hash), place);
         self.order.unlink(place.number());
         true
     }

@@ -1,6 +1,6 @@
 //! A key that becomes resident in place of another, which is remembered.
 use crate::handle::Handle;
-use crate::index::Index;
+use crate::index::{Index, charge};
 use crate::place::Place;
 use clock2q_handles::Gap;
 use std::alloc::Allocator;
@@ -55,9 +55,15 @@ impl<A: Allocator> Index<A> {
             self.succeed_shared(None, hash, slot, old_hash, place, oldest);
             return;
         }
-        self.forget_oldest(oldest, place);
+        self.forget(oldest, place);
+        charge(
+            &self.shared,
+            &self.own,
+            &mut self.charged,
+            &(hash, old_hash),
+        );
         self.shared.exchange(None, hash, slot, old_hash, slot);
-        self.own.insert(None, old_hash, place.number());
+        self.own.insert_at_gap(None, old_hash, place.number());
     }
 
     /// Does what `succeed` does if slots and places share a table.
@@ -78,21 +84,17 @@ impl<A: Allocator> Index<A> {
         ensures renewed { self.new ≡ entered_from self.old hash slot
             (remembered_at old_hash slot place (forgotten_if oldest place self.old)) }
     {
+        let seen = (hash, old_hash, place, oldest);
+        charge(&self.shared, &self.own, &mut self.charged, &seen);
         let handle = Handle::Remembered(place).pack();
         match oldest {
             Some(oldest) => {
-                let most = self
-                    .shared
-                    .most_after_exchange(hash, oldest, handle, old_hash);
                 self.shared.exchange(gap, hash, slot, oldest, handle);
-                self.shared
-                    .replace_handle_up_to(old_hash, slot, handle, &most);
+                self.shared.replace_handle(old_hash, slot, handle);
             }
             None => {
-                let most = self.shared.most_of_two(hash, old_hash);
-                self.shared.insert(gap, hash, slot);
-                self.shared
-                    .replace_handle_up_to(old_hash, slot, handle, &most);
+                self.shared.insert_at_gap(gap, hash, slot);
+                self.shared.replace_handle(old_hash, slot, handle);
             }
         }
     }

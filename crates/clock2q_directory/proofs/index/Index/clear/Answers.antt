@@ -1,10 +1,26 @@
-use Rattle.std.proofs.Common.{arith, refl}
+use Rattle.std.proofs.Common.{length, ap, ◌∙◌, arith}
+use Rattle.clock2q_handles.proofs.Reading.{length-layout}
 use Rattle.clock2q_directory.proofs.Sorted.{sorted-cleared}
-use Rattle.clock2q_directory.proofs.Charging.{same-index}
 use Rattle.clock2q_directory.proofs.index.Index.clear.Goals as goal
 
 pub invariant_of-self : goal.invariant_of-self
-invariant_of-self g c = rw (c.clear.ensures.cleared, c.clear-2.ensures.cleared) (sorted-cleared _ c.self.invariant)
-
-pub returns : goal.returns
-returns g c = record { cleared = rw (c.clear.ensures.cleared, c.clear-2.ensures.cleared, ← c.self.view_is) (same-index refl refl (omega arith)) }
+invariant_of-self g c =
+    let i = c.self.invariant in
+    let s = c.clear.ensures in
+    let o = c.clear-2.ensures in
+    record {
+      sorted = rw (s.cleared, o.cleared) (sorted-cleared _ i.sorted);
+      shared_laid = s.laid.laid;
+      own_laid = o.laid.laid;
+      counted = omega (
+        arith,
+        i.counted,
+        c.charge.ensures.charged,
+        s.reads,
+        s.writes,
+        o.reads,
+        o.writes,
+        ap (λ s. length s) i.shared_laid ∙ length-layout c.self.inside.shared.homes,
+        ap (λ s. length s) i.own_laid ∙ length-layout c.self.inside.own.homes,
+      );
+    }

@@ -1,41 +1,35 @@
-use Rattle.std.proofs.Common.{◌≡◌, ℕ, ◌+◌, ◌^◌, ◌<◌, false, List, Option, Some, None, if◌then◌else◌, refl, sym, ap, ◌∙◌, arith}
-use Rattle.clock2q_handles.specs.Homes.{candidates, total}
+use Rattle.std.proofs.Common.{◌≡◌, false, refl, sym, ap, ◌∙◌, arith}
+use Rattle.clock2q_handles.specs.Homes.{candidates}
+use Rattle.clock2q_handles.specs.Layout.{run}
 use Rattle.clock2q_queues.specs.Rings.{has}
-use Rattle.clock2q_directory.specs.Index.{IndexState, index_of, is_shared, slots, places, beside, forgotten_if}
-use Rattle.clock2q_directory.proofs.Views.{held_entry, slots-forgotten, forgotten-like}
+use Rattle.clock2q_directory.specs.Accesses.{most_changed}
+use Rattle.clock2q_directory.specs.Index.{index_of, index_state, is_shared, slots, forgotten_if}
+use Rattle.clock2q_directory.proofs.Views.{held_entry}
 use Rattle.clock2q_directory.proofs.Sorted.{shared-few, sorted-entered, sorted-remembered}
+use Rattle.clock2q_directory.proofs.Succession.{same-index, slots-if, shared-if, apart-if, few-apart}
 use Rattle.clock2q_directory.proofs.index.Index.succeed_without_gap.Given.{Over}
 use Rattle.clock2q_directory.proofs.index.Index.succeed_without_gap.Goals.{After-self}
 use Rattle.clock2q_directory.proofs.index.Index.succeed_without_gap.Goals as goal
 
--- the oldest key's place takes no slot along, and leaves the tables apart
-slots-if : (o : Option ℕ) (p : ℕ) (v : IndexState) → slots (forgotten_if o p v) ≡ slots v
-slots-if None p v = refl
-slots-if (Some x) p v = slots-forgotten v x p
-
-shared-if : (o : Option ℕ) (p : ℕ) (v : IndexState) → is_shared (forgotten_if o p v) ≡ is_shared v
-shared-if None p v = refl
-shared-if (Some x) p v = (forgotten-like v x p).shared
-
-few-apart : (v w : IndexState) → slots w ≡ slots v → is_shared w ≡ false → total (slots v) + beside v < 2 ^ 24 → total (slots w) + beside w < 2 ^ 24
-few-apart v w same apart few = omega (arith, few, ap (λ (z : List (List (ℕ × ℕ))). total z) same, ap (λ b. if b then total (places w) else 0) apart)
-
 module _ (g : Over) (c : After-self g) where
-  now : index_of c.self.inside.shared c.self.inside.own ≡ forgotten_if c.args.oldest c.args.place c.args.self.now
-  now = c.self.view_is ∙ c.forget_oldest.ensures.forgotten
+  now : index_of c.self.inside.shared c.self.inside.own c.self.inside.charged.total ≡ forgotten_if c.args.oldest c.args.place c.args.self.now
+  now = c.self.view_is ∙ c.forget.ensures.forgotten
 
-  same : slots (index_of c.self.inside.shared c.self.inside.own) ≡ slots c.args.self.now
-  same = ap slots now ∙ slots-if c.args.oldest c.args.place c.args.self.now
+  same : slots (index_of c.self.inside.shared c.self.inside.own c.self.inside.charged.total) ≡ slots c.args.self.now
+  same = ap slots now ∙ slots-if c.args.place c.args.self.now c.args.oldest
 
-  apart : is_shared (index_of c.self.inside.shared c.self.inside.own) ≡ false
-  apart = ap is_shared now ∙ shared-if c.args.oldest c.args.place c.args.self.now ∙ sym c.is_shared.ensures.shared ∙ c.if-is_shared.false
+  was-apart : is_shared c.args.self.now ≡ false
+  was-apart = sym c.is_shared.ensures.shared ∙ c.if-is_shared.false
+
+  apart : is_shared (index_state c.self.inside.shared.homes c.self.inside.own.homes) ≡ false
+  apart = ap is_shared now ∙ shared-if c.args.place c.args.self.now c.args.oldest ∙ was-apart
 
 pub exchange-requires : goal.exchange-requires
 exchange-requires g c =
-    let v = index_of c.self.inside.shared c.self.inside.own in
+    let v = index_of c.self.inside.shared c.self.inside.own c.self.inside.charged.total in
     let at = (goal.at.exchange-requires g c).After-self in
     record {
-      few = shared-few v c.self.invariant (few-apart c.args.self.now v (same g at) (apart g at) c.requires.beside.few);
+      few = shared-few v c.self.invariant.sorted (few-apart c.args.self.now v (same g at) (apart g at) c.requires.beside.few);
       gap = tt;
       spare = λ none. absurd (cc);
       held = held_entry v c.args.old_hash c.args.slot (ap (λ z. has c.args.slot (candidates z c.args.old_hash)) (same g at) ∙ c.requires.may.held.there);
@@ -43,6 +37,34 @@ exchange-requires g c =
 
 pub invariant_of-self : goal.invariant_of-self
 invariant_of-self g c =
+    let i = c.self.invariant in
+    let s = c.exchange.ensures in
+    let o = c.insert_at_gap.ensures in
     let below = c.requires.may.held.below in
-    let put = rw c.number.ensures.number at c.insert.ensures.put in
-    rw (c.exchange.ensures.exchanged, put) (sorted-entered c.args.hash c.args.slot below (sorted-remembered c.args.old_hash c.args.slot c.args.place below c.self.invariant))
+    let own = apart g (goal.at.invariant_of-self g c).After-self in
+    record {
+      sorted = rw (s.exchanged, o.put, c.number.ensures.number)
+          (sorted-entered c.args.hash c.args.slot below (sorted-remembered c.args.old_hash c.args.slot c.args.place below i.sorted));
+      shared_laid = s.laid.laid;
+      own_laid = o.laid.laid;
+      counted = omega (
+        arith,
+        i.counted,
+        rw own at c.charge.ensures.charged,
+        s.accesses.1,
+        o.reads.1,
+        o.writes.1,
+        ap (λ t. run t c.args.hash) i.shared_laid,
+        ap (λ t. run t c.args.old_hash) i.shared_laid,
+        ap (λ t. run t c.args.old_hash) i.own_laid,
+      );
+    }
+
+pub returns : goal.returns
+returns g c =
+    let own = apart g (goal.at.returns g c).After-self in
+    let base = ap (λ z. most_changed z c.args.hash) (apart-if c.args.place c.args.self.now c.args.oldest (was-apart g (goal.at.returns g c).After-self)) in
+    record {
+      renewed = rw (c.exchange.ensures.exchanged, c.insert_at_gap.ensures.put, c.number.ensures.number, ← now g (goal.at.returns g c).After-self, own)
+          (same-index refl refl (omega (arith, rw own at c.charge.ensures.charged, rw (← now g (goal.at.returns g c).After-self) at base)));
+    }

@@ -1,0 +1,6 @@
+use Rattle.std.specs.Prelude.{◌+◌}
+use Rattle.clock2q_handles.specs.Layout.{walk}
+use Rattle.clock2q_directory.proofs.index.Index.charge_lookup.Given as goal
+
+abbrev pub ghost-charge : goal.ghost-charge
+ghost-charge g a = walk a._shared.now.homes a._seen.now + walk a._own.now.homes a._seen.now

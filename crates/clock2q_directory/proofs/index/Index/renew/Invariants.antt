@@ -1,0 +1,6 @@
+use Rattle.std.specs.Prelude.{◌+◌}
+use Rattle.clock2q_directory.specs.Accesses.{most_changed}
+use Rattle.clock2q_directory.proofs.index.Index.renew.Given as goal
+
+abbrev pub ghost-charge : goal.ghost-charge
+ghost-charge g a = most_changed a._shared.now.homes a._seen.now.1 + most_changed a._shared.now.homes a._seen.now.0
