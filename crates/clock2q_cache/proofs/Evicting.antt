@@ -92,11 +92,3 @@ module _ {K V : Type 0} (eq : K → K → Bool) (key : K) {m m1 : Machine K V} {
 
   pub slot-stored : (value : V) → stored slot value new ≡ inserted (eq key) key value m
   slot-stored value = ap (λ z. stored z value new) at ∙ ap (stored p.slot value) kept ∙ ap (λ (q : Placement K V). stored q.slot value q.machine) (placed-there eq key s)
-
--- a closure was called if and only if a resident left
-pub some-left : {F K R : Type 0} {g : Once F (Bor K × Unit {0}) R} {f : F} {leaver out : Option (K × ℕ)} {slot : ℕ} {left : Option R}
-    → Notes g f leaver slot left → leaver ≡ out → is_some left ≡ is_some out
-some-left {K = K} {R = R} {g = g} {f} {leaver} {slot = slot} {left} n is = by left n.noted ∙ ap is_some is where
-  by : (o : Option R) → MatchOption o (leaver ≡ None) (λ note. (key : K) × (leaver ≡ Some (key, slot)) × FnOnceReturnsAt g f key note) → is_some o ≡ is_some leaver
-  by None none = sym (ap is_some none)
-  by (Some note) e = sym (ap is_some e.1)

@@ -15,7 +15,6 @@ pub mod LinearAccesses
 pub mod Making
 pub mod MakingRoom
 pub mod Names
-pub mod NextVictim
 pub mod Places
 pub mod Reaching
 pub mod Renewed
@@ -31,5 +30,4 @@ pub mod Walks
 pub mod WithKeys
 pub mod WorkedCosts
 pub mod WithHash
-pub mod HitSlot
 pub mod BySlot

@@ -1,20 +1,21 @@
--- What a cache's fields become when a resident is evicted though no key comes.
+-- Which resident leaves next, and what a cache's fields become when it leaves though no key comes.
 use Rattle.std.proofs.Common.{◌≡◌, ℕ, suc, ◌+◌, ◌-◌, ◌<◌, ◌==◌, Bool, true, false, not, ◌&&◌, cond, eqb, Option, Some, None, List, [], ◌∷◌, ◌++◌, map, length, take, reverse, inl, inr, refl, sym, ap, ◌∙◌, subst, arith, eq-eqb, eqb-true, length-append}
-use Rattle.clock2q_cache.proofs.Names.{if◌then◌else◌, slice_get, IfSome, IsEquivalence, last_or, option_map, AllByRecursion, cases_Bool, lt-ltb, ltb-true, Age, take-map, All-from_recursion, recursion_from_All, All-take, has, without, has-without_test, and_true, and_false, eqb_swap, KeyPlaces, hash_at, key_at, removed, length-taken, QueueState, slots_of, from_victim, Remembered, most_beside, Shares, history_share, SmallEntry, Machine, is_promoted, IsWhole, some_is, machine_of, places_of, with_keys_small, with_keys_main, IsStored, IsKept}
+use Rattle.clock2q_cache.proofs.Names.{if◌then◌else◌, nat_lt, none_is, slice_get, slice_get_some, IfSome, IsEquivalence, last_or, option_map, AllByRecursion, cases_Bool, lt-ltb, ltb-true, Age, take-map, All-from_recursion, recursion_from_All, All-take, has, without, has-without_test, and_true, and_false, eqb_swap, KeyPlaces, hash_at, key_at, removed, length-taken, QueueState, slots_of, from_victim, Remembered, most_beside, Shares, history_share, SmallEntry, Machine, is_promoted, IsWhole, some_is, machine_of, places_of, with_keys_small, with_keys_main, IsStored, IsKept}
 use Rattle.std.proofs.lemmas.List.{length-reverse}
 use Rattle.clock2q_queues.proofs.Joining.{length-without}
 use Rattle.clock2q_machine.specs.Entries as machine
 use Rattle.clock2q_machine.specs.Entries.{first_of, behind_hand}
-use Rattle.clock2q_machine.specs.Machine.{tail_evicted, victim_evicted, victim_leaves, keeps_tail}
+use Rattle.clock2q_machine.specs.Machine.{tail_evicted, victim_evicted, victim_leaves, keeps_tail, leaves_now}
 use Rattle.clock2q_machine.proofs.Evicted.{whole-tail}
 use Rattle.clock2q_machine.proofs.Whole.{empty_small, tail_some}
+use Rattle.clock2q_queues.specs.Queues as queues
 use Rattle.clock2q_machine.specs.Calls.{Evict}
 use Rattle.clock2q_machine.proofs.MachineInvariant.{lasting-after}
 use Rattle.clock2q_cache.proofs.WithKeys.{main-behind}
 use Rattle.clock2q_cache.proofs.Stored.{stored-left, stored-same, hash-of-key}
-use Rattle.clock2q_cache.proofs.Slots.{apart, times, times-none, times-both, times-pushed, has-times, at_most_once, length-places}
-use Rattle.clock2q_cache.proofs.CacheInvariant.{length_in_small, index_some, sized-same}
-use Rattle.clock2q_cache.proofs.Renewed.{front_times, length-front, front_entries, front, tail_key, tail_entry, last_entry, tail-in, no-tail, rest, rest_times, length-rest, victim_entry, others, choice, victim-in, victim-leaves}
+use Rattle.clock2q_cache.proofs.Slots.{apart, times, times-none, times-both, times-pushed, has-times, at_most_once, length-places, length-swept}
+use Rattle.clock2q_cache.proofs.CacheInvariant.{length_in_small, length_in_main, index_some, sized-same}
+use Rattle.clock2q_cache.proofs.Renewed.{front_times, length-front, front_entries, front, tail_at, tail_key, tail_entry, last_entry, tail-in, no-tail, rest, rest_times, length-rest, victim_entry, others, choice, victim-in, victim-leaves}
 
 -- Who leaves next.
 
@@ -204,3 +205,46 @@ module _ {K V : Type 0} {eq : K → K → Bool} {hash : K → ℕ} {shares : Sha
           sized = sized-same kept.sized (ap (λ (z : QueueState). z.slots) is) (ap (λ (z : QueueState). z.window) is) (ap (λ (z : Remembered K). z.limit) pushed) beside
               (ap (λ (z : List (List (ℕ × ℕ))). length z) out ∙ length-taken index old tail) refl free_room;
         }
+
+  -- the queues and the machine choose alike
+  keeps_same : queues.keeps_tail (last_or None q.small) ≡ keeps_tail (last_or None m.small)
+  keeps_same = by (last_or None (slots_of q.small)) refl where
+    by : (t : Option ℕ) → last_or None (slots_of q.small) ≡ t → queues.keeps_tail (last_or None q.small) ≡ keeps_tail (last_or None m.small)
+    by None none = ap (λ (z : List (ℕ × Age)). queues.keeps_tail (last_or None z)) (small_empty none) ∙ sym (ap keeps_tail (last_none none))
+    by (Some tail) last = ap queues.keeps_tail (tail_at laws kept tail last).1 ∙ sym (ap keeps_tail (last_entry laws kept tail last))
+
+  leaves_same : queues.victim_leaves q ≡ victim_leaves m
+  leaves_same = ap (λ n. nat_lt 0 n && queues.keeps_tail (last_or None q.small)) (sym (length_in_main laws kept)) ∙ ap (λ b. nat_lt 0 (length m.main) && b) keeps_same
+
+  leaves_by : (b : Bool) → queues.victim_leaves q ≡ b → leaves_now m ≡ (if b then first_of (machine.from_victim m.main) else option_map (λ tail. (tail.key, tail.slot)) (last_or None m.small))
+  leaves_by b is = ap (λ z. if z then first_of (machine.from_victim m.main) else option_map (λ tail. (tail.key, tail.slot)) (last_or None m.small)) (sym leaves_same ∙ is)
+
+  -- what the queues name as the slot that leaves next
+  pub record IsNext (slot : Option ℕ) : Type 0 where
+    pub tail : queues.victim_leaves q ≡ false → slot ≡ last_or None (slots_of q.small)
+    pub victim : queues.victim_leaves q ≡ true → slice_get (from_victim q.main) 0 ≡ option_map (λ s. (s, false)) slot
+
+  -- nothing, if there is no resident
+  pub next-none : IsNext None → None ≡ leaves_now m
+  next-none next = by (queues.victim_leaves q) refl where
+    by : (b : Bool) → queues.victim_leaves q ≡ b → None ≡ leaves_now m
+    by true stays =
+        let some : 0 < length q.main = omega (arith, leaves-some m (sym leaves_same ∙ stays), length_in_main laws kept) in
+        let first = slice_get_some (from_victim q.main) 0 (omega (arith, some, length-swept q.main)) in
+        absurd (none_is first.0 (sym (next.victim stays) ∙ first.1))
+    by false leaves = sym (leaves_by false leaves ∙ ap (option_map (λ tail. (tail.key, tail.slot))) (last_none (sym (next.tail leaves))))
+
+  module _ (slot : ℕ) (next : IsNext (Some slot)) where
+    -- a resident's slot
+    pub next-in : has slot (places_of q) ≡ true
+    next-in = by (queues.victim_leaves q) refl where
+      by : (b : Bool) → queues.victim_leaves q ≡ b → has slot (places_of q) ≡ true
+      by true stays = victim-in laws kept slot (next.victim stays)
+      by false leaves = tail-in laws kept slot (sym (next.tail leaves))
+
+    -- and that is the resident
+    pub next-leaves : (k : K) → key_at keys.entries slot ≡ Some k → Some (k, slot) ≡ leaves_now m
+    next-leaves k key = by (queues.victim_leaves q) refl where
+      by : (b : Bool) → queues.victim_leaves q ≡ b → Some (k, slot) ≡ leaves_now m
+      by true stays = sym (leaves_by true stays ∙ victim-leaves laws kept slot (next.victim stays) k key)
+      by false leaves = tail-entry slot (sym (next.tail leaves)) k key ∙ sym (leaves_by false leaves)

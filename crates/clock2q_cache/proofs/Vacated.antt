@@ -1,10 +1,11 @@
 -- Which slots have a resident, and what a cache's fields become when one of them leaves.
-use Rattle.std.proofs.Common.{◌≡◌, ℕ, ◌+◌, ◌<◌, ◌≤◌, ◌==◌, Bool, true, not, eqb, Option, Some, List, [], ◌∷◌, ◌++◌, map, length, reverse, inl, inr, refl, sym, ap, ◌∙◌, subst, arith, eq-eqb}
+use Rattle.std.proofs.Common.{◌≡◌, ℕ, ◌+◌, ◌<◌, ◌≤◌, ◌==◌, Bool, true, false, not, eqb, Option, Some, None, List, [], ◌∷◌, ◌++◌, map, length, reverse, inl, inr, refl, sym, ap, ◌∙◌, subst, arith, eq-eqb}
 use Rattle.std.proofs.lemmas.List.Sums.{length-filter, count_by-le-length}
-use Rattle.clock2q_cache.proofs.Names.{length-values, is_some, IsSome, IsEquivalence, option_map, filter, find, count_by, cases_Bool, both_ways, slots_of-filter, some_is, filter-append, removed, has, without, KeyPlaces, hash_at, key_at, QueueState, slots_of, without_slot, Remembered, below_of, length-taken, Shares, Machine, residents, resident_at, resident_count, slot_of, vacated, SmallEntry, MainEntry, append-nil, IsWhole, machine_of, places_of, with_keys_small, with_keys_main, IsStored, IsKept, whole-vacated}
+use Rattle.clock2q_cache.proofs.Names.{length-values, is_some, IsSome, IfSome,  IsEquivalence, option_map, filter, find, count_by, cases_Bool, both_ways, slots_of-filter, some_is, filter-append, removed, has, without, KeyPlaces, hash_at, key_at, QueueState, slots_of, without_slot, Remembered, below_of, length-taken, Shares, Machine, residents, resident_at, resident_count, slot_of, vacated, SmallEntry, MainEntry, append-nil, IsWhole, machine_of, places_of, with_keys_small, with_keys_main, IsStored, IsKept, whole-vacated}
 use Rattle.clock2q_cache.proofs.WithKeys.{standing-keyed, small-without, main-without}
 use Rattle.clock2q_cache.proofs.Stored.{stored-left, have_keys}
 use Rattle.clock2q_cache.proofs.Slots.{small_have, main_have, apart, times-some, times-both}
+use Rattle.clock2q_cache.proofs.Finding.{key-compares, at-slot, slot-at}
 use Rattle.clock2q_cache.proofs.Places.{resident-there, resident-none}
 use Rattle.clock2q_cache.proofs.CacheInvariant.{index_some, sized-same}
 
@@ -54,6 +55,12 @@ module _ {K V : Type 0} {eq : K → K → Bool} {hash : K → ℕ} {shares : Sha
     | inr g ↦ ap (λ (z : Option (K × ℕ)). is_some z) (resident-none laws kept t g) ∙ sym g
   ]
 
+  -- past the slots that were made there is no resident
+  pub past-none : (slot : ℕ) → length keys.entries ≤ slot → false ≡ is_some (resident_at m slot)
+  past-none slot past =
+      let absent : has slot (places_of q) ≡ false = grind (arith, below_of, kept.stored.made) in
+      sym (resident-some slot ∙ absent)
+
   module _ (slot : ℕ) (there : IsSome (resident_at m slot)) where
     pub slot-used : has slot (places_of q) ≡ true
     slot-used = sym (resident-some slot) ∙ there
@@ -66,6 +73,16 @@ module _ {K V : Type 0} {eq : K → K → Bool} {hash : K → ℕ} {shares : Sha
 
     pub resident-key : (k : K) → key_at keys.entries slot ≡ Some k → resident_at m slot ≡ Some (k, slot)
     resident-key k at = resident-there laws kept slot k slot-used at
+
+    pub own-key : (k : K) × (key_at keys.entries slot ≡ Some k)
+    own-key = have_keys keys.entries (places_of q) kept.stored.made slot slot-used
+
+    pub own-resident : resident_at m slot ≡ Some (own-key.0, slot)
+    own-resident = resident-key own-key.0 own-key.1
+
+    pub own-slot : slot_of (eq own-key.0) m ≡ Some slot
+    own-slot = slot-at laws kept own-key.0 slot
+        (at-slot laws kept own-key.0 slot ∙ rw (slot-used, key-compares keys.entries eq own-key.0 slot own-key.0 own-key.1, laws.refl own-key.0) refl)
 
     standing-counted : 0 < count_by (λ e. e.slot == slot) m.small + count_by (λ e. e.slot == slot) m.main
     standing-counted = omega (
@@ -103,3 +120,12 @@ module _ {K V : Type 0} {eq : K → K → Bool} {hash : K → ℕ} {shares : Sha
           places = ap (λ z. slots_of z ++ slots_of q'.main) small ∙ ap (λ z. z ++ slots_of q'.main) (slots_of-filter slot q.small)
               ∙ ap (λ z. without slot (slots_of q.small) ++ slots_of z) main ∙ ap (λ z. without slot (slots_of q.small) ++ z) (slots_of-filter slot q.main)
               ∙ sym (filter-append (λ t. not (eqb t slot)) (slots_of q.small) (slots_of q.main))
+
+  -- a resident's key is found at its slot
+  pub own-slots : (slot : ℕ) → IfSome (resident_at m slot) (λ r. slot_of (eq r.0) m ≡ Some slot)
+  own-slots slot = of (resident_at m slot) refl where
+    of : (o : Option (K × ℕ)) → resident_at m slot ≡ o → IfSome o (λ r. slot_of (eq r.0) m ≡ Some slot)
+    of None none = tt
+    of (Some r) some =
+        let there : IsSome (resident_at m slot) = rw some refl in
+        ap (λ (z : K × ℕ). slot_of (eq z.0) m) (some_is r ((own-key slot there).0, slot) (sym some ∙ own-resident slot there)) ∙ own-slot slot there

@@ -1,7 +1,7 @@
 -- Past the slots that were made there is no resident.
 use Rattle.std.proofs.Common.{ap, ◌∙◌, arith}
 use Rattle.clock2q_cache.proofs.Names.{is_some, CacheState, resident_at}
-use Rattle.clock2q_cache.proofs.HitSlot.{past-none, own-slots}
+use Rattle.clock2q_cache.proofs.Vacated.{past-none, own-slots}
 use Rattle.clock2q_cache.proofs.cache.Cache.has_resident.Goals as goal
 
 pub returns-then-slot-made-clause-resident : goal.returns-then-slot-made-clause-resident

@@ -2,11 +2,11 @@
 use Rattle.std.proofs.Common.{sym, arith}
 use Rattle.clock2q_cache.proofs.BySlot.{hit-slot-costs}
 use Rattle.clock2q_cache.proofs.Finding.{either-queue, hit-machine, kept-hit}
-use Rattle.clock2q_cache.proofs.HitSlot.{in-queues, own-key, own-slot, own-resident}
+use Rattle.clock2q_cache.proofs.Vacated.{slot-used, own-key, own-slot, own-resident}
 use Rattle.clock2q_cache.proofs.cache.Cache.hit_slot.Goals as goal
 
 pub hit-requires : goal.hit-requires
-hit-requires g c = record { resident = either-queue c.self.inside.queues c.args.slot (in-queues g.met.K.Eq.laws c.self.invariant c.args.slot (rw (← c.self.view_is) at (sym c.if-not-has_resident.ensures.resident))) }
+hit-requires g c = record { resident = either-queue c.self.inside.queues c.args.slot (slot-used g.met.K.Eq.laws c.self.invariant c.args.slot (rw (← c.self.view_is) at (sym c.if-not-has_resident.ensures.resident))) }
 
 pub invariant_of-self : goal.invariant_of-self
 invariant_of-self g c =

@@ -4,7 +4,8 @@ use Rattle.clock2q_cache.proofs.Names.{CacheState}
 use Rattle.clock2q_machine.specs.Leaving.{next_victim}
 use Rattle.clock2q_machine.specs.Machine.{leaves_now}
 use Rattle.clock2q_cache.proofs.Renewed.{slot-below}
-use Rattle.clock2q_cache.proofs.NextVictim.{next-in, next-leaves, next-none, leaves-unknown}
+use Rattle.clock2q_cache.proofs.MakingRoom.{next-in, next-leaves, next-none}
+use Rattle.clock2q_machine.proofs.Evicted.{evicts_next}
 use Rattle.clock2q_cache.proofs.cache.Cache.next_victim.Goals as goal
 
 pub returns-in_err-slot-clause-left : goal.returns-in_err-slot-clause-left
@@ -17,7 +18,7 @@ returns-in_err-slot-clause-unknown g c full =
     let e = c.in_err-slot.ensures in
     let laws = g.met.K.Eq.laws in
     rw c.from_residual.ensures (next-none laws c.self.invariant (record { tail = e.tail; victim = e.victim })
-    ∙ leaves-unknown laws c.self.invariant (rw (← c.self.view_is) at full)
+    ∙ evicts_next _ g.K.PartialEq.eq c.self.invariant.whole (rw (← c.self.view_is) at full)
     ∙ ap (λ (z : CacheState _ _ _). next_victim z.machine) c.self.view_is)
 
 pub key-requires : goal.key-requires
@@ -37,7 +38,7 @@ returns-clause-unknown g c full =
     let e = c.in_ok-slot.ensures in
     let laws = g.met.K.Eq.laws in
     next-leaves laws c.self.invariant c.in_ok-slot.slot (record { tail = e.tail; victim = e.victim }) c.key.result.now c.key.ensures.key
-    ∙ leaves-unknown laws c.self.invariant (rw (← c.self.view_is) at full)
+    ∙ evicts_next _ g.K.PartialEq.eq c.self.invariant.whole (rw (← c.self.view_is) at full)
     ∙ ap (λ (z : CacheState _ _ _). next_victim z.machine) c.self.view_is
 
 pub returns-clause-within : goal.returns-clause-within
