@@ -15,7 +15,7 @@ use Rattle.clock2q_cache.proofs.WithKeys.{main-behind}
 use Rattle.clock2q_cache.proofs.Stored.{stored-left, stored-same, hash-of-key}
 use Rattle.clock2q_cache.proofs.Slots.{apart, times, times-none, times-both, times-pushed, has-times, at_most_once, length-places, length-swept}
 use Rattle.clock2q_cache.proofs.CacheInvariant.{length_in_small, length_in_main, index_some, sized-same}
-use Rattle.clock2q_cache.proofs.Renewed.{front_times, length-front, front_entries, front, tail_at, tail_key, tail_entry, last_entry, tail-in, no-tail, rest, rest_times, length-rest, victim_entry, others, choice, victim-in, victim-leaves}
+use Rattle.clock2q_cache.proofs.Renewed.{front_times, length-front, front_entries, front, tail_at, tail_key, tail_entry, last_entry, tail_is, tail-in, no-tail, rest, rest_times, length-rest, victim_entry, others, choice, victim-in, victim-leaves}
 
 -- Who leaves next.
 
@@ -165,7 +165,7 @@ module _ {K V : Type 0} {eq : K → K → Bool} {hash : K → ℕ} {shares : Sha
       → ◌≡◌ {A = Option (K × ℕ)} (Some (key, tail)) (option_map (λ (t : SmallEntry K). (t.key, t.slot)) (last_or None m.small))
   tail-entry tail last key key_is =
       sym (ap (option_map (λ (t : SmallEntry K). (t.key, t.slot))) (last_entry laws kept tail last)
-      ∙ ap (λ k. let r : Option (K × ℕ) = Some (k, tail) in r) (some_is (tail_key laws kept tail last).0 key (sym (tail_key laws kept tail last).1 ∙ key_is)))
+      ∙ ap (λ k. let r : Option (K × ℕ) = Some (k, tail) in r) (tail_is laws kept tail last key key_is))
 
   -- Small's tail leaves, and is remembered
   module _ (tail : ℕ) (last : last_or None (slots_of q.small) ≡ Some tail) (q' : QueueState) (h' : Remembered K) (free' : List ℕ) (links old : ℕ) (key : K)
@@ -177,15 +177,12 @@ module _ {K V : Type 0} {eq : K → K → Bool} {hash : K → ℕ} {shares : Sha
     abbrev entries1 : List (ℕ × K)
     entries1 = take h.limit ((old, key) ∷ h.entries)
 
-    tail_is : (tail_key laws kept tail last).0 ≡ key
-    tail_is = some_is (tail_key laws kept tail last).0 key (sym (tail_key laws kept tail last).1 ∙ key_is)
-
     retired-is : machine_of shares q1 keys.entries entries1 free' ≡ tail_evicted (Some (tail_entry laws kept tail last)) m
     retired-is =
         let s : with_keys_small (key_at keys.entries) (front laws kept tail last) ≡ take (length m.small - 1) m.small = front_entries laws kept tail last in
         let r : map (λ (e : ℕ × K). e.1) entries1 ≡ take (history_share shares) ((tail_key laws kept tail last).0 ∷ m.history) =
         sym (take-map (λ (e : ℕ × K). e.1) h.limit ((old, key) ∷ h.entries)) ∙ ap (λ n. take n (key ∷ m.history)) kept.sized.remembers
-        ∙ ap (λ z. take (history_share shares) (z ∷ m.history)) (sym tail_is) in
+        ∙ ap (λ z. take (history_share shares) (z ∷ m.history)) (sym (tail_is laws kept tail last key key_is)) in
         cc
 
     pub retired-machine : machine_of shares q' keys.entries h'.entries free' ≡ tail_evicted (last_or None m.small) m

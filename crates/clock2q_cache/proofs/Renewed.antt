@@ -53,15 +53,6 @@ module _ {K V : Type 0} {eq : K → K → Bool} {hash : K → ℕ} {shares : Sha
   once_at : (t : ℕ) → times t (slots_of q.small) + times t (slots_of q.main) ≤ 1
   once_at t = omega (arith, at_most_once laws kept t, times-both t q)
 
-  -- what `renew` requires
-  pub resident-there : (slot : ℕ) → has slot (places_of q) ≡ true → (places : List ℕ) × IsIndex index keys.entries places × AllApart places × (has slot places ≡ true)
-  resident-there slot there = (places_of q, kept.stored.indexed, apart laws kept, there)
-
-  pub room-there : (total index + most_beside h ≤ capacity (length index)) × (total index + most_beside h < 2 ^ 24)
-  room-there =
-      let few : total index ≤ shares.capacity = omega (arith, length-places q, length_in_small laws kept, length_in_main laws kept) in
-      (omega (arith, few, kept.sized.spacious), omega (arith, few, kept.sized.few))
-
   -- a resident's slot was made, and is below the capacity
   pub slot-below : (slot : ℕ) → has slot (places_of q) ≡ true → (slot < length keys.entries) × (slot < shares.capacity) × (slot < 2 ^ 24)
   slot-below slot there = grind (arith, below_of, kept.stored.made, kept.whole.made_within, length-values, kept.sized.short)
@@ -175,7 +166,7 @@ module _ {K V : Type 0} {eq : K → K → Bool} {hash : K → ℕ} {shares : Sha
         ∙ ap (λ n. take (n - 1) m.small) (sym (length_in_small laws kept))
 
     -- it is the key that was at the tail
-    tail_is : (old_key : K) → key_at keys.entries tail ≡ Some old_key → tail_key.0 ≡ old_key
+    pub tail_is : (old_key : K) → key_at keys.entries tail ≡ Some old_key → tail_key.0 ≡ old_key
     tail_is old_key key_is = some_is tail_key.0 old_key (sym tail_key.1 ∙ key_is)
 
     -- and it has no history
@@ -187,15 +178,9 @@ module _ {K V : Type 0} {eq : K → K → Bool} {hash : K → ℕ} {shares : Sha
         known-any (eq old_key) h.entries ∙ none-has (eq old_key) m.history (omega (arith, kept.whole.keys_once old_key, w, own))
 
     -- who leaves for a key that enters a full Small
-    leaves-by : vacancy m ≡ None → (b : Bool) → IfSome (last_or None m.small) (λ tail. is_promoted tail.age ≡ b)
+    pub leaves-by : vacancy m ≡ None → (b : Bool) → IfSome (last_or None m.small) (λ tail. is_promoted tail.age ≡ b)
         → leaves_placed false m ≡ (if b then first_of (machine.from_victim m.main) else Some (tail_key.0, tail))
     leaves-by none b at = grind (arith, last_entry, first_of)
-
-    pub tail-goes_on : vacancy m ≡ None → IfSome (last_or None m.small) (λ tail. is_promoted tail.age ≡ true) → leaves_placed false m ≡ first_of (machine.from_victim m.main)
-    tail-goes_on none on = leaves-by none true on
-
-    pub tail-leaves : (k : K) → key_at keys.entries tail ≡ Some k → vacancy m ≡ None → IfSome (last_or None m.small) (λ tail. is_promoted tail.age ≡ false) → leaves_placed false m ≡ Some (k, tail)
-    tail-leaves k is none out = leaves-by none false out ∙ ap (λ z. Some (z, tail)) (tail_is k is)
 
     -- where a key then goes
     abbrev onto : K → Bool → Placement K V
@@ -331,7 +316,12 @@ module _ {K V : Type 0} {eq : K → K → Bool} {hash : K → ℕ} {shares : Sha
 module _ {K V : Type 0} {eq : K → K → Bool} {hash : K → ℕ} {shares : Shares} {q : QueueState} (d : Known K V) {free : List ℕ} {room : ℕ}
     (laws : IsEquivalence eq) (kept : IsKept eq hash shares q d.history (slots d.history.places.index) d.residents free room) where
   pub is-resident : (slot : ℕ) → has slot (places_of q) ≡ true → IsResident slot d
-  is-resident slot there = grind (arith, resident-there laws kept slot there, slot-below laws kept slot there, apart)
+  is-resident slot there =
+      let below = slot-below laws kept slot there in
+      record { taken = places_of q; indexed = kept.stored.indexed; apart = apart laws kept; there = there; made = below.0; below = below.2 }
 
   pub within-room : IsWithinRoom d.history
-  within-room = let r = room-there laws kept in record { room = r.0; few = r.1 }
+  within-room =
+      let few : total (slots d.history.places.index) ≤ shares.capacity =
+      omega (arith, kept.stored.indexed.counted, length-places q, length_in_small laws kept, length_in_main laws kept, kept.whole.small_within, kept.whole.main_within, kept.whole.small_below) in
+      record { room = omega (arith, few, kept.sized.spacious); few = omega (arith, few, kept.sized.few) }

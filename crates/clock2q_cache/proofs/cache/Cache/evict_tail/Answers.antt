@@ -1,8 +1,8 @@
 -- The tail's key goes into the history, and the new key takes its slot.
-use Rattle.std.proofs.Common.{◌+◌, ◌≡◌, ℕ, eqb, refl, ap, ◌∙◌, arith, vec_capacity}
+use Rattle.std.proofs.Common.{◌+◌, ◌≡◌, ℕ, eqb, false, Some, refl, ap, ◌∙◌, arith, vec_capacity}
 use Rattle.clock2q_cache.proofs.Names.{oldest_hash, pushed_places, if◌then◌else◌, with_handle, removed, is_shared, slots, Remembered, Places, most_beside, slots-pushed, shared-pushed, slots-entered, into_small}
 use Rattle.clock2q_cache.proofs.CacheInvariant.{m, IsDone}
-use Rattle.clock2q_cache.proofs.Renewed.{is-resident, within-room, slot-below, tail-in, tail-unremembered, tail-leaves, evicted-done}
+use Rattle.clock2q_cache.proofs.Renewed.{is-resident, within-room, slot-below, tail-in, tail-unremembered, tail_is, leaves-by, evicted-done}
 use Rattle.clock2q_cache.proofs.Insertions.{evicted-spends}
 use Rattle.clock2q_cache.proofs.Evicting.{noted}
 use Rattle.clock2q_cache.proofs.Places.{entered-evicting}
@@ -54,9 +54,9 @@ returns g c =
     let i = c.self.inside in
     let d = done g (goal.at.returns g c).After-remember in
     let r = c.remember.ensures.index in
-    let leaver =
-    tail-leaves g.met.K.Eq.laws c.self.invariant c.reuse_tail-tail.result c.reuse_tail-tail.ensures.tail c.key.result.now c.key.ensures.key
-    (rw (← c.self.view_is) at c.requires.full) (rw (← c.self.view_is) at c.requires.out) in
+    let last = c.reuse_tail-tail.ensures.tail in
+    let leaver = leaves-by g.met.K.Eq.laws c.self.invariant c.reuse_tail-tail.result last (rw (← c.self.view_is) at c.requires.full) false (rw (← c.self.view_is) at c.requires.out)
+    ∙ ap (λ k. Some (k, c.reuse_tail-tail.result)) (tail_is g.met.K.Eq.laws c.self.invariant c.reuse_tail-tail.result last c.key.result.now c.key.ensures.key) in
     rw (← c.self.view_is) (record {
       entered = record {
         slot = d.at;

@@ -1,8 +1,8 @@
 -- The tail moves on to Main, and the new key takes the slot of Main's victim.
-use Rattle.std.proofs.Common.{◌≡◌, ◌+◌, Some, None, refl, sym, arith, vec_capacity, ap, ◌∙◌}
+use Rattle.std.proofs.Common.{◌≡◌, ◌+◌, true, Some, None, refl, sym, arith, vec_capacity, ap, ◌∙◌}
 use Rattle.clock2q_cache.proofs.Names.{made_below, QueueState, last_or, slots_of, slots, Remembered, into_small}
 use Rattle.clock2q_cache.proofs.CacheInvariant.{made-still, m, IsDone, done-reindexed, reindexed, slots-renewed, length_in_small}
-use Rattle.clock2q_cache.proofs.Renewed.{is-resident, within-room, slot-below, no-tail, victim-in, victim-leaves, tail-goes_on, victim-not_in_front, victim-not_behind, tail-in, tail-not_in_front, tail-not_in_rest, promoted-done}
+use Rattle.clock2q_cache.proofs.Renewed.{is-resident, within-room, slot-below, no-tail, victim-in, victim-leaves, leaves-by, victim-not_in_front, victim-not_behind, tail-in, tail-not_in_front, tail-not_in_rest, promoted-done}
 use Rattle.clock2q_cache.proofs.Insertions.{victim-spends}
 use Rattle.clock2q_cache.proofs.Evicting.{noted}
 use Rattle.clock2q_cache.proofs.Places.{entered-renewed}
@@ -89,7 +89,7 @@ returns g c =
     let taken = c.take_victim-slot.ensures.accesses in
     let appended = c.append.ensures.accesses in
     let admitted = c.admit.ensures.accesses in
-    let moves = tail-goes_on g.met.K.Eq.laws c.self.invariant c.in-Some.tail (last g at.In-Some) (rw (← c.self.view_is) at c.requires.full) (rw (← c.self.view_is) at c.requires.on) in
+    let moves = leaves-by g.met.K.Eq.laws c.self.invariant c.in-Some.tail (last g at.In-Some) (rw (← c.self.view_is) at c.requires.full) true (rw (← c.self.view_is) at c.requires.on) in
     let leaver = victim-leaves g.met.K.Eq.laws c.self.invariant c.take_victim-slot.result c.take_victim-slot.ensures.victim c.renew-old.result.1 r.key in
     rw (← c.self.view_is) (record {
       entered = record {
