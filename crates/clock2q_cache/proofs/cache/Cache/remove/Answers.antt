@@ -1,8 +1,7 @@
 -- The key that is found is at its slot.
-use Rattle.std.proofs.Common.{sym, ap, ◌∙◌, arith, rules}
-use Rattle.clock2q_cache.proofs.Names.{forgotten, slot_of, removed_at}
+use Rattle.std.proofs.Common.{sym, arith, rules}
+use Rattle.clock2q_cache.proofs.Names.{slot_of}
 use Rattle.clock2q_cache.proofs.Vacated.{found-resident}
-use Rattle.clock2q_cache.proofs.Finding.{no-slot}
 use Rattle.clock2q_cache.proofs.Reaching.{reaches-discarded, reaches-left}
 use Rattle.clock2q_cache.proofs.Spent.{costs-of, spends-both, remove-costs}
 use Rattle.clock2q_cache.proofs.cache.Cache.remove.Goals as goal
@@ -10,11 +9,15 @@ use Rattle.clock2q_cache.proofs.cache.Cache.remove.Goals as goal
 pub vacate-requires : goal.vacate-requires
 vacate-requires g c = grind (arith, found-resident, slot_of, c.in-Resident.ensures.machine, c.in-Resident.ensures.slot)
 
+pub returns-in_default-clause-machine : goal.returns-in_default-clause-machine
+returns-in_default-clause-machine g c = search rules
+
+pub returns-clause-machine : goal.returns-clause-machine
+returns-clause-machine g c = search rules
+
 pub returns-in_default-clause-costs : goal.returns-in_default-clause-costs
 returns-in_default-clause-costs g c =
-    let is = g.K.PartialEq.eq c.args.key.now in
-    let absent = no-slot c.lookup-found.result c.in_default.not-Resident ∙ c.lookup-found.ensures.slot in
-    costs-of (c.forget.ensures.machine ∙ ap (forgotten is) c.lookup-found.ensures.machine ∙ ap (λ o. removed_at is o c.args.self.now.machine) absent)
+    costs-of (returns-in_default-clause-machine g c)
     (reaches-discarded
     (record { eq = g.K.PartialEq.eq; hash_input = g.K.Hash.hash_input }) g.S.BuildHasher g.S.Hasher.Hasher c.args.key.now
     c.lookup-found.ensures.within c.hash-hash.result c.hash-hash.ensures
@@ -28,9 +31,3 @@ returns-clause-costs g c =
     c.args.key.now g.met.K.Eq.laws c.lookup-found.ensures.whole g.met.K.Hash.respects_eq c.in-Resident.slot
     (sym c.in-Resident.ensures.slot) (rw c.lookup-found.ensures.kept at c.vacate.ensures.known))
     c.vacate.ensures.machine c.vacate.ensures.counts
-
-pub returns-in_default-clause-machine : goal.returns-in_default-clause-machine
-returns-in_default-clause-machine g c = search rules
-
-pub returns-clause-machine : goal.returns-clause-machine
-returns-clause-machine g c = search rules
