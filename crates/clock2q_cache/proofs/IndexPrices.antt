@@ -2,8 +2,8 @@
 use Rattle.std.proofs.Common.{◌≡◌, ℕ, ◌+◌, ◌*◌, ◌≤◌, ◌||◌, Bool, true, false, not, Option, Some, None, List, [], ◌∷◌, length, inl, inr, refl, sym, ap, ◌∙◌, subst, arith}
 use Rattle.std.specs.declared.hash.Hasher as hasher
 use Rattle.std.specs.declared.hash.BuildHasher as builder
-use Rattle.clock2q_cache.proofs.Names.{cases_Bool, or_parts, filter, list_any, last_or, last_some, option_map, is_some, none_is, if◌then◌else◌, IfSome, IsEquivalence, HashMembers, Places, place_of, oldest_hash, is_promoted, SmallEntry, MainEntry, Machine, placement, inserted, forgotten, slot_of, resident_at, resident_made, goes_to_main, get-within, replaced, after, Put, IsWhole, CacheState, hash_of, key_out, left_by, discarded, hash_in, looked_for, known_at, known_with, known_taken}
-use Rattle.clock2q_machine.specs.Entries.{first_of, from_victim}
+use Rattle.clock2q_cache.proofs.Names.{cases_Bool, or_parts, filter, list_any, last_or, last_some, option_map, is_some, none_is, if◌then◌else◌, IfSome, IsEquivalence, HashMembers, Places, place_of, oldest_hash, SmallEntry, MainEntry, Machine, placement, inserted, forgotten, slot_of, resident_at, resident_made, goes_to_main, get-within, replaced, after, Put, IsWhole, CacheState, hash_of, key_out, left_by, discarded, hash_in, looked_for, known_at, known_with, known_taken}
+use Rattle.clock2q_machine.specs.Entries.{first_of}
 use Rattle.clock2q_machine.specs.Leaving.{leaves_for, leaves_for_small, leaver}
 use Rattle.clock2q_machine.proofs.MachineInvariant.{lasting-inserted}
 use Rattle.clock2q_machine.proofs.Entering.{slots_apart, differs, entered_there}
@@ -63,17 +63,7 @@ none-forgotten is (k ∷ ks) none =
 tail_leaves : {K : Type 0} (known a b : Bool) (v : Option ℕ) (t : Option (SmallEntry K)) (main : List (MainEntry K)) (other : Option (K × ℕ)) (tail : K)
     → (if (known || a || b) then None else (if is_some v then None else key_out t)) ≡ Some tail
     → (known ≡ false) × (option_map (λ (r : K × ℕ). r.0) (if (known || a || b) then other else leaves_for_small v t main) ≡ Some tail)
-tail_leaves true a b v t main other tail e = absurd (none_is tail e)
-tail_leaves false true b v t main other tail e = absurd (none_is tail e)
-tail_leaves false false true v t main other tail e = absurd (none_is tail e)
-tail_leaves false false false (Some slot) t main other tail e = absurd (none_is tail e)
-tail_leaves false false false None None main other tail e = absurd (none_is tail e)
-tail_leaves {K} false false false None (Some entry) main other tail e = (refl, by_age (is_promoted entry.age) e)
-  where
-    by_age : (promoted : Bool) → (if promoted then None else Some entry.key) ≡ Some tail
-        → option_map (λ (r : K × ℕ). r.0) (if promoted then first_of (from_victim main) else Some (entry.key, entry.slot)) ≡ Some tail
-    by_age true e = absurd (none_is tail e)
-    by_age false e = e
+tail_leaves known a b v t main other tail e = grind (arith, none_is, first_of)
 
 module _ {K V S H : Type 0} (key : HashMembers K) (build : builder.Ghosts S H) (hash : hasher.Ghosts H) (laws : IsEquivalence key.eq)
     (respects : (x y : K) → key.eq x y ≡ true → key.hash_input x ≡ key.hash_input y) (c : CacheState K V S) (whole : IsWhole key.eq c.machine)

@@ -1,9 +1,9 @@
 -- What the insertion of a key costs.
-use Rattle.std.proofs.Common.{◌≡◌, ℕ, ◌+◌, ◌<◌, ◌≤◌, Bool, false, not, ◌&&◌, List, [], ◌∷◌, length, Option, Some, None, refl, ap, sym, ◌∙◌, subst, arith}
-use Rattle.clock2q_cache.proofs.Names.{if◌then◌else◌, is_some, IfSome, list_any, last_or, IsEquivalence, KeyPlaces, key_at, inspections, QueueState, Entry, Remembered, Places, Age, is_promoted, last_some, none_is, Shares, SmallEntry, Machine, slot_of, vacancy, goes_to_main, forgotten, goes_on, inspections_for, small_inspections, machine_of, IsKept, counts_of, CacheState, Counts, Spends, accesses_for, discarded}
+use Rattle.std.proofs.Common.{◌≡◌, ℕ, ◌+◌, ◌<◌, ◌≤◌, Bool, false, not, List, [], ◌∷◌, length, Some, None, ap, sym, ◌∙◌, arith}
+use Rattle.clock2q_cache.proofs.Names.{if◌then◌else◌, is_some, IfSome, list_any, last_or, IsEquivalence, KeyPlaces, key_at, inspections, QueueState, Entry, Remembered, Places, Age, is_promoted, last_some, none_is, Shares, Machine, slot_of, vacancy, goes_to_main, forgotten, goes_on, inspections_for, small_inspections, machine_of, IsKept, counts_of, CacheState, Counts, Spends, accesses_for, discarded}
 use Rattle.clock2q_queues.specs.Cells.{Rises}
 use Rattle.clock2q_directory.specs.declared.history.Found.{Found}
-use Rattle.clock2q_directory.specs.History.{found_gap, freed_place}
+use Rattle.clock2q_directory.specs.History.{found_gap}
 use Rattle.clock2q_directory.specs.Index.{IsGapFor}
 use Rattle.clock2q_cache.specs.Insertions.{IsFoundFor, IsSent}
 use Rattle.clock2q_machine.specs.Entries as machine
@@ -44,15 +44,11 @@ no_last (x ∷ xs) some none = let l = last_some xs x in none_is l.0 (sym none �
 module _ {K V : Type 0} (m : Machine K V) where
   -- into a full Small, whose tail moves on or is evicted
   tail-goes : (b : Bool) → 0 < length m.small → IfSome (last_or None m.small) (λ tail. b ≡ is_promoted tail.age) → goes_on (last_or None m.small) ≡ b
-  tail-goes b some at = of (last_or None m.small) refl at where
-    of : (o : Option (SmallEntry K)) → last_or None m.small ≡ o → IfSome o (λ tail. b ≡ is_promoted tail.age) → goes_on o ≡ b
-    of None none at = absurd (no_last m.small some none)
-    of (Some tail) is at = sym at
+  tail-goes b some at = grind (arith, last_or, is_promoted, goes_on, no_last)
 
   pub tail-inspections : (b : Bool) → is_some (vacancy m) ≡ false → 0 < length m.small
       → IfSome (last_or None m.small) (λ tail. b ≡ is_promoted tail.age) → small_inspections m ≡ (if b then machine.inspections m.main else 0)
-  tail-inspections b none some at = ap (λ v. if not v && goes_on (last_or None m.small) then machine.inspections m.main else 0) none
-      ∙ ap (λ v. if v then machine.inspections m.main else 0) (tail-goes b some at)
+  tail-inspections b none some at = grind (arith, not, goes_on, last_or, tail-goes)
 
 -- a key that is erased from the history enters Main or Small
 pub sent-by : {K V : Type 0} {is : K → Bool} {m m1 : Machine K V} {main known : Bool} → known ≡ list_any is m.history → m1 ≡ forgotten is m → main ≡ goes_to_main known m1 → IsSent is m m1 main
@@ -61,11 +57,7 @@ sent-by {m = m} {known = known} had erased goes = record { erased = erased; goes
 -- the gap that a lookup found is still there then
 pub gap-still : {K V S : Type 0} {eq : K → K → Bool} (found : Found) {k : K} {x : ℕ} {c : CacheState K V S} {p : Places} → IsFoundFor eq found k x c
     → p ≡ discarded (eq k) x c → IsGapFor (found_gap found) x p.index
-gap-still (Found.Resident slot) f erased = tt
-gap-still (Found.Remembered place) f erased = tt
-gap-still (Found.Absent None) f erased = tt
-gap-still (Found.Absent (Some gap)) {x = x} {c = c} f erased =
-    subst (λ (p : Places). IsGapFor (Some gap) x p.index) (sym (erased ∙ ap (λ o. freed_place x o c.known) (sym f.place))) f.gap
+gap-still found f erased = grind (arith, f.place, f.gap)
 
 -- after a look at Small's tail
 pub looked-spends : {looks : ℕ} {a b c : Counts} → Spends 0 1 0 a b → Spends looks (looks + 28) 0 b c → Spends looks (looks + 29) 0 a c

@@ -1,6 +1,6 @@
 -- Which resident leaves next, and what a cache's fields become when it leaves though no key comes.
 use Rattle.std.proofs.Common.{◌≡◌, ℕ, suc, ◌+◌, ◌-◌, ◌<◌, ◌==◌, Bool, true, false, not, ◌&&◌, cond, eqb, Option, Some, None, List, [], ◌∷◌, ◌++◌, map, length, take, reverse, inl, inr, refl, sym, ap, ◌∙◌, subst, arith, eq-eqb, eqb-true, length-append}
-use Rattle.clock2q_cache.proofs.Names.{if◌then◌else◌, nat_lt, none_is, slice_get, slice_get_some, IfSome, IsEquivalence, last_or, option_map, AllByRecursion, cases_Bool, lt-ltb, ltb-true, Age, take-map, All-from_recursion, recursion_from_All, All-take, has, without, has-without_test, and_true, and_false, eqb_swap, KeyPlaces, hash_at, key_at, removed, length-taken, QueueState, slots_of, from_victim, Remembered, most_beside, Shares, history_share, SmallEntry, Machine, is_promoted, IsWhole, some_is, machine_of, places_of, with_keys_small, with_keys_main, IsStored, IsKept}
+use Rattle.clock2q_cache.proofs.Names.{if◌then◌else◌, nat_lt, none_is, slice_get, slice_get_some, IfSome, IsEquivalence, last_or, option_map, AllByRecursion, cases_Bool, lt-ltb, ltb-true, Age, take-map, All-from_recursion, recursion_from_All, All-take, has, without, has-without_test, and_true, and_false, eqb_swap, KeyPlaces, hash_at, key_at, removed, length-taken, QueueState, slots_of, from_victim, Remembered, most_beside, Shares, history_share, SmallEntry, Machine, is_promoted, IsWhole, machine_of, places_of, with_keys_small, with_keys_main, IsStored, IsKept}
 use Rattle.std.proofs.lemmas.List.{length-reverse}
 use Rattle.clock2q_queues.proofs.Joining.{length-without}
 use Rattle.clock2q_machine.specs.Entries as machine
@@ -27,21 +27,14 @@ module _ {K V : Type 0} (m : Machine K V) where
   leaves-some leaves = grind (arith, ltb-true)
 
   pub leaves-alone : 0 < length m.main → length m.small ≡ 0 → true ≡ victim_leaves m
-  leaves-alone some none = by (last_or None m.small) refl ∙ sym (main-some some) where
-    by : (t : Option (SmallEntry K)) → last_or None m.small ≡ t → true ≡ keeps_tail t
-    by None last = refl
-    by (Some tail) last = absurd (omega (arith, none, tail_some m.small tail last))
+  leaves-alone some none = grind (arith, last_or, m, main-some, keeps_tail, tail_some)
 
   pub leaves-tail : 0 < length m.main → 0 < length m.small → (b : Bool) → IfSome (last_or None m.small) (λ tail. b ≡ is_promoted tail.age) → b ≡ victim_leaves m
-  leaves-tail some small b is_value = by (last_or None m.small) refl is_value ∙ sym (main-some some) where
-    by : (t : Option (SmallEntry K)) → last_or None m.small ≡ t → IfSome t (λ tail. b ≡ is_promoted tail.age) → b ≡ keeps_tail t
-    by None last is_value = absurd (omega (arith, small, empty_small m.small last))
-    by (Some tail) last is_value = is_value
+  leaves-tail some small b is_value = grind (arith, last_or, m, main-some, is_promoted, keeps_tail, empty_small)
 
 -- what isn't some is none
 pub no-other : {X : Type 0} (o : Option X) → ((x : X) → o ≡ Some x → ⊥) → None ≡ o
-no-other None other = refl
-no-other (Some x) other = absurd (other x refl)
+no-other o other = grind arith
 
 -- The fields.
 

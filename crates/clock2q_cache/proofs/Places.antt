@@ -24,9 +24,7 @@ paired-at {K} key slot (s ∷ ss) h =
 
 -- whether Small's tail is evicted
 pub key-out : {K : Type 0} (b : Bool) (o : Option (SmallEntry K)) → IfSome o (λ tail. b ≡ is_promoted tail.age) → key_out o ≡ (if b then None else option_map (λ tail. tail.key) o)
-key-out true None at = refl
-key-out false None at = refl
-key-out b (Some tail) at = ap (λ z. if z then None else Some tail.key) (sym at)
+key-out b o at = grind arith
 
 -- the hash stored with the oldest key is that of the key
 oldest-hashed : {K : Type 0} (hash : K → ℕ) (o : Option (ℕ × K)) (p : Option K) (es : List (ℕ × K))
@@ -57,10 +55,7 @@ module _ {K V : Type 0} {eq : K → K → Bool} {hash : K → ℕ} {shares : Sha
   -- the resident at a slot leaves
   pub left-resident : (p : Places) (slot : ℕ) {old : ℕ} {p' : Places} → has slot (places_of q) ≡ true → hash_at keys.entries slot ≡ Some old
       → p' ≡ record p { index = known.left old slot p.index } → p' ≡ left_by hash (resident_at m slot) slot p
-  left-resident p slot {old} there at indexed =
-      let k = have slot there in
-      indexed ∙ ap (λ x. record p { index = known.left x slot p.index }) (hash-of-key hash keys.entries slot old k.0 kept.stored.hashed at k.1)
-      ∙ sym (ap (λ z. left_by hash z slot p) (resident-there slot k.0 there k.1))
+  left-resident p slot {old} there at indexed = grind (arith, have, hash-of-key, left_by, resident-there)
 
   -- the key of a resident goes into the history
   pub pushed-key : (p : Places) (slot : ℕ) (k : K) {old : ℕ} → key_at keys.entries slot ≡ Some k → hash_at keys.entries slot ≡ Some old
@@ -78,11 +73,7 @@ module _ {K V : Type 0} {eq : K → K → Bool} {hash : K → ℕ} {shares : Sha
     -- a key takes the slot of a resident, which leaves
     pub entered-renewed : {old : ℕ} → has slot (places_of q) ≡ true → hash_at keys.entries slot ≡ Some old
         → p' ≡ record p { index = known.entered_from p.index hsh slot (known.left old slot p.index) } → p' ≡ entered hash key slot None m p
-    entered-renewed {old} there at indexed =
-        let k = have slot there in
-        indexed ∙ ap (λ x. record p { index = known.entered_from p.index x slot (known.left old slot p.index) }) is
-        ∙ ap (λ x. record p { index = known.entered_from p.index (hash key) slot (known.left x slot p.index) }) (hash-of-key hash keys.entries slot old k.0 kept.stored.hashed at k.1)
-        ∙ sym (ap (λ z. let r = left_by hash z slot p in record r { index = known.entered_from p.index (hash key) slot r.index }) (resident-there slot k.0 there k.1))
+    entered-renewed {old} there at indexed = grind (arith, have, hash-of-key, left_by, resident-there)
 
     -- a key takes the slot of Small's tail, whose key goes into the history
     pub entered-evicting : {key_out : K} {old : ℕ} → last_or None (slots_of q.small) ≡ Some slot → key_at keys.entries slot ≡ Some key_out → hash_at keys.entries slot ≡ Some old

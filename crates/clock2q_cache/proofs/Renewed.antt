@@ -1,6 +1,6 @@
 -- A key that takes the slot of another: of Main's victim, or of Small's tail.
 use Rattle.std.proofs.Common.{◌≡◌, ℕ, suc, ◌+◌, ◌-◌, ◌^◌, ◌<◌, ◌≤◌, ◌==◌, Bool, true, false, cond, eqb, Option, Some, None, List, [], ◌∷◌, ◌++◌, map, length, take, drop, refl, sym, ap, ◌∙◌, subst, arith, eq-eqb, length-append}
-use Rattle.clock2q_cache.proofs.Names.{length-written, Entry, Known, slots, key_at-own, key_at-others, values-written, length-values, if◌then◌else◌, slice_get, IfSome, IsEquivalence, last_or, AllByRecursion, take-map, length-map, take-append-drop, slots_of-append, slots_of-mapped, sum_by-append, total, capacity, with_handle, removed, Age, is_promoted, has, AllApart, KeyPlaces, entry, hash_at, key_at, IsIndex, admitted, set_front, from_victim, QueueState, slots_of, Remembered, is_remembered, most_beside, has-append, eqb_self, has_first, below_of, length-put, length-taken, Shares, main_share, history_share, SmallEntry, MainEntry, Machine, Placement, vacancy, into_main, into_small, into_small_at, joining_main, replacing_victim, evicting_tail, promoting_tail, stored, known_count, machine_of, places_of, with_keys_small, with_keys_main, IsStored, IsKept, Writes, IsPlaced, some_is, placed-replacing, placed-evicting, placed-promoting, weight-last, All-from_recursion, recursion_from_All, All-take, tail_promoted}
+use Rattle.clock2q_cache.proofs.Names.{length-written, Entry, Known, slots, key_at-own, key_at-others, values-written, length-values, if◌then◌else◌, slice_get, IfSome, IsEquivalence, last_or, AllByRecursion, take-map, length-map, take-append-drop, slots_of-append, slots_of-mapped, sum_by-append, total, capacity, with_handle, removed, Age, is_promoted, has, KeyPlaces, entry, hash_at, key_at, admitted, set_front, from_victim, QueueState, slots_of, Remembered, is_remembered, most_beside, has-append, eqb_self, has_first, below_of, length-put, length-taken, Shares, main_share, history_share, SmallEntry, MainEntry, Machine, Placement, vacancy, into_main, into_small, into_small_at, joining_main, replacing_victim, evicting_tail, promoting_tail, stored, known_count, machine_of, places_of, with_keys_small, with_keys_main, IsStored, IsKept, Writes, IsPlaced, some_is, placed-replacing, placed-evicting, placed-promoting, weight-last, All-from_recursion, recursion_from_All, All-take, tail_promoted}
 use Rattle.clock2q_directory.specs.Directory.{IsResident, IsWithinRoom}
 use Rattle.clock2q_cache.proofs.Changed.{known-any}
 use Rattle.clock2q_cache.proofs.Finding.{none-has, counted-map}
@@ -16,8 +16,7 @@ use Rattle.clock2q_cache.proofs.CacheInvariant.{length_in_small, length_in_main,
 -- Lists
 
 first-is : {X : Type 0} (xs : List X) (x : X) → slice_get xs 0 ≡ Some x → xs ≡ x ∷ drop 1 xs
-first-is [] x h = absurd (cc)
-first-is (y ∷ xs) x h = let e : y ≡ x = cc in ap (λ z. z ∷ xs) e
+first-is xs x h = grind arith
 
 last-slot : {X : Type 0} (o : Option (ℕ × X)) (p : Option ℕ) (xs : List (ℕ × X)) (t : ℕ)
     → (p ≡ Some t → (x : X) × (o ≡ Some (t, x))) → last_or p (slots_of xs) ≡ Some t → (x : X) × (last_or o xs ≡ Some (t, x))
@@ -112,12 +111,7 @@ module _ {K V : Type 0} {eq : K → K → Bool} {hash : K → ℕ} {shares : Sha
     front = take (length q.small - 1) q.small
 
     pub front_times : (t : ℕ) → times t (slots_of q.small) ≡ times t (slots_of front) + cond (tail == t) 1 0
-    front_times t = omega (
-      arith,
-      (weight-last (λ (e : ℕ × Age). cond (e.0 == t) 1 0) None q.small (tail, tail_at.0) (some-last q.small (tail, tail_at.0) tail_at.1) tail_at.1).0,
-      counted-map (λ s. s == t) (λ (e : ℕ × Age). e.0) q.small,
-      counted-map (λ s. s == t) (λ (e : ℕ × Age). e.0) front,
-    )
+    front_times t = grind (arith, weight-last, tail_at, some-last, counted-map, front)
 
     tail_times : times tail (slots_of q.small) ≡ times tail (slots_of front) + 1
     tail_times = omega (arith, front_times tail, ap {B = ℕ} (λ b. cond b 1 0) (eqb_self tail))

@@ -9,7 +9,7 @@ use Rattle.clock2q_machine.specs.Entries.{first_of, from_victim, inspections}
 use Rattle.clock2q_machine.specs.Machine.{victim_leaves, victim_evicted, tail_evicted, evicted, leaves_now}
 use Rattle.clock2q_cache.specs.Costs.{reached_if}
 use Rattle.clock2q_cache.specs.MakingRoom.{retired_from}
-use Rattle.clock2q_cache.proofs.Names.{if◌then◌else◌, last_or, option_map, HashMembers, IsEquivalence, IsWhole, SmallEntry, Machine, Places, CacheState, Counts, Spends, Costs, hash_in, left_by}
+use Rattle.clock2q_cache.proofs.Names.{if◌then◌else◌, last_or, option_map, HashMembers, IsEquivalence, IsWhole, SmallEntry, Machine, CacheState, Counts, Spends, Costs, hash_in, left_by}
 use Rattle.clock2q_cache.proofs.IndexPrices.{oldest_reached}
 use Rattle.clock2q_cache.proofs.Reaching.{reaches-gone}
 use Rattle.clock2q_cache.proofs.Spent.{costs-of, spends-both}
@@ -41,8 +41,7 @@ module _ {K V S H : Type 0} (key : HashMembers K) (build : builder.Ghosts S H) (
       (as_many : length old.known.taken ≡ length old.machine.history) (within : IsWithinCapacity old.known.index) where
     retired-reaches : (o : Option (K × ℕ)) → tail_key ≡ o → new.known ≡ retired_from (hash_in key build hash old) o old.machine old.known
         → new.known.index.accesses ≤ old.known.index.accesses + reached_if key build hash old (option_map (λ r. r.0) o) + reached_if key build hash old (last_or None old.machine.history)
-    retired-reaches None none known = omega (arith, ap (λ (p : Places). p.index.accesses) known)
-    retired-reaches (Some r) there known = grind (arith, hash_in, pushed-accesses, r.0, r.1, oldest_reached)
+    retired-reaches o there known = grind (arith, hash_in, pushed-accesses, oldest_reached)
 
     pub tail-costs : {looked : Counts} → victim_leaves old.machine ≡ false → Spends 0 1 0 old.counts looked
         → (o : Option (K × ℕ)) → o ≡ tail_key → new.machine ≡ tail_evicted (tail_of old.machine) old.machine

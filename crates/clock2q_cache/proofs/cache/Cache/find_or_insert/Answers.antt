@@ -1,6 +1,6 @@
 -- The value is at the slot where the key was found, or at the one that it took.
 use Rattle.std.proofs.Common.{sym, ap, ◌∙◌, arith}
-use Rattle.clock2q_cache.proofs.Names.{slice_get_within, inserted, CacheState}
+use Rattle.clock2q_cache.proofs.Names.{slice_get_within, inserted}
 use Rattle.clock2q_cache.proofs.Finding.{no-slot}
 use Rattle.clock2q_cache.proofs.Fetched.{hit-fetches, new-fetches}
 use Rattle.clock2q_cache.proofs.Insertions.{hit-spends, insert-spends}
@@ -26,8 +26,7 @@ pub returns-in-Resident-clause-counts : goal.returns-in-Resident-clause-counts
 returns-in-Resident-clause-counts g c = grind (arith, hit-spends, c.lookup-found.ensures.counts, c.in-Resident.ensures.slot, c.record_hit.ensures.kept)
 
 pub returns-in-Resident-clause-index : goal.returns-in-Resident-clause-index
-returns-in-Resident-clause-index g c = reaches-looked (record { eq = g.K.PartialEq.eq; hash_input = g.K.Hash.hash_input }) g.S.BuildHasher g.S.Hasher.Hasher c.args.key
-    (ap (λ (z : CacheState _ _ _). z.known) c.record_hit.ensures.kept ∙ ap (λ (z : CacheState _ _ _). z.known) c.lookup-found.ensures.kept) (omega arith)
+returns-in-Resident-clause-index g c = grind (arith, reaches-looked, c.record_hit.ensures.kept, c.lookup-found.ensures.kept)
 
 pub returns-clause-index : goal.returns-clause-index
 returns-clause-index g c =

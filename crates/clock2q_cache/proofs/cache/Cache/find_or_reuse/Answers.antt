@@ -1,6 +1,6 @@
 -- The key is at the slot where it was found, or at the one that it took.
 use Rattle.std.proofs.Common.{sym, ap, ◌∙◌, arith}
-use Rattle.clock2q_cache.proofs.Names.{slice_get_within, hit, CacheState}
+use Rattle.clock2q_cache.proofs.Names.{slice_get_within, hit}
 use Rattle.clock2q_cache.proofs.Making.{hit-takes, new-takes}
 use Rattle.clock2q_cache.proofs.Insertions.{hit-spends, insert-spends}
 use Rattle.clock2q_cache.proofs.cache.Cache.find_or_reuse.Goals as goal
@@ -25,13 +25,10 @@ pub returns-in-Some-clause-counts : goal.returns-in-Some-clause-counts
 returns-in-Some-clause-counts g c = grind (arith, hit-spends, c.find.ensures.counts, c.in-Some.ensures.slot, c.record_hit.ensures.kept, c.requires.hash)
 
 pub returns-clause-counts : goal.returns-clause-counts
-returns-clause-counts g c =
-    insert-spends (g.K.PartialEq.eq c.args.key) c.args.self.now.machine c.find.ensures.counts c.in_default.ensures.slot
-    c.find.ensures.machine c.insert_reusing-slot.ensures.counts (rw (c.find.ensures.kept, c.requires.hash) (omega arith))
+returns-clause-counts g c = grind (arith, insert-spends, c.find.ensures.counts, c.in_default.ensures.slot, c.find.ensures.machine, c.insert_reusing-slot.ensures.counts, c.find.ensures.kept, c.requires.hash)
 
 pub returns-in-Some-clause-known : goal.returns-in-Some-clause-known
-returns-in-Some-clause-known g c =
-    rw (← c.in-Some.ensures.slot) (ap (λ (z : CacheState _ _ _). z.known) c.record_hit.ensures.kept ∙ ap (λ (z : CacheState _ _ _). z.known) c.find.ensures.kept)
+returns-in-Some-clause-known g c = grind (arith, c.in-Some.ensures.slot, c.record_hit.ensures.kept, c.find.ensures.kept)
 
 pub returns-clause-known : goal.returns-clause-known
 returns-clause-known g c =

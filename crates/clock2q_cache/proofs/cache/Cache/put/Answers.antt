@@ -1,5 +1,5 @@
 -- The key is resident with its value.
-use Rattle.std.proofs.Common.{sym, ap, ◌∙◌, arith, rules}
+use Rattle.std.proofs.Common.{ap, ◌∙◌, arith, rules}
 use Rattle.clock2q_cache.proofs.Names.{CacheState}
 use Rattle.clock2q_machine.proofs.Laws.{put_there}
 use Rattle.clock2q_cache.proofs.Finding.{no-slot}
@@ -28,9 +28,7 @@ returns-in_default-clause-known g c =
     rw (← absent) (rw (c.insert.ensures.slot, c.lookup-found.ensures.kept) at c.insert.ensures.known)
 
 pub returns-clause-known : goal.returns-clause-known
-returns-clause-known g c =
-    rw (← c.in-Resident.ensures.slot) (ap (λ (z : CacheState _ _ _). z.known) c.replace.ensures.kept ∙ ap (λ (z : CacheState _ _ _). z.known) c.record_rare_hit.ensures.kept
-    ∙ ap (λ (z : CacheState _ _ _). z.known) c.lookup-found.ensures.kept)
+returns-clause-known g c = grind (arith, c.in-Resident.ensures.slot, c.replace.ensures.kept, c.record_rare_hit.ensures.kept, c.lookup-found.ensures.kept)
 
 pub returns-in_default-clause-costs : goal.returns-in_default-clause-costs
 returns-in_default-clause-costs g c =
