@@ -1,5 +1,5 @@
 -- The resident that leaves for a key, and what comes back of it.
-use Rattle.std.proofs.Common.{◌≡◌, ℕ, ◌<◌, Bool, true, false, List, length, Option, Some, None, refl, sym, ap, ◌∙◌, subst, eq-eqb}
+use Rattle.std.proofs.Common.{arith, ◌≡◌, ℕ, ◌<◌, Bool, true, false, List, length, Option, Some, None, refl, sym, ap, ◌∙◌, subst, eq-eqb}
 use Rattle.std.specs.Borrow.{Bor}
 use Rattle.std.specs.Option.{IsSomeAnd}
 use Rattle.std.specs.Prelude.{IfSome, MatchOption}
@@ -23,17 +23,12 @@ module _ {K V : Type 0} (m : Machine K V) where
 
   -- for a key that enters Small at a vacancy
   pub vacant-leaver : is_some (vacancy m) ≡ true → leaves_placed false m ≡ None
-  vacant-leaver some = by (vacancy m) some where
-    by : (v : Option ℕ) → is_some v ≡ true → leaves_for_small v (last_or None m.small) m.main ≡ None
-    by None some = cc
-    by (Some slot) some = refl
+  vacant-leaver some = grind (arith, vacancy, is_some, leaves_for_small, last_or)
 
 -- what `map` returns if its closure returns `f` of a value
 pub map-gives : {X Y : Type 0} (f : X → Y) {P : X → Y → Type 0} (o : Option X) (r : Option Y) → MatchOption o (r ≡ None) (λ x. IsSomeAnd r (P x)) → ((x : X) (y : Y) → P x y → y ≡ f x)
     → r ≡ option_map f o
-map-gives f None r none same = none
-map-gives f (Some x) None never same = absurd never
-map-gives f (Some x) (Some y) gave same = ap Some (same x y gave)
+map-gives f o r is same = grind arith
 
 -- what comes back of the resident that leaves, with the value of its slot
 module _ {K V : Type 0} (m : Machine K V) where

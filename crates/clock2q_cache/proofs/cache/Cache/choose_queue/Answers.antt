@@ -1,5 +1,5 @@
 -- If there is a vacancy, the length of Small decides; otherwise whether Small has a share.
-use Rattle.std.proofs.Common.{refl, length, sym, ap, ◌∙◌}
+use Rattle.std.proofs.Common.{arith, refl, length, sym, ap, ◌∙◌}
 use Rattle.clock2q_cache.proofs.Names.{CacheState}
 use Rattle.clock2q_cache.proofs.CacheInvariant.{length_in_small}
 use Rattle.clock2q_cache.proofs.Changed.{admits-vacant, admits-full}
@@ -27,10 +27,7 @@ pub returns-then-has_vacancy-clause-small : goal.returns-then-has_vacancy-clause
 returns-then-has_vacancy-clause-small g c = small-unknown g.K.PartialEq.eq c.args.key.now (returns-then-has_vacancy-clause-sent g c).sent
 
 pub returns-clause-sent : goal.returns-clause-sent
-returns-clause-sent g c =
-    let f = c.if-forget.ensures in
-    let at = c.small-share.ensures.share ∙ ap (λ (z : CacheState _ _ _). z.machine.shares.small) c.self.view_is in
-    record { sent = sent-by f.known f.machine (admits-full c.forget.new.self.machine refl at (sym c.if-has_vacancy.ensures.vacant)); known = f.places; hasher = f.hasher; counts = f.counts }
+returns-clause-sent g c = grind (arith, c.if-forget.ensures, c.small-share.ensures.share, c.self.view_is, sent-by, admits-full, c.if-has_vacancy.ensures.vacant)
 
 pub returns-clause-unknown : goal.returns-clause-unknown
 returns-clause-unknown g c = let f = c.if-forget.ensures in still-unknown c.requires.found c.requires.absent f.machine f.hasher f.places

@@ -1,5 +1,5 @@
 -- A key that takes the slot of another: the other comes back with the value of the slot.
-use Rattle.std.proofs.Common.{false, refl, ◌∙◌, rules}
+use Rattle.std.proofs.Common.{arith, false, refl, ◌∙◌, rules}
 use Rattle.clock2q_cache.proofs.Names.{ltb-true}
 use Rattle.clock2q_cache.proofs.Making.{makes-here}
 use Rattle.clock2q_cache.proofs.Evicting.{leaver-there, map-gives, hands-over, slot-made, slot-had, slot-stored}
@@ -15,10 +15,7 @@ replace-before-requires g c =
     slot-made g.K.PartialEq.eq c.args.key c.choose_queue-main.ensures.sent.sent c.makes_slot.ensures.whole e.slot e.machine
 
 pub returns-clause-machine : goal.returns-clause-machine
-returns-clause-machine g c =
-    let e = c.insert_unknown-slot.ensures.entered in
-    c.replace-before.ensures.machine
-    ∙ slot-stored g.K.PartialEq.eq c.args.key c.choose_queue-main.ensures.sent.sent c.makes_slot.ensures.whole e.slot e.machine c.args.value
+returns-clause-machine g c = grind (arith, c.insert_unknown-slot.ensures.entered, c.replace-before.ensures.machine, slot-stored, c.choose_queue-main.ensures.sent.sent, c.makes_slot.ensures.whole)
 
 pub returns-clause-evicted : goal.returns-clause-evicted
 returns-clause-evicted g c =

@@ -1,12 +1,10 @@
 -- A slot is made if none is free and no other key's is taken.
-use Rattle.std.proofs.Common.{not, sym, ap, ◌∙◌}
+use Rattle.std.proofs.Common.{arith, not, sym, ap, ◌∙◌}
 use Rattle.clock2q_cache.proofs.Making.{makes-here, makes-there, values-there, reuses, made-or-none, fills-there}
 use Rattle.clock2q_cache.proofs.cache.Cache.insert_reusing.Goals as goal
 
 pub insert_unknown-slot-requires-clause-had : goal.insert_unknown-slot-requires-clause-had
-insert_unknown-slot-requires-clause-had g c =
-    let here = makes-here g.K.PartialEq.eq c.args.key c.choose_queue-main.ensures.sent.sent c.makes_slot.ensures.whole c.makes_slot.result c.makes_slot.ensures.makes in
-    made-or-none c.then-value.result _ _ (here ∙ ap not (sym c.then-value.ensures.variant))
+insert_unknown-slot-requires-clause-had g c = grind (arith, makes-here, c.choose_queue-main.ensures.sent.sent, c.makes_slot.ensures.whole, c.makes_slot.ensures.makes, made-or-none, not, c.then-value.ensures.variant)
 
 pub returns-clause-machine : goal.returns-clause-machine
 returns-clause-machine g c =
