@@ -25,7 +25,8 @@ pub returns-in-Some-clause-counts : goal.returns-in-Some-clause-counts
 returns-in-Some-clause-counts g c = grind (arith, hit-spends, c.find.ensures.counts, c.in-Some.ensures.slot, c.record_hit.ensures.kept, c.requires.hash)
 
 pub returns-clause-counts : goal.returns-clause-counts
-returns-clause-counts g c = grind (arith, insert-spends, c.find.ensures.counts, c.in_default.ensures.slot, c.find.ensures.machine, c.insert_reusing-slot.ensures.counts, c.find.ensures.kept, c.requires.hash)
+returns-clause-counts g c =
+    grind (arith, insert-spends, c.find.ensures.counts, c.in_default.ensures.slot, c.find.ensures.machine, c.insert_reusing-slot.ensures.counts, c.find.ensures.kept, c.requires.hash)
 
 pub returns-in-Some-clause-known : goal.returns-in-Some-clause-known
 returns-in-Some-clause-known g c = grind (arith, c.in-Some.ensures.slot, c.record_hit.ensures.kept, c.find.ensures.kept)

@@ -4,7 +4,8 @@ use Rattle.clock2q_cache.proofs.Making.{makes-here, makes-there, values-there, r
 use Rattle.clock2q_cache.proofs.cache.Cache.insert_reusing.Goals as goal
 
 pub insert_unknown-slot-requires-clause-had : goal.insert_unknown-slot-requires-clause-had
-insert_unknown-slot-requires-clause-had g c = grind (arith, makes-here, c.choose_queue-main.ensures.sent.sent, c.makes_slot.ensures.whole, c.makes_slot.ensures.makes, made-or-none, not, c.then-value.ensures.variant)
+insert_unknown-slot-requires-clause-had g c =
+    grind (arith, makes-here, c.choose_queue-main.ensures.sent.sent, c.makes_slot.ensures.whole, c.makes_slot.ensures.makes, made-or-none, not, c.then-value.ensures.variant)
 
 pub returns-clause-machine : goal.returns-clause-machine
 returns-clause-machine g c =

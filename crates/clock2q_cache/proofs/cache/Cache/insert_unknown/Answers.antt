@@ -25,7 +25,9 @@ returns-then-tail_is_promoted-clause-entered g c =
     grind (arith, c.if-main.false, c.promote_tail.ensures.entered, c.tail_is_promoted.ensures.kept, c.tail_is_promoted.ensures.counts, key-out, tail-inspections, c.if-has_vacancy.ensures.vacant, c.if-tail_is_promoted.ensures.value, looked-spends)
 
 pub returns-else-tail_is_promoted-clause-entered : goal.returns-else-tail_is_promoted-clause-entered
-returns-else-tail_is_promoted-clause-entered g c = grind (arith, small-some, c.has_vacancy.ensures.whole, c.if-has_vacancy.ensures.vacant, c.requires.small, c.if-main.false, c.evict_tail.ensures.entered, c.tail_is_promoted.ensures.kept, c.tail_is_promoted.ensures.counts, key-out, tail-inspections, c.if-tail_is_promoted.ensures.value, looked-spends)
+returns-else-tail_is_promoted-clause-entered g c =
+    let some = small-some _ c.args.self.now.machine c.has_vacancy.ensures.whole (sym c.if-has_vacancy.ensures.vacant) (c.requires.small c.if-main.false) in
+    grind (arith, c.if-main.false, c.evict_tail.ensures.entered, c.tail_is_promoted.ensures.kept, c.tail_is_promoted.ensures.counts, key-out, tail-inspections, c.if-has_vacancy.ensures.vacant, c.if-tail_is_promoted.ensures.value, looked-spends)
 
 pub returns-then-has_vacancy-clause-left : goal.returns-then-has_vacancy-clause-left
 returns-then-has_vacancy-clause-left g c = rw c.if-main.false (record { noted = vacant-leaver c.args.self.now.machine (sym c.if-has_vacancy.ensures.vacant) })

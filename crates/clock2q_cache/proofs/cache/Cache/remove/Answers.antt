@@ -1,8 +1,7 @@
 -- The key that is found is at its slot.
 use Rattle.std.proofs.Common.{sym, arith, rules}
-use Rattle.clock2q_cache.proofs.Names.{forgotten, slot_of, removed_at}
+use Rattle.clock2q_cache.proofs.Names.{slot_of}
 use Rattle.clock2q_cache.proofs.Vacated.{found-resident}
-use Rattle.clock2q_cache.proofs.Finding.{no-slot}
 use Rattle.clock2q_cache.proofs.Reaching.{reaches-discarded, reaches-left}
 use Rattle.clock2q_cache.proofs.Spent.{costs-of, spends-both, remove-costs}
 use Rattle.clock2q_cache.proofs.cache.Cache.remove.Goals as goal
@@ -17,7 +16,13 @@ pub returns-clause-machine : goal.returns-clause-machine
 returns-clause-machine g c = search rules
 
 pub returns-in_default-clause-costs : goal.returns-in_default-clause-costs
-returns-in_default-clause-costs g c = grind (arith, no-slot, c.lookup-found.ensures.slot, costs-of, c.forget.ensures.machine, forgotten, c.lookup-found.ensures.machine, removed_at, reaches-discarded, c.lookup-found.ensures.within, c.hash-hash.ensures, c.lookup-found.ensures.kept, c.forget.ensures.places, spends-both, c.lookup-found.ensures.counts, c.forget.ensures.counts)
+returns-in_default-clause-costs g c =
+    costs-of (returns-in_default-clause-machine g c)
+    (reaches-discarded
+    (record { eq = g.K.PartialEq.eq; hash_input = g.K.Hash.hash_input }) g.S.BuildHasher g.S.Hasher.Hasher c.args.key.now
+    c.lookup-found.ensures.within c.hash-hash.result c.hash-hash.ensures
+    (rw c.lookup-found.ensures.kept at c.forget.ensures.places))
+    (spends-both c.lookup-found.ensures.counts c.forget.ensures.counts (omega arith) (omega arith) (omega arith))
 
 pub returns-clause-costs : goal.returns-clause-costs
 returns-clause-costs g c =
