@@ -8,6 +8,7 @@ use Rattle.clock2q_directory.specs.History.{forgotten, places_looked_up}
 use Rattle.clock2q_machine.specs.Machine as cache
 use Rattle.clock2q_cache.proofs.WithKeys.{small_with, main_with, keys-agree}
 use Rattle.clock2q_cache.proofs.CacheInvariant.{sized-same}
+use Rattle.clock2q_cache.proofs.Stored.{all-at}
 
 module _ {K : Type 0} (is : K → Bool) where
   pub known-any : (es : List (ℕ × K)) → list_any (λ (e : ℕ × K). is e.1) es ≡ list_any is (map (λ (e : ℕ × K). e.1) es)
@@ -35,21 +36,12 @@ module _ {K V : Type 0} where
     pub written : with_value slot value es ≡ written slot (record entry { value = value }) es
 
   replaces : (slot : ℕ) (value : V) (es : List (Entry K V)) → slot < length es → Replaces slot value es
-  replaces slot value es below =
-      let e = slice_get_some es slot below in
-      let is = ap (λ z. elim z [ None ↦ es | Some e ↦ slice_set es slot (entry e.hash e.key value) ]) e.1 in
-      record { entry = e.0; at = e.1; written = is ∙ set-written slot (record e.0 { value = value }) es below }
+  replaces slot value es below = let e = slice_get_some es slot below in record { entry = e.0; at = e.1; written = grind (arith, e.1, set-written slot (record e.0 { value = value }) es) }
 
   -- nothing else of the entries changes
   entry-same : {Y : Type 0} (f : Option (Entry K V) → Y) (slot : ℕ) (value : V) (es : List (Entry K V)) (r : Replaces slot value es) → slot < length es
       → f (Some (record r.entry { value = value })) ≡ f (Some r.entry) → (t : ℕ) → f (slice_get (with_value slot value es) t) ≡ f (slice_get es t)
-  entry-same f slot value es r below same t =
-      let e = record r.entry { value = value } in
-      ap (λ z. f (slice_get z t)) r.written ∙ elim (cases_Bool (eqb t slot)) [
-        | inl is ↦ subst (λ z. f (slice_get (written slot e es) z) ≡ f (slice_get es z)) (sym (eqb-true t slot is))
-            (ap f (slice_get-written slot e es (omega (arith, below))) ∙ same ∙ sym (ap f r.at))
-        | inr other ↦ ap f (slice_get-written_other slot t e es (omega (arith, below)) (λ q. both_ways (eqb t slot) other (eq-eqb t slot q)))
-      ]
+  entry-same f slot value es r below same t = grind (arith, eqb-true, slice_get-written, slice_get-written_other, r.written, r.at)
 
   key-same : (slot : ℕ) (value : V) (es : List (Entry K V)) (r : Replaces slot value es) → slot < length es → (t : ℕ) → key_at (with_value slot value es) t ≡ key_at es t
   key-same slot value es r below = entry-same (λ z. elim z [ None ↦ None | Some e ↦ Some e.key ]) slot value es r below refl
@@ -57,10 +49,6 @@ module _ {K V : Type 0} where
   hash-same : (slot : ℕ) (value : V) (es : List (Entry K V)) (r : Replaces slot value es) → slot < length es → (t : ℕ) → hash_at (with_value slot value es) t ≡ hash_at es t
   hash-same slot value es r below = entry-same (λ z. elim z [ None ↦ None | Some e ↦ Some e.hash ]) slot value es r below refl
 
-  all-at : (P : Entry K V → Type 0) (es : List (Entry K V)) (slot : ℕ) (e : Entry K V) → AllByRecursion P es → slice_get es slot ≡ Some e → P e
-  all-at P [] slot e a h = absurd (cc)
-  all-at P (x ∷ xs) zero e a h = subst P (some_is x e h) a.0
-  all-at P (x ∷ xs) (suc slot) e a h = all-at P xs slot e a.1 h
 
 module _ {K V : Type 0} {eq : K → K → Bool} {hash : K → ℕ} {shares : Shares} {q : QueueState} {h : Remembered K} {index : List (List (ℕ × ℕ))} {keys : KeyPlaces K V} {free : List ℕ} {room : ℕ}
     (laws : IsEquivalence eq) (kept : IsKept eq hash shares q h index keys free room) where
@@ -144,12 +132,7 @@ module _ {K V : Type 0} where
 
   -- a full cache has an entry in Small, if Small has a share
   pub small-some : (eq : K → K → Bool) (m : Machine K V) → IsWhole eq m → is_some (vacancy m) ≡ false → goes_to_main false m ≡ false → 0 < length m.small
-  small-some eq m whole none small =
-      omega (arith, all_resident eq m whole (nothing (vacancy m) none), small_share m.shares.small (is_some (vacancy m) && nat_le m.shares.small (length m.small)) small)
-    where
-      nothing : (o : Option ℕ) → is_some o ≡ false → o ≡ None
-      nothing None h = refl
-      nothing (Some x) h = absurd (both_ways true h refl)
+  small-some eq m whole none small = grind (arith, all_resident, small_share)
 
   -- nothing is resident, remembered or free
   pub kept-empty : {eq : K → K → Bool} {hash : K → ℕ} {shares : Shares} {q : QueueState} {h : Remembered K} {index : List (List (ℕ × ℕ))} {keys : KeyPlaces K V} {free : List ℕ} {room : ℕ}
@@ -157,24 +140,7 @@ module _ {K V : Type 0} where
       → shares.small < shares.capacity → q.small ≡ [] → q.main ≡ [] → h.entries ≡ [] → IsIndex {K = K} {V = V} index [] []
       → keys.entries ≡ [] → free ≡ [] → IsSized shares q h.limit (most_beside h) (length index) keys.room room
       → IsKept eq hash shares q h index keys free room × (machine_of shares q keys.entries h.entries free ≡ empty shares)
-  kept-empty {eq} {hash} {shares} {q} {h} {index} {keys} {free} {room} laws below small main entries indexed keyed none sized = (
-    record {
-      whole = subst (IsWhole eq) (sym is) (lasting-empty eq laws shares below);
-      stored =
-          subst (λ (z : List (Entry K V)). IsStored hash index z (places_of q)) (sym keyed)
-          (subst (λ z. IsStored {K = K} {V = V} hash index [] z) (sym places) (record { made = tt; indexed = indexed; hashed = tt }));
-      hashed = subst (λ z. AllByRecursion (λ e. e.0 ≡ hash e.1) z) (sym entries) tt;
-      linked = omega (arith, ap (λ (z : List (Entry K V)). length z) keyed);
-      sized = sized;
-    },
-    is,
-  )
-    where
-      places : places_of q ≡ []
-      places = ap (λ z. slots_of z ++ slots_of q.main) small ∙ ap (λ z. slots_of z) main
-
-      is : machine_of shares q keys.entries h.entries free ≡ empty shares
-      is = cc (ap (λ z. map (λ (e : ℕ × K). e.1) z) entries, ap (λ (z : List ℕ). reverse z) none, ap (λ z. map (λ (e : Entry K V). e.value) z) keyed)
+  kept-empty laws below small main entries indexed keyed none sized = grind arith
 
   -- a cache that is cleared
   pub kept-cleared : {eq : K → K → Bool} {hash : K → ℕ} {shares : Shares} {q q' : QueueState} {h h' : Remembered K} {index index' : List (List (ℕ × ℕ))} {keys keys' : KeyPlaces K V}

@@ -6,14 +6,13 @@ use Rattle.clock2q_cache.proofs.WithKeys.{HaveKeys, have_later, paired, paired-c
 use Rattle.clock2q_cache.proofs.Indexed.{residents-paired}
 use Rattle.clock2q_cache.proofs.Stored.{have_keys}
 use Rattle.clock2q_cache.proofs.CacheInvariant.{sized-same}
+use Rattle.clock2q_cache.proofs.Stored.{all-at}
 use Rattle.clock2q_cache.proofs.Slots.{small_have, main_have}
+use Rattle.clock2q_machine.proofs.Victims.{counted_residents}
 
 pub none-has : {X : Type 0} (is : X → Bool) (es : List X) → count_by is es ≡ 0 → list_any is es ≡ false
 none-has is [] h = refl
-none-has is (e ∷ es) h = elim (cases_Bool (is e)) [
-  | inl t ↦ absurd (omega (arith, h, sum_by-cons (λ k. cond (is k) 1 0) e es, ap {B = ℕ} (λ b. cond b 1 0) t))
-  | inr f ↦ rw f (none-has is es (omega (arith, h, sum_by-cons (λ k. cond (is k) 1 0) e es)))
-]
+none-has is (e ∷ es) h = grind (arith, sum_by-cons (λ k. cond (is k) 1 0) e es, none-has is es)
 
 pub counted-map : {X Y : Type 0} (is : Y → Bool) (f : X → Y) (xs : List X) → count_by is (map f xs) ≡ count_by (λ x. is (f x)) xs
 counted-map is f [] = refl
@@ -28,11 +27,7 @@ paired-found {K} key is passes agrees (p ∷ ps) h = grind (arith, has_first p p
 module _ {K V : Type 0} (entries : List (Entry K V)) where
   -- whether a key is the one at a place
   pub key-compares : (eq : K → K → Bool) (key : K) (t : ℕ) (k : K) → key_at entries t ≡ Some k → is_key_at eq key entries t ≡ eq key k
-  key-compares eq key t k h = of (slice_get entries t) h
-    where
-      of : (o : Option (Entry K V)) → elim o [ None ↦ None | Some e ↦ Some e.key ] ≡ Some k → elim o [ None ↦ false | Some e ↦ eq key e.key ] ≡ eq key k
-      of None h = absurd (cc)
-      of (Some e) h = ap (λ z. eq key z) (some_is e.key k h)
+  key-compares eq key t k h = grind arith
 
   -- as many keys pass at the places as among the residents there
   paired-counted : (is : K → Bool) (ps : List ℕ) → count_by (λ (e : ℕ × K). is e.1) (entries_of entries ps) ≡ count_by (λ (r : K × ℕ). is r.0) (paired (key_at entries) ps)
@@ -53,48 +48,31 @@ module _ {K V : Type 0} (entries : List (Entry K V)) where
 -- if each key occurs at most once, no two are equal
 distinct-once : {K : Type 0} (eq : K → K → Bool) → IsEquivalence eq → (es : List (ℕ × K)) → ((k : K) → count_by (λ (e : ℕ × K). eq k e.1) es ≤ 1) → AllDistinct eq es
 distinct-once eq laws [] h = tt
-distinct-once eq laws (e ∷ es) h = (
-  none-has (λ (x : ℕ × _). eq e.1 x.1) es (omega (arith, h e.1, sum_by-cons (λ (x : ℕ × _). cond (eq e.1 x.1) 1 0) e es, ap {B = ℕ} (λ b. cond b 1 0) (laws.refl e.1))),
-  distinct-once eq laws es (λ k. omega (arith, h k, sum_by-cons (λ (x : ℕ × _). cond (eq k x.1) 1 0) e es)),
-)
+distinct-once {K} eq laws (e ∷ es) h = (grind (arith, none-has (λ (x : ℕ × K). eq e.1 x.1) es, h e.1, sum_by-cons (λ (x : ℕ × K). cond (eq e.1 x.1) 1 0) e es, laws.refl), distinct-once eq laws es (λ k. omega (arith, h k, sum_by-cons (λ (x : ℕ × K). cond (eq k x.1) 1 0) e es)))
 
 -- each key has its hash, so equal keys have the same one
 hashes-same : {K V : Type 0} (eq : K → K → Bool) (hash : K → ℕ) (key : K) (entries : List (Entry K V)) (ps : List ℕ)
     → ((x y : K) → eq x y ≡ true → hash x ≡ hash y) → AllByRecursion (λ e. e.hash ≡ hash e.key) entries → HasHash eq (hash key) key (entries_of entries ps)
 hashes-same eq hash key entries [] respects a = tt
-hashes-same {K} {V} eq hash key entries (p ∷ ps) respects a = of (hashes-same eq hash key entries ps respects a) entries p a
-  where
-    of : HasHash eq (hash key) key (entries_of entries ps) → (es : List (Entry K V)) (t : ℕ)
-        → AllByRecursion (λ e. e.hash ≡ hash e.key) es → HasHash eq (hash key) key (cons_option (hashed_at es t) (entries_of entries ps))
-    of r [] t b = r
-    of r (e ∷ es) zero b = ((λ q. b.0 ∙ sym (respects key e.key q)), r)
-    of r (e ∷ es) (suc t) b = of r es t b.1
+hashes-same {K} {V} eq hash key entries (p ∷ ps) respects a = grind (arith, hashes-same eq hash key entries ps respects a, all-at (λ (e : Entry K V). e.hash ≡ hash e.key) entries p, respects key)
 
 -- a result that isn't a resident has no slot
 pub no-slot : (r : Found) → ((slot : ℕ) → r ≡ Found.Resident slot → ⊥) → None ≡ found_slot r
-no-slot (Found.Resident slot) other = absurd (other slot refl)
-no-slot (Found.Remembered place) other = refl
-no-slot (Found.Absent gap) other = refl
+no-slot r other = grind arith
 
 -- a key whose place is found is one of the keys
 placed-any : {K : Type 0} (is : K → Bool) (ks : List K) (ps : List ℕ) (p : ℕ) → place_of is ks ps ≡ Some p → list_any is ks ≡ true
 placed-any is [] ps p e = absurd (cc)
 placed-any is (k ∷ ks) [] p e = absurd (cc)
-placed-any is (k ∷ ks) (q ∷ ps) p e = elim (cases_Bool (is k)) [
-  | inl t ↦ rw t refl
-  | inr f ↦ rw f (placed-any is ks ps p (rw f at e))
-]
+placed-any is (k ∷ ks) (q ∷ ps) p e = grind (arith, placed-any is ks ps p)
 
 any-counted : {X : Type 0} (is : X → Bool) (ks : List X) → list_any is ks ≡ true → 0 < count_by is ks
 any-counted is [] e = absurd (cc)
-any-counted is (k ∷ ks) e = elim (cases_Bool (is k)) [
-  | inl t ↦ omega (arith, sum_by-cons (λ x. cond (is x) 1 0) k ks, ap {B = ℕ} (λ b. cond b 1 0) t)
-  | inr f ↦ omega (arith, sum_by-cons (λ x. cond (is x) 1 0) k ks, any-counted is ks (rw f at e))
-]
+any-counted is (k ∷ ks) e = grind (arith, sum_by-cons (λ x. cond (is x) 1 0) k ks, any-counted is ks)
 
 -- a resident's slot is in one of the queues
 pub either-queue : (q : QueueState) (slot : ℕ) → has slot (places_of q) ≡ true → (has slot (slots_of q.small) ≡ true) ⊎ (has slot (slots_of q.main) ≡ true)
-either-queue q slot there = or_cases (has slot (slots_of q.small)) (has slot (slots_of q.main)) (sym (has-append slot (slots_of q.small) (slots_of q.main)) ∙ there)
+either-queue q slot there = grind (arith, has-append)
 
 module _ {K V : Type 0} {eq : K → K → Bool} {hash : K → ℕ} {shares : Shares} {q : QueueState} {h : Remembered K} {index : List (List (ℕ × ℕ))} {keys : KeyPlaces K V} {free : List ℕ} {room : ℕ}
     (laws : IsEquivalence eq) (kept : IsKept eq hash shares q h index keys free room) where
@@ -110,9 +88,7 @@ module _ {K V : Type 0} {eq : K → K → Bool} {hash : K → ℕ} {shares : Sha
     arith,
     paired-counted keys.entries is (places_of q),
     ap (λ (z : List (K × ℕ)). count_by (λ r. is r.0) z) (residents-paired laws kept),
-    sum_by-append (λ (r : K × ℕ). cond (is r.0) 1 0) (map (λ (e : SmallEntry K). (e.key, e.slot)) m.small) (map (λ (e : MainEntry K). (e.key, e.slot)) m.main),
-    counted-map (λ (r : K × ℕ). is r.0) (λ (e : SmallEntry K). (e.key, e.slot)) m.small,
-    counted-map (λ (r : K × ℕ). is r.0) (λ (e : MainEntry K). (e.key, e.slot)) m.main,
+    counted_residents (λ k s. is k) m,
   )
 
   pub distinct : AllDistinct eq (entries_of keys.entries (places_of q))
@@ -151,70 +127,44 @@ module _ {K V : Type 0} {eq : K → K → Bool} {hash : K → ℕ} {shares : Sha
         → (found_slot r ≡ None → found_place r ≡ place_of (eq key) m.history h.places.taken)
         → (found_slot r ≡ None → found_place r ≡ None → find (is_key_at eq key keys.entries) (candidates index hsh) ≡ None)
         → found_slot r ≡ slot_of (eq key) m
-    looked respects hsh is (Found.Resident slot) at place absent = sym at ∙ found respects hsh is
-    looked respects hsh is (Found.Remembered p) at place absent = unresident (placed-any (eq key) m.history h.places.taken p (sym (place refl)))
-    looked respects hsh is (Found.Absent gap) at place absent = sym (absent refl refl) ∙ found respects hsh is
+    looked respects hsh is r at place absent = grind (arith, found, unresident, placed-any)
 
     pub found-made : (o : Option ℕ) → o ≡ slot_of (eq key) m → IfSome o (λ slot. slot < length m.values)
     found-made None is = tt
-    found-made (Some slot) is = omega (arith, below_of (length keys.entries) (places_of q) kept.stored.made slot (found-there slot (sym is)).0, length-values keys.entries)
+    found-made (Some slot) is = grind (arith, below_of, kept.stored.made, found-there slot, length-values)
 
     -- whether a slot is the key's
     pub at-slot : (slot : ℕ) → is_at slot (slot_of (eq key) m) ≡ (has slot (places_of q) && is_key_at eq key keys.entries slot)
     at-slot slot = of (slot_of (eq key) m) refl
       where
-        nothing : (a b : Bool) → (a ≡ true → b ≡ true → ⊥) → false ≡ (a && b)
-        nothing true true h = absurd (h refl refl)
-        nothing true false h = refl
-        nothing false b h = refl
-
         of : (o : Option ℕ) → slot_of (eq key) m ≡ o → is_at slot o ≡ (has slot (places_of q) && is_key_at eq key keys.entries slot)
-        of None none = grind (arith, nothing, not_found, slot-among)
-        of (Some p) some = grind (arith, found-there p some, nothing, same_place, distinct)
+        of None none = grind (arith, not_found, slot-among)
+        of (Some p) some = grind (arith, found-there p some, same_place, distinct)
 
     pub at-places : (slot : ℕ) → has slot (places_of q) ≡ true → is_key_at eq key keys.entries slot ≡ is_at slot (slot_of (eq key) m)
-    at-places slot there = sym (at-slot slot ∙ rw there refl)
+    at-places slot there = grind (arith, at-slot slot)
 
     pub not-at : (slot : ℕ) → has slot (places_of q) ≡ false → None ≡ then_some (is_at slot (slot_of (eq key) m)) slot
-    not-at slot absent = sym (ap (λ b. then_some b slot) (at-slot slot ∙ ap (λ b. b && is_key_at eq key keys.entries slot) absent))
+    not-at slot absent = grind (arith, at-slot slot)
 
     pub past-all : (slot : ℕ) → length keys.entries ≤ slot → has slot (places_of q) ≡ false
     past-all slot past = grind (arith, below_of, kept.stored.made)
 
     pub slot-at : (slot : ℕ) → is_at slot (slot_of (eq key) m) ≡ true → slot_of (eq key) m ≡ Some slot
-    slot-at slot h = of (slot_of (eq key) m) h
-      where
-        of : (o : Option ℕ) → is_at slot o ≡ true → o ≡ Some slot
-        of None h = absurd (both_ways false refl h)
-        of (Some p) h = ap (λ z. Some z) (eqb-true p slot h)
+    slot-at slot h = grind (arith, eqb-true, slot_of)
 
     pub found-at : (slot : ℕ) (b : Bool) → b ≡ is_at slot (slot_of (eq key) m)
         → IfSome (then_some b slot) (λ found. slot_of (eq key) m ≡ Some found) × IfSome (then_some b slot) (λ found. found < length m.values)
-    found-at slot true is = (slot-at slot (sym is), found-made (Some slot) (sym (slot-at slot (sym is))))
-    found-at slot false is = (tt, tt)
+    found-at slot b is = grind (arith, slot-at slot, found-made)
 
     -- a hit
     module _ (slot : ℕ) (is : slot_of (eq key) m ≡ Some slot) where
       key-there : (k : K) (t : ℕ) → has t (places_of q) ≡ true → key_at keys.entries t ≡ Some k → eq key k ≡ eqb t slot
-      key-there k t g at = elim (cases_Bool (eqb t slot)) [
-        | inl e ↦ sym passed ∙ subst (λ z. is_key_at eq key keys.entries z ≡ true) (sym (eqb-true t slot e)) (found-there slot is).1 ∙ sym e
-        | inr e ↦ elim (cases_Bool (eq key k)) [
-          | inl p ↦ absurd (both_ways (eqb t slot) e (same_place eq laws key keys.entries (places_of q) distinct t slot g (found-there slot is).0 (passed ∙ p) (found-there slot is).1))
-          | inr p ↦ p ∙ sym e
-        ]
-      ]
-        where
-          passed : is_key_at eq key keys.entries t ≡ eq key k
-          passed = key-compares keys.entries eq key t k at
+      key-there k t g at = grind (arith, key-compares, eqb-true, same_place eq laws key keys.entries (places_of q) distinct t slot, found-there slot is)
 
       module _ {q' : QueueState} (queues : q' ≡ record q { small = small_hit_at slot q.small; main = main_hit_at slot q.main }) where
         pub hit-machine : machine_of shares q' keys.entries h.entries free ≡ hit (eq key) m
-        hit-machine =
-            let s = small-hit (key_at keys.entries) (eq key) slot q.small
-            (λ t k g at. key-there k t (has-append t (slots_of q.small) (slots_of q.main) ∙ rw g refl) at) (small_have laws kept) in
-            let t = main-hit (key_at keys.entries) (eq key) slot q.main
-            (λ t k g at. key-there k t (has-append t (slots_of q.small) (slots_of q.main) ∙ rw g (or_true (has t (slots_of q.small)))) at) (main_have laws kept) in
-            cc
+        hit-machine = grind (arith, small-hit, main-hit, key-there, has-append, or_true, small_have laws kept, main_have laws kept)
 
         pub kept-hit : IsKept eq hash shares q' h index keys free room
         kept-hit =

@@ -12,6 +12,7 @@ use Rattle.clock2q_machine.specs.Machine.{Machine, residents, resident_at, resid
 use Rattle.clock2q_machine.specs.Whole.{IsWhole}
 use Rattle.clock2q_machine.proofs.Whole.{one_if}
 use Rattle.clock2q_machine.proofs.Standing.{get-within}
+use Rattle.clock2q_machine.proofs.Victims.{counted_residents}
 use Rattle.clock2q_cache.specs.Iteration.{entry_at, entries_from, entries, key_and_slot, key_of, keys}
 
 module _ {K V : Type 0} (m : Machine K V) where
@@ -20,11 +21,7 @@ module _ {K V : Type 0} (m : Machine K V) where
 
   -- a slot without a resident yields nothing
   pub entries-past : (slot : ℕ) → slot < length m.values → is_some (resident_at m slot) ≡ false → entries_from m slot ≡ entries_from m (slot + 1)
-  entries-past slot made none = one_more slot made None (absent (resident_at m slot) none)
-    where
-      absent : (o : Option (K × ℕ)) → is_some o ≡ false → option_and_then {U = K × ℕ × V} (λ (r : K × ℕ). option_map (λ value. (r.0, r.1, value)) (slice_get m.values slot)) o ≡ None
-      absent None e = refl
-      absent (Some r) e = absurd (cc)
+  entries-past slot made none = grind arith
 
   -- a slot with a resident yields it
   pub entries-there : (slot : ℕ) → slot < length m.values → (key : K) (value : V) → resident_at m slot ≡ Some (key, slot) → slice_get m.values slot ≡ Some value
@@ -33,36 +30,19 @@ module _ {K V : Type 0} (m : Machine K V) where
 
   -- so there is something left
   pub some-left : (slot : ℕ) → slot < length m.values → IsSome (resident_at m slot) → 1 ≤ length (entries_from m slot)
-  some-left slot made there = by (resident_at m slot) refl there
-    where
-      by : (o : Option (K × ℕ)) → resident_at m slot ≡ o → IsSome o → 1 ≤ length (entries_from m slot)
-      by None is some = absurd (cc)
-      by (Some r) is some =
-          let v = get-within m.values slot made in
-          let at : entry_at m slot ≡ Some (r.0, r.1, v.0) =
-          ap (option_and_then {U = K × ℕ × V} (λ (z : K × ℕ). option_map (λ value. (z.0, z.1, value)) (slice_get m.values slot))) is ∙ ap (option_map (λ value. (r.0, r.1, value))) v.1 in
-          omega (arith, ap (length {A = K × ℕ × V}) (one_more slot made (Some (r.0, r.1, v.0)) at))
+  some-left slot made there = grind (arith, one_more slot made (entry_at m slot) refl, get-within m.values slot made)
 
   -- the keys and slots are those of the residents at these slots
   keys_and_slots : (from n : ℕ) → from + n ≤ length m.values → map key_and_slot (filter_map (entry_at m) (range_with_len from n)) ≡ filter_map (resident_at m) (range_with_len from n)
   keys_and_slots from zero within = refl
-  keys_and_slots from (suc n) within = each (resident_at m from) (keys_and_slots (from + 1) n (omega (arith, within)))
-    where
-      each : (o : Option (K × ℕ)) → map key_and_slot (filter_map (entry_at m) (range_with_len (from + 1) n)) ≡ filter_map (resident_at m) (range_with_len (from + 1) n)
-          → map key_and_slot
-          (cons_option (option_and_then {U = K × ℕ × V}
-          (λ (r : K × ℕ). option_map (λ value. (r.0, r.1, value)) (slice_get m.values from)) o)
-          (filter_map (entry_at m) (range_with_len (from + 1) n)))
-          ≡ cons_option o (filter_map (resident_at m) (range_with_len (from + 1) n))
-      each None rest = rest
-      each (Some r) rest = grind (arith, get-within m.values from (omega (arith, within)), within, r.0, r.1)
+  keys_and_slots from (suc n) within = grind (arith, get-within m.values from, keys_and_slots (from + 1) n)
 
   pub entries-by_slot : map key_and_slot (entries m) ≡ by_slot m
   entries-by_slot = grind (arith, keys_and_slots)
 
   -- the keys of the entries are those of the residents by slot
   pub entries-keys : map key_of (entries m) ≡ keys m
-  entries-keys = sym (map-map (λ (r : K × ℕ). r.0) key_and_slot (entries m)) ∙ ap (λ (rs : List (K × ℕ)). map (λ r. r.0) rs) entries-by_slot
+  entries-keys = grind (arith, map-map, entries-by_slot)
 
 -- a slot occurs once in a range that has it, and not in one above it
 none_above : (s from n : ℕ) → s < from → sum_by (λ slot. one_if (s == slot)) (range_with_len from n) ≡ 0
@@ -71,24 +51,7 @@ none_above s from (suc n) above = grind (arith, sum_by-cons, none_above s (from 
 
 once_within : (s from n : ℕ) → from ≤ s → s < from + n → sum_by (λ slot. one_if (s == slot)) (range_with_len from n) ≡ 1
 once_within s from zero low high = absurd (omega (arith, low, high))
-once_within s from (suc n) low high = elim (cases_lt from s) [
-  | inl below ↦ omega (
-    arith,
-    sum_by-cons (λ slot. one_if (s == slot)) from (range_with_len (from + 1) n),
-    ap one_if (ne_eqb s from (λ e. omega (arith, e, below))),
-    once_within s (from + 1) n (omega (arith, below)) (omega (arith, high)),
-  )
-  | inr at ↦ omega (
-    arith,
-    sum_by-cons (λ slot. one_if (s == slot)) from (range_with_len (from + 1) n),
-    ap one_if (eq-eqb s from (omega (arith, at, low))),
-    none_above s (from + 1) n (omega (arith, at, low)),
-  )
-]
-
-sum_by-plus : {X : Type 0} (f g : X → ℕ) (xs : List X) → sum_by (λ x. f x + g x) xs ≡ sum_by f xs + sum_by g xs
-sum_by-plus f g [] = refl
-sum_by-plus f g (x ∷ xs) = omega (arith, sum_by-cons (λ x. f x + g x) x xs, sum_by-cons f x xs, sum_by-cons g x xs, sum_by-plus f g xs)
+once_within s from (suc n) low high = grind (arith, sum_by-cons (λ slot. one_if (s == slot)) from (range_with_len (from + 1) n), once_within s (from + 1) n, none_above s (from + 1) n)
 
 sum_by-none : {X : Type 0} (f : X → ℕ) → ((x : X) → f x ≡ 0) → (xs : List X) → sum_by f xs ≡ 0
 sum_by-none f none [] = refl
@@ -128,50 +91,23 @@ module _ {K : Type 0} where
   -- if at most one resident is at a slot, the number is one exactly if one is found
   found_once : (rs : List (K × ℕ)) (slot : ℕ) → standing rs slot ≤ 1 → one_if (is_some (find (λ (r : K × ℕ). r.1 == slot) rs)) ≡ standing rs slot
   found_once [] slot once = refl
-  found_once (r ∷ rs) slot once = by_test (r.1 == slot) refl (found_once rs slot)
-    where
-      by_test : (b : Bool) → (r.1 == slot) ≡ b → (standing rs slot ≤ 1 → one_if (is_some (find (λ (r : K × ℕ). r.1 == slot) rs)) ≡ standing rs slot)
-          → one_if (is_some (cond b (Some r) (find (λ (r : K × ℕ). r.1 == slot) rs))) ≡ standing (r ∷ rs) slot
-      by_test true at later = omega (arith, once, standing-cons r rs slot, ap one_if at)
-      by_test false at later = omega (arith, standing-cons r rs slot, ap one_if at, later (omega (arith, once, standing-cons r rs slot)))
+  found_once (r ∷ rs) slot once = grind (arith, standing-cons r rs slot, found_once rs slot)
 
   found_length : (rs : List (K × ℕ)) → ((slot : ℕ) → standing rs slot ≤ 1) → (slots : List ℕ)
       → length (filter_map (λ slot. find (λ (r : K × ℕ). r.1 == slot) rs) slots) ≡ sum_by (standing rs) slots
   found_length rs once [] = refl
-  found_length rs once (s ∷ slots) = each (find (λ (r : K × ℕ). r.1 == s) rs) (found_once rs s (once s)) (found_length rs once slots)
-    where
-      each : (o : Option (K × ℕ)) → one_if (is_some o) ≡ standing rs s → length (filter_map (λ slot. find (λ (r : K × ℕ). r.1 == slot) rs) slots) ≡ sum_by (standing rs) slots
-          → length (cons_option o (filter_map (λ slot. find (λ (r : K × ℕ). r.1 == slot) rs) slots)) ≡ sum_by (standing rs) (s ∷ slots)
-      each None at rest = omega (arith, sum_by-cons (standing rs) s slots, rest, at)
-      each (Some r) at rest = omega (arith, sum_by-cons (standing rs) s slots, rest, at)
+  found_length rs once (s ∷ slots) = grind (arith, sum_by-cons (standing rs) s slots, found_once rs s (once s), found_length rs once slots)
 
 module _ {K V : Type 0} (eq : K → K → Bool) (m : Machine K V) (whole : IsWhole eq m) where
-  mapped : {X : Type 0} (at : X → K × ℕ) (xs : List X) (slot : ℕ) → standing (map at xs) slot ≡ count_by (λ x. (at x).1 == slot) xs
-  mapped at [] slot = refl
-  mapped at (x ∷ xs) slot = omega (arith, standing-cons (at x) (map at xs) slot, sum_by-cons (λ x. one_if ((at x).1 == slot)) x xs, mapped at xs slot)
-
   -- a resident occurs once, at a slot that was made
   once : (slot : ℕ) → standing (residents m) slot ≤ (if nat_lt slot (length m.values) then 1 else 0)
-  once slot = omega (
-    arith,
-    whole.slots_once slot,
-    sum_by-append (λ (r : K × ℕ). one_if (r.1 == slot)) (map (λ (e : SmallEntry K). (e.key, e.slot)) m.small) (map (λ (e : MainEntry K). (e.key, e.slot)) m.main),
-    mapped (λ (e : SmallEntry K). (e.key, e.slot)) m.small slot,
-    mapped (λ (e : MainEntry K). (e.key, e.slot)) m.main slot,
-  )
+  once slot = omega (arith, whole.slots_once slot, counted_residents (λ k s. s == slot) m)
 
   once_at_most : (slot : ℕ) → standing (residents m) slot ≤ 1
-  once_at_most slot = within (nat_lt slot (length m.values)) (once slot)
-    where
-      within : (b : Bool) → standing (residents m) slot ≤ (if b then 1 else 0) → standing (residents m) slot ≤ 1
-      within true h = h
-      within false h = omega (arith, h)
+  once_at_most slot = grind (arith, once slot)
 
   below : (slot : ℕ) → 0 < standing (residents m) slot → slot < length m.values
-  below slot some = elim (cases_lt slot (length m.values)) [
-    | inl made ↦ made
-    | inr above ↦ absurd (omega (arith, some, once slot, ap one_if (le-ltb slot (length m.values) above)))
-  ]
+  below slot some = grind (arith, once slot)
 
   -- every resident is yielded once
   pub length-entries : length (entries m) ≡ resident_count m

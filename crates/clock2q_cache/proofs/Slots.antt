@@ -17,10 +17,7 @@ times-none t (x ∷ xs) h = grind (arith, times-cons t x xs, times-none t xs (om
 
 pub times-some : (t : ℕ) (xs : List ℕ) → has t xs ≡ true → 0 < times t xs
 times-some t [] h = absurd (both_ways false refl h)
-times-some t (x ∷ xs) h = elim (cases_Bool (eqb t x)) [
-  | inl e ↦ omega (arith, times-cons t x xs, ap {B = ℕ} (λ b. cond b 1 0) (eq-eqb x t (sym (eqb-true t x e))))
-  | inr e ↦ omega (arith, times-cons t x xs, times-some t xs (rw e at h))
-]
+times-some t (x ∷ xs) h = grind (arith, times-cons t x xs, eqb_swap, times-some t xs)
 
 pub times-apart : (xs : List ℕ) → ((t : ℕ) → times t xs ≤ 1) → AllApart xs
 times-apart [] h = tt
@@ -30,9 +27,7 @@ times-apart (x ∷ xs) h =
 -- a slot that occurs as often in two lists is in both or in neither
 pub times-absent : (t : ℕ) (xs : List ℕ) → has t xs ≡ false → times t xs ≡ 0
 times-absent t [] h = refl
-times-absent t (x ∷ xs) h =
-    let p = or_parts (eqb t x) (has t xs) h in
-    omega (arith, times-cons t x xs, times-absent t xs p.1, ap {B = ℕ} (λ b. cond b 1 0) (eqb_swap t x p.0))
+times-absent t (x ∷ xs) h = grind (arith, times-cons t x xs, times-absent t xs, eqb_swap t x)
 
 pub has-times : (t : ℕ) (xs ys : List ℕ) → times t xs ≡ times t ys → has t xs ≡ has t ys
 has-times t xs ys e = grind (arith, times-some, times-absent, times-none)
@@ -61,7 +56,7 @@ length-split (suc n) [] = refl
 length-split (suc n) (e ∷ main) = omega (arith, length-split n main)
 
 pub length-swept : (main : List (ℕ × Bool)) → length (from_victim main) ≡ length main
-length-swept main = length-append (drop (set_front main) main) (map {B = ℕ × Bool} (λ (e : ℕ × Bool). (e.0, false)) (take (set_front main) main)) ∙ length-split (set_front main) main
+length-swept main = grind (arith, length-append, length-split)
 
 pub length-places : (q : QueueState) → length (places_of q) ≡ length q.small + length q.main
 length-places q =
@@ -86,7 +81,7 @@ module _ {K V : Type 0} {eq : K → K → Bool} {hash : K → ℕ} {shares : Sha
   once_at_most false = omega arith
 
   pub at_most_once : (t : ℕ) → times t (places_of q) + times t (reverse free) ≤ 1
-  at_most_once t = omega (arith, standing-times t, kept.whole.slots_once t, once_at_most (nat_lt t (length m.values)))
+  at_most_once t = grind (arith, standing-times t, kept.whole.slots_once t)
 
   -- no two residents have the same slot
   pub apart : AllApart (places_of q)
@@ -94,19 +89,11 @@ module _ {K V : Type 0} {eq : K → K → Bool} {hash : K → ℕ} {shares : Sha
 
   -- a slot that is free has no resident, and was made
   free_slot : (slot : ℕ) → 0 < times slot (reverse free) → (has slot (places_of q) ≡ false) × (slot < length keys.entries)
-  free_slot slot some = (
-    times-none slot (places_of q) (omega (arith, some, at_most_once slot)),
-    elim (cases_lt slot (length m.values)) [
-      | inl below ↦ omega (arith, below, length-values keys.entries)
-      | inr above ↦ absurd (omega (arith, some, standing-times slot, kept.whole.slots_once slot, ap {B = ℕ} (λ b. if b then 1 else 0) (le-ltb slot (length m.values) above)))
-    ],
-  )
+  free_slot slot some = grind (arith, times-none slot, at_most_once slot, length-values keys.entries, standing-times slot, kept.whole.slots_once slot)
 
   -- neither has the next slot
   next_slot : has (length m.values) (places_of q) ≡ false
-  next_slot =
-      times-none (length m.values) (places_of q)
-      (omega (arith, standing-times (length m.values), kept.whole.slots_once (length m.values), ap {B = ℕ} (λ b. if b then 1 else 0) (le-ltb (length m.values) (length m.values) (omega arith))))
+  next_slot = grind (arith, times-none, standing-times (length m.values), kept.whole.slots_once (length m.values))
 
   -- a vacancy has no resident, and was made or is the next slot
   pub record IsVacant (slot : ℕ) : Type 0 where
@@ -118,29 +105,16 @@ module _ {K V : Type 0} {eq : K → K → Bool} {hash : K → ℕ} {shares : Sha
   vacant slot is = of (reverse free) refl is
     where
       of : (fs : List ℕ) → reverse free ≡ fs → vacant_slot fs (length m.values) shares.capacity ≡ Some slot → IsVacant slot
-      of (s ∷ fs) at e =
-          let same : s ≡ slot = some_is s slot e in
-          let f = free_slot slot (omega (arith, ap (λ z. times slot z) at, times-cons slot s fs, ap {B = ℕ} (λ b. cond b 1 0) (eq-eqb s slot same))) in
-          record { absent = f.0; next = omega (arith, f.1); below = omega (arith, f.1, kept.whole.made_within, length-values keys.entries) }
-      of [] at e = grind (arith, some_is, next_slot, length-values, none_is)
+      of (s ∷ fs) at e = grind (arith, free_slot slot, times-cons slot s fs, kept.whole.made_within, length-values keys.entries)
+      of [] at e = grind (arith, next_slot, length-values)
 
   -- the slot that is taken is the vacancy, if there is one
   pub vacancy-taken : (slot : ℕ) → is_some (vacancy m) ≡ true → vacant_slot (reverse free) (length keys.entries) (length keys.entries + 1) ≡ Some slot → vacancy m ≡ Some slot
-  vacancy-taken slot some taken = of (reverse free) some taken
-    where
-      of : (fs : List ℕ) → is_some (vacant_slot fs (length m.values) shares.capacity) ≡ true
-          → vacant_slot fs (length keys.entries) (length keys.entries + 1) ≡ Some slot → vacant_slot fs (length m.values) shares.capacity ≡ Some slot
-      of (s ∷ fs) some e = e
-      of [] some e = grind (arith, length-values)
+  vacancy-taken slot some taken = grind (arith, length-values)
 
   -- if fewer slots than the capacity have a resident, there is a vacancy
   pub vacancy-there : length q.small + length q.main < shares.capacity → is_some (vacancy m) ≡ true
-  vacancy-there few = of (reverse free) refl
-    where
-      of : (fs : List ℕ) → reverse free ≡ fs → is_some (vacant_slot fs (length m.values) shares.capacity) ≡ true
-      of (s ∷ fs) at = refl
-      of [] at =
-          grind (arith, kept.whole.slots_counted, length-small (key_at keys.entries) q.small small_have, length-main (key_at keys.entries) q.main main_have)
+  vacancy-there few = grind (arith, kept.whole.slots_counted, length-small (key_at keys.entries) q.small small_have, length-main (key_at keys.entries) q.main main_have)
 
 -- the same places in another order
 pub stored-moved : {K V : Type 0} {hash : K → ℕ} {index : List (List (ℕ × ℕ))} {entries : List (Entry K V)} {places : List ℕ} (q : QueueState) → IsStored hash index entries places

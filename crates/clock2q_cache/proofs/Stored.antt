@@ -1,8 +1,14 @@
 -- The keys by slot and their index, after a key enters or replaces another.
-use Rattle.std.proofs.Common.{◌≡◌, ℕ, zero, suc, ◌<◌, ◌≤◌, true, false, eqb, Some, None, List, [], ◌∷◌, length, refl, sym, ap, ◌∙◌, arith}
+use Rattle.std.proofs.Common.{◌≡◌, ℕ, zero, suc, ◌<◌, ◌≤◌, true, false, eqb, Some, None, List, [], ◌∷◌, length, refl, sym, ap, ◌∙◌, arith, subst, slice_get}
 use Rattle.clock2q_cache.proofs.Names.{AllByRecursion, with_handle, removed, Entry, has, without, AllApart, AllBelow, entry, written, hash_at, key_at, eqb_self, below_of, has-without, has-without_test, below-has, below-more, and_true, and_false, some_is, length-written, slice_get_some, all-written, hash_at-own, hash_at-others, IsIndex-put, IsIndex-taken, length-taken, IsStored}
 use Rattle.clock2q_queues.proofs.Joining.{length-without}
 use Rattle.clock2q_cache.proofs.WithKeys.{HaveKeys}
+
+-- what holds of all holds of the one at a place
+pub all-at : {X : Type 0} (P : X → Type 0) (es : List X) (slot : ℕ) (e : X) → AllByRecursion P es → slice_get es slot ≡ Some e → P e
+all-at P [] slot e a h = absurd (cc)
+all-at P (x ∷ xs) zero e a h = subst P (some_is x e h) a.0
+all-at P (x ∷ xs) (suc slot) e a h = all-at P xs slot e a.1 h
 
 module _ {K V : Type 0} where
   pub have_keys : (entries : List (Entry K V)) (places : List ℕ) → AllBelow (length entries) places → HaveKeys (key_at entries) places
@@ -52,10 +58,7 @@ module _ {K V : Type 0} (hash : K → ℕ) where
       again : (t : ℕ) → has t places ≡ has t (slot ∷ without slot places)
       again t = grind (arith, has-without_test, and_true)
 
--- what holds of all entries holds of the one at a place
-module _ {K V : Type 0} (hash : K → ℕ) where
-  pub hash-of-key : (entries : List (Entry K V)) (t old : ℕ) (key : K) → AllByRecursion (λ e. e.hash ≡ hash e.key) entries → hash_at entries t ≡ Some old → key_at entries t ≡ Some key → old ≡ hash key
-  hash-of-key [] t old key a h k = absurd (cc)
-  hash-of-key (e ∷ es) zero old key a h k =
-      sym (some_is e.hash old h) ∙ a.0 ∙ ap hash (some_is e.key key k)
-  hash-of-key (e ∷ es) (suc t) old key a h k = hash-of-key es t old key a.1 h k
+-- a key at a place has its hash there
+pub hash-of-key : {K V : Type 0} (hash : K → ℕ) (entries : List (Entry K V)) (t old : ℕ) (key : K)
+    → AllByRecursion (λ e. e.hash ≡ hash e.key) entries → hash_at entries t ≡ Some old → key_at entries t ≡ Some key → old ≡ hash key
+hash-of-key hash entries t old key a h k = grind (arith, all-at (λ e. e.hash ≡ hash e.key) entries t)

@@ -5,21 +5,17 @@ use Rattle.std.proofs.lemmas.Bool.{eq-eqb}
 use Rattle.clock2q_queues.proofs.Rings.{has_later}
 use Rattle.clock2q_directory.specs.Hashed.{has_hash}
 use Rattle.clock2q_cache.specs.SlotsByHash.{has_hash_at}
+use Rattle.clock2q_cache.proofs.Stored.{all-at}
 use Rattle.clock2q_cache.proofs.Places.{resident-there, resident-none}
 use Rattle.clock2q_cache.proofs.Finding.{found, candidates-there}
 
 -- two tests that agree on a list keep the same of it
 filter-like : (p q : ℕ → Bool) (cs : List ℕ) → ((t : ℕ) → has t cs ≡ true → p t ≡ q t) → filter p cs ≡ filter q cs
 filter-like p q [] same = refl
-filter-like p q (c ∷ cs) same =
-    let first = same c (has_first c cs) in
-    let rest = filter-like p q cs (λ t h. same t (has_later t c cs h)) in
-    elim (cases_Bool (q c)) [ inl y ↦ rw (first, y) (ap (λ zs. c ∷ zs) rest) | inr n ↦ rw (first, n) rest ]
+filter-like p q (c ∷ cs) same = grind (arith, has_first, has_later, filter-like p q cs)
 
 hash-there : {K V : Type 0} (hash : K → ℕ) (es : List (Entry K V)) (t : ℕ) (e : Entry K V) → slice_get es t ≡ Some e → AllByRecursion (λ x. x.hash ≡ hash x.key) es → e.hash ≡ hash e.key
-hash-there hash [] t e at all = absurd (cc)
-hash-there hash (x ∷ xs) zero e at all = subst (λ z. z.hash ≡ hash z.key) (some_is x e at) all.0
-hash-there hash (x ∷ xs) (suc t) e at all = hash-there hash xs t e at all.1
+hash-there hash es t e at all = all-at (λ x. x.hash ≡ hash x.key) es t e all at
 
 module _ {K V : Type 0} {eq : K → K → Bool} {hash : K → ℕ} {shares : Shares} {q : QueueState} {h : Remembered K} {index : List (List (ℕ × ℕ))} {keys : KeyPlaces K V} {free : List ℕ} {room : ℕ}
     (laws : IsEquivalence eq) (kept : IsKept eq hash shares q h index keys free room) where
@@ -41,16 +37,7 @@ module _ {K V : Type 0} {eq : K → K → Bool} {hash : K → ℕ} {shares : Sha
 -- where nothing is kept, nothing is found that would be kept
 none-kept : (p q : ℕ → Bool) (cs : List ℕ) → None ≡ slice_get (filter p cs) 0 → ((t : ℕ) → has t cs ≡ true → q t ≡ true → p t ≡ true) → find q cs ≡ None
 none-kept p q [] none kept = refl
-none-kept p q (c ∷ cs) none kept = elim (cases_Bool (p c)) [
-  | inl y ↦ absurd (some_none c (none ∙ rw y refl))
-  | inr n ↦ elim (cases_Bool (q c)) [
-    | inl it ↦ absurd (both_ways (p c) n (kept c (has_first c cs) it))
-    | inr other ↦ rw other (none-kept p q cs (none ∙ rw n refl) (λ t h it. kept t (has_later t c cs h) it))
-  ]
-]
-  where
-    some_none : (x : ℕ) → None ≡ Some x → ⊥
-    some_none x e = cc
+none-kept p q (c ∷ cs) none kept = grind (arith, has_first c cs, has_later, none-kept p q cs)
 
 module _ {K V : Type 0} {eq : K → K → Bool} {hash : K → ℕ} {shares : Shares} {q : QueueState} {h : Remembered K} {index : List (List (ℕ × ℕ))} {keys : KeyPlaces K V} {free : List ℕ} {room : ℕ}
     (laws : IsEquivalence eq) (kept : IsKept eq hash shares q h index keys free room) where
@@ -70,8 +57,7 @@ module _ {K V : Type 0} {eq : K → K → Bool} {hash : K → ℕ} {shares : Sha
   -- of what the walk finds
   pub absent-unless : ((x y : K) → eq x y ≡ true → hash x ≡ hash y) → (x nth : ℕ) (o : Option ℕ) → o ≡ slice_get (filter (has_hash keys.entries x) (candidates index x)) nth
       → IfNone o (nth ≡ 0 → (key : K) → x ≡ hash key → slot_of (eq key) n ≡ None)
-  absent-unless respects x nth None found = λ first key is. none-with-hash key respects x is (found ∙ ap (slice_get (filter (has_hash keys.entries x) (candidates index x))) first)
-  absent-unless respects x nth (Some s) found = tt
+  absent-unless respects x nth o found = grind (arith, none-with-hash)
 
 -- what is in a list and passes is what is kept of it
 has-kept : (p : ℕ → Bool) (cs : List ℕ) (t : ℕ) → has t (filter p cs) ≡ (has t cs && p t)
@@ -108,11 +94,7 @@ module _ {K V : Type 0} {eq : K → K → Bool} {hash : K → ℕ} {shares : Sha
 
   -- each resident with the hash is listed, and nothing else
   pub lists-each : (x t : ℕ) → has t (filter (has_hash_at hash x l) (candidates index x)) ≡ has_hash_at hash x l t
-  lists-each x t = has-kept (has_hash_at hash x l) (candidates index x) t ∙ passes (has_hash_at hash x l t) refl
-    where
-      passes : (b : Bool) → has_hash_at hash x l t ≡ b → (has t (candidates index x) && b) ≡ b
-      passes true it = rw (is-candidate x t it) refl
-      passes false it = and_false (has t (candidates index x))
+  lists-each x t = grind (arith, has-kept, is-candidate, and_false)
 
   -- and none twice
   pub lists-once : (x : ℕ) → AllApart (filter (has_hash_at hash x l) (candidates index x))
@@ -120,25 +102,17 @@ module _ {K V : Type 0} {eq : K → K → Bool} {hash : K → ℕ} {shares : Sha
 
 -- a result that isn't a slot is none
 pub none-of : (o : Option ℕ) → ((x : ℕ) → o ≡ Some x → ⊥) → o ≡ None
-none-of None other = refl
-none-of (Some x) other = absurd (other x refl)
+none-of o other = grind arith
 
 pub none-unless : (o : Option ℕ) → ((x : ℕ) → o ≡ Some x → ⊥) → {P : Type 0} → IfNone o P → P
-none-unless None other it = it
-none-unless (Some x) other it = absurd (other x refl)
+none-unless o other it = grind arith
 
 -- what is kept of a list is below what all of it is
 kept-below : (p : ℕ → Bool) (bound : ℕ) (cs : List ℕ) (n : ℕ) (o : Option ℕ) → AllByRecursion (λ t. t < bound) cs → o ≡ slice_get (filter p cs) n → IfSome o (λ t. t < bound)
 kept-below p bound cs n None all is = tt
 kept-below p bound [] n (Some t) all is = absurd (cc)
-kept-below p bound (c ∷ cs) n (Some t) all is = elim (cases_Bool (p c)) [
-  | inl y ↦ at (λ m same. kept-below p bound cs m (Some t) all.1 same) n (is ∙ rw y refl)
-  | inr not ↦ kept-below p bound cs n (Some t) all.1 (is ∙ rw not refl)
-]
-  where
-    at : ((m : ℕ) → Some t ≡ slice_get (filter p cs) m → t < bound) → (n : ℕ) → Some t ≡ slice_get (c ∷ filter p cs) n → t < bound
-    at later zero is = subst (λ z. z < bound) (sym (some_is t c is)) all.0
-    at later (suc n) is = later n is
+kept-below p bound (c ∷ cs) zero (Some t) all is = grind (arith, kept-below p bound cs zero (Some t) all.1)
+kept-below p bound (c ∷ cs) (suc n) (Some t) all is = grind (arith, kept-below p bound cs n (Some t) all.1, kept-below p bound cs (suc n) (Some t) all.1)
 
 module _ {K V : Type 0} {eq : K → K → Bool} {hash : K → ℕ} {shares : Shares} {q : QueueState} {h : Remembered K} {index : List (List (ℕ × ℕ))} {keys : KeyPlaces K V} {free : List ℕ} {room : ℕ}
     (laws : IsEquivalence eq) (kept : IsKept eq hash shares q h index keys free room) where
