@@ -22,8 +22,7 @@ module _ {K V S H : Type 0} (key : HashMembers K) (build : builder.Ghosts S H) (
     -- the resident left
     pub removed-slot : (resident : Option (K × ℕ)) → IfSome resident (λ r. slot_of (key.eq r.0) old.machine ≡ Some slot) → new.machine ≡ vacated slot old.machine
         → IfSome resident (λ r. new.machine ≡ removed (key.eq r.0) old.machine)
-    removed-slot None own is = tt
-    removed-slot (Some r) own is = is ∙ ap (λ o. removed_at (key.eq r.0) o old.machine) (sym own)
+    removed-slot resident own is = grind arith
 
     pub removed-slot-costs : (resident : Option (K × ℕ)) → IfSome resident (λ r. slot_of (key.eq r.0) old.machine ≡ Some slot) → new.machine ≡ vacated slot old.machine
         → Spends 0 8 0 old.counts new.counts → new.known ≡ left_by (hash_in key build hash old) resident slot old.known → IfSome resident (λ r. Costs key build hash (Remove r.0) old new)

@@ -16,11 +16,7 @@ pub record IsReindexed {K : Type 0} (h h' : Remembered K) : Type 0 where
 module _ {K : Type 0} (h : Remembered K) {h' : Remembered K} {index : IndexState} (is : h' ≡ record h { places = record h.places { index = index } }) where
   -- if the places are in the same table as before
   pub reindexed : is_shared index ≡ is_shared h.places.index → IsReindexed h h'
-  reindexed shared = record {
-    entries = ap (λ (z : Remembered K). z.entries) is;
-    limit = ap (λ (z : Remembered K). z.limit) is;
-    beside = ap (λ (z : Remembered K). most_beside z) is ∙ ap (λ b. if b then h.limit + 1 else 0) shared;
-  }
+  reindexed shared = grind arith
 
   -- the slots are then those of the new index
   pub now-slots : {homes : List (List (ℕ × ℕ))} → slots index ≡ homes → slots h'.places.index ≡ homes
@@ -37,22 +33,11 @@ slots-renewed h old hsh {slot} is below = now-slots h is (slots-entered (left ol
 pub sized-same : {shares : Shares} {q q' : QueueState} {limit limit' beside beside' homes homes' keys_room keys_room' free_room free_room' : ℕ}
     → IsSized shares q limit beside homes keys_room free_room → q'.slots ≡ q.slots → q'.window ≡ q.window → limit' ≡ limit → beside' ≡ beside → homes' ≡ homes
     → keys_room' ≡ keys_room → free_room' ≡ free_room → IsSized shares q' limit' beside' homes' keys_room' free_room'
-sized-same s slots window limit beside homes keys_room free_room = record {
-  as_many = slots ∙ s.as_many;
-  window = window ∙ s.window;
-  windowed = s.windowed;
-  remembers = limit ∙ s.remembers;
-  spacious = omega (arith, beside, ap capacity homes, s.spacious);
-  room_for_keys = omega (arith, keys_room, s.room_for_keys);
-  room_for_free = omega (arith, free_room, s.room_for_free);
-  short = s.short;
-  few = omega (arith, beside, s.few);
-}
+sized-same s slots window limit beside homes keys_room free_room = grind arith
 
 pub kept-reindexed : {K V : Type 0} {eq : K → K → Bool} {hash : K → ℕ} {shares : Shares} {q : QueueState} {h h' : Remembered K} {index : List (List (ℕ × ℕ))} {keys : KeyPlaces K V}
     {free : List ℕ} {room : ℕ} → IsReindexed h h' → IsKept eq hash shares q h index keys free room → IsKept eq hash shares q h' index keys free room
-kept-reindexed {eq = eq} {hash} {shares} {q} {keys = keys} {free} moved kept =
-    grind (arith, kept.whole, kept.stored, kept.hashed, kept.linked, sized-same, kept.sized)
+kept-reindexed moved kept = grind (arith, kept.whole, kept.stored, kept.hashed, kept.linked, sized-same, kept.sized)
 
 module _ {K V : Type 0} {eq : K → K → Bool} {hash : K → ℕ} {shares : Shares} {q : QueueState} {h : Remembered K} {index : List (List (ℕ × ℕ))} {keys : KeyPlaces K V} {free : List ℕ} {room : ℕ}
     (laws : IsEquivalence eq) (kept : IsKept eq hash shares q h index keys free room) where
@@ -84,28 +69,13 @@ module _ {K V : Type 0} {eq : K → K → Bool} {hash : K → ℕ} {shares : Sha
 
   -- the slot that is picked is free if a queue has room
   is-free : {slot made : ℕ} → made ≡ length keys.entries → vacant_slot (reverse free) made (made + 1) ≡ Some slot → length q.small + length q.main < shares.capacity → IsFree slot
-  is-free {slot} {made} is picked few =
-      let taken = vacancy-taken laws kept slot (vacancy-there laws kept few) (subst (λ z. vacant_slot (reverse free) z (z + 1) ≡ Some slot) is picked) in
-      let v = vacant laws kept slot taken in
-      let apart = or_parts (has slot (slots_of q.small)) (has slot (slots_of q.main)) (sym (has-append slot (slots_of q.small) (slots_of q.main)) ∙ v.absent) in
-      record {
-        taken = taken;
-        absent = v.absent;
-        not_in_small = apart.0;
-        not_in_main = apart.1;
-        next = v.next;
-        made = omega (arith, kept.whole.made_within, length-values keys.entries, kept.sized.short);
-        below = omega (arith, v.below, kept.sized.as_many);
-        within = omega (arith, v.below, kept.sized.room_for_keys);
-        short = omega (arith, v.below, kept.sized.short);
-        index_room = omega (arith, few, kept.sized.spacious, kept.stored.indexed.counted, length-places q);
-        few = omega (arith, few, kept.sized.few, kept.stored.indexed.counted, length-places q);
-      }
+  is-free {slot} is picked few =
+      let v = vacant laws kept slot (vacancy-taken laws kept slot (vacancy-there laws kept few) (rw (← is) picked)) in
+      grind (arith, v.absent, v.next, v.below, or_parts, has-append slot (slots_of q.small) (slots_of q.main), vacancy-taken laws kept slot, vacancy-there laws kept few, kept.whole.made_within, length-values keys.entries, kept.sized, kept.stored.indexed.counted, length-places q)
 
   pub free-to-join : {slot made : ℕ} (main : Bool) → made ≡ length keys.entries → vacant_slot (reverse free) made (made + 1) ≡ Some slot
       → (main ≡ true → length m.main < main_share shares) → (main ≡ false → length m.small < shares.small) → IsFree slot
-  free-to-join true is picked room none = is-free is picked (omega (arith, room refl, kept.whole.small_within, kept.whole.small_below, length_in_small, length_in_main))
-  free-to-join false is picked none room = is-free is picked (omega (arith, room refl, kept.whole.main_within, kept.whole.small_below, length_in_small, length_in_main))
+  free-to-join main is picked room some = is-free is picked (grind (arith, room, some, kept.whole, length_in_small, length_in_main))
 
   -- no link record is made for a slot that was made
   pub made-still : {slot : ℕ} → slot < length keys.entries → made_below (slot + 1) q.made ≡ q.made
@@ -121,11 +91,7 @@ module _ {K V : Type 0} {eq : K → K → Bool} {hash : K → ℕ} {shares : Sha
   -- the same, after the index beside the history changed
   pub done-reindexed : {slot : ℕ} {value : Option V} {p : Placement K V} {q' : QueueState} {h1 h2 : Remembered K} {index' : List (List (ℕ × ℕ))} {keys' : KeyPlaces K V} {free' : List ℕ} {room' : ℕ}
       → IsReindexed h1 h2 → IsDone slot value p q' h1 index' keys' free' room' → IsDone slot value p q' h2 index' keys' free' room'
-  done-reindexed {value = value} {p = p} {q' = q'} {keys' = keys'} {free' = free'} moved d = record {
-    holds = kept-reindexed moved d.holds;
-    fills = subst (λ z. Fills value p m (machine_of shares q' keys'.entries z free')) (sym moved.entries) d.fills;
-    at = d.at;
-  }
+  done-reindexed moved d = grind (arith, kept-reindexed moved d.holds, moved.entries)
 
   -- a key that was not known is placed, and its slot has its value
   pub placed-done : {key : K} {value : Option V} {hsh slot : ℕ} {p : Placement K V} {q' : QueueState} {h' : Remembered K}
@@ -134,16 +100,15 @@ module _ {K V : Type 0} {eq : K → K → Bool} {hash : K → ℕ} {shares : Sha
       → machine_of shares q' keys'.entries h'.entries free' ≡ stored p.slot w.held p.machine
       → IsStored hash index' keys'.entries (places_of q') → AllByRecursion (λ e. e.0 ≡ hash e.1) h'.entries
       → length keys'.entries ≤ q'.made → IsSized shares q' h'.limit (most_beside h') (length index') keys'.room room' → IsDone slot value p q' h' index' keys' free' room'
-  placed-done {key} {value} {p = p} absent placed w at is stored hashed linked sized = record {
-    holds = record { whole = subst (IsWhole eq) (sym is) (whole-stored eq m kept.whole laws key absent p placed w.held); stored = stored; hashed = hashed; linked = linked; sized = sized };
-    fills = record { held = w.held; is = subst (λ s. IsValueFor value s m.values w.held) at w.is; becomes = is };
+  placed-done {key} absent placed w at is stored hashed linked sized = record {
+    holds = record { whole = rw is (whole-stored eq m kept.whole laws key absent _ placed w.held); stored = stored; hashed = hashed; linked = linked; sized = sized };
+    fills = grind (arith, w.is);
     at = at;
   }
 
   -- if a slot was made before, a key may keep its value
   made-there : {slot s : ℕ} (value : Option V) → s ≡ slot → IfNone value (s < length m.values) → IfNone value (slot < length keys.entries)
-  made-there None is made = omega (arith, is, made, length-values keys.entries)
-  made-there (Some v) is made = tt
+  made-there value is made = grind (arith, length-values keys.entries)
 
   -- where a key that joins a queue goes
   into-small : {slot : ℕ} (key : K) → vacancy m ≡ Some slot → into_small key m ≡ into_small_at key (Some slot) None m
@@ -154,8 +119,7 @@ module _ {K V : Type 0} {eq : K → K → Bool} {hash : K → ℕ} {shares : Sha
 
   pub made-to-join : {slot : ℕ} (main : Bool) (key : K) (value : Option V) → vacancy m ≡ Some slot → (main ≡ true → length m.main < main_share shares)
       → IfNone value ((placed main key m).slot < length m.values) → IfNone value (slot < length keys.entries)
-  made-to-join true key value taken some = made-there value (ap (λ (p : Placement K V). p.slot) (into-main key taken (some refl)))
-  made-to-join false key value taken some = made-there value (ap (λ (p : Placement K V). p.slot) (into-small key taken))
+  made-to-join main key value taken some = grind (arith, into-small, into-main, length-values keys.entries)
 
   -- a key takes a free slot and joins a queue
   module _ {key : K} {value : Option V} {hsh slot n : ℕ} {index' : List (List (ℕ × ℕ))} {keys' : KeyPlaces K V} (f : IsFree slot) (is : hsh ≡ hash key) (absent : known_count (eq key) m ≡ 0)
@@ -167,8 +131,7 @@ module _ {K V : Type 0} {eq : K → K → Bool} {hash : K → ℕ} {shares : Sha
     own = rw w.becomes (key_at-own slot hsh key w.held keys.entries f.next)
 
     small_same : with_keys_small (key_at keys'.entries) q.small ≡ m.small
-    small_same = rw w.becomes (keys-agree small_with (key_at keys.entries) (key_at (written slot (entry hsh key w.held) keys.entries)) q.small
-        (key_at-others slot hsh key w.held keys.entries f.next (slots_of q.small) f.not_in_small))
+    small_same = grind (arith, w.becomes, keys-agree small_with (key_at keys.entries) (key_at keys'.entries) q.small, key_at-others slot hsh key w.held keys.entries f.next (slots_of q.small) f.not_in_small)
 
     main_same : with_keys_main (key_at keys'.entries) q.main ≡ m.main
     main_same = rw w.becomes (keys-agree main_with (key_at keys.entries) (key_at (written slot (entry hsh key w.held) keys.entries)) q.main
@@ -189,24 +152,20 @@ module _ {K V : Type 0} {eq : K → K → Bool} {hash : K → ℕ} {shares : Sha
     pub small-done : {q' : QueueState} {free' : List ℕ} {room' : ℕ} → length m.small < shares.small → q' ≡ record q { small = admitted q.window slot q.small; made = made_below (slot + 1) q.made; accesses = q'.accesses }
         → reverse free' ≡ drop 1 (reverse free) → room' ≡ room → IsDone slot value (into_small key m) q' h index' keys' free' room'
     small-done {q'} {free'} {room'} some queues others free_room =
+        let s : with_keys_small (key_at keys'.entries) (admitted q.window slot q.small) ≡ machine.small_admitted shares.window key slot m.small =
+        grind (arith, small-admitted (key_at keys'.entries) q.window slot key q.small own, small_same, kept.sized.window) in
         let q1 : QueueState = record q { small = admitted q.window slot q.small; made = made_below (slot + 1) q.made; accesses = q'.accesses } in
-        let s : with_keys_small (key_at keys'.entries) q1.small ≡ machine.small_admitted shares.window key slot m.small =
-        small-admitted (key_at keys'.entries) q.window slot key q.small own ∙ ap (λ z. machine.small_admitted q.window key slot z) small_same
-        ∙ ap (λ z. machine.small_admitted z key slot m.small) kept.sized.window in
-        let e : machine_of shares q1 keys'.entries h.entries free' ≡ stored slot w.held (into_small_at key (Some slot) None m).machine = cc (main_same, values) in
-        rw queues (subst (λ p. IsDone slot value p q1 h index' keys' free' room') (sym (into-small key f.taken))
-        (done q1 free' (placed-admitted eq m kept.whole key slot None f.taken some) refl free_room refl refl refl e
+        rw (queues, into-small key f.taken)
+        (done q1 free' (placed-admitted eq m kept.whole key slot None f.taken some) refl free_room refl refl refl (cc (main_same, values))
         (λ t. omega (arith, times-both t q1, times-admitted t q.window slot q.small, times-cons t slot (places_of q), times-both t q))
-        (omega (arith, length-admitted q.window slot q.small))))
+        (omega (arith, length-admitted q.window slot q.small)))
 
     pub main-done : {q' : QueueState} {free' : List ℕ} {room' : ℕ} → length m.main < main_share shares → q' ≡ record q { main = q.main ++ (slot, false) ∷ []; made = made_below (slot + 1) q.made; accesses = q'.accesses }
         → reverse free' ≡ drop 1 (reverse free) → room' ≡ room → IsDone slot value (into_main key m) q' h index' keys' free' room'
     main-done {q'} {free'} {room'} some queues others free_room =
         let q1 : QueueState = record q { main = q.main ++ (slot, false) ∷ []; made = made_below (slot + 1) q.made; accesses = q'.accesses } in
-        let t : with_keys_main (key_at keys'.entries) q1.main ≡ machine.behind_hand key slot m.main =
-        main-behind (key_at keys'.entries) slot key q.main own ∙ ap (λ z. machine.behind_hand key slot z) main_same in
-        let e : machine_of shares q1 keys'.entries h.entries free' ≡ stored slot w.held (joining_main key (Some slot) m).machine = cc (small_same, values) in
-        rw queues (subst (λ p. IsDone slot value p q1 h index' keys' free' room') (sym (into-main key f.taken some))
-        (done q1 free' (placed-joining eq m kept.whole key slot f.taken some) refl free_room refl refl refl e
+        let t : with_keys_main (key_at keys'.entries) q1.main ≡ machine.behind_hand key slot m.main = grind (arith, main-behind (key_at keys'.entries) slot key q.main own, main_same) in
+        rw (queues, into-main key f.taken some)
+        (done q1 free' (placed-joining eq m kept.whole key slot f.taken some) refl free_room refl refl refl (cc (small_same, values))
         (λ t. omega (arith, times-both t q1, times-pushed t q.main (slot, false), times-cons t slot (places_of q), times-both t q))
-        (omega (arith, length-append q.main ((slot, false) ∷ [])))))
+        (omega (arith, length-append q.main ((slot, false) ∷ []))))

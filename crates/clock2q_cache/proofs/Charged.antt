@@ -31,4 +31,4 @@ charged-costs {key = key} {build} {hash} {k} w old laws respects whole as_many w
 -- a value that was taken and is not written to stays as it was taken
 pub unwritten : {K V : Type 0} {is : K → Bool} {key : K} {made : V → Type 0} {old new : Machine K V} {slot : ℕ} (t : Takes is key made old slot new)
     → put is key t.value old ≡ slotted is key t.value old
-unwritten {new = new} {slot} t = sym (t.writes t.value) ∙ stored_same new slot t.value t.there ∙ t.becomes
+unwritten {new = new} {slot} t = grind (arith, t.writes t.value, stored_same new slot t.value t.there, t.becomes)

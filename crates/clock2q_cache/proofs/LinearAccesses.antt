@@ -14,8 +14,7 @@ use Rattle.clock2q_cache.specs.Visits.{visits_all}
 
 module _ {K V : Type 0} (eq : K → K → Bool) where
   wanted_accesses : (is : K → Bool) (m : Machine K V) → accesses_for is m ≤ inspections_for is m + 36
-  wanted_accesses is m =
-      elim (is_some (slot_of is m)) as (λ b. (if b then 0 else inspections_for is m + 36) ≤ inspections_for is m + 36) [ true ↦ omega arith | false ↦ omega arith ]
+  wanted_accesses is m = grind arith
 
   -- any other call makes at most 36 link accesses beside the hand's inspections
   call_accesses : (call : Call K V) (m : Machine K V) → visits_all call ≡ false → most_accesses eq call m ≤ inspections_of eq call m + 36

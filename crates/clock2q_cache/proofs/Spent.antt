@@ -8,15 +8,11 @@ use Rattle.clock2q_machine.proofs.Clock.{clock_bounded}
 
 -- two parts of a call, each with its cost
 pub spends-both : {i j n l k x l' k' x' : ℕ} {a b c : Counts} → Spends i l k a b → Spends j l' k' b c → i + j ≡ n → l + l' ≤ x → k + k' ≤ x' → Spends n x x' a c
-spends-both before after looks links keys = record {
-  inspections = omega (arith, before.inspections, after.inspections, looks);
-  accesses = (omega (arith, before.accesses.0, after.accesses.0), omega (arith, before.accesses.1, after.accesses.1, links));
-  comparisons = (omega (arith, before.comparisons.0, after.comparisons.0), omega (arith, before.comparisons.1, after.comparisons.1, keys));
-}
+spends-both before after looks links keys = grind (arith, before, after)
 
 -- a cost within a larger bound
 pub spends-more : {i l k l' k' : ℕ} {a b : Counts} → Spends i l k a b → l ≤ l' → k ≤ k' → Spends i l' k' a b
-spends-more spent links keys = grind (arith, spent.accesses.0, spent.accesses.1, spent.comparisons.0, spent.comparisons.1)
+spends-more spent links keys = grind arith
 
 module _ {K V : Type 0} (q : QueueState) (h : Remembered K) (keys keys' : KeyPlaces K V) where
   -- a lookup makes at most as many comparisons as there are places
@@ -27,16 +23,13 @@ module _ {K V : Type 0} (q : QueueState) (h : Remembered K) (keys keys' : KeyPla
   -- new keys cost no comparison, and an access for each link record that is made
   pub made-spends : {q' : QueueState} {made more most : ℕ} → q' ≡ record q { made = made; accesses = q.accesses + more } → more ≤ most
       → keys'.comparisons ≡ keys.comparisons → Spends 0 most 0 (counts_of q h keys) (counts_of q' h keys')
-  made-spends is few same =
-      rw is (record { inspections = omega arith; accesses = (omega arith, omega (arith, few)); comparisons = (omega (arith, same), omega (arith, same)) })
+  made-spends is few same = grind arith
 
 none-some : (b : Bool) (slot : ℕ) → None ≡ then_some b slot → b ≡ false
-none-some true slot e = cc
-none-some false slot e = refl
+none-some b slot e = grind arith
 
 some-some : (b : Bool) (slot resident : ℕ) → Some resident ≡ then_some b slot → b ≡ true
-some-some true slot resident e = refl
-some-some false slot resident e = cc
+some-some b slot resident e = grind arith
 
 -- one more of the slots: its resident stays or leaves
 pub slot-stays : (slot : ℕ) {a b : Counts} → Spends 0 (8 * slot) 0 a b → Spends 0 (8 * (slot + 1)) 0 a b
@@ -61,24 +54,23 @@ module _ {K V S H : Type 0} {key : HashMembers K} {build : builder.Ghosts S H} {
       → Reaches (most_slots key build hash call old) old new
       → Spends (inspections_of key.eq call old.machine) (most_accesses key.eq call old.machine) (most_comparisons key build hash call old) old.counts new.counts
       → Costs key build hash call old new
-  costs-of {call} {old} {new} is reached spent = record { counts = spent; index = reached; clock = omega (arith, spent.inspections, clock_bounded key.eq call old.machine, ap set_bits is) }
+  costs-of {call} {old} is reached spent = grind (arith, spent.inspections, clock_bounded key.eq call old.machine)
 
   -- so has a put that looked the key up twice
   pub put-costs : {k : K} {v : V} {old new : CacheState K V S} → new.machine ≡ put (key.eq k) k v old.machine
       → Reaches (most_slots key build hash (SlotFor k v) old) old new
       → Spends (inspections_for (key.eq k) old.machine) (accesses_for (key.eq k) old.machine) (alike key build hash k old) old.counts new.counts
       → Costs key build hash (SlotFor k v) old new
-  put-costs {k} {v} {old} is reached spent =
-      record { counts = spent; index = reached; clock = omega (arith, spent.inspections, clock_bounded key.eq (Put k v) old.machine, ap set_bits is) }
+  put-costs {k} {v} {old} is reached spent = grind (arith, spent.inspections, clock_bounded key.eq (Put k v) old.machine)
 
   -- a call in which the hand inspects nothing, and no bit is set
   pub prefill-costs : {values : List V} (made : List V) {old new : CacheState K V S} → new.machine ≡ prefilled made old.machine
       → new.known ≡ old.known → Spends 0 (old.machine.shares.capacity - length old.machine.values) 0 old.counts new.counts → Costs key build hash (Prefill values) old new
-  prefill-costs made is kept spent = record { counts = spent; index = reaches-none kept; clock = omega (arith, spent.inspections, ap set_bits is) }
+  prefill-costs made is kept spent = grind (arith, spent.inspections, reaches-none)
 
   pub retain-costs : {bits : List Bool} (asked : List Bool) {old new : CacheState K V S} → new.machine ≡ retained asked old.machine
       → Reaches (most_slots key build hash (Retain bits) old) old new → Spends 0 (8 * length old.machine.values) 0 old.counts new.counts → Costs key build hash (Retain bits) old new
-  retain-costs asked {old} is reached spent = record { counts = spent; index = reached; clock = omega (arith, spent.inspections, ap set_bits is, clock_bounded key.eq (Retain asked) old.machine) }
+  retain-costs asked {old} is reached spent = grind (arith, spent.inspections, clock_bounded key.eq (Retain asked) old.machine)
 
   -- a lookup that finds no resident
   pub missed-becomes : {k : K} {x : ℕ} {old new : CacheState K V S} → x ≡ hash_of build hash old.hasher (key.hash_input k) → slot_of (key.eq k) old.machine ≡ None
@@ -88,7 +80,7 @@ module _ {K V S H : Type 0} {key : HashMembers K} {build : builder.Ghosts S H} {
 
   pub unhit-becomes : {k : K} {old new : CacheState K V S} → slot_of (key.eq k) old.machine ≡ None
       → Becomes key build hash (Get k) (hit (key.eq k) old.machine) old new → Becomes key build hash (Get k) old.machine old new
-  unhit-becomes {k} {old} {new} absent missed = subst (λ m. Becomes key build hash (Get k) m old new) (hit-absent (key.eq k) old.machine absent) missed
+  unhit-becomes absent missed = grind (arith, hit-absent)
 
   -- a lookup that finds a resident, which is hit
   pub hit-becomes : {k : K} {x : ℕ} {old found new : CacheState K V S} → x ≡ hash_of build hash old.hasher (key.hash_input k)
@@ -120,7 +112,7 @@ module _ {K V S H : Type 0} {key : HashMembers K} {build : builder.Ghosts S H} {
   pub lent-becomes : {k : K} {slot : ℕ} {value : V} {old new : CacheState K V S} → Some slot ≡ slot_of (key.eq k) old.machine
       → Becomes key build hash (Get k) (hit (key.eq k) old.machine) old new
       → Becomes key build hash (Set k value) (replaced (key.eq k) value old.machine) old (record new { machine = stored slot value new.machine })
-  lent-becomes {k} {slot} {value} {old} there found = grind (arith, found.0, found.1, costs-of, found.2.index.accesses, found.2.counts)
+  lent-becomes there found = grind (arith, found.0, found.1, costs-of, found.2.index.accesses, found.2.counts)
 
   -- none is lent
   pub unlent-becomes : {k : K} {value : V} {old new : CacheState K V S} → slot_of (key.eq k) old.machine ≡ None
@@ -132,7 +124,7 @@ module _ {K V S H : Type 0} {key : HashMembers K} {build : builder.Ghosts S H} {
   pub missed_at-becomes : {slot : ℕ} {k : K} {old new : CacheState K V S} → None ≡ then_some (is_at slot (slot_of (key.eq k) old.machine)) slot
       → new ≡ record old { counts = new.counts } → Spends 0 0 1 old.counts new.counts
       → Becomes key build hash (GetAt slot k) (hit_at slot (key.eq k) old.machine) old new
-  missed_at-becomes {slot} {k} {old} {new} absent kept spent = grind (arith, none-some, is_at, slot_of, costs-of, reaches-none)
+  missed_at-becomes absent kept spent = grind (arith, none-some, is_at, slot_of, costs-of, reaches-none)
 
   pub hit_at-becomes : {slot resident : ℕ} {k : K} {old found new : CacheState K V S} → Some resident ≡ then_some (is_at slot (slot_of (key.eq k) old.machine)) slot
       → found ≡ record old { counts = found.counts } → Spends 0 0 1 old.counts found.counts
