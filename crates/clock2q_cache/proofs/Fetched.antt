@@ -1,5 +1,5 @@
 -- A key that is hit, or inserted with a value that was made.
-use Rattle.std.proofs.Common.{◌≡◌, ℕ, Bool, Some, None, refl, sym, ap, ◌∙◌, subst}
+use Rattle.std.proofs.Common.{◌≡◌, ℕ, Bool, Some, None, refl, sym, ap, ◌∙◌, subst, arith}
 use Rattle.clock2q_cache.proofs.Names.{is_some, if◌then◌else◌, slice_get, IsEquivalence, UnwrapsOrElse, option_and_then, Machine, slot_of, value_of, hit, inserted, placement, put, fetched, replaced_at, IsWhole, Fetches, resident_made, stored_again, stored_same, get-within, slot_at_most, inserted_value}
 
 -- so a value that was fetched and is not written to stays as it was fetched
@@ -9,23 +9,7 @@ unwritten {new = new} {slot} f = sym (f.writes f.value) ∙ stored_same new slot
 
 module _ {K V : Type 0} (eq : K → K → Bool) (laws : IsEquivalence eq) (m : Machine K V) (h : IsWhole eq m) (key : K) (made : V → Type 0) where
   pub hit-fetches : (slot : ℕ) → slot_of (eq key) m ≡ Some slot → Fetches (eq key) key made m slot (hit (eq key) m)
-  hit-fetches slot found =
-      let v = get-within m.values slot (resident_made eq laws (eq key) m h slot found) in
-      let has : value_of (eq key) m ≡ Some v.0 = ap (option_and_then (slice_get m.values)) found ∙ v.1 in
-      record {
-        value = v.0;
-        had = subst (λ o. UnwrapsOrElse o made v.0) (sym has) refl;
-        there = v.1;
-        becomes = sym (ap (λ o. if is_some o then hit (eq key) m else inserted (eq key) key v.0 m) found);
-        writes = λ w. sym (ap (λ o. if is_some o then replaced_at (eq key) w o m else inserted (eq key) key w m) found);
-      }
+  hit-fetches slot found = grind (arith, get-within m.values slot (resident_made eq laws (eq key) m h slot found))
 
   pub new-fetches : slot_of (eq key) m ≡ None → (value : V) → made value → Fetches (eq key) key made m (placement (eq key) key m).slot (inserted (eq key) key value m)
-  new-fetches absent value gave = record {
-    value = value;
-    had = subst (λ o. UnwrapsOrElse o made value) (sym (ap (option_and_then (slice_get m.values)) absent)) gave;
-    there = inserted_value eq laws m h key absent value;
-    becomes = sym (ap (λ o. if is_some o then hit (eq key) m else inserted (eq key) key value m) absent);
-    writes = λ w. stored_again (placement (eq key) key m).machine (placement (eq key) key m).slot value w (slot_at_most eq laws m h key absent)
-        ∙ sym (ap (λ o. if is_some o then replaced_at (eq key) w o m else inserted (eq key) key w m) absent);
-  }
+  new-fetches absent value gave = grind (arith, inserted_value eq laws m h key absent value, stored_again (placement (eq key) key m).machine (placement (eq key) key m).slot value, slot_at_most eq laws m h key absent)

@@ -18,7 +18,7 @@ freed-more free slot to h =
 
 module _ {F K V : Type 0} {g : Mut F Unit V} {f : F} {hash : K → ℕ} {old : List (Entry K V)} where
   pub FillsUp-none : {n : ℕ} → n ≡ length old → FillsUp g f hash n old old f
-  FillsUp-none h = record { added = []; is = sym (append-nil old); as_many = omega (arith, h); hashed = tt; called = refl }
+  FillsUp-none h = grind (arith, append-nil)
 
   pub FillsUp-more : {n : ℕ} {now : List (Entry K V)} {p : F} {h : ℕ} {key : K} {value : V} {last : F} → FillsUp g f hash n old now p
       → h ≡ hash key → Called g p tt value last → FillsUp g f hash (n + 1) old (now ++ entry h key value ∷ []) last
@@ -33,7 +33,7 @@ module _ {F K V : Type 0} {g : Mut F Unit V} {f : F} {hash : K → ℕ} {old : L
 
   -- there are as many entries as asked for
   pub FillsUp-length : {n : ℕ} {now : List (Entry K V)} {p : F} → FillsUp g f hash n old now p → length now ≡ n
-  FillsUp-length s = ap (λ (z : List (Entry K V)). length z) s.is ∙ length-append old s.added ∙ s.as_many
+  FillsUp-length s = grind (arith, s.is, length-append, s.as_many)
 
 module _ {K V : Type 0} {eq : K → K → Bool} {hash : K → ℕ} {shares : Shares} {q : QueueState} {h : Remembered K} {index : List (List (ℕ × ℕ))} {keys : KeyPlaces K V} {free : List ℕ} {room : ℕ}
     (laws : IsEquivalence eq) (kept : IsKept eq hash shares q h index keys free room)

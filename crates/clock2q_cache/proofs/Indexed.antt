@@ -38,9 +38,7 @@ module _ {K V : Type 0} (hash : K → ℕ) (entries : List (Entry K V)) where
   stored_hashed [] below all = tt
   stored_hashed (s ∷ ss) below all =
       let e = slice_get_some entries s below.0 in
-      let h = hash-of-key hash entries s e.0.hash e.0.key all (ap (λ z. elim z [ None ↦ None | Some e ↦ Some e.hash ]) e.1) (ap (λ z. elim z [ None ↦ None | Some e ↦ Some e.key ]) e.1) in
-      let at : hashed_at entries s ≡ Some (e.0.hash, e.0.key) = ap (λ z. elim z [ None ↦ None | Some e ↦ Some (e.hash, e.key) ]) e.1 in
-      ((e.0.key, at ∙ ap (λ n. Some (n, e.0.key)) h), stored_hashed ss below.1 all)
+      (grind (arith, e.1, all-at (λ (e : Entry K V). e.hash ≡ hash e.key) entries s e.0 all e.1), stored_hashed ss below.1 all)
 
   module _ (index : List (List (ℕ × ℕ))) where
     named : (x place : ℕ) (places : List ℕ) → AllByRecursion IsHashed places
@@ -83,10 +81,5 @@ module _ {K V : Type 0} {eq : K → K → Bool} {hash : K → ℕ} {shares : Sha
   pub remembers : IsWholeHistory eq h → Remembers
   remembers whole =
       let w = whole.indexed in
-      let t = are_remembered hash w.0 h.places.taken (ap (λ (z : List (ℕ × K)). length z) (sym w.1) ∙ w.2) (subst (λ z. AllByRecursion (λ (e : ℕ × K). e.0 ≡ hash e.1) z) w.1 kept.hashed) in
-      record {
-        as_many = sym w.2 ∙ sym (length-map h.entries (λ (e : ℕ × K). e.1));
-        have =
-            subst (λ z. HasPlaces hash (known.places h.places.index) z) (sym (ap (λ (z : List (ℕ × K)). zip (map (λ (e : ℕ × K). e.1) z) h.places.taken) w.1 ∙ t.zipped))
-            (has-places hash w.0 (known.places h.places.index) h.places.taken t.hashed w.3);
-      }
+      let t = are_remembered hash w.0 h.places.taken (grind (arith, w.1, w.2)) (rw (← w.1) kept.hashed) in
+      grind (arith, w.1, w.2, length-map {B = K} h.entries, has-places hash w.0 (known.places h.places.index) h.places.taken t.hashed w.3, t.zipped)

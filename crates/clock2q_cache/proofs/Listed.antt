@@ -20,50 +20,23 @@ use Rattle.clock2q_cache.proofs.Vacated.{found-resident}
 module _ {X : Type 0} (p q : X → Bool) where
   -- what is found passes, and is counted
   found_passes : (xs : List X) (x : X) → find p xs ≡ Some x → p x ≡ true
-  found_passes [] x is = absurd (none_is x is)
-  found_passes (y ∷ xs) x is = by_test (p y) refl (found_passes xs x)
-    where
-      by_test : (b : Bool) → p y ≡ b → (find p xs ≡ Some x → p x ≡ true) → p x ≡ true
-      by_test true at later = ap p (sym (some_is y x (sym (ap (λ b. cond b (Some y) (find p xs)) at) ∙ is))) ∙ at
-      by_test false at later = later (sym (ap (λ b. cond b (Some y) (find p xs)) at) ∙ is)
+  found_passes [] x is = absurd (cc)
+  found_passes (y ∷ xs) x is = grind (arith, found_passes xs x)
 
   found_counted : (xs : List X) (x : X) → find p xs ≡ Some x → q x ≡ true → 0 < count_by q xs
-  found_counted [] x is passes = absurd (none_is x is)
-  found_counted (y ∷ xs) x is passes = by_test (p y) refl (λ later. found_counted xs x later passes)
-    where
-      by_test : (b : Bool) → p y ≡ b → (find p xs ≡ Some x → 0 < count_by q xs) → 0 < count_by q (y ∷ xs)
-      by_test true at later =
-          let same = some_is y x (sym (ap (λ b. cond b (Some y) (find p xs)) at) ∙ is) in
-          omega (arith, sum_by-cons (λ z. one_if (q z)) y xs, ap one_if (ap q same ∙ passes))
-      by_test false at later = omega (arith, sum_by-cons (λ z. one_if (q z)) y xs, later (sym (ap (λ b. cond b (Some y) (find p xs)) at) ∙ is))
+  found_counted [] x is passes = absurd (cc)
+  found_counted (y ∷ xs) x is passes = grind (arith, sum_by-cons (λ z. one_if (q z)) y xs, found_counted xs x)
 
 module _ {X : Type 0} (f : ℕ → Option X) where
   -- what holds of each value of a function holds of all values that are kept
   all_kept : (P : X → Type 0) → ((n : ℕ) (x : X) → f n ≡ Some x → P x) → (ns : List ℕ) → AllByRecursion P (filter_map f ns)
   all_kept P each [] = tt
-  all_kept P each (n ∷ ns) = by_value (f n) refl (all_kept P each ns)
-    where
-      by_value : (o : Option X) → f n ≡ o → AllByRecursion P (filter_map f ns) → AllByRecursion P (cons_option o (filter_map f ns))
-      by_value None is rest = rest
-      by_value (Some x) is rest = (each n x is, rest)
+  all_kept P each (n ∷ ns) = grind (arith, each n, all_kept P each ns)
 
   -- a value in a range that passes is among those that are kept
   any_kept : (test : X → Bool) (at : ℕ) (x : X) → f at ≡ Some x → test x ≡ true → (from n : ℕ) → from ≤ at → at < from + n → list_any test (filter_map f (range_with_len from n)) ≡ true
   any_kept test at x is passes from zero low high = absurd (omega (arith, low, high))
-  any_kept test at x is passes from (suc n) low high = elim (cases_lt from at) [
-    | inl below ↦ later (f from) (any_kept test at x is passes (from + 1) n (omega (arith, below)) (omega (arith, high)))
-    | inr above ↦
-        let same : from ≡ at = omega (arith, low, above) in
-        ap (λ o. list_any test (cons_option o (filter_map f (range_with_len (from + 1) n)))) (ap f same ∙ is) ∙ ap (λ b. b || list_any test (filter_map f (range_with_len (from + 1) n))) passes
-  ]
-    where
-      or_later : (b c : Bool) → c ≡ true → (b || c) ≡ true
-      or_later true c e = refl
-      or_later false c e = e
-
-      later : (o : Option X) → list_any test (filter_map f (range_with_len (from + 1) n)) ≡ true → list_any test (cons_option o (filter_map f (range_with_len (from + 1) n))) ≡ true
-      later None rest = rest
-      later (Some y) rest = or_later (test y) (list_any test (filter_map f (range_with_len (from + 1) n))) rest
+  any_kept test at x is passes from (suc n) low high = grind (arith, any_kept test at x is passes (from + 1) n)
 
 module _ {K V : Type 0} (eq : K → K → Bool) (laws : IsEquivalence eq) (m : Machine K V) (whole : IsWhole eq m) where
   -- a resident that is found at a slot is found there by its key
@@ -79,25 +52,15 @@ module _ {K V : Type 0} (eq : K → K → Bool) (laws : IsEquivalence eq) (m : M
 
   -- a key that is found at a slot is equal to that of the resident there
   pub same-key : (key : K) (slot : ℕ) (r : K × ℕ) → slot_of (eq key) m ≡ Some slot → resident_at m slot ≡ Some r → eq key r.0 ≡ true
-  same-key key slot r found there = elim (cases_Bool (eq key r.0)) [
-    | inl passes ↦ passes
-    | inr other ↦ absurd (slots_apart eq laws m whole key r.0 other slot slot (at_its_slot slot r there).1 found refl)
-  ]
+  same-key key slot r found there = grind (arith, slots_apart eq laws m whole key r.0, at_its_slot slot r there)
 
   entry_is : (slot : ℕ) (o : Option (K × ℕ)) → resident_at m slot ≡ o → (v : Option V) → slice_get m.values slot ≡ v → (e : K × ℕ × V)
       → option_and_then {U = K × ℕ × V} (λ (r : K × ℕ). option_map (λ value. (r.0, r.1, value)) v) o ≡ Some e → value_of (eq e.0) m ≡ Some e.2
-  entry_is slot None there v has e is = absurd (none_is e is)
-  entry_is slot (Some r) there None has e is = absurd (none_is e is)
-  entry_is slot (Some r) there (Some value) has e is =
-      let same = some_is (r.0, r.1, value) e is in
-      ap (λ (x : K × ℕ × V). value_of (eq x.0) m) (sym same) ∙ ap (option_and_then (slice_get m.values)) (at_its_slot slot r there).1 ∙ has ∙ ap (λ (x : K × ℕ × V). Some x.2) same
+  entry_is slot o there v has e is = grind (arith, at_its_slot slot)
 
   -- each entry has its key's value
   pub entries-values : AllByRecursion (λ (e : K × ℕ × V). value_of (eq e.0) m ≡ Some e.2) (entries m)
-  entries-values =
-      all_kept (entry_at m) (λ (e : K × ℕ × V). value_of (eq e.0) m ≡ Some e.2)
-      (λ slot e is. entry_is slot (resident_at m slot) refl (slice_get m.values slot) refl e is)
-      (range_with_len 0 (length m.values - 0))
+  entries-values = all_kept (entry_at m) (λ (e : K × ℕ × V). value_of (eq e.0) m ≡ Some e.2) (λ slot e is. grind (arith, at_its_slot slot)) (range_with_len 0 (length m.values - 0))
 
   -- and each key that has a value has an entry
   pub entries-listed : (key : K) (v : V) → value_of (eq key) m ≡ Some v → list_any (λ (e : K × ℕ × V). eq key e.0) (entries m) ≡ true

@@ -15,56 +15,33 @@ module _ {K V : Type 0} (eq : K → K → Bool) (m : Machine K V) (h : IsWhole e
   vacant-made slot is = by m.free refl is where
     by : (free : List ℕ) → m.free ≡ free → vacant_slot free (length m.values) m.shares.capacity ≡ Some slot
         → nat_lt slot (length m.values) ≡ not ((length free == 0) && nat_lt (length m.values) m.shares.capacity)
-    by [] e v = grind (arith, some_is, none_is)
-    by (f ∷ fs) e v =
-        let at : f ≡ slot = some_is f slot v in
-        let counted : 0 < count_by (λ s. s == slot) m.free = omega (arith, sum_by-cons (λ s. one_if (s == slot)) f fs, ap (count_by (λ s. s == slot)) e, ap one_if (eq-eqb f slot at)) in
-        lt-ltb slot (length m.values) (counted_made eq m h slot (omega (arith, counted)))
-        ∙ ap (λ b. not (b && nat_lt (length m.values) m.shares.capacity)) (sym (ne_eqb (length {A = ℕ} (f ∷ fs)) 0 (λ e. omega (arith, e))))
+    by [] e v = grind arith
+    by (f ∷ fs) e v = grind (arith, counted_made eq m h slot, sum_by-cons (λ s. one_if (s == slot)) f fs)
 
   module _ (key : K) where
     pub main-makes : nat_lt (into_main key m).slot (length m.values) ≡ not (makes_slot true m)
-    main-makes = by (length m.main == main_share m.shares) refl (from_victim m.main) refl (vacancy m) refl where
-      by : (b : Bool) → (length m.main == main_share m.shares) ≡ b → (es : List (MainEntry K)) → from_victim m.main ≡ es → (v : Option ℕ) → vacancy m ≡ v
-          → nat_lt (if b then replacing_victim key es m else joining_main key v m).slot (length m.values) ≡ not (next_is_vacant m && not (true && b))
-      by true full [] choice v is = absurd (omega (arith, h.small_below, eqb-true (length m.main) (main_share m.shares) full, ap (length {A = MainEntry K}) choice, length-from_victim m.main))
-      by true full (victim ∷ others) choice v is = lt-ltb victim.slot (length m.values) (victim_made eq m h victim others choice) ∙ ap not (sym (and_false (next_is_vacant m)))
-      by false room es choice None is = absurd (omega (arith, all_resident eq m h is, h.small_within, h.main_within, h.small_below, eqb-false (length m.main) (main_share m.shares) room))
-      by false room es choice (Some slot) is = vacant-made slot is ∙ ap not (sym (and_true (next_is_vacant m)))
+    main-makes = grind (arith, length-from_victim m.main, victim_made eq m h, h.small_below, h.small_within, h.main_within, all_resident eq m h, vacant-made)
 
     pub small-makes : goes_to_main false m ≡ false → nat_lt (into_small key m).slot (length m.values) ≡ not (makes_slot false m)
-    small-makes small = by (vacancy m) refl where
-      by : (v : Option ℕ) → vacancy m ≡ v → nat_lt (into_small key m).slot (length m.values) ≡ not (makes_slot false m)
-      by None none =
-          let full = no_vacancy m.free (length m.values) m.shares.capacity none in
-          let over : nat_lt (length m.values) m.shares.capacity ≡ false = le-ltb (length m.values) m.shares.capacity (omega (arith, full.1)) in
-          let never : makes_slot false m ≡ false = and_true (next_is_vacant m) ∙ ap (λ b. (length m.free == 0) && b) over ∙ and_false (length m.free == 0) in
-          elim (placed-small eq m h key small).slots [
-            | inl keeps ↦ lt-ltb (into_small key m).slot (length m.values) keeps.made ∙ ap not (sym never)
-            | inr makes ↦ absurd (omega (arith, makes.vacant, full.1))
-          ]
-      by (Some slot) is = ap (λ v. nat_lt (into_small_at key v (last_or None m.small) m).slot (length m.values)) is ∙ vacant-made slot is ∙ ap not (sym (and_true (next_is_vacant m)))
+    small-makes small = grind (arith, no_vacancy, placed-small eq m h key small, vacant-made)
 
     pub placed-values : (main : Bool) → (main ≡ false → goes_to_main false m ≡ false) → (placed main key m).machine.values ≡ m.values
-    placed-values true small = (placed-main eq m h key).values
-    placed-values false small = (placed-small eq m h key (small refl)).values
+    placed-values main small = grind (arith, placed-main eq m h key, placed-small eq m h key)
 
     pub placed-makes : (main : Bool) → (main ≡ false → goes_to_main false m ≡ false) → nat_lt (placed main key m).slot (length m.values) ≡ not (makes_slot main m)
-    placed-makes true small = main-makes
-    placed-makes false small = small-makes (small refl)
+    placed-makes main small = grind (arith, main-makes, small-makes)
 
 -- where a key without a history goes
 pub goes-unknown : {K V : Type 0} (known : Bool) (m : Machine K V) → goes_to_main known m ≡ false → goes_to_main false m ≡ false
-goes-unknown true m e = cc
-goes-unknown false m e = e
+goes-unknown known m e = grind arith
 
 -- how a key is placed if its history is erased first
 module _ {K V : Type 0} (eq : K → K → Bool) (key : K) {m m1 : Machine K V} {main : Bool} (s : IsSent (eq key) m m1 main) where
   pub small-unknown : main ≡ false → goes_to_main false m1 ≡ false
-  small-unknown small = goes-unknown (list_any (eq key) m.history) m1 (ap (goes_to_main (list_any (eq key) m.history)) s.erased ∙ sym s.goes ∙ small)
+  small-unknown small = grind (arith, s)
 
   pub placed-there : placed main key m1 ≡ placement (eq key) key m
-  placed-there = ap (placed main key) s.erased ∙ ap (λ b. placed b key (forgotten (eq key) m)) s.goes
+  placed-there = grind (arith, s.erased, s.goes)
 
   pub fills-there : (value : Option V) (new : Machine K V) → Fills value (placed main key m1) m1 new → Fills value (placement (eq key) key m) m new
   fills-there value new f = grind (arith, placed-there)
@@ -75,39 +52,26 @@ module _ {K V : Type 0} (eq : K → K → Bool) (key : K) {m m1 : Machine K V} {
     makes-here = placed-makes eq m1 whole key main small-unknown ∙ ap not (sym is)
 
     pub makes-there : nat_lt (placement (eq key) key m).slot (length m.values) ≡ not makes
-    makes-there = ap (λ (p : Placement K V). nat_lt p.slot (length m.values)) (sym placed-there)
-        ∙ ap (λ (z : Machine K V). nat_lt (placed main key m1).slot (length z.values)) (sym s.erased) ∙ makes-here
+    makes-there = grind (arith, placed-there, s.erased, makes-here)
 
     pub values-there : (placement (eq key) key m).machine.values ≡ m.values
-    values-there = ap (λ (p : Placement K V). p.machine.values) (sym placed-there) ∙ placed-values eq m1 whole key main small-unknown ∙ ap (λ (z : Machine K V). z.values) s.erased
+    values-there = grind (arith, placed-there, s.erased, placed-values eq m1 whole key main small-unknown)
 
 -- a key that is erased from the history is not known then
 pub still-unknown : {K V S H : Type 0} {key : HashMembers K} {build : builder.Ghosts S H} {hash : hasher.Ghosts H} {found : Found} {k : K} {x : ℕ} {old new : CacheState K V S}
     → IsFoundFor key.eq found k x old → IsAbsent key build hash k x old → new.machine ≡ forgotten (key.eq k) old.machine → new.hasher ≡ old.hasher → new.known ≡ discarded (key.eq k) x old
     → IsUnknown key build hash k x (found_gap found) new
-still-unknown {key = key} {found = found} {k} {old = old} f a erased hasher known = record {
-  hashed = rw hasher a.hashed;
-  absent = ap (known_count (key.eq k)) erased ∙ unknown_once_forgotten (key.eq k) old.machine a.absent;
-  at = gap-still found f known;
-}
+still-unknown {found = found} f a erased hasher known = grind (arith, unknown_once_forgotten, gap-still found f known, a.absent, a.hashed)
 
 -- if no value is given, the slot was made before
 pub made-or-none : {V : Type 0} (value : Option V) (slot made : ℕ) → nat_lt slot made ≡ not (is_some value) → IfNone value (slot < made)
-made-or-none None slot made is = ltb-true slot made is
-made-or-none (Some v) slot made is = tt
+made-or-none value slot made is = grind arith
 
 -- a slot keeps its value, or a new one gets the one that was made
 module _ {K V : Type 0} (is : K → Bool) (key : K) (made : V → Type 0) (m : Machine K V) (values : (placement is key m).machine.values ≡ m.values) where
   pub reuses : (value : Option V) (new : Machine K V) → nat_lt (placement is key m).slot (length m.values) ≡ not (is_some value)
       → IfSome value made → Fills value (placement is key m) m new → Reuses is key made m new
-  reuses None new has gave f = grind (arith, f.is, stored_same)
-  reuses (Some v) new has gave f =
-      let p = placement is key m in
-      record {
-        value = v;
-        had = subst (λ o. UnwrapsOrElse o made v) (sym (slice_get_past m.values p.slot (ltb-false p.slot (length m.values) has))) gave;
-        becomes = f.becomes ∙ ap (λ x. stored p.slot x p.machine) f.is ∙ sym (ap (λ b. if b then p.machine else stored p.slot v p.machine) has);
-      }
+  reuses value new has gave f = grind (arith, f.is, stored_same, slice_get_past)
 
 module _ {K V : Type 0} (eq : K → K → Bool) (laws : IsEquivalence eq) (m : Machine K V) (h : IsWhole eq m) (key : K) (made : V → Type 0) where
   module _ (absent : slot_of (eq key) m ≡ None) where
@@ -115,14 +79,10 @@ module _ {K V : Type 0} (eq : K → K → Bool) (laws : IsEquivalence eq) (m : M
     p = placement (eq key) key m
 
     taken-value : (o : Option V) (v : V) → UnwrapsOrElse o made v → fetched_value o v ≡ v
-    taken-value None v had = refl
-    taken-value (Some x) v had = sym had
+    taken-value o v had = grind arith
 
     taken-writes : (v w : V) → stored p.slot w (reused (eq key) key v m) ≡ inserted (eq key) key w m
-    taken-writes v w = of (nat_lt p.slot (length m.values)) where
-      of : (b : Bool) → stored p.slot w (if b then p.machine else stored p.slot v p.machine) ≡ stored p.slot w p.machine
-      of true = refl
-      of false = stored_again p.machine p.slot v w (slot_at_most eq laws m h key absent)
+    taken-writes v w = grind (arith, stored_again, slot_at_most eq laws m h key absent)
 
     pub new-takes : (slot : ℕ) (new : Machine K V) → slot ≡ p.slot → Reuses (eq key) key made m new → Takes (eq key) key made m slot new
     new-takes slot new at r = grind (arith, reused_value, taken-value, taken-writes)

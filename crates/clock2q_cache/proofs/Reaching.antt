@@ -15,8 +15,7 @@ use Rattle.clock2q_cache.proofs.Retained.{below, below-more}
 -- the resident at a slot leaves
 left-reaches : {K : Type 0} (hash : K → ℕ) (x : ℕ) (o : Option (K × ℕ)) (slot : ℕ) (p : Places) → IfSome o (λ r. hash r.0 ≡ x)
     → (left_by hash o slot p).index.accesses ≤ p.index.accesses + most_reached p.index x
-left-reaches hash x None slot p same = omega arith
-left-reaches hash x (Some r) slot p same = omega (arith, ap (λ z. most_changed p.index.shared z) same)
+left-reaches hash x o slot p same = grind arith
 
 module _ {K V S H : Type 0} (key : HashMembers K) (build : builder.Ghosts S H) (hash : hasher.Ghosts H) where
   module _ (k : K) {old new : CacheState K V S} where
@@ -87,18 +86,9 @@ module _ {K V S H : Type 0} {key : HashMembers K} {build : builder.Ghosts S H} {
     left-stays = record { within = h.within; less = h.less; spent = omega (arith, h.spent, sum-more (resident_at old.machine n) refl) }
 
     left-one : (r : K × ℕ) → resident_at old.machine n ≡ Some r → LeftBelow key build hash (n + 1) old (known.left (hash_in key build hash old r.0) n now)
-    left-one r at =
-        let d = left-dear now h.within (hash_in key build hash old r.0) n in
-        record {
-          within = d.within;
-          less = λ y. omega (arith, d.shared y, d.own y, h.less y);
-          spent = omega (arith, h.spent, h.less (hash_in key build hash old r.0), sum-more (Some r) at, sum_by-cons (λ r. reached key build hash old r.0) r []);
-        }
+    left-one r at = grind (arith, left-dear, sum-more (Some r) at, h)
 
     -- the resident leaves the next slot
     pub left-more : (cache new : CacheState K V S) → cache.known.index ≡ now → cache.hasher ≡ old.hasher → resident_at cache.machine n ≡ resident_at old.machine n
         → new.known ≡ left_by (hash_in key build hash cache) (resident_at cache.machine n) n cache.known → LeftBelow key build hash (n + 1) old new.known.index
-    left-more cache new here same later is = subst (LeftBelow key build hash (n + 1) old) (sym (ap (λ (p : Places). p.index) is)) (by (resident_at cache.machine n) (sym later)) where
-      by : (o : Option (K × ℕ)) → resident_at old.machine n ≡ o → LeftBelow key build hash (n + 1) old (left_by (hash_in key build hash cache) o n cache.known).index
-      by None at = subst (LeftBelow key build hash (n + 1) old) (sym here) left-stays
-      by (Some r) at = grind (arith, hash_in, r.0, left-one)
+    left-more cache new here same later is = grind (arith, hash_in, left-stays, left-one)

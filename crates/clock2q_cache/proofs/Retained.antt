@@ -7,42 +7,31 @@ use Rattle.std.specs.Fn.{Takes}
 use Rattle.std.specs.List.Retain.{ReturnsInTurn}
 
 range-last : (a n : ℕ) → range_with_len a (suc n) ≡ range_with_len a n ++ (a + n) ∷ []
-range-last a zero = let e : a ≡ a + 0 = omega arith in ap (λ z. z ∷ []) e
-range-last a (suc n) = let e : a + 1 + n ≡ a + suc n = omega arith in ap (λ zs. a ∷ zs) (range-last (a + 1) n ∙ ap (λ z. range_with_len (a + 1) n ++ z ∷ []) e)
+range-last a zero = grind arith
+range-last a (suc n) = grind (arith, range-last (a + 1) n)
 
 returns-more : {X P : Type 0} (R : P → X → Bool → P → Type 0) (p : P) (bs : List Bool) (xs : List X) (q : P) (b : Bool) (x : X) (last : P)
     → length bs ≡ length xs → ReturnsInTurn R p bs xs q → R q x b last → ReturnsInTurn R p (bs ++ b ∷ []) (xs ++ x ∷ []) last
-returns-more R p [] [] q b x last many h r = (last, subst (λ z. R z x b last) (sym h) r, refl)
+returns-more R p [] [] q b x last many h r = grind arith
 returns-more R p [] (y ∷ xs) q b x last many h r = absurd (omega (arith, many))
 returns-more R p (c ∷ bs) [] q b x last many h r = absurd (omega (arith, many))
 returns-more R p (c ∷ bs) (y ∷ xs) q b x last many h r = (h.0, h.1, returns-more R h.0 bs xs q b x last (omega (arith, many)) h.2 r)
 
 refused-more : (bits : List Bool) (slots : List ℕ) (b : Bool) (s : ℕ) → length bits ≡ length slots → refused_slots (bits ++ b ∷ []) (slots ++ s ∷ []) ≡ refused_slots bits slots ++ cond b [] (s ∷ [])
-refused-more [] [] true s many = refl
-refused-more [] [] false s many = refl
+refused-more [] [] b s many = grind arith
 refused-more [] (t ∷ slots) b s many = absurd (omega (arith, many))
 refused-more (c ∷ bits) [] b s many = absurd (omega (arith, many))
-refused-more (true ∷ bits) (t ∷ slots) b s many = refused-more bits slots b s (omega (arith, many))
-refused-more (false ∷ bits) (t ∷ slots) b s many = ap (λ zs. t ∷ zs) (refused-more bits slots b s (omega (arith, many)))
+refused-more (c ∷ bits) (t ∷ slots) b s many = grind (arith, refused-more bits slots b s)
 
 -- when a resident leaves, the others stay as they are
 module _ {K X : Type 0} (at : X → K × ℕ) (s t : ℕ) (differ : eqb s t ≡ false) where
   others : (es : List X) (rs rs' : List (K × ℕ)) → find (λ (r : K × ℕ). r.1 == t) rs' ≡ find (λ (r : K × ℕ). r.1 == t) rs
       → find (λ (r : K × ℕ). r.1 == t) (map at (filter (λ e. not ((at e).1 == s)) es) ++ rs') ≡ find (λ (r : K × ℕ). r.1 == t) (map at es ++ rs)
   others [] rs rs' h = h
-  others (e ∷ es) rs rs' h = elim (cases_Bool (eqb (at e).1 s)) [
-    | inl i ↦
-        let no : eqb (at e).1 t ≡ false = subst (λ z. eqb z t ≡ false) (sym (eqb-true (at e).1 s i)) differ in
-        rw (i, no) (others es rs rs' h)
-    | inr i ↦ elim (cases_Bool (eqb (at e).1 t)) [
-      | inl j ↦ rw (i, j) refl
-      | inr j ↦ rw (i, j) (others es rs rs' h)
-    ]
-  ]
+  others (e ∷ es) rs rs' h = grind (arith, eqb-true, others es rs rs' h)
 
   last-others : (es : List X) → find (λ (r : K × ℕ). r.1 == t) (map at (filter (λ e. not ((at e).1 == s)) es)) ≡ find (λ (r : K × ℕ). r.1 == t) (map at es)
-  last-others es = subst (λ z. find (λ (r : K × ℕ). r.1 == t) z ≡ find (λ (r : K × ℕ). r.1 == t) (map at es)) (append-nil (map at (filter (λ e. not ((at e).1 == s)) es)))
-      (subst (λ z. find (λ (r : K × ℕ). r.1 == t) (map at (filter (λ e. not ((at e).1 == s)) es) ++ []) ≡ find (λ (r : K × ℕ). r.1 == t) z) (append-nil (map at es)) (others es [] [] refl))
+  last-others es = grind (arith, append-nil, others es [] [])
 
 pub resident-other : {K V : Type 0} (m : Machine K V) (s t : ℕ) → eqb s t ≡ false → resident_at (vacated s m) t ≡ resident_at m t
 resident-other {K} {V} m s t differ =
@@ -77,9 +66,7 @@ module _ {F K V : Type 0} (g : Mut F (Bor K × (Bor V × Unit {0})) Bool) where
     bits_of [] [] f last many i asked = refl
     bits_of [] (r ∷ rs) f last many i asked = absurd (omega (arith, many))
     bits_of (b ∷ bits) [] f last many i asked = absurd (omega (arith, many))
-    bits_of (b ∷ bits) (r ∷ rs) f last many i asked =
-        let s = says f asked.1.key asked.1.value r b asked.0 i asked.1.shows.0 asked.1.shows.1 asked.1.called in
-        ap (λ z. z ∷ bits) s.0 ∙ ap (λ z. test r ∷ z) (bits_of bits rs asked.0 last (omega (arith, many)) s.1 asked.2)
+    bits_of (b ∷ bits) (r ∷ rs) f last many i asked = grind (arith, says f asked.1.key asked.1.value r b asked.0 i asked.1.shows.0 asked.1.shows.1 asked.1.called, bits_of bits rs asked.0 last)
 
     pub retained_by : (f : F) (new : Machine K V) → I f → Retains g f m new → new ≡ retained (map test (by_slot m)) m
     retained_by f new i r = r.becomes ∙ ap (λ bits. retained bits m) (bits_of r.bits (by_slot m) f r.last r.as_many i r.asked)
@@ -90,11 +77,7 @@ module _ {K V : Type 0} (old : Machine K V) where
   below n = filter_map (resident_at old) (range_with_len 0 n)
 
   pub below-more : (n : ℕ) (o : Option (K × ℕ)) → resident_at old n ≡ o → below (n + 1) ≡ below n ++ cons_option o []
-  below-more n o at =
-      let e : n + 1 ≡ suc n = omega arith in
-      let start : 0 + n ≡ n = omega arith in
-      ap (λ z. below z) e ∙ ap (λ z. filter_map (resident_at old) z) (range-last 0 n ∙ ap (λ z. range_with_len 0 n ++ z ∷ []) start) ∙ filter_map-append (resident_at old) (range_with_len 0 n) (n ∷ [])
-      ∙ ap (λ z. below n ++ cons_option z []) at
+  below-more n o at = grind (arith, range-last 0 n, filter_map-append)
 
 module _ {F K V : Type 0} (g : Mut F (Bor K × (Bor V × Unit {0})) Bool) (f : F) (old : Machine K V) where
   -- the residents at this slot and above
@@ -102,9 +85,7 @@ module _ {F K V : Type 0} (g : Mut F (Bor K × (Bor V × Unit {0})) Bool) (f : F
   above n = filter_map (resident_at old) (range_with_len n (length old.values - n))
 
   above-more : (n : ℕ) (o : Option (K × ℕ)) → n < length old.values → resident_at old n ≡ o → above n ≡ cons_option o (above (n + 1))
-  above-more n o made at =
-      let e : length old.values - n ≡ suc (length old.values - (n + 1)) = omega (arith, made) in
-      ap (λ z. filter_map (resident_at old) (range_with_len n z)) e ∙ ap (λ z. cons_option z (above (n + 1))) at
+  above-more n o made at = grind arith
 
   -- the closure was called for these, and those that it refused left
   pub record RetainsOver (rs : List (K × ℕ)) (f' : F) (now : Machine K V) : Type 0 where
@@ -119,15 +100,8 @@ module _ {F K V : Type 0} (g : Mut F (Bor K × (Bor V × Unit {0})) Bool) (f : F
     bits = h.bits ++ b ∷ [];
     as_many = omega (arith, h.as_many, length-append h.bits (b ∷ []), length-append rs (r ∷ []));
     asked = returns-more (AsksResident g old.values) f h.bits rs f' b r last h.as_many h.asked asks;
-    becomes = left b (refused_slots h.bits (map (λ r. r.1) rs)) h.becomes
-        ∙ sym (ap (λ z. vacated_all z old)
-        (ap (λ z. refused_slots (h.bits ++ b ∷ []) z) (map-append (λ (r : K × ℕ). r.1) rs (r ∷ []))
-        ∙ refused-more h.bits (map (λ r. r.1) rs) b r.1 (h.as_many ∙ sym (length-map rs (λ (r : K × ℕ). r.1)))));
+    becomes = grind (arith, h.becomes, map-append (λ (r : K × ℕ). r.1) rs (r ∷ []), refused-more h.bits (map (λ r. r.1) rs) b r.1, h.as_many, length-map rs (λ (r : K × ℕ). r.1), fold-append (λ state slot. vacated slot state) old (refused_slots h.bits (map (λ r. r.1) rs)));
   }
-    where
-      left : (b : Bool) (ss : List ℕ) → now ≡ vacated_all ss old → cond b now (vacated r.1 now) ≡ vacated_all (ss ++ cond b [] (r.1 ∷ [])) old
-      left true ss e = e ∙ sym (fold-append (λ state slot. vacated slot state) old ss [])
-      left false ss e = ap (λ z. vacated r.1 z) e ∙ sym (fold-append (λ state slot. vacated slot state) old ss (r.1 ∷ []))
 
   -- the closure was called for the residents below, and nothing else changed
   pub record RetainsBelow (n : ℕ) (f' : F) (now : Machine K V) : Type 0 where
@@ -137,12 +111,7 @@ module _ {F K V : Type 0} (g : Mut F (Bor K × (Bor V × Unit {0})) Bool) (f : F
     pub callable : TakesInTurn g old.values f' (above n)
 
   pub retains-none : MayBeAsked g f old → RetainsBelow 0 f old
-  retains-none may = record {
-    callable = let e : length old.values ≡ length old.values - 0 = omega arith in subst (λ z. TakesInTurn g old.values f (filter_map (resident_at old) (range_with_len 0 z))) e may.in_turn;
-    over = record { bits = []; as_many = refl; asked = refl; becomes = refl };
-    later = λ t le. refl;
-    values = refl;
-  }
+  retains-none may = grind (arith, may.in_turn)
 
   module _ (n : ℕ) (f' : F) (now : Machine K V) (h : RetainsBelow n f' now) (made : n < length old.values) where
     -- there is no resident
@@ -174,24 +143,12 @@ module _ {F K V : Type 0} (g : Mut F (Bor K × (Bor V × Unit {0})) Bool) (f : F
 
         -- the resident stays
         pub retains-kept : Called g f' (key, (value, tt)) true last → RetainsBelow (n + 1) last now
-        retains-kept called = record {
-          callable = (turn key value refl there).1 true last called;
-          over = subst (λ z. RetainsOver z last now) (sym among) (over-more (below old n) f' now (key.now, n) true last h.over (asks true called));
-          later = λ t le. h.later t (omega (arith, le));
-          values = h.values;
-        }
+        retains-kept called = grind (arith, (turn key value refl there).1 true last called, h, among, over-more (below old n) f' now (key.now, n) true last h.over (asks true called))
 
         -- the resident leaves
         pub retains-refused : Called g f' (key, (value, tt)) false last → RetainsBelow (n + 1) last (vacated n now)
-        retains-refused called = record {
-          callable = (turn key value refl there).1 false last called;
-          over = subst (λ z. RetainsOver z last (vacated n now)) (sym among) (over-more (below old n) f' now (key.now, n) false last h.over (asks false called));
-          later = λ t le. resident-other now n t (ne_eqb n t (λ e. omega (arith, e, le))) ∙ h.later t (omega (arith, le));
-          values = h.values;
-        }
+        retains-refused called = grind (arith, (turn key value refl there).1 false last called, h, among, over-more (below old n) f' now (key.now, n) false last h.over (asks false called), resident-other now n, ne_eqb)
 
   -- the closure was called for all
   pub retains-all : (n : ℕ) (f' : F) (now : Machine K V) → n ≡ length old.values → RetainsBelow n f' now → Retains g f old now
-  retains-all n f' now all h =
-      let o : RetainsOver (below old (length old.values)) f' now = subst (λ z. RetainsOver (below old z) f' now) all h.over in
-      record { bits = o.bits; last = f'; as_many = o.as_many; asked = o.asked; becomes = o.becomes }
+  retains-all n f' now all h = grind (arith, h)

@@ -27,14 +27,9 @@ module _ {K V : Type 0} (hash : K → ℕ) where
       → IsStored hash index entries places → 0 < length index → has slot places ≡ false → slot ≤ length entries
       → IsStored hash (with_handle index (hash key) slot) (written slot (entry (hash key) key value) entries) (slot ∷ places)
   stored-entered index entries places slot key value i some absent next =
-      let e = entry (hash key) key value in
-      let n = length-written slot e entries next in
-      record {
-        made = (omega (arith, n), below-more (length entries) (length (written slot e entries)) places (omega (arith, n)) i.made);
-        indexed = IsIndex-put index entries (written slot e entries) places slot (hash key) i.indexed some absent
-            (hash_at-others slot (hash key) key value entries next places absent) (hash_at-own slot (hash key) key value entries next);
-        hashed = all-written (λ e. e.hash ≡ hash e.key) slot e entries i.hashed refl;
-      }
+      grind (arith, length-written, below-more (length entries) (length (written slot (entry (hash key) key value) entries)) places, i.made,
+      IsIndex-put index entries (written slot (entry (hash key) key value) entries) places slot (hash key) i.indexed some absent, hash_at-others slot (hash key) key value entries next places absent, hash_at-own slot (hash key) key value entries next,
+      all-written (λ (e : Entry K V). e.hash ≡ hash e.key) slot, i.hashed)
 
   -- a resident's slot leaves the index
   pub stored-left : (index : List (List (ℕ × ℕ))) (entries : List (Entry K V)) (places : List ℕ) (slot old : ℕ)
@@ -49,14 +44,11 @@ module _ {K V : Type 0} (hash : K → ℕ) where
       → IsStored hash (with_handle (removed eqb index old slot) (hash key) slot) (written slot (entry (hash key) key value) entries) places
   stored-renewed index entries places slot old key value i some apart there at =
       let l = stored-left index entries places slot old i some apart at in
-      let gone : has slot (without slot places) ≡ false = has-without_test slot slot places ∙ rw (eqb_self slot) (and_false (has slot places)) in
       let below : slot < length entries = below_of (length entries) places i.made slot there in
-      let e = stored-entered (removed eqb index old slot) entries (without slot places) slot key value l (omega (arith, some, length-taken index old slot)) gone (omega (arith, below)) in
-      stored-same (with_handle (removed eqb index old slot) (hash key) slot) (written slot (entry (hash key) key value) entries)
-      (slot ∷ without slot places) places e again (sym (omega (arith, length-without slot places apart there)))
-    where
-      again : (t : ℕ) → has t places ≡ has t (slot ∷ without slot places)
-      again t = grind (arith, has-without_test, and_true)
+      let gone : has slot (without slot places) ≡ false = grind (arith, has-without_test, eqb_self, and_false) in
+      stored-same (with_handle (removed eqb index old slot) (hash key) slot) (written slot (entry (hash key) key value) entries) (slot ∷ without slot places) places
+      (stored-entered (removed eqb index old slot) entries (without slot places) slot key value l (grind (arith, length-taken index old slot)) gone (omega (arith, below)))
+      (λ t. grind (arith, has-without_test, and_true)) (grind (arith, length-without slot places apart there))
 
 -- a key at a place has its hash there
 pub hash-of-key : {K V : Type 0} (hash : K → ℕ) (entries : List (Entry K V)) (t old : ℕ) (key : K)
