@@ -13,8 +13,7 @@ all-append P (x ∷ xs) ys a b = (a.0, all-append P xs ys a.1 b)
 pub freed-more : (free : List ℕ) (slot to : ℕ) → slot < to → (free ++ reverse (range_with_len (slot + 1) (to - (slot + 1)))) ++ slot ∷ [] ≡ free ++ reverse (range_with_len slot (to - slot))
 freed-more free slot to h =
     let n : to - slot ≡ suc (to - (slot + 1)) = omega (arith, h) in
-    append_assoc free (reverse (range_with_len (slot + 1) (to - (slot + 1)))) (slot ∷ [])
-    ∙ ap (λ z. free ++ z) (sym (ap (λ z. reverse (range_with_len slot z)) n ∙ reverse-append (slot ∷ []) (range_with_len (slot + 1) (to - (slot + 1)))))
+    grind (arith, n, append_assoc free (reverse (range_with_len (slot + 1) (to - (slot + 1)))) (slot ∷ []), reverse-append (slot ∷ []) (range_with_len (slot + 1) (to - (slot + 1))))
 
 module _ {F K V : Type 0} {g : Mut F Unit V} {f : F} {hash : K → ℕ} {old : List (Entry K V)} where
   pub FillsUp-none : {n : ℕ} → n ≡ length old → FillsUp g f hash n old old f
@@ -24,11 +23,10 @@ module _ {F K V : Type 0} {g : Mut F Unit V} {f : F} {hash : K → ℕ} {old : L
       → h ≡ hash key → Called g p tt value last → FillsUp g f hash (n + 1) old (now ++ entry h key value ∷ []) last
   FillsUp-more {n} {now} {p} {h} {key} {value} {last} s is called = record {
     added = s.added ++ entry h key value ∷ [];
-    is = ap (λ z. z ++ entry h key value ∷ []) s.is ∙ append_assoc old s.added (entry h key value ∷ []);
+    is = grind (arith, s.is, append_assoc);
     as_many = omega (arith, s.as_many, length-append s.added (entry h key value ∷ []));
     hashed = all-append (λ e. e.hash ≡ hash e.key) s.added (entry h key value ∷ []) s.hashed (is, tt);
-    called = subst (λ z. FoldsTo (λ p value q. Called g p tt value q) f z last) (sym (map-append (λ (e : Entry K V). e.value) s.added (entry h key value ∷ [])))
-        (FoldsTo-push (λ p value q. Called g p tt value q) f (map (λ (e : Entry K V). e.value) s.added) p value last s.called called);
+    called = rw (map-append (λ (e : Entry K V). e.value) s.added (entry h key value ∷ [])) (FoldsTo-push (λ p value q. Called g p tt value q) f (map (λ (e : Entry K V). e.value) s.added) p value last s.called called);
   }
 
   -- there are as many entries as asked for
@@ -57,18 +55,7 @@ module _ {K V : Type 0} {eq : K → K → Bool} {hash : K → ℕ} {shares : Sha
   key-before t g = before (λ z. elim z [ None ↦ None | Some e ↦ Some e.key ]) t (has-append t (slots_of q.small) (slots_of q.main) ∙ g)
 
   pub machine-prefilled : machine_of shares q keys'.entries h.entries free' ≡ prefilled made m
-  machine-prefilled =
-      let s = ap (λ z. with_keys_small (key_at z) q.small) is
-      ∙ keys-agree small_with (key_at keys.entries) (key_at (keys.entries ++ added)) q.small (λ t g. key-before t (rw g refl)) in
-      let t = ap (λ z. with_keys_main (key_at z) q.main) is
-      ∙ keys-agree main_with (key_at keys.entries) (key_at (keys.entries ++ added)) q.main (λ t g. key-before t (rw g (or_true (has t (slots_of q.small))))) in
-      let v = ap (λ z. map (λ (e : Entry K V). e.value) z) is ∙ map-append (λ (e : Entry K V). e.value) keys.entries added in
-      let n : shares.capacity - length keys.entries ≡ length made = omega (arith, as_many, length-values added) in
-      let f : reverse free' ≡ range_with_len (length m.values) (length made) ++ reverse free =
-      ap (λ z. reverse z) freed ∙ reverse-append free (reverse (range_with_len (length keys.entries) (shares.capacity - length keys.entries)))
-      ∙ ap (λ z. z ++ reverse free) (reverse-reverse (range_with_len (length keys.entries) (shares.capacity - length keys.entries)))
-      ∙ ap (λ z. range_with_len (length keys.entries) z ++ reverse free) n ∙ ap (λ z. range_with_len z (length made) ++ reverse free) (sym (length-values keys.entries)) in
-      cc
+  machine-prefilled = grind (arith, keys-agree small_with (key_at keys.entries) (key_at keys'.entries) q.small, keys-agree main_with (key_at keys.entries) (key_at keys'.entries) q.main, key-before, or_true, map-append (λ (e : Entry K V). e.value) keys.entries added, length-values, reverse-append, reverse-reverse)
 
   pub kept-prefilled : {links : ℕ} {q' : QueueState} → q' ≡ record q { made = made_below shares.capacity q.made; accesses = links }
       → AllByRecursion (λ e. e.hash ≡ hash e.key) added → keys'.room ≡ keys.room → room' ≡ room → IsKept eq hash shares q' h index keys' free' room'

@@ -44,11 +44,7 @@ module _ {K V : Type 0} (eq : K → K → Bool) (laws : IsEquivalence eq) (m : M
   at_its_slot slot r there =
       let at = eqb-true r.1 slot (found_passes (λ (x : K × ℕ). x.1 == slot) (λ x. true) (residents m) r there) in
       let is : K → ℕ → Bool = λ k s. eq r.0 k && s == slot in
-      let passes : is r.0 r.1 ≡ true = ap (λ b. b && r.1 == slot) (laws.refl r.0) ∙ eq-eqb r.1 slot at in (
-        at,
-        found_at (eq r.0) m (resident_once eq m whole r.0) slot
-            (omega (arith, counted_residents is m, found_counted (λ (x : K × ℕ). x.1 == slot) (λ x. is x.0 x.1) (residents m) r there passes)),
-      )
+      (at, grind (arith, at, laws.refl r.0, eq-eqb, found_at (eq r.0) m (resident_once eq m whole r.0) slot, counted_residents is m, found_counted (λ (x : K × ℕ). x.1 == slot) (λ x. is x.0 x.1) (residents m) r there))
 
   -- a key that is found at a slot is equal to that of the resident there
   pub same-key : (key : K) (slot : ℕ) (r : K × ℕ) → slot_of (eq key) m ≡ Some slot → resident_at m slot ≡ Some r → eq key r.0 ≡ true

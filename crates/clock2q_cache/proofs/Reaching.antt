@@ -22,14 +22,12 @@ module _ {K V S H : Type 0} (key : HashMembers K) (build : builder.Ghosts S H) (
     -- a key has its slot
     pub reaches-with : IsEquivalence key.eq → ((x y : K) → key.eq x y ≡ true → key.hash_input x ≡ key.hash_input y) → IsWhole key.eq old.machine
         → length old.known.taken ≡ length old.machine.history → IsWithinCapacity old.known.index → new.known ≡ known_with key build hash k old → Reaches (slots_for key build hash k old) old new
-    reaches-with laws respects whole as_many within is =
-        record { accesses = omega (arith, ap (λ (p : Places). p.index.accesses) is, known_with-reaches key build hash k old laws respects whole as_many within) }
+    reaches-with laws respects whole as_many within is = grind (arith, known_with-reaches key build hash k old laws respects whole as_many within)
 
     -- a key that was looked up first among the residents has its slot
     pub reaches-taken : IsEquivalence key.eq → ((x y : K) → key.eq x y ≡ true → key.hash_input x ≡ key.hash_input y) → IsWhole key.eq old.machine
         → length old.known.taken ≡ length old.machine.history → IsWithinCapacity old.known.index → new.known ≡ known_taken key build hash k old → Reaches (slots_to_take key build hash k old) old new
-    reaches-taken laws respects whole as_many within is =
-        record { accesses = omega (arith, ap (λ (p : Places). p.index.accesses) is, known_taken-reaches key build hash k old laws respects whole as_many within) }
+    reaches-taken laws respects whole as_many within is = grind (arith, known_taken-reaches key build hash k old laws respects whole as_many within)
 
     -- a key was looked up, and its history is erased
     pub reaches-discarded : IsWithinCapacity old.known.index → (x : ℕ) → x ≡ hash_of build hash old.hasher (key.hash_input k) → new.known ≡ discarded (key.eq k) x (looked_for key build hash k old)
@@ -40,18 +38,7 @@ module _ {K V S H : Type 0} (key : HashMembers K) (build : builder.Ghosts S H) (
     pub reaches-left : IsEquivalence key.eq → IsWhole key.eq old.machine → ((x y : K) → key.eq x y ≡ true → key.hash_input x ≡ key.hash_input y)
         → (slot : ℕ) → slot_of (key.eq k) old.machine ≡ Some slot → new.known ≡ left_by (hash_in key build hash old) (resident_at old.machine slot) slot (looked_for key build hash k old).known
         → Reaches (walked key build hash old k + reached key build hash old k) old new
-    reaches-left laws whole respects slot found is = record {
-      accesses = omega (
-        arith,
-        ap (λ (p : Places). p.index.accesses) is,
-        left-reaches (hash_in key build hash old) (hash_in key build hash old k) (resident_at old.machine slot) slot
-            (looked_for key build hash k old).known (alike (resident_at old.machine slot) refl),
-      );
-    }
-      where
-        alike : (o : Option (K × ℕ)) → resident_at old.machine slot ≡ o → IfSome o (λ r. hash_in key build hash old r.0 ≡ hash_in key build hash old k)
-        alike None there = tt
-        alike (Some r) there = ap (λ z. hash_of build hash old.hasher z) (sym (respects k r.0 (same-key key.eq laws old.machine whole k slot r found there)))
+    reaches-left laws whole respects slot found is = grind (arith, left-reaches (hash_in key build hash old) (hash_in key build hash old k) (resident_at old.machine slot) slot (looked_for key build hash k old).known, same-key key.eq laws old.machine whole k slot, respects k)
 
   -- the resident at a slot leaves, whose key is this one
   pub reaches-gone : (r : K × ℕ) (slot : ℕ) {old new : CacheState K V S} → new.known ≡ left_by (hash_in key build hash old) (Some r) slot old.known → Reaches (reached key build hash old r.0) old new
@@ -61,7 +48,7 @@ module _ {K V S H : Type 0} (key : HashMembers K) (build : builder.Ghosts S H) (
   pub reaches-own : (r : K × ℕ) (slot : ℕ) {old new : CacheState K V S} →
       new.known ≡ left_by (hash_in key build hash old) (Some r) slot old.known →
       Reaches (walked key build hash old r.0 + reached key build hash old r.0) old new
-  reaches-own r slot {old} {new} is = record { accesses = omega (arith, (reaches-gone r slot {old = old} {new = new} is).accesses) }
+  reaches-own r slot is = grind arith
 
 module _ {K V S H : Type 0} (key : HashMembers K) (build : builder.Ghosts S H) (hash : hasher.Ghosts H) where
   -- the index once some of the residents at the slots below left

@@ -34,10 +34,7 @@ module _ {K X : Type 0} (at : X → K × ℕ) (s t : ℕ) (differ : eqb s t ≡ 
   last-others es = grind (arith, append-nil, others es [] [])
 
 pub resident-other : {K V : Type 0} (m : Machine K V) (s t : ℕ) → eqb s t ≡ false → resident_at (vacated s m) t ≡ resident_at m t
-resident-other {K} {V} m s t differ =
-    others (λ (e : SmallEntry K). (e.key, e.slot)) s t differ m.small (map (λ (e : MainEntry K). (e.key, e.slot)) m.main)
-    (map (λ (e : MainEntry K). (e.key, e.slot)) (filter (λ (e : MainEntry K). not (e.slot == s)) m.main))
-    (last-others (λ (e : MainEntry K). (e.key, e.slot)) s t differ m.main)
+resident-other {K} m s t differ = others (λ (e : SmallEntry K). (e.key, e.slot)) s t differ m.small _ _ (last-others (λ (e : MainEntry K). (e.key, e.slot)) s t differ m.main)
 
 module _ {F K V : Type 0} (g : Mut F (Bor K × (Bor V × Unit {0})) Bool) where
   module _ (I : F → Type 0) (values : List V)

@@ -21,8 +21,7 @@ times-some t (x ∷ xs) h = grind (arith, times-cons t x xs, eqb_swap, times-som
 
 pub times-apart : (xs : List ℕ) → ((t : ℕ) → times t xs ≤ 1) → AllApart xs
 times-apart [] h = tt
-times-apart (x ∷ xs) h =
-    (times-none x xs (omega (arith, h x, times-cons x x xs, ap {B = ℕ} (λ b. cond b 1 0) (eqb_self x))), times-apart xs (λ t. omega (arith, h t, times-cons t x xs)))
+times-apart (x ∷ xs) h = (grind (arith, times-none x xs, h x, times-cons x x xs, eqb_self x), times-apart xs (λ t. omega (arith, h t, times-cons t x xs)))
 
 -- a slot that occurs as often in two lists is in both or in neither
 pub times-absent : (t : ℕ) (xs : List ℕ) → has t xs ≡ false → times t xs ≡ 0

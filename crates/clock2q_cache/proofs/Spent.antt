@@ -87,17 +87,7 @@ module _ {K V S H : Type 0} {key : HashMembers K} {build : builder.Ghosts S H} {
       → found ≡ record (looked_for key build hash k old) { counts = found.counts } → Spends 0 0 (length (candidates (residents_in old.known) x)) old.counts found.counts
       → new ≡ record found { machine = new.machine } → new.machine ≡ hit (key.eq k) found.machine
       → Becomes key build hash (Get k) (hit (key.eq k) old.machine) old new
-  hit-becomes {k} {old = old} same kept spent after_hit is =
-      let m = is ∙ ap (λ (z : CacheState K V S). hit (key.eq k) z.machine) kept in
-      let c = ap (λ (z : CacheState K V S). z.counts) after_hit in
-      let asked = ap (λ y. length (candidates (residents_in old.known) y)) same in
-      let index = ap (λ (z : CacheState K V S). z.known) after_hit ∙ ap (λ (z : CacheState K V S). z.known) kept in (
-        m,
-        ap (λ (z : CacheState K V S). z.hasher) after_hit
-            ∙ ap (λ (z : CacheState K V S). z.hasher) kept,
-        costs-of m (reaches-looked key build hash k index (omega arith))
-            (rw c (spends-more spent (omega arith) (omega (arith, asked)))),
-      )
+  hit-becomes {k} {old = old} {new = new} same kept spent after_hit is = grind (arith, is, after_hit, kept, costs-of {call = Get k} {old = old} {new = new})
 
   -- a lookup that finds a resident, which leaves
   pub remove-costs : {k : K} {slot : ℕ} {old found new : CacheState K V S} → Some slot ≡ slot_of (key.eq k) old.machine
@@ -131,8 +121,7 @@ module _ {K V S H : Type 0} {key : HashMembers K} {build : builder.Ghosts S H} {
       → new ≡ record found { machine = new.machine } → new.machine ≡ hit (key.eq k) found.machine
       → Becomes key build hash (GetAt slot k) (hit_at slot (key.eq k) old.machine) old new
   hit_at-becomes {slot} {resident} {k} {old} {new = new} at kept spent after_hit is =
-      let m : new.machine ≡ hit_at slot (key.eq k) old.machine =
-      rw (some-some (is_at slot (slot_of (key.eq k) old.machine)) slot resident at) (is ∙ ap (λ (z : CacheState K V S). hit (key.eq k) z.machine) kept) in
-      let c = ap (λ (z : CacheState K V S). z.counts) after_hit in
-      let index = ap (λ (z : CacheState K V S). z.known) after_hit ∙ ap (λ (z : CacheState K V S). z.known) kept in
-      (m, ap (λ (z : CacheState K V S). z.hasher) after_hit ∙ ap (λ (z : CacheState K V S). z.hasher) kept, costs-of m (reaches-none index) (rw c spent))
+      let m : new.machine ≡ hit_at slot (key.eq k) old.machine = grind (arith, some-some, is, kept) in
+      let s : Spends 0 0 1 old.counts new.counts = grind (arith, after_hit, spent) in
+      let index : new.known ≡ old.known = grind (arith, after_hit, kept) in
+      (m, grind (arith, after_hit, kept), costs-of m (reaches-none index) s)

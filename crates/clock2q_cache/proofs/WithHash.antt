@@ -26,10 +26,7 @@ module _ {K V : Type 0} {eq : K → K → Bool} {hash : K → ℕ} {shares : Sha
   same-hash x t there =
       let in-use = (candidate_there index keys.entries (places_of q) x t kept.stored.indexed there).0 in
       let e = slice_get_some keys.entries t (below_of (length keys.entries) (places_of q) kept.stored.made t in-use) in
-      let resident = resident-there laws kept t e.0.key in-use (ap (λ (z : Option (Entry K V)). elim z [ None ↦ None | Some e ↦ Some e.key ]) e.1) in
-      ap (λ (z : Option (Entry K V)). elim z [ None ↦ false | Some e ↦ e.hash == x ]) e.1
-      ∙ ap (λ (z : ℕ). z == x) (hash-there hash keys.entries t e.0 e.1 kept.stored.hashed)
-      ∙ sym (ap (λ (z : Option (K × ℕ)). elim z [ None ↦ false | Some r ↦ hash r.0 == x ]) resident)
+      grind (arith, e.1, resident-there laws kept t e.0.key in-use, hash-there hash keys.entries t e.0 e.1 kept.stored.hashed)
 
   pub with-hash : (x : ℕ) → filter (has_hash keys.entries x) (candidates index x) ≡ filter (has_hash_at hash x m) (candidates index x)
   with-hash x = filter-like (has_hash keys.entries x) (has_hash_at hash x m) (candidates index x) (same-hash x)
@@ -79,18 +76,9 @@ module _ {K V : Type 0} {eq : K → K → Bool} {hash : K → ℕ} {shares : Sha
   is-candidate x t it = elim (cases_Bool (has t (places_of q))) [
     | inl in-use ↦
         let e = slice_get_some keys.entries t (below_of (length keys.entries) (places_of q) kept.stored.made t in-use) in
-        let resident = resident-there laws kept t e.0.key in-use (ap (λ (z : Option (Entry K V)). elim z [ None ↦ None | Some e ↦ Some e.key ]) e.1) in
-        let same : hash e.0.key ≡ x = eqb-true (hash e.0.key) x (sym (ap (λ (z : Option (K × ℕ)). elim z [ None ↦ false | Some r ↦ hash r.0 == x ]) resident) ∙ it) in
-        let own = hash-there hash keys.entries t e.0 e.1 kept.stored.hashed ∙ same in
-        let hashed : hash_at keys.entries t ≡ Some x = ap (λ (z : Option (Entry K V)). elim z [ None ↦ None | Some e ↦ Some e.hash ]) e.1 ∙ ap (λ (z : ℕ). Some z) own in
-        let named : is_named index keys.entries x t ≡ true = ap (λ (z : Option ℕ). elim z [ None ↦ false | Some y ↦ is_alike index x y ]) hashed ∙ alike-itself index x in
-        let both : (has t (places_of q) && is_named index keys.entries x t) ≡ true = rw (in-use, named) refl in
-        kept.stored.indexed.listed x t ∙ both
-    | inr gone ↦ absurd (both_ways false refl (sym (ap (λ (z : Option (K × ℕ)). elim z [ None ↦ false | Some r ↦ hash r.0 == x ]) (resident-none laws kept t gone)) ∙ it))
+        grind (arith, e.1, resident-there laws kept t e.0.key in-use, hash-there hash keys.entries t e.0 e.1 kept.stored.hashed, eqb-true, eqb_self, kept.stored.indexed.listed x t)
+    | inr gone ↦ absurd (grind (arith, resident-none laws kept t gone))
   ]
-    where
-      alike-itself : (index : List (List (ℕ × ℕ))) (x : ℕ) → is_alike index x x ≡ true
-      alike-itself index x = rw (eqb_self (x % length index), eqb_self (x / 2 ^ 56)) refl
 
   -- each resident with the hash is listed, and nothing else
   pub lists-each : (x t : ℕ) → has t (filter (has_hash_at hash x l) (candidates index x)) ≡ has_hash_at hash x l t
@@ -118,8 +106,4 @@ module _ {K V : Type 0} {eq : K → K → Bool} {hash : K → ℕ} {shares : Sha
     (laws : IsEquivalence eq) (kept : IsKept eq hash shares q h index keys free room) where
   -- the slot that is found is below the capacity
   pub found-within : (x n : ℕ) (o : Option ℕ) → o ≡ slice_get (filter (has_hash keys.entries x) (candidates index x)) n → IfSome o (λ slot. slot < shares.capacity)
-  found-within x n o is = of o (kept-below (has_hash keys.entries x) (length keys.entries) (candidates index x) n o (candidates-there laws kept x) is)
-    where
-      of : (o : Option ℕ) → IfSome o (λ slot. slot < length keys.entries) → IfSome o (λ slot. slot < shares.capacity)
-      of None below = tt
-      of (Some slot) below = omega (arith, below, length-values keys.entries, kept.whole.made_within)
+  found-within x n o is = grind (arith, kept-below (has_hash keys.entries x) (length keys.entries) (candidates index x) n o (candidates-there laws kept x) is, length-values keys.entries, kept.whole.made_within)

@@ -23,7 +23,7 @@ module _ {K : Type 0} (key : ℕ → Option K) where
   paired places = filter_map (λ s. option_map (λ k. (k, s)) (key s)) places
 
   pub paired-cons : (s : ℕ) (ss : List ℕ) (k : K) → key s ≡ Some k → paired (s ∷ ss) ≡ (k, s) ∷ paired ss
-  paired-cons s ss k h = ap (λ o. cons_option (option_map (λ (k : K). (k, s)) o) (paired ss)) h
+  paired-cons s ss k h = grind arith
 
 -- a queue's entries, and the same with the keys at their slots
 pub data Keyed {K X R : Type 0} (make : ℕ × X → K → R) (key : ℕ → Option K) : List (ℕ × X) → List R → Type 0 where
@@ -35,25 +35,21 @@ module _ {K X R : Type 0} (make : ℕ × X → K → R) (key : ℕ → Option K)
   with_keys es = filter_map (λ e. option_map (λ k. make e k) (key e.0)) es
 
   pub keys-cons : (e : ℕ × X) (es : List (ℕ × X)) (k : K) → key e.0 ≡ Some k → with_keys (e ∷ es) ≡ make e k ∷ with_keys es
-  keys-cons e es k at = ap (λ o. cons_option (option_map (λ k. make e k) o) (with_keys es)) at
+  keys-cons e es k at = grind arith
 
   pub have-keyed : (es : List (ℕ × X)) → HaveKeys key (slots_of es) → Keyed make key es (with_keys es)
   have-keyed [] h = unkeyed
-  have-keyed (e ∷ es) h =
-      let k = h e.0 (has_first e.0 (slots_of es)) in
-      subst (λ rs. Keyed make key (e ∷ es) rs) (sym (keys-cons e es k.0 k.1)) (keyed k.0 k.1 (have-keyed es (have_later key e.0 (slots_of es) h)))
+  have-keyed (e ∷ es) h = grind (arith, h e.0, has_first e.0 (slots_of es), keyed, have-keyed es (have_later key e.0 (slots_of es) h))
 
   pub keyed-is : {es : List (ℕ × X)} {rs : List R} → Keyed make key es rs → with_keys es ≡ rs
   keyed-is unkeyed = refl
-  keyed-is (keyed {e} {es} k at r) = keys-cons e es k at ∙ ap (λ zs. make e k ∷ zs) (keyed-is r)
+  keyed-is (keyed k at r) = grind (arith, keyed-is r)
 
   -- the same keys at these slots
   pub keys-agree : (key' : ℕ → Option K) (es : List (ℕ × X)) → ((t : ℕ) → has t (slots_of es) ≡ true → key' t ≡ key t)
       → filter_map (λ e. option_map (λ k. make e k) (key' e.0)) es ≡ with_keys es
   keys-agree key' [] h = refl
-  keys-agree key' (e ∷ es) h =
-      ap (λ z. cons_option (option_map (λ k. make e k) z) (filter_map (λ e. option_map (λ k. make e k) (key' e.0)) es)) (h e.0 (has_first e.0 (slots_of es)))
-      ∙ ap (λ z. cons_option (option_map (λ k. make e k) (key e.0)) z) (keys-agree key' es (λ t g. h t (has_later t e.0 (slots_of es) g)))
+  keys-agree key' (e ∷ es) h = grind (arith, h e.0 (has_first e.0 (slots_of es)), keys-agree key' es (λ t g. h t (has_later t e.0 (slots_of es) g)))
 
 module _ {K X R : Type 0} {make : ℕ × X → K → R} {key : ℕ → Option K} where
   -- there are as many as slots
@@ -79,36 +75,23 @@ module _ {K X R : Type 0} {make : ℕ × X → K → R} {key : ℕ → Option K}
   last-keyed : (e : ℕ × X) (k : K) (o : Option (ℕ × X)) (p : Option R) {es : List (ℕ × X)} {rs : List R} → (o ≡ Some e → p ≡ Some (make e k))
       → Keyed make key es rs → last_or o es ≡ Some e → key e.0 ≡ Some k → last_or p rs ≡ Some (make e k)
   last-keyed e k o p first unkeyed last at = first last
-  last-keyed e k o p first (keyed {e = x} j is r) last at = last-keyed e k (Some x) (Some (make x j)) (λ q. same q) r last at
-    where
-      same : Some x ≡ Some e → Some (make x j) ≡ Some (make e k)
-      same q = cc
+  last-keyed e k o p first (keyed {e = x} j is r) last at = last-keyed e k (Some x) (Some (make x j)) (λ q. cc) r last at
 
   -- the residents of a queue
   keyed-paired : {es : List (ℕ × X)} {rs : List R} (show : R → K × ℕ) → ((e : ℕ × X) (k : K) → show (make e k) ≡ (k, e.0)) → Keyed make key es rs → map show rs ≡ paired key (slots_of es)
   keyed-paired show shown unkeyed = refl
-  keyed-paired show shown (keyed {e} {es} {rs} k at r) =
-      ap (λ z. z ∷ map show rs) (shown e k) ∙ ap (λ zs. (k, e.0) ∷ zs) (keyed-paired show shown r) ∙ sym (paired-cons key e.0 (slots_of es) k at)
+  keyed-paired show shown (keyed k at r) = grind (arith, shown, keyed-paired show shown r)
 
   module _ (slot : R → ℕ) (slot-is : (e : ℕ × X) (k : K) → slot (make e k) ≡ e.0) (t : ℕ) where
     -- how often a slot occurs
     pub keyed-standing : {es : List (ℕ × X)} {rs : List R} → Keyed make key es rs → count_by (λ r. slot r == t) rs ≡ count_by (λ s. s == t) (slots_of es)
     keyed-standing unkeyed = refl
-    keyed-standing (keyed {e} {es} {rs} k at r) = omega (
-      arith,
-      sum_by-cons (λ r. cond (slot r == t) 1 0) (make e k) rs,
-      sum_by-cons (λ s. cond (s == t) 1 0) e.0 (slots_of es),
-      ap {B = ℕ} (λ s. cond (s == t) 1 0) (slot-is e k),
-      keyed-standing r,
-    )
+    keyed-standing (keyed {e} {es} {rs} k at r) = grind (arith, sum_by-cons (λ r. cond (slot r == t) 1 0) (make e k) rs, sum_by-cons (λ s. cond (s == t) 1 0) e.0 (slots_of es), slot-is e k, keyed-standing r)
 
     -- a queue without a slot
     keyed-without : {es : List (ℕ × X)} {rs : List R} → Keyed make key es rs → Keyed make key (without_slot t es) (filter (λ r. not (slot r == t)) rs)
     keyed-without unkeyed = unkeyed
-    keyed-without (keyed {e} k at r) = elim (cases_Bool (eqb e.0 t)) [
-      | inl q ↦ rw (slot-is e k, q) (keyed-without r)
-      | inr q ↦ rw (slot-is e k, q) (keyed k at (keyed-without r))
-    ]
+    keyed-without (keyed {e} k at r) = elim (cases_Bool (eqb e.0 t)) [ inl q ↦ rw (slot-is e k, q) (keyed-without r) | inr q ↦ rw (slot-is e k, q) (keyed k at (keyed-without r)) ]
 
   -- a hit, if the key passes the test only at this slot
   keyed-hit : (of : R → K) (h : X → X) (g : R → R) → ((e : ℕ × X) (k : K) → of (make e k) ≡ k) → ((e : ℕ × X) (k : K) → g (make e k) ≡ make (e.0, h e.1) k)
@@ -130,22 +113,13 @@ module _ {K : Type 0} (key : ℕ → Option K) where
   -- the residents of both queues
   pub residents-keyed : (small : List (ℕ × Age)) (main : List (ℕ × Bool)) → HaveKeys key (slots_of small) → HaveKeys key (slots_of main)
       → map (λ (e : SmallEntry K). (e.key, e.slot)) (with_keys_small key small) ++ map (λ (e : MainEntry K). (e.key, e.slot)) (with_keys_main key main) ≡ paired key (slots_of small ++ slots_of main)
-  residents-keyed small main s m =
-      ap (λ z. z ++ map (λ (e : MainEntry K). (e.key, e.slot)) (with_keys_main key main)) (keyed-paired (λ (e : SmallEntry K). (e.key, e.slot)) (λ e k. refl) (have-keyed small_with key small s))
-      ∙ ap (λ z. paired key (slots_of small) ++ z) (keyed-paired (λ (e : MainEntry K). (e.key, e.slot)) (λ e k. refl) (have-keyed main_with key main m))
-      ∙ sym (filter_map-append (λ s. option_map (λ k. (k, s)) (key s)) (slots_of small) (slots_of main))
+  residents-keyed small main s m = grind (arith, keyed-paired (λ (e : SmallEntry K). (e.key, e.slot)) (λ e k. refl) (have-keyed small_with key small s), keyed-paired (λ (e : MainEntry K). (e.key, e.slot)) (λ e k. refl) (have-keyed main_with key main m), filter_map-append)
 
   -- an admission
   small-grown : (window : ℕ) (es : List (ℕ × Age))
       → map (λ (e : SmallEntry K). record e { age = grown window e.age }) (with_keys_small key es) ≡ with_keys_small key (map {B = ℕ × Age} (λ (e : ℕ × Age). (e.0, grown window e.1)) es)
   small-grown window [] = refl
-  small-grown window (e ∷ es) = of (key e.0) (with_keys_small key es) (with_keys_small key (map {B = ℕ × Age} (λ (e : ℕ × Age). (e.0, grown window e.1)) es)) (small-grown window es)
-    where
-      of : (o : Option K) (xs ys : List (SmallEntry K)) → map (λ (e : SmallEntry K). record e { age = grown window e.age }) xs ≡ ys
-          → map (λ (e : SmallEntry K). record e { age = grown window e.age }) (cons_option (option_map (λ k. small_with e k) o) xs)
-          ≡ cons_option (option_map (λ k. small_with (e.0, grown window e.1) k) o) ys
-      of None xs ys r = r
-      of (Some k) xs ys r = ap (λ zs. small_with (e.0, grown window e.1) k ∷ zs) r
+  small-grown window (e ∷ es) = grind (arith, small-grown window es)
 
   pub small-admitted : (window slot : ℕ) (k : K) (es : List (ℕ × Age)) → key slot ≡ Some k
       → with_keys_small key (admitted window slot es) ≡ machine.small_admitted window k slot (with_keys_small key es)
@@ -179,10 +153,7 @@ module _ {K : Type 0} (key : ℕ → Option K) where
   main-cleared (keyed k at r) = keyed k at (main-cleared r)
 
   pub main-from_victim : (es : List (ℕ × Bool)) → HaveKeys key (slots_of es) → machine.from_victim (with_keys_main key es) ≡ with_keys_main key (from_victim es)
-  main-from_victim es h =
-      let r = have-keyed main_with key es h in
-      ap (λ n. drop n (with_keys_main key es) ++ map (λ (e : MainEntry K). record e { bit = false }) (take n (with_keys_main key es))) (main-passed r)
-      ∙ sym (keyed-is main_with key (append-keyed (drop-keyed (set_front es) r) (main-cleared (take-keyed (set_front es) r))))
+  main-from_victim es h = grind (arith, main-passed (have-keyed main_with key es h), keyed-is main_with key (append-keyed (drop-keyed (set_front es) (have-keyed main_with key es h)) (main-cleared (take-keyed (set_front es) (have-keyed main_with key es h)))))
 
   -- a hit, if the key passes the test only at this slot
   module _ (is : K → Bool) (slot : ℕ) where
@@ -200,9 +171,7 @@ module _ {K : Type 0} (key : ℕ → Option K) where
   pub standing-keyed : (t : ℕ) (small : List (ℕ × Age)) (main : List (ℕ × Bool)) → HaveKeys key (slots_of small) → HaveKeys key (slots_of main)
       → count_by (λ (e : SmallEntry K). e.slot == t) (with_keys_small key small) + count_by (λ (e : MainEntry K). e.slot == t) (with_keys_main key main)
       ≡ count_by (λ s. s == t) (slots_of small) + count_by (λ s. s == t) (slots_of main)
-  standing-keyed t small main s m =
-      let b = keyed-standing (λ (e : MainEntry K). e.slot) (λ e k. refl) t (have-keyed main_with key main m) in
-      omega (arith, keyed-standing (λ (e : SmallEntry K). e.slot) (λ e k. refl) t (have-keyed small_with key small s), b)
+  standing-keyed t small main s m = grind (arith, keyed-standing (λ (e : SmallEntry K). e.slot) (λ e k. refl) t (have-keyed small_with key small s), keyed-standing (λ (e : MainEntry K). e.slot) (λ e k. refl) t (have-keyed main_with key main m))
 
   -- the queues without a slot
   pub small-without : (t : ℕ) (es : List (ℕ × Age)) → HaveKeys key (slots_of es) → with_keys_small key (without_slot t es) ≡ filter (λ e. not (e.slot == t)) (with_keys_small key es)
