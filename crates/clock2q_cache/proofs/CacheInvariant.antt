@@ -71,11 +71,11 @@ module _ {K V : Type 0} {eq : K → K → Bool} {hash : K → ℕ} {shares : Sha
   is-free : {slot made : ℕ} → made ≡ length keys.entries → vacant_slot (reverse free) made (made + 1) ≡ Some slot → length q.small + length q.main < shares.capacity → IsFree slot
   is-free {slot} is picked few =
       let v = vacant laws kept slot (vacancy-taken laws kept slot (vacancy-there laws kept few) (rw (← is) picked)) in
-      grind (arith, v.absent, v.next, v.below, or_parts, has-append slot (slots_of q.small) (slots_of q.main), vacancy-taken laws kept slot, vacancy-there laws kept few, kept.whole.made_within, length-values keys.entries, kept.sized, kept.stored.indexed.counted, length-places q)
+      grind (arith, v, or_parts, has-append slot (slots_of q.small) (slots_of q.main), vacancy-taken laws kept slot, vacancy-there laws kept few, kept.whole.made_within, length-values keys.entries, kept.sized, kept.stored.indexed.counted, length-places q)
 
   pub free-to-join : {slot made : ℕ} (main : Bool) → made ≡ length keys.entries → vacant_slot (reverse free) made (made + 1) ≡ Some slot
       → (main ≡ true → length m.main < main_share shares) → (main ≡ false → length m.small < shares.small) → IsFree slot
-  free-to-join main is picked room some = is-free is picked (grind (arith, room, some, kept.whole, length_in_small, length_in_main))
+  free-to-join main is picked room some = grind (arith, is-free is picked, room, some, kept.whole, length_in_small, length_in_main)
 
   -- no link record is made for a slot that was made
   pub made-still : {slot : ℕ} → slot < length keys.entries → made_below (slot + 1) q.made ≡ q.made
@@ -105,10 +105,6 @@ module _ {K V : Type 0} {eq : K → K → Bool} {hash : K → ℕ} {shares : Sha
     fills = grind (arith, w.is);
     at = at;
   }
-
-  -- if a slot was made before, a key may keep its value
-  made-there : {slot s : ℕ} (value : Option V) → s ≡ slot → IfNone value (s < length m.values) → IfNone value (slot < length keys.entries)
-  made-there value is made = grind (arith, length-values keys.entries)
 
   -- where a key that joins a queue goes
   into-small : {slot : ℕ} (key : K) → vacancy m ≡ Some slot → into_small key m ≡ into_small_at key (Some slot) None m

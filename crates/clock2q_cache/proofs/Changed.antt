@@ -70,13 +70,13 @@ module _ {K V : Type 0} {eq : K → K → Bool} {hash : K → ℕ} {shares : Sha
     forgotten-machine = let r = ap (λ z. map (λ (e : ℕ × K). e.1) z) entries ∙ keys-filtered (eq key) h.entries in cc
 
     pub kept-forgotten : h'.limit ≡ h.limit → most_beside h' ≡ most_beside h → {index' : List (List (ℕ × ℕ))} → index' ≡ index → IsKept eq hash shares q h' index' keys free room
-    kept-forgotten limit beside same = rw same (record {
-      whole = subst (IsWhole eq) (sym forgotten-machine) (whole-forgotten eq m kept.whole (eq key));
-      stored = kept.stored;
-      hashed = subst (λ z. AllByRecursion (λ e. e.0 ≡ hash e.1) z) (sym entries) (all-filtered (eq key) (λ e. e.0 ≡ hash e.1) h.entries kept.hashed);
+    kept-forgotten limit beside same = record {
+      whole = rw forgotten-machine (whole-forgotten eq m kept.whole (eq key));
+      stored = grind (arith, same, kept.stored);
+      hashed = rw entries (all-filtered (eq key) (λ e. e.0 ≡ hash e.1) h.entries kept.hashed);
       linked = kept.linked;
-      sized = sized-same kept.sized refl refl limit beside refl refl refl;
-    })
+      sized = grind (arith, sized-same, kept.sized);
+    }
 
   pub discard-hash : (key : K) (hsh : ℕ) → ((x y : K) → eq x y ≡ true → hash x ≡ hash y) → hsh ≡ hash key → HasHash eq hsh key h.entries
   discard-hash key hsh respects is = hash-there eq hash key hsh h.entries respects is kept.hashed
@@ -147,6 +147,6 @@ module _ {K V : Type 0} where
       {free free' : List ℕ} {room room' : ℕ} → IsEquivalence eq → IsKept eq hash shares q h index keys free room
       → q'.small ≡ [] → q'.main ≡ [] → h'.entries ≡ [] → keys'.entries ≡ [] → free' ≡ [] → index' ≡ no_entries (length index)
       → q'.slots ≡ q.slots → q'.window ≡ q.window → h'.limit ≡ h.limit → most_beside h' ≡ most_beside h → keys'.room ≡ keys.room → room' ≡ room → IsKept eq hash shares q' h' index' keys' free' room'
-  kept-cleared {index = index} {index' = index'} laws kept small main entries keyed none emptied slots window limit beside keys_room free_room =
-      (kept-empty laws kept.whole.small_below small main entries (IsIndex-cleared index' (length index) [] emptied) keyed none
-      (sized-same kept.sized slots window limit beside (length-cleared index index' emptied) keys_room free_room)).0
+  kept-cleared laws kept small main entries keyed none emptied slots window limit beside keys_room free_room =
+      let sized = sized-same kept.sized slots window limit beside (length-cleared _ _ emptied) keys_room free_room in
+      (kept-empty laws kept.whole.small_below small main entries (IsIndex-cleared _ _ [] emptied) keyed none sized).0

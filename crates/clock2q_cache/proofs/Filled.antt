@@ -59,14 +59,14 @@ module _ {K V : Type 0} {eq : K → K → Bool} {hash : K → ℕ} {shares : Sha
 
   pub kept-prefilled : {links : ℕ} {q' : QueueState} → q' ≡ record q { made = made_below shares.capacity q.made; accesses = links }
       → AllByRecursion (λ e. e.hash ≡ hash e.key) added → keys'.room ≡ keys.room → room' ≡ room → IsKept eq hash shares q' h index keys' free' room'
-  kept-prefilled linked hashed keys_room free_room = rw linked (record {
-    whole = subst (IsWhole eq) (sym machine-prefilled) (lasting-prefilled eq laws made m (omega (arith, made-count)) kept.whole);
-    stored = subst (λ z. IsStored hash index z (places_of q)) (sym is) (record {
+  kept-prefilled {q' = q'} linked hashed keys_room free_room = rw linked (record {
+    whole = rw machine-prefilled (lasting-prefilled eq laws made m (omega (arith, made-count)) kept.whole);
+    stored = rw is (record {
       made = below-has (length (keys.entries ++ added)) (places_of q) (λ t g. omega (arith, below_of (length keys.entries) (places_of q) kept.stored.made t g, length-append keys.entries added));
       indexed = IsIndex-kept index keys.entries (keys.entries ++ added) (places_of q) (before (λ z. elim z [ None ↦ None | Some e ↦ Some e.hash ])) kept.stored.indexed;
       hashed = all-append (λ e. e.hash ≡ hash e.key) keys.entries added kept.stored.hashed hashed;
     });
     hashed = kept.hashed;
-    linked = omega (arith, ap (λ (z : List (Entry K V)). length z) is, length-append keys.entries added, as_many);
+    linked = grind (arith, is, length-append keys.entries added, as_many);
     sized = sized-same kept.sized refl refl refl refl refl keys_room free_room;
   })

@@ -38,12 +38,7 @@ module _ {K V : Type 0} (entries : List (Entry K V)) where
           → count_by (λ (e : ℕ × K). is e.1) (cons_option (elim o [ None ↦ None | Some e ↦ Some (e.hash, e.key) ]) (entries_of entries ps))
           ≡ count_by (λ (r : K × ℕ). is r.0) (cons_option (option_map (λ k. (k, p)) (elim o [ None ↦ None | Some e ↦ Some e.key ])) (paired (key_at entries) ps))
       of None r = r
-      of (Some e) r = omega (
-        arith,
-        r,
-        sum_by-cons (λ (x : ℕ × K). cond (is x.1) 1 0) (e.hash, e.key) (entries_of entries ps),
-        sum_by-cons (λ (x : K × ℕ). cond (is x.0) 1 0) (e.key, p) (paired (key_at entries) ps),
-      )
+      of (Some e) r = grind (arith, r, sum_by-cons (λ (x : ℕ × K). cond (is x.1) 1 0) (e.hash, e.key) (entries_of entries ps), sum_by-cons (λ (x : K × ℕ). cond (is x.0) 1 0) (e.key, p) (paired (key_at entries) ps))
 
 -- if each key occurs at most once, no two are equal
 distinct-once : {K : Type 0} (eq : K → K → Bool) → IsEquivalence eq → (es : List (ℕ × K)) → ((k : K) → count_by (λ (e : ℕ × K). eq k e.1) es ≤ 1) → AllDistinct eq es
@@ -102,8 +97,7 @@ module _ {K V : Type 0} {eq : K → K → Bool} {hash : K → ℕ} {shares : Sha
 
     -- what a lookup finds
     pub found : ((x y : K) → eq x y ≡ true → hash x ≡ hash y) → (hsh : ℕ) → hsh ≡ hash key → find (is_key_at eq key keys.entries) (candidates index hsh) ≡ slot_of (eq key) m
-    found respects hsh is = ap (λ z. find (is_key_at eq key keys.entries) (candidates index z)) is
-        ∙ lookup eq (hash key) key index keys.entries (places_of q) kept.stored.indexed (hashes-same eq hash key keys.entries (places_of q) respects kept.stored.hashed) laws distinct ∙ sym slot-among
+    found respects hsh is = grind (arith, lookup eq (hash key) key index keys.entries (places_of q) kept.stored.indexed (hashes-same eq hash key keys.entries (places_of q) respects kept.stored.hashed) laws distinct, slot-among)
 
     -- a slot that is found is a resident's
     pub found-there : (slot : ℕ) → slot_of (eq key) m ≡ Some slot → (has slot (places_of q) ≡ true) × (is_key_at eq key keys.entries slot ≡ true)
@@ -168,12 +162,13 @@ module _ {K V : Type 0} {eq : K → K → Bool} {hash : K → ℕ} {shares : Sha
 
         pub kept-hit : IsKept eq hash shares q' h index keys free room
         kept-hit =
-            let places : places_of (record q { small = small_hit_at slot q.small; main = main_hit_at slot q.main }) ≡ places_of q =
-            ap (λ z. z ++ slots_of (main_hit_at slot q.main)) (slots_of-hit touched slot q.small) ∙ ap (λ z. slots_of q.small ++ z) (slots_of-hit (λ b. true) slot q.main) in
-            rw queues (record {
-              whole = subst (IsWhole eq) (sym (rw queues at hit-machine)) (whole-hit eq m kept.whole (eq key));
-              stored = subst (λ z. IsStored hash index keys.entries z) (sym places) kept.stored;
+            let small = slots_of-hit touched slot q.small in
+            let main = slots_of-hit (λ b. true) slot q.main in
+            let places : places_of q' ≡ places_of q = grind (arith, small, main) in
+            record {
+              whole = rw hit-machine (whole-hit eq m kept.whole (eq key));
+              stored = rw places kept.stored;
               hashed = kept.hashed;
-              linked = kept.linked;
-              sized = sized-same kept.sized refl refl refl refl refl refl refl;
-            })
+              linked = grind (arith, kept.linked);
+              sized = grind (arith, sized-same, kept.sized);
+            }

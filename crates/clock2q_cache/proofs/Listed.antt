@@ -50,10 +50,6 @@ module _ {K V : Type 0} (eq : K → K → Bool) (laws : IsEquivalence eq) (m : M
   pub same-key : (key : K) (slot : ℕ) (r : K × ℕ) → slot_of (eq key) m ≡ Some slot → resident_at m slot ≡ Some r → eq key r.0 ≡ true
   same-key key slot r found there = grind (arith, slots_apart eq laws m whole key r.0, at_its_slot slot r there)
 
-  entry_is : (slot : ℕ) (o : Option (K × ℕ)) → resident_at m slot ≡ o → (v : Option V) → slice_get m.values slot ≡ v → (e : K × ℕ × V)
-      → option_and_then {U = K × ℕ × V} (λ (r : K × ℕ). option_map (λ value. (r.0, r.1, value)) v) o ≡ Some e → value_of (eq e.0) m ≡ Some e.2
-  entry_is slot o there v has e is = grind (arith, at_its_slot slot)
-
   -- each entry has its key's value
   pub entries-values : AllByRecursion (λ (e : K × ℕ × V). value_of (eq e.0) m ≡ Some e.2) (entries m)
   entries-values = all_kept (entry_at m) (λ (e : K × ℕ × V). value_of (eq e.0) m ≡ Some e.2) (λ slot e is. grind (arith, at_its_slot slot)) (range_with_len 0 (length m.values - 0))
@@ -62,16 +58,10 @@ module _ {K V : Type 0} (eq : K → K → Bool) (laws : IsEquivalence eq) (m : M
   pub entries-listed : (key : K) (v : V) → value_of (eq key) m ≡ Some v → list_any (λ (e : K × ℕ × V). eq key e.0) (entries m) ≡ true
   entries-listed key v had = by_slot (slot_of (eq key) m) refl
     where
-      at_slot : (slot : ℕ) → slot_of (eq key) m ≡ Some slot → (o : Option (K × ℕ)) → resident_at m slot ≡ o → is_some o ≡ true → list_any (λ (e : K × ℕ × V). eq key e.0) (entries m) ≡ true
-      at_slot slot found None there some = cc
-      at_slot slot found (Some r) there some =
+      by_slot : (o : Option ℕ) → slot_of (eq key) m ≡ o → list_any (λ (e : K × ℕ × V). eq key e.0) (entries m) ≡ true
+      by_slot None absent = absurd (grind arith)
+      by_slot (Some slot) found =
           let made = resident_made eq laws (eq key) m whole slot found in
           let value = get-within m.values slot made in
-          let is : entry_at m slot ≡ Some (r.0, r.1, value.0) =
-          ap (option_and_then {U = K × ℕ × V} (λ (r : K × ℕ). option_map (λ value. (r.0, r.1, value)) (slice_get m.values slot)))
-          there ∙ ap (option_map {U = K × ℕ × V} (λ value. (r.0, r.1, value))) value.1 in
-          any_kept (entry_at m) (λ (e : K × ℕ × V). eq key e.0) slot (r.0, r.1, value.0) is (same-key key slot r found there) 0 (length m.values - 0) (omega arith) (omega (arith, made))
-
-      by_slot : (o : Option ℕ) → slot_of (eq key) m ≡ o → list_any (λ (e : K × ℕ × V). eq key e.0) (entries m) ≡ true
-      by_slot None absent = absurd (none_is v (sym (ap (option_and_then (slice_get m.values)) absent) ∙ had))
-      by_slot (Some slot) found = at_slot slot found (resident_at m slot) refl (found-resident (eq key) m slot found)
+          let any = λ (r : K × ℕ) (is : resident_at m slot ≡ Some r). any_kept (entry_at m) (λ (e : K × ℕ × V). eq key e.0) slot (r.0, r.1, value.0) (grind (arith, value.1)) (same-key key slot r found is) 0 (length m.values - 0) (omega arith) (omega (arith, made)) in
+          grind (arith, found-resident (eq key) m slot found, any)

@@ -19,21 +19,11 @@ module _ {K V : Type 0} (eq : K → K → Bool) (m : Machine K V) (h : IsWhole e
     by (f ∷ fs) e v = grind (arith, counted_made eq m h slot, sum_by-cons (λ s. one_if (s == slot)) f fs)
 
   module _ (key : K) where
-    pub main-makes : nat_lt (into_main key m).slot (length m.values) ≡ not (makes_slot true m)
-    main-makes = grind (arith, length-from_victim m.main, victim_made eq m h, h.small_below, h.small_within, h.main_within, all_resident eq m h, vacant-made)
-
-    pub small-makes : goes_to_main false m ≡ false → nat_lt (into_small key m).slot (length m.values) ≡ not (makes_slot false m)
-    small-makes small = grind (arith, no_vacancy, placed-small eq m h key small, vacant-made)
-
     pub placed-values : (main : Bool) → (main ≡ false → goes_to_main false m ≡ false) → (placed main key m).machine.values ≡ m.values
     placed-values main small = grind (arith, placed-main eq m h key, placed-small eq m h key)
 
     pub placed-makes : (main : Bool) → (main ≡ false → goes_to_main false m ≡ false) → nat_lt (placed main key m).slot (length m.values) ≡ not (makes_slot main m)
-    placed-makes main small = grind (arith, main-makes, small-makes)
-
--- where a key without a history goes
-pub goes-unknown : {K V : Type 0} (known : Bool) (m : Machine K V) → goes_to_main known m ≡ false → goes_to_main false m ≡ false
-goes-unknown known m e = grind arith
+    placed-makes main small = grind (arith, length-from_victim m.main, victim_made eq m h, h.small_below, h.small_within, h.main_within, all_resident eq m h, vacant-made, no_vacancy, placed-small eq m h key)
 
 -- how a key is placed if its history is erased first
 module _ {K V : Type 0} (eq : K → K → Bool) (key : K) {m m1 : Machine K V} {main : Bool} (s : IsSent (eq key) m m1 main) where
@@ -49,7 +39,7 @@ module _ {K V : Type 0} (eq : K → K → Bool) (key : K) {m m1 : Machine K V} {
   -- whether a slot is made for it
   module _ (whole : IsWhole eq m1) (makes : Bool) (is : makes ≡ makes_slot main m1) where
     pub makes-here : nat_lt (placed main key m1).slot (length m1.values) ≡ not makes
-    makes-here = placed-makes eq m1 whole key main small-unknown ∙ ap not (sym is)
+    makes-here = grind (arith, placed-makes eq m1 whole key main, small-unknown)
 
     pub makes-there : nat_lt (placement (eq key) key m).slot (length m.values) ≡ not makes
     makes-there = grind (arith, placed-there, s.erased, makes-here)
@@ -78,15 +68,9 @@ module _ {K V : Type 0} (eq : K → K → Bool) (laws : IsEquivalence eq) (m : M
     abbrev p : Placement K V
     p = placement (eq key) key m
 
-    taken-value : (o : Option V) (v : V) → UnwrapsOrElse o made v → fetched_value o v ≡ v
-    taken-value o v had = grind arith
-
-    taken-writes : (v w : V) → stored p.slot w (reused (eq key) key v m) ≡ inserted (eq key) key w m
-    taken-writes v w = grind (arith, stored_again, slot_at_most eq laws m h key absent)
-
     pub new-takes : (slot : ℕ) (new : Machine K V) → slot ≡ p.slot → Reuses (eq key) key made m new → Takes (eq key) key made m slot new
-    new-takes slot new at r = grind (arith, reused_value, taken-value, taken-writes)
+    new-takes slot new at r = grind (arith, reused_value eq laws m h key absent, stored_again p.machine p.slot, slot_at_most eq laws m h key absent)
 
   -- a resident keeps its slot and its value
   pub hit-takes : (slot : ℕ) → slot_of (eq key) m ≡ Some slot → Takes (eq key) key made m slot (hit (eq key) m)
-  hit-takes slot found = grind (arith, get-within m.values slot (resident_made eq laws (eq key) m h slot found), resident_made eq laws (eq key) m h slot found)
+  hit-takes slot found = grind (arith, get-within m.values slot (resident_made eq laws (eq key) m h slot found))

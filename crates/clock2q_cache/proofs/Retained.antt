@@ -113,12 +113,9 @@ module _ {F K V : Type 0} (g : Mut F (Bor K × (Bor V × Unit {0})) Bool) (f : F
   module _ (n : ℕ) (f' : F) (now : Machine K V) (h : RetainsBelow n f' now) (made : n < length old.values) where
     -- there is no resident
     pub retains-past : resident_at now n ≡ None → RetainsBelow (n + 1) f' now
-    retains-past none = record {
-      callable = subst (λ rs. TakesInTurn g old.values f' rs) (above-more n None made (sym (h.later n (omega arith)) ∙ none)) h.callable;
-      over = subst (λ z. RetainsOver z f' now) (sym (below-more old n None (sym (h.later n (omega arith)) ∙ none) ∙ append-nil (below old n))) h.over;
-      later = λ t le. h.later t (omega (arith, le));
-      values = h.values;
-    }
+    retains-past none =
+        let here : resident_at old n ≡ None = grind (arith, h.later) in
+        record { over = rw (below-more old n None here, append-nil (below old n)) h.over; later = λ t le. h.later t (omega (arith, le)); values = h.values; callable = rw (← above-more n None made here) h.callable }
 
     module _ (key : Bor K) (value : Bor V) (here : resident_at now n ≡ Some (key.now, n)) (shown : slice_get now.values n ≡ Some value.now) where
       turn : TakesInTurn g old.values f' ((key.now, n) ∷ above (n + 1))

@@ -9,7 +9,7 @@ abbrev pub times : ℕ → List ℕ → ℕ
 times t xs = count_by (λ s. s == t) xs
 
 pub times-cons : (t x : ℕ) (xs : List ℕ) → times t (x ∷ xs) ≡ cond (x == t) 1 0 + times t xs
-times-cons t x xs = sum_by-cons (λ s. cond (s == t) 1 0) x xs
+times-cons t x xs = grind (arith, sum_by-cons (λ s. cond (s == t) 1 0) x xs)
 
 pub times-none : (t : ℕ) (xs : List ℕ) → times t xs ≡ 0 → has t xs ≡ false
 times-none t [] h = refl
@@ -74,10 +74,6 @@ module _ {K V : Type 0} {eq : K → K → Bool} {hash : K → ℕ} {shares : Sha
 
   pub standing-times : (t : ℕ) → standings t m ≡ times t (places_of q) + times t (reverse free)
   standing-times t = omega (arith, standing-keyed (key_at keys.entries) t q.small q.main small_have main_have, times-both t q)
-
-  once_at_most : (b : Bool) → (if b then 1 else 0) ≤ 1
-  once_at_most true = omega arith
-  once_at_most false = omega arith
 
   pub at_most_once : (t : ℕ) → times t (places_of q) + times t (reverse free) ≤ 1
   at_most_once t = grind (arith, standing-times t, kept.whole.slots_once t)

@@ -44,11 +44,9 @@ module _ {K V : Type 0} (hash : K → ℕ) where
       → IsStored hash (with_handle (removed eqb index old slot) (hash key) slot) (written slot (entry (hash key) key value) entries) places
   stored-renewed index entries places slot old key value i some apart there at =
       let l = stored-left index entries places slot old i some apart at in
-      let below : slot < length entries = below_of (length entries) places i.made slot there in
       let gone : has slot (without slot places) ≡ false = grind (arith, has-without_test, eqb_self, and_false) in
-      stored-same (with_handle (removed eqb index old slot) (hash key) slot) (written slot (entry (hash key) key value) entries) (slot ∷ without slot places) places
-      (stored-entered (removed eqb index old slot) entries (without slot places) slot key value l (grind (arith, length-taken index old slot)) gone (omega (arith, below)))
-      (λ t. grind (arith, has-without_test, and_true)) (grind (arith, length-without slot places apart there))
+      let e = stored-entered (removed eqb index old slot) entries (without slot places) slot key value l (grind (arith, length-taken index old slot)) gone (grind (arith, below_of (length entries) places i.made slot there)) in
+      stored-same _ _ _ places e (λ t. grind (arith, has-without_test, and_true)) (grind (arith, length-without slot places apart there))
 
 -- a key at a place has its hash there
 pub hash-of-key : {K V : Type 0} (hash : K → ℕ) (entries : List (Entry K V)) (t old : ℕ) (key : K)
