@@ -1,6 +1,6 @@
 -- What a hit and a removal by slot leave, and what they cost.
-use Rattle.std.proofs.Common.{◌≡◌, ℕ, Option, Some, None, refl, ap, sym, ◌∙◌, arith}
-use Rattle.clock2q_cache.proofs.Names.{HashMembers, IfSome, CacheState, Counts, Spends, Costs, Get, Remove, removed_at, hash_in, left_by, vacated, hit, slot_of}
+use Rattle.std.proofs.Common.{◌≡◌, ℕ, Option, Some, None, refl, sym, arith}
+use Rattle.clock2q_cache.proofs.Names.{HashMembers, IfSome, CacheState, Counts, Spends, Costs, Get, Remove, hash_in, left_by, vacated, hit, slot_of}
 use Rattle.std.specs.declared.hash.Hasher as hasher
 use Rattle.std.specs.declared.hash.BuildHasher as builder
 use Rattle.clock2q_machine.specs.Machine.{removed}

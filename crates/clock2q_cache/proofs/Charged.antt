@@ -1,5 +1,5 @@
 -- A cache whose counts are raised to their bounds before a value of it is lent.
-use Rattle.std.proofs.Common.{◌≡◌, ℕ, ◌+◌, ◌-◌, Bool, true, length, refl, sym, ◌∙◌, arith}
+use Rattle.std.proofs.Common.{◌≡◌, ℕ, ◌+◌, ◌-◌, Bool, true, length, refl, arith}
 use Rattle.clock2q_cache.proofs.Names.{HashMembers, IsEquivalence, inspections_for, CacheState, cache_state, Put, most_links, most_keys, with_slot, Takes, Costs, Spends, accesses_for, alike, IsWhole, Machine, stored, known_taken, put, slotted, stored_same}
 use Rattle.std.specs.declared.hash.Hasher as hasher
 use Rattle.std.specs.declared.hash.BuildHasher as builder
@@ -16,7 +16,7 @@ module _ {K V S H : Type 0} (key : HashMembers K) (build : builder.Ghosts S H) (
       → cache_state (stored slot w new.machine) new.known new.hasher
       (record { inspections = new.counts.inspections; accesses = new.counts.accesses + (links - new.counts.accesses); comparisons = new.counts.comparisons + (keys - new.counts.comparisons) })
       ≡ with_slot key build hash k w old
-  lent {links} {keys} is_links is_keys w = grind arith
+  lent is_links is_keys w = grind arith
 
 -- counts at their bounds are within the cost of a call for a key's slot
 pub charged-costs : {K V S H : Type 0} {key : HashMembers K} {build : builder.Ghosts S H} {hash : hasher.Ghosts H} {k : K} (w : V) (old : CacheState K V S)

@@ -1,11 +1,11 @@
 -- A key that is hit, or inserted with a value that was made.
-use Rattle.std.proofs.Common.{◌≡◌, ℕ, Bool, Some, None, refl, sym, ap, ◌∙◌, subst, arith}
-use Rattle.clock2q_cache.proofs.Names.{is_some, if◌then◌else◌, slice_get, IsEquivalence, UnwrapsOrElse, option_and_then, Machine, slot_of, value_of, hit, inserted, placement, put, fetched, replaced_at, IsWhole, Fetches, resident_made, stored_again, stored_same, get-within, slot_at_most, inserted_value}
+use Rattle.std.proofs.Common.{◌≡◌, ℕ, Bool, Some, None, sym, ◌∙◌, arith}
+use Rattle.clock2q_cache.proofs.Names.{IsEquivalence, Machine, slot_of, hit, inserted, placement, put, fetched, IsWhole, Fetches, resident_made, stored_again, stored_same, get-within, slot_at_most, inserted_value}
 
 -- so a value that was fetched and is not written to stays as it was fetched
 pub unwritten : {K V : Type 0} {is : K → Bool} {key : K} {made : V → Type 0} {old new : Machine K V} {slot : ℕ} (f : Fetches is key made old slot new)
     → put is key f.value old ≡ fetched is key f.value old
-unwritten {new = new} {slot} f = sym (f.writes f.value) ∙ stored_same new slot f.value f.there ∙ f.becomes
+unwritten {new = new} {slot} f = grind (arith, f.writes f.value, stored_same new slot f.value f.there, f.becomes)
 
 module _ {K V : Type 0} (eq : K → K → Bool) (laws : IsEquivalence eq) (m : Machine K V) (h : IsWhole eq m) (key : K) (made : V → Type 0) where
   pub hit-fetches : (slot : ℕ) → slot_of (eq key) m ≡ Some slot → Fetches (eq key) key made m slot (hit (eq key) m)

@@ -1,6 +1,6 @@
 -- Slots that were never made are made, and are free.
-use Rattle.std.proofs.Common.{◌≡◌, ℕ, suc, ◌+◌, ◌-◌, ◌<◌, Bool, true, Option, Some, None, slice_get, List, [], ◌∷◌, ◌++◌, map, length, reverse, refl, sym, ap, ◌∙◌, subst, arith, length-append, ◌||◌}
-use Rattle.clock2q_cache.proofs.Names.{made_below, length-values, IsEquivalence, Mut, Called, FoldsTo, AllByRecursion, range_with_len, append-nil, append_assoc, map-append, reverse-append, reverse-reverse, or_true, Entry, has, KeyPlaces, entry, key_at, QueueState, slots_of, Remembered, has-append, below_of, below-has, IsIndex-kept, FillsUp, Shares, Machine, prefilled, IsWhole, machine_of, places_of, with_keys_small, with_keys_main, IsStored, IsKept, lasting-prefilled, get-append}
+use Rattle.std.proofs.Common.{◌≡◌, ℕ, suc, ◌+◌, ◌-◌, ◌<◌, Bool, true, Option, Some, None, slice_get, List, [], ◌∷◌, ◌++◌, map, length, reverse, refl, ap, ◌∙◌, arith, length-append, ◌||◌}
+use Rattle.clock2q_cache.proofs.Names.{made_below, length-values, IsEquivalence, Mut, Called, AllByRecursion, range_with_len, append-nil, append_assoc, map-append, reverse-append, reverse-reverse, or_true, Entry, has, KeyPlaces, entry, key_at, QueueState, slots_of, Remembered, has-append, below_of, below-has, IsIndex-kept, FillsUp, Shares, Machine, prefilled, machine_of, places_of, IsKept, lasting-prefilled, get-append}
 use Rattle.clock2q_cache.proofs.WithKeys.{small_with, main_with, keys-agree}
 use Rattle.clock2q_cache.proofs.CacheInvariant.{sized-same}
 use Rattle.std.proofs.lemmas.Fn.{FoldsTo-push}

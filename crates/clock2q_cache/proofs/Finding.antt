@@ -1,6 +1,6 @@
 -- A lookup through the index finds the machine's slot of the key, and a hit there does what the machine's does.
-use Rattle.std.proofs.Common.{◌≡◌, ℕ, zero, suc, ◌+◌, ◌<◌, ◌≤◌, ◌⊎◌, Bool, true, false, ◌&&◌, cond, eqb, Option, Some, None, slice_get, List, [], ◌∷◌, ◌++◌, map, length, inl, inr, refl, sym, ap, ◌∙◌, subst, arith, eqb-true}
-use Rattle.clock2q_cache.proofs.Names.{IfSome, IsEquivalence, option_map, count_by, find, list_any, cons_option, AllByRecursion, cases_Bool, both_ways, or_cases, sum_by-cons, sum_by-append, candidates, or_true, touched, slots_of-hit, Entry, has, KeyPlaces, key_at, hashed_at, entries_of, is_key_at, AllDistinct, HasHash, small_hit_at, main_hit_at, then_some, QueueState, slots_of, Remembered, place_of, found_slot, found_place, has-append, has_first, below_of, same_place, key_there, any_entry, length-values, lookup, found_there, not_found, Shares, SmallEntry, MainEntry, Machine, slot_of, hit, is_at, IsWhole, machine_of, places_of, IsStored, IsKept, whole-hit, some_is, candidates_there}
+use Rattle.std.proofs.Common.{◌≡◌, ℕ, ◌+◌, ◌<◌, ◌≤◌, ◌⊎◌, Bool, true, false, ◌&&◌, cond, eqb, Option, Some, None, slice_get, List, [], ◌∷◌, map, length, refl, sym, ap, ◌∙◌, arith, eqb-true}
+use Rattle.clock2q_cache.proofs.Names.{IfSome, IsEquivalence, option_map, count_by, find, list_any, cons_option, AllByRecursion, sum_by-cons, candidates, or_true, touched, slots_of-hit, Entry, has, KeyPlaces, key_at, entries_of, is_key_at, AllDistinct, HasHash, small_hit_at, main_hit_at, then_some, QueueState, slots_of, Remembered, place_of, found_slot, found_place, has-append, has_first, below_of, same_place, key_there, any_entry, length-values, lookup, found_there, not_found, Shares, Machine, slot_of, hit, is_at, machine_of, places_of, IsKept, whole-hit, candidates_there}
 use Rattle.clock2q_directory.specs.declared.history.Found.{Found}
 use Rattle.clock2q_cache.proofs.WithKeys.{HaveKeys, have_later, paired, paired-cons, small-hit, main-hit}
 use Rattle.clock2q_cache.proofs.Indexed.{residents-paired}
@@ -112,8 +112,7 @@ module _ {K V : Type 0} {eq : K → K → Bool} {hash : K → ℕ} {shares : Sha
         of (Some slot) is =
             let f = found-there slot is in
             let e = key_there eq key keys.entries slot f.1 in
-            let resident = any-counted (λ (x : ℕ × K). eq key x.1) (entries_of keys.entries (places_of q)) (any_entry eq key keys.entries (places_of q) slot e.0 f.0 e.1 e.2) in
-            absurd (omega (arith, kept.whole.keys_once key, resident, known_residents (eq key), any-counted (eq key) m.history remembered))
+            absurd (grind (arith, any_entry eq key keys.entries (places_of q) slot e.0 f.0 e.1 e.2, kept.whole.keys_once key, known_residents (eq key), any-counted (eq key) m.history remembered, any-counted (λ (x : ℕ × K). eq key x.1) (entries_of keys.entries (places_of q))))
 
     -- what a lookup among both residents and remembered keys finds
     pub looked : ((x y : K) → eq x y ≡ true → hash x ≡ hash y) → (hsh : ℕ) → hsh ≡ hash key → (r : Found)

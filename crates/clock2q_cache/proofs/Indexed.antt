@@ -1,9 +1,9 @@
 -- What is in the index, in terms of the machine.
-use Rattle.std.proofs.Common.{◌≡◌, ℕ, suc, ◌≤◌, ◌==◌, Bool, true, false, ◌||◌, ◌&&◌, eqb, Option, Some, None, slice_get, List, [], ◌∷◌, map, length, inl, inr, refl, sym, ap, ◌∙◌, subst, arith, eqb-true}
-use Rattle.clock2q_cache.proofs.Names.{slice_get_some, list_any, zip, cons_option, AllByRecursion, cases_Bool, length-map, IsEquivalence, Entry, has, AllBelow, KeyPlaces, key_at, hash_at, hashed_at, entries_of, IsIndex, is_named, is_alike, QueueState, Remembered, IsWholeHistory, has_first, Shares, residents, machine_of, places_of, IsKept, HasPlaces, some_is}
+use Rattle.std.proofs.Common.{◌≡◌, ℕ, ◌≤◌, ◌==◌, Bool, ◌||◌, ◌&&◌, Option, Some, None, slice_get, List, [], ◌∷◌, map, length, refl, arith, eqb-true}
+use Rattle.clock2q_cache.proofs.Names.{slice_get_some, list_any, zip, AllByRecursion, length-map, IsEquivalence, Entry, has, AllBelow, KeyPlaces, key_at, hash_at, hashed_at, entries_of, IsIndex, is_named, is_alike, QueueState, Remembered, IsWholeHistory, has_first, Shares, residents, machine_of, places_of, IsKept, HasPlaces}
 use Rattle.clock2q_directory.specs.Index as known
 use Rattle.clock2q_cache.proofs.WithKeys.{HaveKeys, have_later, paired, paired-cons, residents-keyed}
-use Rattle.clock2q_cache.proofs.Stored.{hash-of-key, all-at}
+use Rattle.clock2q_cache.proofs.Stored.{all-at}
 use Rattle.clock2q_cache.proofs.Slots.{small_have, main_have}
 
 absorb : (n a : Bool) → n ≡ (n || (a && n))

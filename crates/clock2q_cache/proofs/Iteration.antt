@@ -1,12 +1,10 @@
 -- What an iterator over the residents has left: slot by slot, and the number.
-use Rattle.std.proofs.Common.{◌≡◌, ℕ, zero, suc, ◌+◌, ◌<◌, ◌≤◌, ◌==◌, Bool, true, false, cond, Option, Some, None, List, [], ◌∷◌, map, length, inl, inr, refl, sym, ap, ◌∙◌, arith, eq-eqb, ne_eqb}
+use Rattle.std.proofs.Common.{◌≡◌, ℕ, zero, suc, ◌+◌, ◌<◌, ◌≤◌, ◌==◌, Bool, false, Option, Some, List, [], ◌∷◌, map, length, refl, ap, arith, eq-eqb}
 use Rattle.std.specs.Prelude.{is_some, IsSome, slice_get, nat_lt, if◌then◌else◌}
 use Rattle.std.specs.List.{filter_map, range_with_len, cons_option, find, sum_by, count_by}
-use Rattle.std.specs.Option.{option_map, option_and_then}
 use mathlib.Core.List.{map-map}
-use Rattle.std.proofs.lemmas.Bool.{cases_lt, le-ltb}
 use Rattle.std.proofs.lemmas.List.{length-map, length-append}
-use Rattle.std.proofs.lemmas.List.Sums.{sum_by-cons, sum_by-append}
+use Rattle.std.proofs.lemmas.List.Sums.{sum_by-cons}
 use Rattle.clock2q_machine.specs.Entries.{SmallEntry, MainEntry}
 use Rattle.clock2q_machine.specs.Machine.{Machine, residents, resident_at, resident_count, by_slot}
 use Rattle.clock2q_machine.specs.Whole.{IsWhole}

@@ -1,10 +1,9 @@
 -- A list of calls takes linear time: at most 37 link accesses a call, and one for each bit that was set before.
-use Rattle.std.proofs.Common.{◌≡◌, ◌+◌, ◌*◌, ◌≤◌, Bool, true, false, List, [], ◌∷◌, length, Some, None, arith}
-use Rattle.std.specs.Prelude.{if◌then◌else◌, is_some}
+use Rattle.std.proofs.Common.{◌≡◌, ◌+◌, ◌*◌, ◌≤◌, Bool, false, List, [], ◌∷◌, length, Some, None, arith}
 use Rattle.std.specs.Cmp.{IsEquivalence}
 use Rattle.std.specs.List.{AllByRecursion}
 use Rattle.clock2q_machine.specs.Calls.{Call, Put, Get, Peek, Contains, GetAt, Set, With, Try, SlotFor, Remove, Retain, Clear, Evict, Prefill, Len, IsEmpty, Capacity}
-use Rattle.clock2q_machine.specs.Machine.{Machine, slot_of}
+use Rattle.clock2q_machine.specs.Machine.{Machine}
 use Rattle.clock2q_machine.specs.Steps.{after, after_all}
 use Rattle.clock2q_machine.specs.Bounds.{set_bits, inspections_for, inspections_of, summed}
 use Rattle.clock2q_machine.specs.Whole.{IsWhole}

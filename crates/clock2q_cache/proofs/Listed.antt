@@ -1,15 +1,12 @@
 -- What a caller may rely on about an iterator over the residents: each of its entries has its key's value, and each key
 -- that has a value is there.
-use Rattle.std.proofs.Common.{◌≡◌, ℕ, zero, suc, ◌+◌, ◌-◌, ◌<◌, ◌≤◌, ◌==◌, Bool, true, false, ◌&&◌, ◌||◌, cond, Option, Some, None, List, [], ◌∷◌, length, inl, inr, refl, sym, ap, ◌∙◌, arith, eqb-true, eq-eqb}
-use Rattle.std.specs.Prelude.{is_some, slice_get}
+use Rattle.std.proofs.Common.{◌≡◌, ℕ, zero, suc, ◌+◌, ◌-◌, ◌<◌, ◌≤◌, ◌==◌, Bool, true, ◌&&◌, Option, Some, None, List, [], ◌∷◌, length, refl, arith, eqb-true, eq-eqb}
 use Rattle.std.specs.Cmp.{IsEquivalence}
-use Rattle.std.specs.List.{filter_map, range_with_len, cons_option, find, count_by, list_any, AllByRecursion}
-use Rattle.std.specs.Option.{option_map, option_and_then}
-use Rattle.std.proofs.lemmas.Bool.{cases_Bool, cases_lt}
+use Rattle.std.specs.List.{filter_map, range_with_len, find, count_by, list_any, AllByRecursion}
 use Rattle.std.proofs.lemmas.List.Sums.{sum_by-cons}
 use Rattle.clock2q_machine.specs.Machine.{Machine, residents, resident_at, slot_of, value_of}
 use Rattle.clock2q_machine.specs.Whole.{IsWhole}
-use Rattle.clock2q_machine.proofs.Whole.{one_if, some_is, none_is}
+use Rattle.clock2q_machine.proofs.Whole.{one_if}
 use Rattle.clock2q_machine.proofs.Standing.{get-within, found_at, resident_once}
 use Rattle.clock2q_machine.proofs.MachineInvariant.{resident_made}
 use Rattle.clock2q_machine.proofs.Entering.{slots_apart}

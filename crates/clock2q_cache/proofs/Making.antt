@@ -1,9 +1,8 @@
 -- When a key that is placed makes a slot, and when it finds a value in one.
-use Rattle.std.proofs.Common.{◌≡◌, ℕ, ◌<◌, ◌==◌, Bool, true, false, not, ◌&&◌, List, [], ◌∷◌, length, inl, inr, Option, Some, None, refl, sym, ap, ◌∙◌, subst, arith, eq-eqb, eqb-true, ne_eqb}
-use Rattle.clock2q_cache.proofs.Names.{HashMembers, CacheState, list_any, known_count, discarded, unknown_once_forgotten, if◌then◌else◌, nat_lt, is_some, IfSome, IfNone, IsEquivalence, count_by, last_or, UnwrapsOrElse, lt-ltb, le-ltb, eqb-false, ltb-true, ltb-false, slice_get_past, sum_by-cons, and_true, and_false, main_share, MainEntry, Machine, Placement, vacancy, vacant_slot, goes_to_main, into_main, into_small, into_small_at, joining_main, replacing_victim, placement, forgotten, slot_of, stored, reused, inserted, hit, fetched_value, IsWhole, Reuses, Takes, Fills, placed, next_is_vacant, makes_slot, one_if, some_is, none_is, counted_made, victim_made, no_vacancy, all_resident, placed-main, placed-small, length-from_victim, resident_made, get-within, slot_at_most, reused_value, stored_again, stored_same}
+use Rattle.std.proofs.Common.{◌≡◌, ℕ, ◌<◌, ◌==◌, Bool, false, not, ◌&&◌, List, [], ◌∷◌, length, Option, Some, None, refl, arith}
+use Rattle.clock2q_cache.proofs.Names.{HashMembers, CacheState, discarded, unknown_once_forgotten, nat_lt, is_some, IfSome, IfNone, IsEquivalence, slice_get_past, sum_by-cons, Machine, Placement, vacancy, vacant_slot, goes_to_main, placement, forgotten, slot_of, hit, IsWhole, Reuses, Takes, Fills, placed, next_is_vacant, makes_slot, one_if, counted_made, victim_made, no_vacancy, all_resident, placed-main, placed-small, length-from_victim, resident_made, get-within, slot_at_most, reused_value, stored_again, stored_same}
 use Rattle.clock2q_directory.specs.declared.history.Found.{Found}
 use Rattle.clock2q_directory.specs.History.{found_gap}
-use Rattle.clock2q_machine.specs.Entries.{from_victim}
 use Rattle.std.specs.declared.hash.Hasher as hasher
 use Rattle.std.specs.declared.hash.BuildHasher as builder
 use Rattle.clock2q_cache.specs.Insertions.{IsAbsent, IsFoundFor, IsSent, IsUnknown}

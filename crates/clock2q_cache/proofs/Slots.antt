@@ -1,6 +1,6 @@
 -- How often a slot occurs in a cache's queues, and which slots are distinct.
-use Rattle.std.proofs.Common.{◌≡◌, ℕ, zero, suc, ◌+◌, ◌<◌, ◌≤◌, ◌==◌, Bool, true, false, cond, eqb, Some, List, [], ◌∷◌, ◌++◌, map, length, take, drop, reverse, inl, inr, refl, sym, ap, ◌∙◌, arith, eqb-true, eq-eqb, length-append}
-use Rattle.clock2q_cache.proofs.Names.{length-values, if◌then◌else◌, nat_lt, is_some, count_by, cases_Bool, cases_lt, both_ways, le-ltb, length-map, sum_by-cons, sum_by-append, slots_of-mapped, some_is, none_is, or_true, or_parts, Entry, has, AllApart, KeyPlaces, key_at, Remembered, IsEquivalence, Age, grown, admitted, set_front, from_victim, QueueState, slots_of, has-append, eqb_self, eqb_swap, Shares, Machine, vacancy, vacant_slot, standings, machine_of, places_of, IsStored, IsKept}
+use Rattle.std.proofs.Common.{◌≡◌, ℕ, zero, suc, ◌+◌, ◌<◌, ◌≤◌, ◌==◌, Bool, true, false, cond, Some, List, [], ◌∷◌, ◌++◌, map, length, take, drop, reverse, refl, ap, ◌∙◌, arith, length-append}
+use Rattle.clock2q_cache.proofs.Names.{length-values, is_some, count_by, both_ways, length-map, sum_by-cons, sum_by-append, slots_of-mapped, or_true, Entry, has, AllApart, KeyPlaces, key_at, Remembered, IsEquivalence, Age, grown, admitted, from_victim, QueueState, slots_of, has-append, eqb_self, eqb_swap, Shares, Machine, vacancy, vacant_slot, standings, machine_of, places_of, IsStored, IsKept}
 use Rattle.clock2q_cache.proofs.WithKeys.{HaveKeys, standing-keyed, length-small, length-main}
 use Rattle.clock2q_cache.proofs.Stored.{have_keys, stored-same}
 

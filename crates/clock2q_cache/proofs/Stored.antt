@@ -1,5 +1,5 @@
 -- The keys by slot and their index, after a key enters or replaces another.
-use Rattle.std.proofs.Common.{◌≡◌, ℕ, zero, suc, ◌<◌, ◌≤◌, true, false, eqb, Some, None, List, [], ◌∷◌, length, refl, sym, ap, ◌∙◌, arith, subst, slice_get}
+use Rattle.std.proofs.Common.{◌≡◌, ℕ, zero, suc, ◌<◌, ◌≤◌, true, false, eqb, Some, None, List, [], ◌∷◌, length, ap, arith, subst, slice_get}
 use Rattle.clock2q_cache.proofs.Names.{AllByRecursion, with_handle, removed, Entry, has, without, AllApart, AllBelow, entry, written, hash_at, key_at, eqb_self, below_of, has-without, has-without_test, below-has, below-more, and_true, and_false, some_is, length-written, slice_get_some, all-written, hash_at-own, hash_at-others, IsIndex-put, IsIndex-taken, length-taken, IsStored}
 use Rattle.clock2q_queues.proofs.Joining.{length-without}
 use Rattle.clock2q_cache.proofs.WithKeys.{HaveKeys}
@@ -27,9 +27,17 @@ module _ {K V : Type 0} (hash : K → ℕ) where
       → IsStored hash index entries places → 0 < length index → has slot places ≡ false → slot ≤ length entries
       → IsStored hash (with_handle index (hash key) slot) (written slot (entry (hash key) key value) entries) (slot ∷ places)
   stored-entered index entries places slot key value i some absent next =
-      grind (arith, length-written, below-more (length entries) (length (written slot (entry (hash key) key value) entries)) places, i.made,
-      IsIndex-put index entries (written slot (entry (hash key) key value) entries) places slot (hash key) i.indexed some absent, hash_at-others slot (hash key) key value entries next places absent, hash_at-own slot (hash key) key value entries next,
-      all-written (λ (e : Entry K V). e.hash ≡ hash e.key) slot, i.hashed)
+      grind (
+        arith,
+        length-written,
+        below-more (length entries) (length (written slot (entry (hash key) key value) entries)) places,
+        i.made,
+        IsIndex-put index entries (written slot (entry (hash key) key value) entries) places slot (hash key) i.indexed some absent,
+        hash_at-others slot (hash key) key value entries next places absent,
+        hash_at-own slot (hash key) key value entries next,
+        all-written (λ (e : Entry K V). e.hash ≡ hash e.key) slot,
+        i.hashed,
+      )
 
   -- a resident's slot leaves the index
   pub stored-left : (index : List (List (ℕ × ℕ))) (entries : List (Entry K V)) (places : List ℕ) (slot old : ℕ)

@@ -1,6 +1,6 @@
 -- The slots whose keys have one hash are those of the residents whose keys have it, each once.
-use Rattle.std.proofs.Common.{◌≡◌, ℕ, zero, suc, ◌<◌, ◌/◌, ◌%◌, ◌^◌, Bool, true, false, ◌==◌, ◌&&◌, eqb-true, Option, Some, None, slice_get, List, [], ◌∷◌, length, inl, inr, refl, sym, ap, ◌∙◌, subst, arith, ◌-◌}
-use Rattle.clock2q_cache.proofs.Names.{and_false, IfNone, IfSome, length-values, IsEquivalence, AllApart, AllByRecursion, both_ways, is_alike, is_named, eqb_self, find, is_key_at, slot_of, filter, cases_Bool, candidates, Entry, KeyPlaces, has, has_first, hash_at, below_of, candidate_there, slice_get_some, some_is, QueueState, Remembered, Shares, Machine, machine_of, places_of, IsKept}
+use Rattle.std.proofs.Common.{◌≡◌, ℕ, ◌<◌, Bool, true, ◌&&◌, eqb-true, Option, Some, None, slice_get, List, [], ◌∷◌, length, inl, inr, refl, sym, ◌∙◌, arith, ◌-◌}
+use Rattle.clock2q_cache.proofs.Names.{and_false, IfNone, IfSome, length-values, IsEquivalence, AllApart, AllByRecursion, eqb_self, find, is_key_at, slot_of, filter, cases_Bool, candidates, Entry, KeyPlaces, has, has_first, below_of, candidate_there, slice_get_some, QueueState, Remembered, Shares, Machine, machine_of, places_of, IsKept}
 use Rattle.std.proofs.lemmas.Bool.{eq-eqb}
 use Rattle.clock2q_queues.proofs.Rings.{has_later}
 use Rattle.clock2q_directory.specs.Hashed.{has_hash}
