@@ -36,7 +36,9 @@ module _ {K V : Type 0} where
     pub written : with_value slot value es ≡ written slot (record entry { value = value }) es
 
   replaces : (slot : ℕ) (value : V) (es : List (Entry K V)) → slot < length es → Replaces slot value es
-  replaces slot value es below = let e = slice_get_some es slot below in record { entry = e.0; at = e.1; written = grind (arith, e.1, set-written slot (record e.0 { value = value }) es) }
+  replaces slot value es below =
+      let e = slice_get_some es slot below in
+      record { entry = e.0; at = e.1; written = grind (arith, e.1, set-written slot (record e.0 { value = value }) es) }
 
   -- nothing else of the entries changes
   entry-same : {Y : Type 0} (f : Option (Entry K V) → Y) (slot : ℕ) (value : V) (es : List (Entry K V)) (r : Replaces slot value es) → slot < length es

@@ -63,7 +63,8 @@ module _ {F K V : Type 0} (g : Mut F (Bor K × (Bor V × Unit {0})) Bool) where
     bits_of [] [] f last many i asked = refl
     bits_of [] (r ∷ rs) f last many i asked = absurd (omega (arith, many))
     bits_of (b ∷ bits) [] f last many i asked = absurd (omega (arith, many))
-    bits_of (b ∷ bits) (r ∷ rs) f last many i asked = grind (arith, says f asked.1.key asked.1.value r b asked.0 i asked.1.shows.0 asked.1.shows.1 asked.1.called, bits_of bits rs asked.0 last)
+    bits_of (b ∷ bits) (r ∷ rs) f last many i asked = grind (arith,
+        says f asked.1.key asked.1.value r b asked.0 i asked.1.shows.0 asked.1.shows.1 asked.1.called, bits_of bits rs asked.0 last)
 
     pub retained_by : (f : F) (new : Machine K V) → I f → Retains g f m new → new ≡ retained (map test (by_slot m)) m
     retained_by f new i r = r.becomes ∙ ap (λ bits. retained bits m) (bits_of r.bits (by_slot m) f r.last r.as_many i r.asked)
@@ -97,7 +98,8 @@ module _ {F K V : Type 0} (g : Mut F (Bor K × (Bor V × Unit {0})) Bool) (f : F
     bits = h.bits ++ b ∷ [];
     as_many = omega (arith, h.as_many, length-append h.bits (b ∷ []), length-append rs (r ∷ []));
     asked = returns-more (AsksResident g old.values) f h.bits rs f' b r last h.as_many h.asked asks;
-    becomes = grind (arith, h.becomes, map-append (λ (r : K × ℕ). r.1) rs (r ∷ []), refused-more h.bits (map (λ r. r.1) rs) b r.1, h.as_many, length-map rs (λ (r : K × ℕ). r.1), fold-append (λ state slot. vacated slot state) old (refused_slots h.bits (map (λ r. r.1) rs)));
+    becomes = grind (arith, h.becomes, map-append (λ (r : K × ℕ). r.1) rs (r ∷ []), refused-more h.bits (map (λ r. r.1) rs) b r.1, h.as_many,
+        length-map rs (λ (r : K × ℕ). r.1), fold-append (λ state slot. vacated slot state) old (refused_slots h.bits (map (λ r. r.1) rs)));
   }
 
   -- the closure was called for the residents below, and nothing else changed
@@ -115,7 +117,12 @@ module _ {F K V : Type 0} (g : Mut F (Bor K × (Bor V × Unit {0})) Bool) (f : F
     pub retains-past : resident_at now n ≡ None → RetainsBelow (n + 1) f' now
     retains-past none =
         let here : resident_at old n ≡ None = grind (arith, h.later) in
-        record { over = rw (below-more old n None here, append-nil (below old n)) h.over; later = λ t le. h.later t (omega (arith, le)); values = h.values; callable = rw (← above-more n None made here) h.callable }
+        record {
+          callable = rw (← above-more n None made here) h.callable;
+          over = rw (below-more old n None here, append-nil (below old n)) h.over;
+          later = λ t le. h.later t (omega (arith, le));
+          values = h.values;
+        }
 
     module _ (key : Bor K) (value : Bor V) (here : resident_at now n ≡ Some (key.now, n)) (shown : slice_get now.values n ≡ Some value.now) where
       turn : TakesInTurn g old.values f' ((key.now, n) ∷ above (n + 1))
@@ -137,11 +144,13 @@ module _ {F K V : Type 0} (g : Mut F (Bor K × (Bor V × Unit {0})) Bool) (f : F
 
         -- the resident stays
         pub retains-kept : Called g f' (key, (value, tt)) true last → RetainsBelow (n + 1) last now
-        retains-kept called = grind (arith, (turn key value refl there).1 true last called, h, among, over-more (below old n) f' now (key.now, n) true last h.over (asks true called))
+        retains-kept called = grind (arith, (turn key value refl there).1 true last called, h, among,
+            over-more (below old n) f' now (key.now, n) true last h.over (asks true called))
 
         -- the resident leaves
         pub retains-refused : Called g f' (key, (value, tt)) false last → RetainsBelow (n + 1) last (vacated n now)
-        retains-refused called = grind (arith, (turn key value refl there).1 false last called, h, among, over-more (below old n) f' now (key.now, n) false last h.over (asks false called), resident-other now n, ne_eqb)
+        retains-refused called = grind (arith, (turn key value refl there).1 false last called, h, among,
+            over-more (below old n) f' now (key.now, n) false last h.over (asks false called), resident-other now n, ne_eqb)
 
   -- the closure was called for all
   pub retains-all : (n : ℕ) (f' : F) (now : Machine K V) → n ≡ length old.values → RetainsBelow n f' now → Retains g f old now

@@ -86,7 +86,8 @@ module _ {K X R : Type 0} {make : ℕ × X → K → R} {key : ℕ → Option K}
     -- how often a slot occurs
     pub keyed-standing : {es : List (ℕ × X)} {rs : List R} → Keyed make key es rs → count_by (λ r. slot r == t) rs ≡ count_by (λ s. s == t) (slots_of es)
     keyed-standing unkeyed = refl
-    keyed-standing (keyed {e} {es} {rs} k at r) = grind (arith, sum_by-cons (λ r. cond (slot r == t) 1 0) (make e k) rs, sum_by-cons (λ s. cond (s == t) 1 0) e.0 (slots_of es), slot-is e k, keyed-standing r)
+    keyed-standing (keyed {e} {es} {rs} k at r) = grind (arith, sum_by-cons (λ r. cond (slot r == t) 1 0) (make e k) rs,
+        sum_by-cons (λ s. cond (s == t) 1 0) e.0 (slots_of es), slot-is e k, keyed-standing r)
 
     -- a queue without a slot
     keyed-without : {es : List (ℕ × X)} {rs : List R} → Keyed make key es rs → Keyed make key (without_slot t es) (filter (λ r. not (slot r == t)) rs)
@@ -113,7 +114,8 @@ module _ {K : Type 0} (key : ℕ → Option K) where
   -- the residents of both queues
   pub residents-keyed : (small : List (ℕ × Age)) (main : List (ℕ × Bool)) → HaveKeys key (slots_of small) → HaveKeys key (slots_of main)
       → map (λ (e : SmallEntry K). (e.key, e.slot)) (with_keys_small key small) ++ map (λ (e : MainEntry K). (e.key, e.slot)) (with_keys_main key main) ≡ paired key (slots_of small ++ slots_of main)
-  residents-keyed small main s m = grind (arith, keyed-paired (λ (e : SmallEntry K). (e.key, e.slot)) (λ e k. refl) (have-keyed small_with key small s), keyed-paired (λ (e : MainEntry K). (e.key, e.slot)) (λ e k. refl) (have-keyed main_with key main m), filter_map-append)
+  residents-keyed small main s m = grind (arith, keyed-paired (λ (e : SmallEntry K). (e.key, e.slot)) (λ e k. refl) (have-keyed small_with key small s),
+      keyed-paired (λ (e : MainEntry K). (e.key, e.slot)) (λ e k. refl) (have-keyed main_with key main m), filter_map-append)
 
   -- an admission
   small-grown : (window : ℕ) (es : List (ℕ × Age))
@@ -153,7 +155,9 @@ module _ {K : Type 0} (key : ℕ → Option K) where
   main-cleared (keyed k at r) = keyed k at (main-cleared r)
 
   pub main-from_victim : (es : List (ℕ × Bool)) → HaveKeys key (slots_of es) → machine.from_victim (with_keys_main key es) ≡ with_keys_main key (from_victim es)
-  main-from_victim es h = grind (arith, main-passed (have-keyed main_with key es h), keyed-is main_with key (append-keyed (drop-keyed (set_front es) (have-keyed main_with key es h)) (main-cleared (take-keyed (set_front es) (have-keyed main_with key es h)))))
+  main-from_victim es h =
+      let r = have-keyed main_with key es h in
+      grind (arith, main-passed r, keyed-is main_with key (append-keyed (drop-keyed (set_front es) r) (main-cleared (take-keyed (set_front es) r))))
 
   -- a hit, if the key passes the test only at this slot
   module _ (is : K → Bool) (slot : ℕ) where
@@ -171,7 +175,8 @@ module _ {K : Type 0} (key : ℕ → Option K) where
   pub standing-keyed : (t : ℕ) (small : List (ℕ × Age)) (main : List (ℕ × Bool)) → HaveKeys key (slots_of small) → HaveKeys key (slots_of main)
       → count_by (λ (e : SmallEntry K). e.slot == t) (with_keys_small key small) + count_by (λ (e : MainEntry K). e.slot == t) (with_keys_main key main)
       ≡ count_by (λ s. s == t) (slots_of small) + count_by (λ s. s == t) (slots_of main)
-  standing-keyed t small main s m = grind (arith, keyed-standing (λ (e : SmallEntry K). e.slot) (λ e k. refl) t (have-keyed small_with key small s), keyed-standing (λ (e : MainEntry K). e.slot) (λ e k. refl) t (have-keyed main_with key main m))
+  standing-keyed t small main s m = grind (arith, keyed-standing (λ (e : SmallEntry K). e.slot) (λ e k. refl) t (have-keyed small_with key small s),
+      keyed-standing (λ (e : MainEntry K). e.slot) (λ e k. refl) t (have-keyed main_with key main m))
 
   -- the queues without a slot
   pub small-without : (t : ℕ) (es : List (ℕ × Age)) → HaveKeys key (slots_of es) → with_keys_small key (without_slot t es) ≡ filter (λ e. not (e.slot == t)) (with_keys_small key es)
