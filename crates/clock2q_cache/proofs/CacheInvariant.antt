@@ -70,9 +70,9 @@ module _ {K V : Type 0} {eq : K → K → Bool} {hash : K → ℕ} {shares : Sha
   -- the slot that is picked is free if a queue has room
   is-free : {slot made : ℕ} → made ≡ length keys.entries → vacant_slot (reverse free) made (made + 1) ≡ Some slot → length q.small + length q.main < shares.capacity → IsFree slot
   is-free {slot} is picked few =
-      let v = vacant laws kept slot (vacancy-taken laws kept slot (vacancy-there laws kept few) (rw (← is) picked)) in
-      grind (arith, v, or_parts, has-append slot (slots_of q.small) (slots_of q.main), vacancy-taken laws kept slot, vacancy-there laws kept few,
-          kept.whole.made_within, length-values keys.entries, kept.sized, kept.stored.indexed.counted, length-places q)
+      let taken = vacancy-taken laws kept slot (vacancy-there laws kept few) (rw (← is) picked) in
+      let v = vacant laws kept slot taken in
+      grind (arith, taken, v, or_parts, has-append slot (slots_of q.small) (slots_of q.main), kept.whole.made_within, length-values keys.entries, kept.sized, kept.stored.indexed.counted, length-places q)
 
   pub free-to-join : {slot made : ℕ} (main : Bool) → made ≡ length keys.entries → vacant_slot (reverse free) made (made + 1) ≡ Some slot
       → (main ≡ true → length m.main < main_share shares) → (main ≡ false → length m.small < shares.small) → IsFree slot
@@ -128,8 +128,8 @@ module _ {K V : Type 0} {eq : K → K → Bool} {hash : K → ℕ} {shares : Sha
     own = rw w.becomes (key_at-own slot hsh key w.held keys.entries f.next)
 
     small_same : with_keys_small (key_at keys'.entries) q.small ≡ m.small
-    small_same = grind (arith, w.becomes, keys-agree small_with (key_at keys.entries) (key_at keys'.entries) q.small,
-        key_at-others slot hsh key w.held keys.entries f.next (slots_of q.small) f.not_in_small)
+    small_same =
+        grind (arith, w.becomes, keys-agree small_with (key_at keys.entries) (key_at keys'.entries) q.small, key_at-others slot hsh key w.held keys.entries f.next (slots_of q.small) f.not_in_small)
 
     main_same : with_keys_main (key_at keys'.entries) q.main ≡ m.main
     main_same = rw w.becomes (keys-agree main_with (key_at keys.entries) (key_at (written slot (entry hsh key w.held) keys.entries)) q.main
@@ -162,8 +162,7 @@ module _ {K V : Type 0} {eq : K → K → Bool} {hash : K → ℕ} {shares : Sha
         → reverse free' ≡ drop 1 (reverse free) → room' ≡ room → IsDone slot value (into_main key m) q' h index' keys' free' room'
     main-done {q'} {free'} {room'} some queues others free_room =
         let q1 : QueueState = record q { main = q.main ++ (slot, false) ∷ []; made = made_below (slot + 1) q.made; accesses = q'.accesses } in
-        let t : with_keys_main (key_at keys'.entries) q1.main ≡ machine.behind_hand key slot m.main =
-        grind (arith, main-behind (key_at keys'.entries) slot key q.main own, main_same) in
+        let t : with_keys_main (key_at keys'.entries) q1.main ≡ machine.behind_hand key slot m.main = grind (arith, main-behind (key_at keys'.entries) slot key q.main own, main_same) in
         rw (queues, into-main key f.taken some)
         (done q1 free' (placed-joining eq m kept.whole key slot f.taken some) refl free_room refl refl refl (cc (small_same, values))
         (λ t. omega (arith, times-both t q1, times-pushed t q.main (slot, false), times-cons t slot (places_of q), times-both t q))

@@ -12,5 +12,5 @@ module _ {K V : Type 0} (eq : K → K → Bool) (laws : IsEquivalence eq) (m : M
   hit-fetches slot found = grind (arith, get-within m.values slot (resident_made eq laws (eq key) m h slot found))
 
   pub new-fetches : slot_of (eq key) m ≡ None → (value : V) → made value → Fetches (eq key) key made m (placement (eq key) key m).slot (inserted (eq key) key value m)
-  new-fetches absent value gave = grind (arith, inserted_value eq laws m h key absent value,
-      stored_again (placement (eq key) key m).machine (placement (eq key) key m).slot value, slot_at_most eq laws m h key absent)
+  new-fetches absent value gave =
+      grind (arith, inserted_value eq laws m h key absent value, stored_again (placement (eq key) key m).machine (placement (eq key) key m).slot value, slot_at_most eq laws m h key absent)

@@ -13,8 +13,7 @@ all-append P (x ∷ xs) ys a b = (a.0, all-append P xs ys a.1 b)
 pub freed-more : (free : List ℕ) (slot to : ℕ) → slot < to → (free ++ reverse (range_with_len (slot + 1) (to - (slot + 1)))) ++ slot ∷ [] ≡ free ++ reverse (range_with_len slot (to - slot))
 freed-more free slot to h =
     let n : to - slot ≡ suc (to - (slot + 1)) = omega (arith, h) in
-    grind (arith, n, append_assoc free (reverse (range_with_len (slot + 1) (to - (slot + 1)))) (slot ∷ []),
-        reverse-append (slot ∷ []) (range_with_len (slot + 1) (to - (slot + 1))))
+    grind (arith, n, append_assoc free (reverse (range_with_len (slot + 1) (to - (slot + 1)))) (slot ∷ []), reverse-append (slot ∷ []) (range_with_len (slot + 1) (to - (slot + 1))))
 
 module _ {F K V : Type 0} {g : Mut F Unit V} {f : F} {hash : K → ℕ} {old : List (Entry K V)} where
   pub FillsUp-none : {n : ℕ} → n ≡ length old → FillsUp g f hash n old old f
@@ -56,9 +55,10 @@ module _ {K V : Type 0} {eq : K → K → Bool} {hash : K → ℕ} {shares : Sha
   key-before t g = before (λ z. elim z [ None ↦ None | Some e ↦ Some e.key ]) t (has-append t (slots_of q.small) (slots_of q.main) ∙ g)
 
   pub machine-prefilled : machine_of shares q keys'.entries h.entries free' ≡ prefilled made m
-  machine-prefilled = grind (arith, keys-agree small_with (key_at keys.entries) (key_at keys'.entries) q.small,
-      keys-agree main_with (key_at keys.entries) (key_at keys'.entries) q.main, key-before, or_true, map-append (λ (e : Entry K V). e.value) keys.entries added,
-      length-values, reverse-append, reverse-reverse)
+  machine-prefilled =
+      let small = keys-agree small_with (key_at keys.entries) (key_at keys'.entries) q.small in
+      let main = keys-agree main_with (key_at keys.entries) (key_at keys'.entries) q.main in
+      grind (arith, small, main, key-before, or_true, map-append (λ (e : Entry K V). e.value) keys.entries added, length-values, reverse-append, reverse-reverse)
 
   pub kept-prefilled : {links : ℕ} {q' : QueueState} → q' ≡ record q { made = made_below shares.capacity q.made; accesses = links }
       → AllByRecursion (λ e. e.hash ≡ hash e.key) added → keys'.room ≡ keys.room → room' ≡ room → IsKept eq hash shares q' h index keys' free' room'

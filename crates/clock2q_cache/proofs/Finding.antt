@@ -38,8 +38,10 @@ module _ {K V : Type 0} (entries : List (Entry K V)) where
           → count_by (λ (e : ℕ × K). is e.1) (cons_option (elim o [ None ↦ None | Some e ↦ Some (e.hash, e.key) ]) (entries_of entries ps))
           ≡ count_by (λ (r : K × ℕ). is r.0) (cons_option (option_map (λ k. (k, p)) (elim o [ None ↦ None | Some e ↦ Some e.key ])) (paired (key_at entries) ps))
       of None r = r
-      of (Some e) r = grind (arith, r, sum_by-cons (λ (x : ℕ × K). cond (is x.1) 1 0) (e.hash, e.key) (entries_of entries ps),
-          sum_by-cons (λ (x : K × ℕ). cond (is x.0) 1 0) (e.key, p) (paired (key_at entries) ps))
+      of (Some e) r =
+          let a = sum_by-cons (λ (x : ℕ × K). cond (is x.1) 1 0) (e.hash, e.key) (entries_of entries ps) in
+          let b = sum_by-cons (λ (x : K × ℕ). cond (is x.0) 1 0) (e.key, p) (paired (key_at entries) ps) in
+          omega (arith, r, a, b)
 
 -- if each key occurs at most once, no two are equal
 distinct-once : {K : Type 0} (eq : K → K → Bool) → IsEquivalence eq → (es : List (ℕ × K)) → ((k : K) → count_by (λ (e : ℕ × K). eq k e.1) es ≤ 1) → AllDistinct eq es
@@ -53,8 +55,8 @@ distinct-once {K} eq laws (e ∷ es) h = (
 hashes-same : {K V : Type 0} (eq : K → K → Bool) (hash : K → ℕ) (key : K) (entries : List (Entry K V)) (ps : List ℕ)
     → ((x y : K) → eq x y ≡ true → hash x ≡ hash y) → AllByRecursion (λ e. e.hash ≡ hash e.key) entries → HasHash eq (hash key) key (entries_of entries ps)
 hashes-same eq hash key entries [] respects a = tt
-hashes-same {K} {V} eq hash key entries (p ∷ ps) respects a = grind (arith, hashes-same eq hash key entries ps respects a,
-    all-at (λ (e : Entry K V). e.hash ≡ hash e.key) entries p, respects key)
+hashes-same {K} {V} eq hash key entries (p ∷ ps) respects a =
+    grind (arith, hashes-same eq hash key entries ps respects a, all-at (λ (e : Entry K V). e.hash ≡ hash e.key) entries p, respects key)
 
 -- a result that isn't a resident has no slot
 pub no-slot : (r : Found) → ((slot : ℕ) → r ≡ Found.Resident slot → ⊥) → None ≡ found_slot r
@@ -103,8 +105,8 @@ module _ {K V : Type 0} {eq : K → K → Bool} {hash : K → ℕ} {shares : Sha
     -- what a lookup finds
     pub found : ((x y : K) → eq x y ≡ true → hash x ≡ hash y) → (hsh : ℕ) → hsh ≡ hash key → find (is_key_at eq key keys.entries) (candidates index hsh) ≡ slot_of (eq key) m
     found respects hsh is =
-        grind (arith, lookup eq (hash key) key index keys.entries (places_of q) kept.stored.indexed
-            (hashes-same eq hash key keys.entries (places_of q) respects kept.stored.hashed) laws distinct, slot-among)
+        let same = hashes-same eq hash key keys.entries (places_of q) respects kept.stored.hashed in
+        grind (arith, lookup eq (hash key) key index keys.entries (places_of q) kept.stored.indexed same laws distinct, slot-among)
 
     -- a slot that is found is a resident's
     pub found-there : (slot : ℕ) → slot_of (eq key) m ≡ Some slot → (has slot (places_of q) ≡ true) × (is_key_at eq key keys.entries slot ≡ true)
@@ -119,8 +121,8 @@ module _ {K V : Type 0} {eq : K → K → Bool} {hash : K → ℕ} {shares : Sha
         of (Some slot) is =
             let f = found-there slot is in
             let e = key_there eq key keys.entries slot f.1 in
-            absurd (grind (arith, any_entry eq key keys.entries (places_of q) slot e.0 f.0 e.1 e.2, kept.whole.keys_once key, known_residents (eq key),
-                any-counted (eq key) m.history remembered, any-counted (λ (x : ℕ × K). eq key x.1) (entries_of keys.entries (places_of q))))
+            let resident = any-counted (λ (x : ℕ × K). eq key x.1) (entries_of keys.entries (places_of q)) (any_entry eq key keys.entries (places_of q) slot e.0 f.0 e.1 e.2) in
+            absurd (omega (arith, kept.whole.keys_once key, resident, known_residents (eq key), any-counted (eq key) m.history remembered))
 
     -- what a lookup among both residents and remembered keys finds
     pub looked : ((x y : K) → eq x y ≡ true → hash x ≡ hash y) → (hsh : ℕ) → hsh ≡ hash key → (r : Found)

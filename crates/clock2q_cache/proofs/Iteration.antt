@@ -49,8 +49,8 @@ none_above s from (suc n) above = grind (arith, sum_by-cons, none_above s (from 
 
 once_within : (s from n : ℕ) → from ≤ s → s < from + n → sum_by (λ slot. one_if (s == slot)) (range_with_len from n) ≡ 1
 once_within s from zero low high = absurd (omega (arith, low, high))
-once_within s from (suc n) low high = grind (arith, sum_by-cons (λ slot. one_if (s == slot)) from (range_with_len (from + 1) n), once_within s (from + 1) n,
-    none_above s (from + 1) n)
+once_within s from (suc n) low high =
+    grind (arith, sum_by-cons (λ slot. one_if (s == slot)) from (range_with_len (from + 1) n), once_within s (from + 1) n, none_above s (from + 1) n)
 
 sum_by-none : {X : Type 0} (f : X → ℕ) → ((x : X) → f x ≡ 0) → (xs : List X) → sum_by f xs ≡ 0
 sum_by-none f none [] = refl

@@ -41,8 +41,8 @@ module _ {K V : Type 0} (eq : K → K → Bool) (laws : IsEquivalence eq) (m : M
   at_its_slot slot r there =
       let at = eqb-true r.1 slot (found_passes (λ (x : K × ℕ). x.1 == slot) (λ x. true) (residents m) r there) in
       let is : K → ℕ → Bool = λ k s. eq r.0 k && s == slot in
-      (at, grind (arith, at, laws.refl r.0, eq-eqb, found_at (eq r.0) m (resident_once eq m whole r.0) slot, counted_residents is m,
-          found_counted (λ (x : K × ℕ). x.1 == slot) (λ x. is x.0 x.1) (residents m) r there))
+      let counted = found_counted (λ (x : K × ℕ). x.1 == slot) (λ x. is x.0 x.1) (residents m) r there in
+      (at, grind (arith, at, laws.refl r.0, eq-eqb, found_at (eq r.0) m (resident_once eq m whole r.0) slot, counted_residents is m, counted))
 
   -- a key that is found at a slot is equal to that of the resident there
   pub same-key : (key : K) (slot : ℕ) (r : K × ℕ) → slot_of (eq key) m ≡ Some slot → resident_at m slot ≡ Some r → eq key r.0 ≡ true
@@ -62,6 +62,7 @@ module _ {K V : Type 0} (eq : K → K → Bool) (laws : IsEquivalence eq) (m : M
       by_slot (Some slot) found =
           let made = resident_made eq laws (eq key) m whole slot found in
           let value = get-within m.values slot made in
-          let any = λ (r : K × ℕ) (is : resident_at m slot ≡ Some r). any_kept (entry_at m) (λ (e : K × ℕ × V). eq key e.0) slot
-              (r.0, r.1, value.0) (grind (arith, value.1)) (same-key key slot r found is) 0 (length m.values - 0) (omega arith) (omega (arith, made)) in
+          let any = λ (r : K × ℕ) (is : resident_at m slot ≡ Some r).
+          any_kept (entry_at m) (λ (e : K × ℕ × V). eq key e.0) slot (r.0, r.1, value.0) (grind (arith, value.1)) (same-key key slot r found is)
+          0 (length m.values - 0) (omega arith) (omega (arith, made)) in
           grind (arith, found-resident (eq key) m slot found, any)

@@ -22,8 +22,8 @@ module _ {K V : Type 0} (eq : K → K → Bool) (m : Machine K V) (h : IsWhole e
     placed-values main small = grind (arith, placed-main eq m h key, placed-small eq m h key)
 
     pub placed-makes : (main : Bool) → (main ≡ false → goes_to_main false m ≡ false) → nat_lt (placed main key m).slot (length m.values) ≡ not (makes_slot main m)
-    placed-makes main small = grind (arith, length-from_victim m.main, victim_made eq m h, h.small_below, h.small_within, h.main_within, all_resident eq m h,
-        vacant-made, no_vacancy, placed-small eq m h key)
+    placed-makes main small =
+        grind (arith, length-from_victim m.main, victim_made eq m h, h.small_below, h.small_within, h.main_within, all_resident eq m h, vacant-made, no_vacancy, placed-small eq m h key)
 
 -- how a key is placed if its history is erased first
 module _ {K V : Type 0} (eq : K → K → Bool) (key : K) {m m1 : Machine K V} {main : Bool} (s : IsSent (eq key) m m1 main) where

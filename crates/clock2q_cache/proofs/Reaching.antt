@@ -37,9 +37,9 @@ module _ {K V S H : Type 0} (key : HashMembers K) (build : builder.Ghosts S H) (
     pub reaches-left : IsEquivalence key.eq → IsWhole key.eq old.machine → ((x y : K) → key.eq x y ≡ true → key.hash_input x ≡ key.hash_input y)
         → (slot : ℕ) → slot_of (key.eq k) old.machine ≡ Some slot → new.known ≡ left_by (hash_in key build hash old) (resident_at old.machine slot) slot (looked_for key build hash k old).known
         → Reaches (walked key build hash old k + reached key build hash old k) old new
-    reaches-left laws whole respects slot found is = grind (arith,
-        left-reaches (hash_in key build hash old) (hash_in key build hash old k) (resident_at old.machine slot) slot (looked_for key build hash k old).known,
-        same-key key.eq laws old.machine whole k slot, respects k)
+    reaches-left laws whole respects slot found is =
+        let walk = left-reaches (hash_in key build hash old) (hash_in key build hash old k) (resident_at old.machine slot) slot (looked_for key build hash k old).known in
+        grind (arith, walk, same-key key.eq laws old.machine whole k slot, respects k)
 
   -- the resident at a slot leaves, whose key is this one
   pub reaches-gone : (r : K × ℕ) (slot : ℕ) {old new : CacheState K V S} → new.known ≡ left_by (hash_in key build hash old) (Some r) slot old.known → Reaches (reached key build hash old r.0) old new

@@ -63,8 +63,8 @@ module _ {F K V : Type 0} (g : Mut F (Bor K × (Bor V × Unit {0})) Bool) where
     bits_of [] [] f last many i asked = refl
     bits_of [] (r ∷ rs) f last many i asked = absurd (omega (arith, many))
     bits_of (b ∷ bits) [] f last many i asked = absurd (omega (arith, many))
-    bits_of (b ∷ bits) (r ∷ rs) f last many i asked = grind (arith,
-        says f asked.1.key asked.1.value r b asked.0 i asked.1.shows.0 asked.1.shows.1 asked.1.called, bits_of bits rs asked.0 last)
+    bits_of (b ∷ bits) (r ∷ rs) f last many i asked =
+        grind (arith, says f asked.1.key asked.1.value r b asked.0 i asked.1.shows.0 asked.1.shows.1 asked.1.called, bits_of bits rs asked.0 last)
 
     pub retained_by : (f : F) (new : Machine K V) → I f → Retains g f m new → new ≡ retained (map test (by_slot m)) m
     retained_by f new i r = r.becomes ∙ ap (λ bits. retained bits m) (bits_of r.bits (by_slot m) f r.last r.as_many i r.asked)
@@ -94,13 +94,15 @@ module _ {F K V : Type 0} (g : Mut F (Bor K × (Bor V × Unit {0})) Bool) (f : F
 
   over-more : (rs : List (K × ℕ)) (f' : F) (now : Machine K V) (r : K × ℕ) (b : Bool) (last : F) → RetainsOver rs f' now
       → AsksResident g old.values f' r b last → RetainsOver (rs ++ r ∷ []) last (cond b now (vacated r.1 now))
-  over-more rs f' now r b last h asks = record {
-    bits = h.bits ++ b ∷ [];
-    as_many = omega (arith, h.as_many, length-append h.bits (b ∷ []), length-append rs (r ∷ []));
-    asked = returns-more (AsksResident g old.values) f h.bits rs f' b r last h.as_many h.asked asks;
-    becomes = grind (arith, h.becomes, map-append (λ (r : K × ℕ). r.1) rs (r ∷ []), refused-more h.bits (map (λ r. r.1) rs) b r.1, h.as_many,
-        length-map rs (λ (r : K × ℕ). r.1), fold-append (λ state slot. vacated slot state) old (refused_slots h.bits (map (λ r. r.1) rs)));
-  }
+  over-more rs f' now r b last h asks =
+      let slots = map (λ (r : K × ℕ). r.1) rs in
+      let more = refused-more h.bits slots b r.1 (h.as_many ∙ sym (length-map rs (λ (r : K × ℕ). r.1))) in
+      record {
+        bits = h.bits ++ b ∷ [];
+        as_many = omega (arith, h.as_many, length-append h.bits (b ∷ []), length-append rs (r ∷ []));
+        asked = returns-more (AsksResident g old.values) f h.bits rs f' b r last h.as_many h.asked asks;
+        becomes = grind (arith, h.becomes, map-append (λ (r : K × ℕ). r.1) rs (r ∷ []), more, fold-append (λ state slot. vacated slot state) old (refused_slots h.bits slots));
+      }
 
   -- the closure was called for the residents below, and nothing else changed
   pub record RetainsBelow (n : ℕ) (f' : F) (now : Machine K V) : Type 0 where
@@ -144,13 +146,13 @@ module _ {F K V : Type 0} (g : Mut F (Bor K × (Bor V × Unit {0})) Bool) (f : F
 
         -- the resident stays
         pub retains-kept : Called g f' (key, (value, tt)) true last → RetainsBelow (n + 1) last now
-        retains-kept called = grind (arith, (turn key value refl there).1 true last called, h, among,
-            over-more (below old n) f' now (key.now, n) true last h.over (asks true called))
+        retains-kept called =
+            grind (arith, (turn key value refl there).1 true last called, h, among, over-more (below old n) f' now (key.now, n) true last h.over (asks true called))
 
         -- the resident leaves
         pub retains-refused : Called g f' (key, (value, tt)) false last → RetainsBelow (n + 1) last (vacated n now)
-        retains-refused called = grind (arith, (turn key value refl there).1 false last called, h, among,
-            over-more (below old n) f' now (key.now, n) false last h.over (asks false called), resident-other now n, ne_eqb)
+        retains-refused called =
+            grind (arith, (turn key value refl there).1 false last called, h, among, over-more (below old n) f' now (key.now, n) false last h.over (asks false called), resident-other now n, ne_eqb)
 
   -- the closure was called for all
   pub retains-all : (n : ℕ) (f' : F) (now : Machine K V) → n ≡ length old.values → RetainsBelow n f' now → Retains g f old now

@@ -109,8 +109,8 @@ module _ {K V : Type 0} {eq : K → K → Bool} {hash : K → ℕ} {shares : Sha
 
   -- if fewer slots than the capacity have a resident, there is a vacancy
   pub vacancy-there : length q.small + length q.main < shares.capacity → is_some (vacancy m) ≡ true
-  vacancy-there few = grind (arith, kept.whole.slots_counted, length-small (key_at keys.entries) q.small small_have,
-      length-main (key_at keys.entries) q.main main_have)
+  vacancy-there few =
+      grind (arith, kept.whole.slots_counted, length-small (key_at keys.entries) q.small small_have, length-main (key_at keys.entries) q.main main_have)
 
 -- the same places in another order
 pub stored-moved : {K V : Type 0} {hash : K → ℕ} {index : List (List (ℕ × ℕ))} {entries : List (Entry K V)} {places : List ℕ} (q : QueueState) → IsStored hash index entries places

@@ -53,8 +53,8 @@ module _ {K V : Type 0} (hash : K → ℕ) where
   stored-renewed index entries places slot old key value i some apart there at =
       let l = stored-left index entries places slot old i some apart at in
       let gone : has slot (without slot places) ≡ false = grind (arith, has-without_test, eqb_self, and_false) in
-      let e = stored-entered (removed eqb index old slot) entries (without slot places) slot key value l (grind (arith,
-          length-taken index old slot)) gone (grind (arith, below_of (length entries) places i.made slot there)) in
+      let below : slot < length entries = below_of (length entries) places i.made slot there in
+      let e = stored-entered (removed eqb index old slot) entries (without slot places) slot key value l (grind (arith, length-taken index old slot)) gone (omega (arith, below)) in
       stored-same _ _ _ places e (λ t. grind (arith, has-without_test, and_true)) (grind (arith, length-without slot places apart there))
 
 -- a key at a place has its hash there

@@ -93,5 +93,5 @@ module _ {K V : Type 0} {eq : K → K → Bool} {hash : K → ℕ} {shares : Sha
 
   -- the slot that is found is below the capacity
   pub found-within : (x n : ℕ) (o : Option ℕ) → o ≡ slice_get (filter (has_hash keys.entries x) (candidates index x)) n → IfSome o (λ slot. slot < shares.capacity)
-  found-within x n o is = grind (arith, kept-below (has_hash keys.entries x) (length keys.entries) (candidates index x) n o (candidates-there laws kept x) is,
-      length-values keys.entries, kept.whole.made_within)
+  found-within x n o is =
+      grind (arith, kept-below (has_hash keys.entries x) (length keys.entries) (candidates index x) n o (candidates-there laws kept x) is, length-values keys.entries, kept.whole.made_within)

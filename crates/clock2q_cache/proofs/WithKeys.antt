@@ -86,8 +86,8 @@ module _ {K X R : Type 0} {make : ℕ × X → K → R} {key : ℕ → Option K}
     -- how often a slot occurs
     pub keyed-standing : {es : List (ℕ × X)} {rs : List R} → Keyed make key es rs → count_by (λ r. slot r == t) rs ≡ count_by (λ s. s == t) (slots_of es)
     keyed-standing unkeyed = refl
-    keyed-standing (keyed {e} {es} {rs} k at r) = grind (arith, sum_by-cons (λ r. cond (slot r == t) 1 0) (make e k) rs,
-        sum_by-cons (λ s. cond (s == t) 1 0) e.0 (slots_of es), slot-is e k, keyed-standing r)
+    keyed-standing (keyed {e} {es} {rs} k at r) =
+        grind (arith, sum_by-cons (λ r. cond (slot r == t) 1 0) (make e k) rs, sum_by-cons (λ s. cond (s == t) 1 0) e.0 (slots_of es), slot-is e k, keyed-standing r)
 
     -- a queue without a slot
     keyed-without : {es : List (ℕ × X)} {rs : List R} → Keyed make key es rs → Keyed make key (without_slot t es) (filter (λ r. not (slot r == t)) rs)
@@ -114,8 +114,10 @@ module _ {K : Type 0} (key : ℕ → Option K) where
   -- the residents of both queues
   pub residents-keyed : (small : List (ℕ × Age)) (main : List (ℕ × Bool)) → HaveKeys key (slots_of small) → HaveKeys key (slots_of main)
       → map (λ (e : SmallEntry K). (e.key, e.slot)) (with_keys_small key small) ++ map (λ (e : MainEntry K). (e.key, e.slot)) (with_keys_main key main) ≡ paired key (slots_of small ++ slots_of main)
-  residents-keyed small main s m = grind (arith, keyed-paired (λ (e : SmallEntry K). (e.key, e.slot)) (λ e k. refl) (have-keyed small_with key small s),
-      keyed-paired (λ (e : MainEntry K). (e.key, e.slot)) (λ e k. refl) (have-keyed main_with key main m), filter_map-append)
+  residents-keyed small main s m =
+      let a = keyed-paired (λ (e : SmallEntry K). (e.key, e.slot)) (λ e k. refl) (have-keyed small_with key small s) in
+      let b = keyed-paired (λ (e : MainEntry K). (e.key, e.slot)) (λ e k. refl) (have-keyed main_with key main m) in
+      grind (arith, a, b, filter_map-append)
 
   -- an admission
   small-grown : (window : ℕ) (es : List (ℕ × Age))
@@ -175,8 +177,10 @@ module _ {K : Type 0} (key : ℕ → Option K) where
   pub standing-keyed : (t : ℕ) (small : List (ℕ × Age)) (main : List (ℕ × Bool)) → HaveKeys key (slots_of small) → HaveKeys key (slots_of main)
       → count_by (λ (e : SmallEntry K). e.slot == t) (with_keys_small key small) + count_by (λ (e : MainEntry K). e.slot == t) (with_keys_main key main)
       ≡ count_by (λ s. s == t) (slots_of small) + count_by (λ s. s == t) (slots_of main)
-  standing-keyed t small main s m = grind (arith, keyed-standing (λ (e : SmallEntry K). e.slot) (λ e k. refl) t (have-keyed small_with key small s),
-      keyed-standing (λ (e : MainEntry K). e.slot) (λ e k. refl) t (have-keyed main_with key main m))
+  standing-keyed t small main s m =
+      let a = keyed-standing (λ (e : SmallEntry K). e.slot) (λ e k. refl) t (have-keyed small_with key small s) in
+      let b = keyed-standing (λ (e : MainEntry K). e.slot) (λ e k. refl) t (have-keyed main_with key main m) in
+      omega (arith, a, b)
 
   -- the queues without a slot
   pub small-without : (t : ℕ) (es : List (ℕ × Age)) → HaveKeys key (slots_of es) → with_keys_small key (without_slot t es) ≡ filter (λ e. not (e.slot == t)) (with_keys_small key es)
