@@ -117,13 +117,13 @@ impl<H: Copy + Default, A: Allocator> Slots<H, A> {
     }
 
     /// Returns the slot after `slot`: slot 0 after the last.
-    #[tactic(auto, using(crate::proofs::shifts::Cells::counted_cells))]
+    #[tactic(auto, using(crate::proofs::shifts::Cells::masked, crate::proofs::shifts::Cells::masked_within, crate::proofs::shifts::Cells::counted_cells))]
     pub(crate) fn after(&self, slot: usize) -> usize
         requires { slot < length self.now.slots }
         ensures after { result ≡ (slot + 1) % length self.now.slots }
         ensures within { result < length self.now.slots }
     {
-        after(slot, self.mask)
+        (slot + 1) & self.mask
     }
 
     /// Reads the metadata of a slot, and counts the read.
