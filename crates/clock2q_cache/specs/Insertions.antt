@@ -10,7 +10,7 @@ use Rattle.std.specs.HashMap.Lent.{HashMembers}
 use Rattle.clock2q_machine.specs.Shares.{main_share}
 use Rattle.clock2q_machine.specs.Entries.{inspections}
 use Rattle.clock2q_handles.specs.Positions.{GapValue}
-use Rattle.clock2q_directory.specs.declared.history.Found.{Found}
+use Rattle.clock2q_directory.specs.declared.found.Found.{Found}
 use Rattle.clock2q_directory.specs.Index.{IsGapFor}
 use Rattle.clock2q_directory.specs.History.{place_of, found_place, found_gap}
 use Rattle.clock2q_directory.specs.Keys.{IsValueFor}

@@ -16,7 +16,7 @@ mod victim;
 use crate::hashes::hash_of;
 use crate::shares::Shares;
 use clock2q_directory::directory::Directory;
-use clock2q_directory::history::Found;
+use clock2q_directory::found::Found;
 use clock2q_directory::place::Place;
 use clock2q_queues::queues::Queues;
 pub use iteration::{Iter, Keys, Values};

@@ -9,8 +9,8 @@
 #![tactic(auto)]
 
 pub mod directory;
+pub mod found;
 pub mod handle;
-pub mod history;
 pub mod index;
 pub mod keys;
 pub mod place;

@@ -5,7 +5,7 @@ ghost use Rattle.clock2q_directory.specs.History.{is_remembered};
 ghost use Rattle.tests_queues.specs.Beside.{IsAlone, HasResident};
 
 use clock2q_directory::directory::Directory;
-use clock2q_directory::history::Found;
+use clock2q_directory::found::Found;
 use clock2q_handles::Gap;
 use std::alloc::{AllocError, Allocator, Global};
 use std::marker::Model;

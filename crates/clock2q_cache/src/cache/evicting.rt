@@ -1,7 +1,7 @@
 //! A `put` that hands over what it replaces or evicts, and one that says who had the slot.
 use crate::cache::Cache;
 use crate::occupant::Occupant;
-use clock2q_directory::history::Found;
+use clock2q_directory::found::Found;
 use std::alloc::Allocator;
 use std::hash::{BuildHasher, Hash};
 

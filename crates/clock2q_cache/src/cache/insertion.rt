@@ -1,7 +1,7 @@
 //! Insertion of a key that is not resident.
 use crate::cache::Cache;
 use crate::vacancies::take_vacancy;
-use clock2q_directory::history::Found;
+use clock2q_directory::found::Found;
 use clock2q_handles::Gap;
 use std::alloc::Allocator;
 use std::hash::{BuildHasher, Hash};

@@ -1,7 +1,7 @@
 //! Removal of residents: one by its key, or all that a closure rejects.
 use crate::cache::Cache;
 use crate::vacancies::free_slot;
-use clock2q_directory::history::Found;
+use clock2q_directory::found::Found;
 use std::alloc::Allocator;
 use std::hash::{BuildHasher, Hash};
 

@@ -10,8 +10,8 @@ ghost use Rattle.clock2q_directory.specs.Index.{is_shared, slots, places, slots_
 ghost use Rattle.clock2q_directory.specs.History.{place_of, places_looked_up, found_slot, found_place, found_gap, first_known, Searches};
 
 use crate::directory::Directory;
+use crate::found::Found;
 use crate::handle::Handle;
-use crate::history::Found;
 use crate::keys::Keys;
 use crate::place::Place;
 use clock2q_count::Count;

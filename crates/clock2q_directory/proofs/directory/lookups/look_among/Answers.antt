@@ -1,6 +1,6 @@
 use Rattle.std.proofs.Common.{ap, sym, ◌∙◌, subst, arith}
 use Rattle.std.specs.Prelude.{IsSome}
-use Rattle.clock2q_directory.specs.declared.history.Found.{Found}
+use Rattle.clock2q_directory.specs.declared.found.Found.{Found}
 use Rattle.clock2q_directory.specs.History.{first_known}
 use Rattle.clock2q_directory.specs.Keys.{is_key_at}
 use Rattle.clock2q_directory.proofs.Looking.{looks-next, resident-there, resident-found, place-there, place-found}
