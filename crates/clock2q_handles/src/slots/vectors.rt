@@ -123,6 +123,7 @@ impl<H: Copy + Default, A: Allocator> Slots<H, A> {
         ensures after { result ≡ (slot + 1) % length self.now.slots }
         ensures within { result < length self.now.slots }
     {
+        let _ = self.metadata.len(); // which bounds the sum
         (slot + 1) & self.mask
     }
 
