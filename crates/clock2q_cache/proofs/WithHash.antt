@@ -14,7 +14,7 @@ filter-like : (p q : ℕ → Bool) (cs : List ℕ) → ((t : ℕ) → has t cs �
 filter-like p q [] same = refl
 filter-like p q (c ∷ cs) same = grind (arith, has_first, has_later, filter-like p q cs)
 
--- where nothing is kept, nothing is found that would be kept
+-- if a filter keeps nothing, a search for what it would keep finds nothing
 none-kept : (p q : ℕ → Bool) (cs : List ℕ) → None ≡ slice_get (filter p cs) 0 → ((t : ℕ) → has t cs ≡ true → q t ≡ true → p t ≡ true) → find q cs ≡ None
 none-kept p q [] none kept = refl
 none-kept p q (c ∷ cs) none kept = grind (arith, has_first c cs, has_later, none-kept p q cs)

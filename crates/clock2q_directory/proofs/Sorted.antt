@@ -88,7 +88,7 @@ sorted-left {v} x s below sorts = sorted v (index_state (removed eqb v.shared x 
 pub sorted-remembered : {v : IndexState} (x s p : ℕ) → s < first_remembered → IsSorted v → IsSorted (index_state (removed eqb v.shared x s) (with_handle v.own x p))
 sorted-remembered {v} x s p below sorts = grind (arith, sorted, length-taken, length-put, others-left)
 
--- where slots and places share a table, only its length tells
+-- if slots and places share a table, only its number of lists matters
 pub sorted-shared : (v w : IndexState) → IsSorted v → is_shared v ≡ true → length w.shared ≡ length v.shared → w.own ≡ v.own → IsSorted w
 sorted-shared v w s h shared own = sorted v w s shared (ap (λ z. length z) own) (λ apart. absurd (both_ways (is_shared v) apart h))
 

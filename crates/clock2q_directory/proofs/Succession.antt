@@ -88,7 +88,7 @@ module _ (o : Option ℕ) (p x s y : ℕ) (t own : TableValue ℕ) (n : ℕ) (i 
   there : list_any (is_entry_of eqb y s) (listed w.shared y) ≡ true
   there = held-if p (before o p x s t own n) o y s held
 
-  -- the old slot still stands there
+  -- the old slot is still there
   pub still-held : list_any (is_entry_of eqb y s) (listed t'.homes y) ≡ true
   still-held = rw b.homes (held-still eqb w.shared x y s s some there)
 

@@ -64,7 +64,7 @@ pub record IndexState : Type 0 where
 abbrev pub index_state : List (List (ℕ × ℕ)) → List (List (ℕ × ℕ)) → IndexState
 index_state shared own = record { shared = shared; own = own; accesses = 0 }
 
--- an index of two tables, which was charged so many accesses
+-- an index of two tables, and all that it was charged
 abbrev pub index_of : TableValue ℕ → TableValue ℕ → ℕ → IndexState
 index_of shared own charged = record { shared = shared.homes; own = own.homes; accesses = charged }
 

@@ -206,7 +206,7 @@ impl<A: Allocator> Index<A> {
         }
     }
 
-    /// Removes the place of a key that is forgotten, if one is: the key's hash tells.
+    /// Removes the place of the key with this hash, which is forgotten. Without a hash nothing changes.
     #[inline(always)]
     pub fn forget(&mut self, hash: Option<u64>, place: Place)
         requires short { place < 2 ^ 31 }
