@@ -17,7 +17,6 @@ use crate::hashes::hash_of;
 use crate::shares::Shares;
 use clock2q_directory::directory::Directory;
 use clock2q_directory::found::Found;
-use clock2q_directory::place::Place;
 use clock2q_queues::queues::Queues;
 pub use iteration::{Iter, Keys, Values};
 use std::alloc::{Allocator, Global};
@@ -371,9 +370,10 @@ impl<K: Hash + Eq, V, S: BuildHasher, A: Allocator> Cache<K, V, S, A> {
         self.record_hit(resident, key);
     }
 
-    /// Removes the key, which is at `place`, from the history, and returns true if it was there.
-    pub(crate) fn forget(&mut self, hash: u64, key: &K, place: Option<Place>) -> bool
-        requires place { place ≡
+    /// Removes the key, for which a lookup found `found`, from the history, and returns true if it
+    /// was there.
+    pub(crate) fn forget(&mut self, hash: u64, key: &K, found: &Found) -> bool
+        requires place { found_place found.now ≡
             place_of (K.eq key.now) self.old.machine.history self.old.known.taken }
         requires hash { hash ≡
             hash_of S.BuildHasher S.Hasher.Hasher self.old.hasher (K.hash_input key.now) }
@@ -383,7 +383,7 @@ impl<K: Hash + Eq, V, S: BuildHasher, A: Allocator> Cache<K, V, S, A> {
         ensures places { self.new.known ≡ discarded (K.eq key.now) hash self.old }
         ensures counts { Spends 0 7 0 self.old.counts self.new.counts }
     {
-        self.directory.forget(hash, key, place)
+        self.directory.forget(hash, key, found)
     }
 
     /// Returns the value of a slot.

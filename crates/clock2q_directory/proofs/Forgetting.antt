@@ -11,7 +11,8 @@ use Rattle.clock2q_queues.specs.Rings.{has, without, AllBelow}
 use Rattle.clock2q_queues.specs.Order.{PlaceOrder, IsWholeOrder, used}
 use Rattle.clock2q_directory.specs.Keys.{KeyPlaces, hash_at, hashed_at, entries_of, is_key_at}
 use Rattle.clock2q_directory.specs.Indexes.{IsIndex, AllDistinct, HasHash, has_key}
-use Rattle.clock2q_directory.specs.History.{Remembered, IsHistory, forgotten, remembered_from, accesses_of, places_with, places_from, place_of, freed_place}
+use Rattle.clock2q_directory.specs.declared.found.Found.{Found}
+use Rattle.clock2q_directory.specs.History.{Remembered, IsHistory, forgotten, remembered_from, accesses_of, places_with, places_from, place_of, found_place, freed_place}
 use Rattle.clock2q_queues.specs.Cells.{Rises}
 use Rattle.clock2q_queues.proofs.Rings.{has_first, has_later, below_of, AllApart-left, AllBelow-left}
 use Rattle.clock2q_queues.proofs.Joining.{length-without}
@@ -21,6 +22,12 @@ use Rattle.clock2q_directory.proofs.Indexes.{IsIndex-removed, named-own}
 use Rattle.clock2q_directory.proofs.Views.{places-forgotten, forgotten-like}
 use Rattle.clock2q_queues.proofs.Booleans.{or_parts, or_neither}
 use Rattle.clock2q_directory.proofs.Lookups.{found_there, not_found, lookup, hash_there}
+
+-- a lookup that found no remembered key found no place
+pub no_place : (f : Found) → ((place : ℕ) → f ≡ Found.Remembered place → ⊥) → found_place f ≡ None
+no_place (Found.Resident slot) not = refl
+no_place (Found.Remembered place) not = absurd (not place refl)
+no_place (Found.Absent gap) not = refl
 
 module _ {K : Type 0} (eq : K → K → Bool) where
   -- whether an entry, if there is one, has this key

@@ -30,8 +30,8 @@ use std::marker::Model;
 /// let mut directory: Directory<u64, u64> = Directory::new(rt.alloc(), 1, 2)?;
 /// directory.enter(None, 0, hash_of(1), 1, Some(10));
 /// directory.remember(None, 0, hash_of(2), 2, Some(20));
-/// let place = directory.lookup(hash_of(1), &1).place();
-/// assert!(rt; directory.forget(hash_of(1), &1, place));
+/// let found = directory.lookup(hash_of(1), &1);
+/// assert!(rt; directory.forget(hash_of(1), &1, &found));
 /// assert_eq!(rt; *directory.value(0), 20);
 /// ```
 #[derive(Drop)]

@@ -30,16 +30,6 @@ impl Found {
         }
     }
 
-    /// Returns the place of a remembered key.
-    pub fn place(&self) -> Option<Place>
-        ensures place { result ≡ found_place self.now }
-    {
-        match self {
-            Found::Remembered(place) => Some(*place),
-            Found::Resident(_) | Found::Absent(_) => None,
-        }
-    }
-
     /// Returns the gap where the key would go, if it is absent and the gap is known.
     pub fn gap(self) -> Option<Gap>
         ensures gap { result ≡ found_gap self }

@@ -31,7 +31,7 @@ impl<K: Drop, V: Drop, A: Allocator> Keys<K, V, A> {
         if place == self.len() as u32 {
             self.push(hash, key, value);
         } else {
-            self.replace_entry(place, Entry { hash, key, value });
+            self.refill(place, hash, key, Some(value));
         }
     }
 
@@ -52,25 +52,6 @@ impl<K: Drop, V: Drop, A: Allocator> Keys<K, V, A> {
             None => {
                 self.replace(place, hash, key);
             }
-        }
-    }
-
-    /// Writes a key over the one at a place, and returns the old hash and key. Without a value, the
-    /// place keeps the one that it has.
-    pub fn refill(&mut self, place: u32, hash: u64, key: K, value: Option<V>) -> (u64, K)
-        requires used { place < length self.old.entries }
-        ensures hash { hash_at self.old.entries place ≡ Some result.0 }
-        ensures key { key_at self.old.entries place ≡ Some result.1 }
-        ensures entries { Writes hash key value place self.old.entries self.new.entries }
-        ensures kept { self.new ≡
-            record self.old { entries = self.new.entries; writes = self.old.writes + 1 } }
-    {
-        match value {
-            Some(value) => {
-                let old = self.replace_entry(place, Entry { hash, key, value });
-                (old.hash, old.key)
-            }
-            None => self.replace(place, hash, key),
         }
     }
 }

@@ -114,8 +114,7 @@ impl<A: Allocator> Queues<A> {
         ensures queues { self.new ≡ record self.old { accesses = self.new.accesses } }
         ensures accesses { Rises 0 1 self.old.accesses self.new.accesses }
     {
-        let tail = self.small.tail().unwrap();
-        self.links.is_old_hit(tail)
+        self.links.is_old_hit(self.small.oldest)
     }
 
     /// Admits a slot to Small, as its newest. All young slots grow older, and one may become old.

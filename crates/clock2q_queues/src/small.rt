@@ -13,7 +13,7 @@ use std::alloc::Allocator;
 #[derive(Drop)]
 pub(crate) struct Small {
     newest: u32,
-    oldest: u32,
+    pub(crate) oldest: u32,
     pub(crate) len: usize,
     cursor: u32,
 }

@@ -113,7 +113,7 @@ fn forget<A: Allocator>(
 {
     let hash = key % hashes;
     let found = directory.lookup(hash, &key);
-    let known = directory.forget(hash, &key, found.place());
+    let known = directory.forget(hash, &key, &found);
     (known, found.gap())
 }
 

@@ -156,7 +156,7 @@ impl<K: Hash + Eq + Drop, V: Drop, S: BuildHasher, A: Allocator> Cache<K, V, S, 
             (found_gap found.now) self.new }
         ensures small { result ≡ false → goes_to_main false self.new.machine ≡ false }
     {
-        if self.forget(hash, key, found.place()) {
+        if self.forget(hash, key, found) {
             return true;
         }
         let share = self.shares.small();

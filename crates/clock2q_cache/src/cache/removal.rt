@@ -35,7 +35,7 @@ impl<K: Hash + Eq, V, S: BuildHasher, A: Allocator> Cache<K, V, S, A> {
         let hash = self.hash(key);
         let found = self.lookup(hash, key);
         let Found::Resident(slot) = found else {
-            self.forget(hash, key, found.place());
+            self.forget(hash, key, &found);
             return false;
         };
         self.vacate(slot);

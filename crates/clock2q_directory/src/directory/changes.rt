@@ -9,6 +9,7 @@ ghost use Rattle.clock2q_directory.specs.Index.{places, forgotten_if};
 ghost use Rattle.clock2q_directory.specs.History.{MakesPlace};
 
 use crate::directory::Directory;
+use crate::found::Found;
 use crate::index::Index;
 use crate::keys::Keys;
 use crate::place::Place;
@@ -23,7 +24,7 @@ impl<K: Eq, V, A: Allocator> Directory<K, V, A> {
     ghost use Rattle.clock2q_directory.specs.Keys.{entry, key_at};
     ghost use Rattle.clock2q_directory.specs.Indexes.{HasHash};
     ghost use Rattle.clock2q_directory.specs.Index.{emptied};
-    ghost use Rattle.clock2q_directory.specs.History.{places_with, place_of, freed_place, is_remembered, forgotten};
+    ghost use Rattle.clock2q_directory.specs.History.{places_with, place_of, found_place, freed_place, is_remembered, forgotten};
     ghost use Rattle.clock2q_directory.specs.Directory.{IsResident, Leaves, Retires};
 
     /// Makes the next slot, with a key and a value. The key is not resident: the slot waits for one
@@ -80,10 +81,11 @@ impl<K: Eq, V, A: Allocator> Directory<K, V, A> {
         key
     }
 
-    /// Forgets a key, which is at `place`, and returns true if it was remembered.
-    pub fn forget(&mut self, hash: u64, key: &K, place: Option<Place>) -> bool
+    /// Forgets a key that is not resident, for which a lookup found `found`, and returns true if it
+    /// was remembered.
+    pub fn forget(&mut self, hash: u64, key: &K, found: &Found) -> bool
         requires hash { HasHash K.eq hash key.now self.old.history.entries }
-        requires place { place ≡
+        requires place { found_place found.now ≡
             place_of (K.eq key.now)
             (map (λ e. e.1) self.old.history.entries) self.old.history.places.taken }
         ensures found { result ≡ is_remembered K.eq key.now self.old.history.entries }
@@ -102,7 +104,7 @@ impl<K: Eq, V, A: Allocator> Directory<K, V, A> {
     {
         let _ = key;
         let _ = self.order.len();
-        let Some(place) = place else {
+        let Found::Remembered(place) = *found else {
             return false;
         };
         self.index.forget(Some(hash), place);

@@ -151,21 +151,6 @@ impl<K, V, A: Allocator> Keys<K, V, A> {
         (old_hash, old_key)
     }
 
-    /// Replaces the key, the hash and the value at a place, and returns the old ones.
-    pub(super) fn replace_entry(&mut self, place: u32, entry: Entry<K, V>) -> Entry<K, V>
-        requires used { place < length self.old.entries }
-        ensures hash { hash_at self.old.entries place ≡ Some result.hash }
-        ensures key { key_at self.old.entries place ≡ Some result.key }
-        ensures replaced { self.new ≡
-            record self.old {
-              entries = slice_set self.old.entries place entry;
-              writes = self.old.writes + 1;
-            } }
-    {
-        self.writes.tick();
-        mem::replace(&mut self.entries[place as usize], entry)
-    }
-
     /// Drops every key and value. No place has a key afterwards.
     pub fn clear(&mut self)
     where
@@ -174,6 +159,29 @@ impl<K, V, A: Allocator> Keys<K, V, A> {
         ensures cleared { self.new ≡ record self.old { entries = [] } }
     {
         self.entries.clear();
+    }
+}
+
+impl<K: Drop, V: Drop, A: Allocator> Keys<K, V, A> {
+    ghost use Rattle.clock2q_directory.specs.Keys.{hash_at, key_at, Writes};
+
+    /// Writes a key over the one at a place, and returns the old hash and key. Without a value, the
+    /// place keeps the one that it has.
+    pub fn refill(&mut self, place: u32, hash: u64, key: K, value: Option<V>) -> (u64, K)
+        requires used { place < length self.old.entries }
+        ensures hash { hash_at self.old.entries place ≡ Some result.0 }
+        ensures key { key_at self.old.entries place ≡ Some result.1 }
+        ensures entries { Writes hash key value place self.old.entries self.new.entries }
+        ensures kept { self.new ≡
+            record self.old { entries = self.new.entries; writes = self.old.writes + 1 } }
+    {
+        let Some(value) = value else {
+            return self.replace(place, hash, key);
+        };
+        self.writes.tick();
+        let entry = Entry { hash, key, value };
+        let old = mem::replace(&mut self.entries[place as usize], entry);
+        (old.hash, old.key)
     }
 }
 
