@@ -172,11 +172,9 @@ impl<H: Copy + Eq + Default, A: Allocator> Table<H, A> {
         ensures handles { result.handles ≡ 0 }
         ensures end { result.end ≡ Some (gap_of self.now.homes hash) }
     {
-        let reader = self.slots.reader();
-        let slot = reader.home(hash);
         Candidates {
-            reader,
-            slot,
+            reader: self.slots.reader(),
+            slot: self.slots.home(hash),
             wanted: Wanted::new(hash),
         }
     }

@@ -1,4 +1,4 @@
-use Rattle.std.proofs.Common.{◌%◌, ◌<◌, Some, refl, ap, ◌∙◌, arith, length}
+use Rattle.std.proofs.Common.{◌<◌, Some, refl, ap, ◌∙◌, arith, length}
 use Rattle.clock2q_handles.specs.Homes.{top}
 use Rattle.clock2q_handles.proofs.layout.TidyLayout.{length-homes_of}
 use Rattle.clock2q_handles.proofs.shifts.Carrying.{walks_begin}
@@ -11,12 +11,12 @@ pub returns : goal.returns
 returns g c =
     let slots = c.self.inside.slots.slots in
     let x = c.args.hash in
-    let n = c.home-slot.result in
+    let n = c.home.result in
     let some : 0 < length slots = omega (arith, c.requires.slots, length-homes_of slots, ap (λ t. length t.homes) c.self.view_is) in
-    let home = c.home-slot.ensures.home (omega (arith, some, ap (λ r. length r.slots) c.reader-reader.ensures)) ∙ ap (λ r. x % length r.slots) c.reader-reader.ensures in
+    let home = c.home.ensures.home some in
     let begins = begins_whole slots x n c.self.invariant.tidy c.self.invariant.near some home in
     let walk = walks_begin slots c.self.invariant.tidy x (Some (0, top x)) n some home refl in
-    rw (← c.self.view_is, c.reader-reader.ensures, c.new.ensures) (record {
+    rw (← c.self.view_is, c.reader.ensures, c.new.ensures) (record {
       candidates = begins.0 ∙ left_at_start slots x;
       reads = refl;
       unread = omega (arith, begins.1);
