@@ -21,7 +21,7 @@ forget-known-requires g c =
     let e = c.lookup-found.ensures in
     let none : found_slot c.lookup-found.result ≡ None =
     finds_none k (λ p. is_key_at eqb c.args.key c.args.directory.now.residents.entries p) (c.args.key % c.args.hashes) (found_slot c.lookup-found.result) e.slot in
-    record { hash = rw e.kept (has_hash c.args.key c.args.hashes c.args.directory.now.history.entries k.hashed); place = c.place.ensures.place ∙ rw e.kept (e.place none) }
+    record { hash = rw e.kept (has_hash c.args.key c.args.hashes c.args.directory.now.history.entries k.hashed); place = rw e.kept (e.place none) }
 
 pub returns : goal.returns
 returns g c =
