@@ -20,6 +20,7 @@ pub mod offers
 pub mod Groups
 pub mod LayoutVectors
 pub mod Promises
+pub mod Attributes
 -- What proofs of the crates above cite, by its own name.
 pub use Rattle.clock2q_handles.proofs.shifts.Changes
 pub use Rattle.clock2q_handles.proofs.layout.FewerEntries

@@ -1,6 +1,5 @@
 -- What users of a table rely on over single insertions: few entries are never refused, and removing an entry again restores the slots.
-use Rattle.std.proofs.Common.{◌≡◌, ℕ, ◌+◌, ◌^◌, ◌<◌, subst, arith, Bool, true, List, length, Option}
-use Rattle.std.specs.Prelude.{Result, Ok, Err, IsOk, OnOk, OnErr, IfOk, IfErr}
+use Rattle.std.proofs.Common.{◌≡◌, ℕ, ◌+◌, ◌^◌, ◌<◌, subst, arith, Bool, true, List, length, Option, Result, Ok, Err, IsOk, OnOk, OnErr, IfOk, IfErr}
 use Rattle.clock2q_handles.specs.Homes.{total, capacity, with_handle, removed, IsNew}
 use Rattle.clock2q_handles.specs.Layout.{Placed, layout, homes_of, IsTidy, IsTooLong}
 use Rattle.clock2q_handles.specs.TableStep.{TableValue}
@@ -13,16 +12,6 @@ use Rattle.clock2q_handles.proofs.layout.Placement.{best-placed}
 use Rattle.clock2q_handles.proofs.layout.TooLong.{too-long-total}
 use Rattle.clock2q_handles.proofs.shifts.Removals.{restored-slots}
 
--- what follows if a call returned `Ok`
-pub on_ok : {T E P Q : Type 0} (r : Result T E) → (P → Q) → OnOk r P → OnOk r Q
-on_ok (Ok x) gives p = gives p
-on_ok (Err e) gives p = p
-
--- and if it did not
-pub on_err : {T E P Q : Type 0} (r : Result T E) → (P → Q) → OnErr r P → OnErr r Q
-on_err (Ok x) gives p = p
-on_err (Err e) gives p = gives p
-
 -- what follows from the result if a call returned `Ok`, and from the error if it did not
 pub if_ok : {T E : Type 0} {P Q : T → Type 0} (r : Result T E) → ((x : T) → P x → Q x) → IfOk r P → IfOk r Q
 if_ok (Ok x) gives p = gives x p
@@ -31,6 +20,14 @@ if_ok (Err e) gives p = tt
 pub if_err : {T E : Type 0} {P Q : E → Type 0} (r : Result T E) → ((e : E) → P e → Q e) → IfErr r P → IfErr r Q
 if_err (Ok x) gives p = tt
 if_err (Err e) gives p = gives e p
+
+-- what follows if a call returned `Ok`
+pub on_ok : {T E P Q : Type 0} (r : Result T E) → (P → Q) → OnOk r P → OnOk r Q
+on_ok r gives = if_ok r (λ _. gives)
+
+-- and if it did not
+pub on_err : {T E P Q : Type 0} (r : Result T E) → (P → Q) → OnErr r P → OnErr r Q
+on_err r gives = if_err r (λ _. gives)
 
 -- a call that returned `Ok` returned no error
 pub no_error : {T E : Type 0} (r : Result T E) (e : E) → IsOk r → r ≡ Err e → ⊥

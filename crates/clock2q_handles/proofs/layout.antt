@@ -1,10 +1,7 @@
 -- The layout: how far earlier homes push a home's entries, the slots that follow from that, and that slots in order are those.
 pub mod Periods
 pub mod Spill
-pub mod Tiles
-pub mod Gaps
 pub mod Laid
-pub mod Sums
 pub mod Reading
 pub mod Walk
 pub mod TidyLayout

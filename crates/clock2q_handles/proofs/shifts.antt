@@ -10,7 +10,5 @@ pub mod Taking
 pub mod Searching
 pub mod Wrapping
 pub mod Insertions
-pub mod FewEntries
 pub mod Replacement
-pub mod Exchanges
 pub mod Calls

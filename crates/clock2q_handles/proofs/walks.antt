@@ -1,9 +1,7 @@
 -- Walks from a home's slot on: how far they go, what they meet, and where they end.
 pub mod Finding
-pub mod Holding
 pub mod Yields
 pub mod Cursors
 pub mod Positions
 pub mod Lookups
-pub mod Reads
 pub mod Runs

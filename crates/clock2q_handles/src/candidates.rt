@@ -131,6 +131,7 @@ impl<'a, H: Copy + Default> Reader<'a, H> {
     /// Advances a walk to its next candidate, and returns the candidate's slot with what the walk
     /// looks for there, or else the gap where the walk ends.
     #[inline(always)]
+    #[tactic(auto, using(crate::proofs::walks::Cursors::lookup_ends, crate::proofs::shifts::Moves::reach_of_meaning, crate::proofs::walks::Cursors::goes_on))]
     fn candidate(&mut self, mut slot: usize, mut wanted: Wanted) -> Result<(usize, Wanted), Gap>
         requires lookup { IsLookup self.old.slots (sought wanted) slot }
         requires some { IsSome (sought wanted) }
@@ -223,7 +224,7 @@ impl<'a, H: Copy + Eq + Default> Iterator for Candidates<'a, H> {
     ghost remaining = { item_count (λ c. c.left) };
 
     #[inline(always)]
-    #[tactic(auto, using(crate::proofs::walks::Yields::none_is, crate::proofs::walks::Yields::first_is))]
+    #[tactic(auto, using(crate::proofs::walks::Yields::none_is, crate::proofs::walks::Yields::first_is, crate::proofs::walks::Yields::yields_progress))]
     fn next(&mut self) -> Option<H> {
         let Some(handle) = self.peek() else {
             return None;

@@ -17,6 +17,7 @@ ghost use Rattle.std.specs.Prelude.{◌≡◌, ◌<◌, ℕ};
 /// ```
 /// let table = &mut tables[partition(hash, 16)];
 /// ```
+#[tactic(auto, using(crate::proofs::Groups::trailing_zeros_le, crate::proofs::Groups::group_of))]
 pub fn partition(hash: u64, partitions: usize) -> usize
     requires count { IsPartitionCount partitions }
     ensures group { IsGroupOf hash partitions result }

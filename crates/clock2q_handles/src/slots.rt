@@ -24,7 +24,7 @@ pub(super) use vectors::Slots;
 impl<H: Copy + Default, A: Allocator> Slots<H, A> {
     /// Returns where a walk for `hash` ends.
     #[inline(always)]
-    #[tactic(auto, using(crate::proofs::shifts::Carrying::looks_room))]
+    #[tactic(auto, using(crate::proofs::shifts::Carrying::looks_room, crate::proofs::shifts::Carrying::walks_begin, crate::proofs::shifts::Moves::reach_of_meaning))]
     pub(super) fn gap(&self, hash: u64, reads: &mut Count) -> Gap
         requires tidy { IsTidy self.now.slots }
         requires near { AreNear self.now.slots }
@@ -69,7 +69,7 @@ impl<H: Copy + Default, A: Allocator> Slots<H, A> {
 
     /// Returns the slot of the first candidate of `hash` that equals `handle`.
     #[inline(always)]
-    #[tactic(auto, using(crate::proofs::shifts::Carrying::looks_room))]
+    #[tactic(auto, using(crate::proofs::shifts::Carrying::looks_room, crate::proofs::Attributes::absent))]
     pub(super) fn find(&self, hash: u64, handle: H, reads: &mut Count) -> Option<usize>
     where
         H: PartialEq,
@@ -105,7 +105,7 @@ impl<H: Copy + Default, A: Allocator> Slots<H, A> {
     /// Returns the slot of the first candidate of `hash` that equals `handle`, given that there is
     /// one.
     #[inline(always)]
-    #[tactic(auto, using(crate::proofs::walks::Holding::held_somewhere, crate::proofs::walks::Holding::held_further))]
+    #[tactic(auto, using(crate::proofs::walks::Finding::held_somewhere, crate::proofs::walks::Finding::held_further))]
     pub(super) fn find_existing(&self, hash: u64, handle: H, reads: &mut Count) -> usize
     where
         H: PartialEq,
@@ -132,6 +132,7 @@ impl<H: Copy + Default, A: Allocator> Slots<H, A> {
 
     /// Inserts each entry of other slots, in the order of those slots, under the hash that `rehash`
     /// returns for its handle.
+    #[tactic(auto, using(crate::proofs::shifts::Carrying::come_slot))]
     pub(super) fn put_all<F: FnMut(H) -> u64>(
         &mut self,
         old: &Slots<H, A>,

@@ -1,9 +1,10 @@
 -- Fewer entries push less, in as many homes or in a multiple: what that means for a removal and a rebuild. And what a rebuild does to the lists.
-use Rattle.std.proofs.Common.{◌≡◌, ℕ, zero, suc, ◌+◌, ◌-◌, ◌*◌, ◌%◌, ◌<◌, ◌≤◌, inl, inr, refl, ap, sym, ◌∙◌, arith, cond, eqb, eq-eqb, ne_eqb, List, [], ◌∷◌, ◌++◌, length}
+use Rattle.std.proofs.Common.{◌≡◌, ℕ, zero, suc, ◌+◌, ◌-◌, ◌*◌, ◌%◌, ◌<◌, ◌≤◌, refl, ap, sym, ◌∙◌, arith, cond, eqb, eq-eqb, ne_eqb, List, [], ◌∷◌, ◌++◌, length}
 use Rattle.std.proofs.Common.{take, drop, get_or, take-append-drop, sum_by, length-append, Option, Some, slice_get}
 use Rattle.std.proofs.lemmas.Bool.{cases_lt}
 use Rattle.std.proofs.lemmas.List.{length-replicate}
 use Rattle.std.proofs.lemmas.List.Elements.{filter_map-append}
+use Rattle.std.proofs.lemmas.List.Folds.{sum_by-replicate}
 use Rattle.std.proofs.lemmas.List.Sums.{fold_push, sum_by-cons, sum_by-append, sum_by-le-sum_by}
 use Rattle.std.proofs.Math.Nat.{add-mul-mod_self_right}
 use Rattle.clock2q_handles.specs.Homes.{capacity, listed, count, total, no_entries, with_list, put_last}
@@ -22,10 +23,8 @@ spill-any c m roomy a (suc k) = grind (arith, spill-any c m roomy a k, spill-ste
 
 -- fewer entries, in homes that are a multiple of those before, push no home further than it was pushed before
 pub spill-fewer : (c d : ℕ → ℕ) (m k : ℕ) → Roomy c m → 0 < k * m → ((n : ℕ) → d n ≤ c n) → (h : ℕ) → spill d (k * m) h ≤ spill c m h
-spill-fewer c d m k roomy some fewer h =
-    let r = spill-found d (k * m) h some in
-    let a : ℕ = h + k * m - r.0 in
-    grind (arith, r.1, r.2, window-le d c a r.0 (λ j _. fewer (a + j)), spill-any c m roomy a r.0, again-times (spill c m) m (spill-again c m roomy.again) h k)
+spill-fewer c d m k roomy some fewer h = let r = spill-found d (k * m) h some in
+    grind (arith, r, window-le d c (h + k * m - r.0) r.0, fewer, spill-any c m roomy (h + k * m - r.0) r.0, again-times (spill c m) m (spill-again c m roomy.again) h k)
 
 module _ {E : Type 0} where
   pub walk-is : (homes : List (List E)) (x : ℕ) → 0 < length homes → walk homes x ≡ spill_of homes x + count homes x + 1
@@ -54,21 +53,12 @@ module _ {E : Type 0} where
 
   -- as many homes, none of which has more entries, push no home further
   pub spill_of-fewer : (homes fewer : List (List E)) → total homes < length homes → length fewer ≡ length homes → ((n : ℕ) → count fewer n ≤ count homes n) → (n : ℕ) → spill_of fewer n ≤ spill_of homes n
-  spill_of-fewer homes fewer room as_many below n =
-      let one : 1 * length homes ≡ length homes = omega arith in
-      grind (arith, as_many, one, spill-fewer (count homes) (count fewer) (length homes) 1 (roomy-of homes room) (omega (arith, room)) below n)
+  spill_of-fewer homes fewer room as_many below n = grind (arith, as_many, spill-fewer (count homes) (count fewer) (length homes) 1 (roomy-of homes room) (omega (arith, room)) below n)
 
   -- a list that is no longer than before lengthens no walk
   pub shorter-walk : (homes : List (List E)) (x y : ℕ) (es : List E) → total homes ≤ capacity (length homes) → length es ≤ count homes x → walk (with_list homes x es) y ≤ walk homes y
   shorter-walk homes x y es room l =
-      let less = with_list homes x es in
-      let len = length-with_list homes x es in
-      elim (cases_lt 0 (length homes)) [
-        | inl some ↦
-            let below = λ (n : ℕ). count-with_list homes x n es some l in
-            omega (arith, walk-is homes y some, walk-is less y (omega (arith, some, len)), below y, spill_of-fewer homes less (omega (arith, room, capacity-lt (length homes) some)) len below y)
-        | inr none ↦ omega (arith, walk-none less y (omega (arith, none, len)))
-      ]
+      grind (arith, cases_lt 0 (length homes), count-with_list homes x, walk-is, walk-none, capacity-lt (length homes), length-with_list homes x es, spill_of-fewer homes (with_list homes x es))
 
 -- a sum with at most one nonzero term, and before that term
 window_one : (f : ℕ → ℕ) (g k : ℕ) → ((j : ℕ) → j < k → (j ≡ g → ⊥) → f j ≡ 0) → (window f 0 k ≤ f g) × (k ≤ g → window f 0 k ≡ 0)
@@ -77,18 +67,12 @@ window_one f g (suc k) none = grind (arith, window_one f g k (λ j l. none j (om
 
 sum_by_none : {X : Type 0} (w : X → ℕ) (xs : List X) → ((i : ℕ) (x : X) → slice_get xs i ≡ Some x → w x ≡ 0) → sum_by w xs ≡ 0
 sum_by_none w [] none = refl
-sum_by_none w (x ∷ xs) none = omega (arith, sum_by-cons w x xs, none 0 x refl, sum_by_none w xs (λ i y is. none (suc i) y is))
+sum_by_none w (x ∷ xs) none = omega (arith, sum_by-cons w x xs, none 0 x refl, sum_by_none w xs (λ i. none (suc i)))
 
 module _ {H : Type 0} (key : H → ℕ) where
   -- whether e belongs in the home of n among m
   abbrev shares : ℕ → ℕ → ℕ × H → ℕ
   shares m n e = cond (eqb (n % m) (key e.1 % m)) 1 0
-
-  shares_one : (m n : ℕ) (e : ℕ × H) → shares m n e ≤ 1
-  shares_one m n e = grind arith
-
-  count-put_last : (homes : List (List (ℕ × H))) (m n : ℕ) (e : ℕ × H) → length homes ≡ m → 0 < m → count (put_last homes (key e.1) e) n ≡ count homes n + shares m n e
-  count-put_last homes m n e len some = grind (arith, eq-eqb, listed-put_last, length-append, ne_eqb, listed-with_other)
 
   pub length-put_all : (homes : List (List (ℕ × H))) (es : List (Placed (ℕ × H))) → length (put_all key homes es) ≡ length homes
   length-put_all homes [] = refl
@@ -104,15 +88,20 @@ module _ {H : Type 0} (key : H → ℕ) where
   count-put_all : (homes : List (List (ℕ × H))) (m n : ℕ) (es : List (Placed (ℕ × H))) → length homes ≡ m → 0 < m → count (put_all key homes es) n ≡ count homes n + sum_by (λ s. shares m n s.entry) es
   count-put_all homes m n [] len some = omega arith
   count-put_all homes m n (s ∷ es) len some =
-      let so_far = count-put_all (put_last homes (key s.entry.1) s.entry) m n es (length-with_list homes (key s.entry.1) (listed homes (key s.entry.1) ++ s.entry ∷ []) ∙ len) some in
-      omega (arith, so_far, count-put_last homes m n s.entry len some, sum_by-cons (λ s. shares m n s.entry) s es)
-
-  count-no_entries : (m n : ℕ) → count (no_entries {E = ℕ × H} m) n ≡ 0
-  count-no_entries m n = ap length (get_or-same m (n % length (no_entries {E = ℕ × H} m)) [])
+      grind (
+        arith,
+        count-put_all (put_last homes (key s.entry.1) s.entry) m n es,
+        length-with_list,
+        eq-eqb,
+        listed-put_last,
+        length-append,
+        ne_eqb,
+        listed-with_other,
+        sum_by-cons (λ s. shares m n s.entry) s es,
+      )
 
   pub total-no_entries : (m : ℕ) → total (no_entries {E = ℕ × H} m) ≡ 0
-  total-no_entries zero = refl
-  total-no_entries (suc m) = omega (arith, sum_by-cons length [] (no_entries {E = ℕ × H} m), total-no_entries m)
+  total-no_entries m = omega (arith, sum_by-replicate {X = List (ℕ × H)} length m [])
 
   -- a home's entries come from the home that its number selects among fewer
   shares_below : (homes : List (List (ℕ × H))) (k n : ℕ) → total homes < length homes → IsHashOf key homes → sum_by (λ s. shares (k * length homes) n s.entry) (entries (layout homes)) ≤ count homes n
@@ -122,22 +111,18 @@ module _ {H : Type 0} (key : H → ℕ) where
       let rem : (x : ℕ) → x % (k * m) % m ≡ x % m = rem-same (λ x. x % m) (k * m) (λ x. add-mul-mod_self_right x k m) in
       let one = window_one (λ h. sum_by w (listed homes h)) (n % m) m (λ h l other. sum_by_none w (listed homes h) (λ i e is.
       grind (arith, (hashes h i e l is).0, ne_eqb (n % (k * m)) (key e.1 % (k * m)), rem (key e.1), rem n))) in
-      let here = rem-same (listed homes) m (listed-again homes) n in
-      grind (arith, layout-sum w homes room, one.0, sum_by-le-sum_by w (λ _. 1) (listed homes (n % m)) (shares_one (k * m) n), sum_by_one, here)
+      grind (arith, layout-sum homes room w, one.0, sum_by-le-sum_by w (λ _. 1) (listed homes (n % m)) (λ e. grind arith), sum_by_one, rem-same (listed homes) m (listed-again homes) n)
 
   sum_by_front : (w : Placed (ℕ × H) → ℕ) (slots : List (Option (Placed (ℕ × H)))) (i : ℕ) → sum_by w (entries (take i slots)) ≤ sum_by w (entries slots)
-  sum_by_front w slots i =
-      let front = entries (take i slots) in
-      let rest = entries (drop i slots) in
-      grind (arith, sum_by-append w front rest, filter_map-append (λ s. s) (take i slots) (drop i slots), take-append-drop i slots)
+  sum_by_front w slots i = grind (arith, sum_by-append w (entries (take i slots)) (entries (drop i slots)), filter_map-append (λ s. s) (take i slots) (drop i slots), take-append-drop i slots)
 
   -- while a table is rebuilt to k times its slots, no home has more entries than the home that they came from
   pub rebuilding-count : (homes : List (List (ℕ × H))) (k i n : ℕ) → total homes < length homes → 0 < k * length homes
       → IsHashOf key homes → count (put_all key (no_entries (k * length homes)) (entries (take i (layout homes)))) n ≤ count homes n
   rebuilding-count homes k i n room some hashes =
-      let m : ℕ = k * length homes in
-      let made = count-put_all (no_entries m) m n (entries (take i (layout homes))) (length-replicate m []) some in
-      omega (arith, made, count-no_entries m n, sum_by_front (λ s. shares m n s.entry) (layout homes) i, shares_below homes k n room hashes)
+      let made = count-put_all (no_entries (k * length homes)) (k * length homes) n (entries (take i (layout homes))) (length-replicate (k * length homes) []) some in
+      let none = ap (length {A = ℕ × H}) (get_or-same (k * length homes) (n % length (no_entries {E = ℕ × H} (k * length homes))) []) in
+      omega (arith, made, none, sum_by_front (λ s. shares (k * length homes) n s.entry) (layout homes) i, shares_below homes k n room hashes)
 
   -- nor a longer walk
   pub rebuilding-reach : (homes : List (List (ℕ × H))) (k i n : ℕ) → total homes < length homes → 0 < k * length homes → IsHashOf key homes

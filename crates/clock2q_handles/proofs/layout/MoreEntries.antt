@@ -1,5 +1,5 @@
 -- One entry more makes no walk more than one slot longer.
-use Rattle.std.proofs.Common.{◌≡◌, ℕ, zero, suc, ◌+◌, ◌-◌, ◌%◌, ◌<◌, ◌≤◌, sym, ap, ◌∙◌, arith, List, [], ◌∷◌, ◌++◌, length, length-append}
+use Rattle.std.proofs.Common.{◌≡◌, ℕ, zero, suc, ◌+◌, ◌-◌, ◌%◌, ◌<◌, ◌≤◌, ap, arith, List, [], ◌∷◌, ◌++◌, length, length-append}
 use Rattle.std.proofs.lemmas.Bool.{cases_eq}
 use Rattle.clock2q_handles.specs.Homes.{listed, count, put_last}
 use Rattle.clock2q_handles.specs.Layout.{window, spill, walk}
@@ -22,16 +22,11 @@ module _ (c d : ℕ → ℕ) (m x : ℕ) (some : 0 < m) (other : (n : ℕ) → (
   spill_own : (h : ℕ) → h % m ≡ x % m → spill d m h ≤ spill c m h
   spill_own h at =
       let r = spill-found d m h some in
-      let same = window-same d c (h + m - r.0) r.0 (λ j below.
-      other (h + m - r.0 + j) (λ q. rems-differ m h (h + m - r.0 + j) (omega (arith, r.1)) (omega (arith, below, r.1)) (at ∙ sym q))) in
-      omega (arith, r.1, r.2, same, spill-above c m h r.0 r.1)
+      grind (arith, r, window-same d c (h + m - r.0) r.0, other, rems-differ m h, spill-above c m h r.0)
 
 module _ {E : Type 0} (homes : List (List E)) (x : ℕ) (e : E) (some : 0 < length homes) where
   abbrev more : List (List E)
   more = put_last homes x e
-
-  len : length more ≡ length homes
-  len = length-with_list homes x (listed homes x ++ e ∷ [])
 
   at : (n : ℕ) → n % length homes ≡ x % length homes → count more n ≡ count homes n + 1
   at n same = grind (arith, listed-put_last homes x n e some same, length-append (listed homes n) (e ∷ []))
@@ -39,13 +34,18 @@ module _ {E : Type 0} (homes : List (List E)) (x : ℕ) (e : E) (some : 0 < leng
   away : (n : ℕ) → (n % length homes ≡ x % length homes → ⊥) → count more n ≡ count homes n
   away n other = ap length (listed-with_other homes x n (listed homes x ++ e ∷ []) other)
 
-  one : (n : ℕ) → count more n ≤ count homes n + 1
-  one n = grind (arith, cases_eq (n % length homes) (x % length homes), at n, away n)
-
   -- no walk becomes more than one slot longer
   pub walk-more : (y : ℕ) → walk more y ≤ walk homes y + 1
   walk-more y =
-      let spilled = ap (λ m. spill (count more) m y) len in
-      let further = spill_more (count homes) (count more) (length homes) x some away one y in
-      let own = spill_own (count homes) (count more) (length homes) x some away one y in
-      grind (arith, spilled, further, own, walk-is homes y some, walk-is more y (omega (arith, some, len)), cases_eq (y % length homes) (x % length homes), at y, away y)
+      let one : (n : ℕ) → count more n ≤ count homes n + 1 = λ n. grind (arith, cases_eq (n % length homes) (x % length homes), at n, away n) in
+      grind (
+        arith,
+        length-with_list homes x (listed homes x ++ e ∷ []),
+        spill_more (count homes) (count more) (length homes) x some away one y,
+        spill_own (count homes) (count more) (length homes) x some away one y,
+        walk-is homes y some,
+        walk-is more y,
+        cases_eq (y % length homes) (x % length homes),
+        at y,
+        away y,
+      )

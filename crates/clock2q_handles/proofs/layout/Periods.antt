@@ -19,12 +19,11 @@ pub lap-lt : (m h n : ℕ) → 0 < m → lap m h n < m
 unfolding lap
 lap-lt m h n some = omega arith
 
-pub lap-sum : (m h n : ℕ) → 0 < m → h + lap m h n + ((n + h * m - h) / m) * m ≡ n + h * m
-unfolding lap
-lap-sum m h n some = omega (arith, div-add-mod' (n + h * m - h) m, le-mul_of_pos_right h some)
-
 pub lap-same : {X : Type 0} (f : ℕ → X) (m : ℕ) → ((n : ℕ) → f (n + m) ≡ f n) → 0 < m → (h n : ℕ) → f (h + lap m h n) ≡ f n
-lap-same f m again some h n = sym (again-times f m again (h + lap m h n) ((n + h * m - h) / m)) ∙ ap f (lap-sum m h n some) ∙ again-times f m again n h
+unfolding lap
+lap-same f m again some h n =
+    let e : h + lap m h n + ((n + h * m - h) / m) * m ≡ n + h * m = omega (arith, div-add-mod' (n + h * m - h) m, le-mul_of_pos_right h some) in
+    sym (again-times f m again (h + lap m h n) ((n + h * m - h) / m)) ∙ ap f e ∙ again-times f m again n h
 
 pub rem-same : {X : Type 0} (f : ℕ → X) (m : ℕ) → ((n : ℕ) → f (n + m) ≡ f n) → (n : ℕ) → f (n % m) ≡ f n
 rem-same f m again n = grind (arith, div-add-mod' n m, again-times f m again (n % m) (n / m))
@@ -33,12 +32,9 @@ rem-same f m again n = grind (arith, div-add-mod' n m, again-times f m again (n 
 pub rems-differ : (m a b : ℕ) → a < b → b < a + m → a % m ≡ b % m → ⊥
 rems-differ m a b l u e = grind (arith, div-add-mod', mul-le-mul_right)
 
--- the home a lap on, and no other of that lap, is the home of h
-pub same_home : (m h v : ℕ) → v < m → (h + suc v + (m - suc v)) % m ≡ h % m
-same_home m h v l = grind (arith, add-mod_right)
-
+-- no home of the lap after h + v but h + m is the home of h
 pub other_home : (m h v j : ℕ) → v < m → j < m → (j ≡ m - suc v → ⊥) → (h + suc v + j) % m ≡ h % m → ⊥
-other_home m h v j l u other e = grind (arith, rems-differ, same_home)
+other_home m h v j l u other e = grind (arith, rems-differ, add-mod_right h m)
 
 -- a power of two is a multiple of each smaller one
 pub powers-divide : (a b : ℕ) → 2 ^ a ≤ 2 ^ b → (k : ℕ) × (2 ^ b ≡ k * 2 ^ a)

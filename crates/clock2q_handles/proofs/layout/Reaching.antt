@@ -1,29 +1,17 @@
 -- How far the occupied slots from a home go.
-use Rattle.std.proofs.Common.{◌≡◌, ℕ, zero, suc, ◌+◌, ◌<◌, ◌≤◌, ap, ◌∙◌, arith, List, length, Option, Some, None}
+use Rattle.std.proofs.Common.{◌≡◌, ℕ, zero, suc, ◌+◌, ◌<◌, ◌≤◌, arith, List, length, Option, None}
 use Rattle.clock2q_handles.specs.Layout.{Placed, reach, slot_at, occupied, run}
 
 module _ {E : Type 0} where
-  occupied-none : (A : ℕ → Option (Placed E)) (n k : ℕ) → A n ≡ None → occupied A n (suc k) ≡ 0
-  occupied-none A n k e = ap (λ o. elim o [ None ↦ 0 | Some _ ↦ suc (occupied A (suc n) k) ]) e
-
-  occupied-some : (A : ℕ → Option (Placed E)) (n k : ℕ) → 1 ≤ reach (A n) → occupied A n (suc k) ≡ suc (occupied A (suc n) k)
-  occupied-some A n k l = grind arith
-
   pub occupied-is : (A : ℕ → Option (Placed E)) (h v k : ℕ) → v < k → A (h + v) ≡ None → ((j : ℕ) → j < v → 1 ≤ reach (A (h + j))) → occupied A h k ≡ v
-  occupied-is A h zero zero l hole full = absurd (omega arith)
-  occupied-is A h zero (suc k) l hole full = grind (arith, occupied-none)
-  occupied-is A h (suc v) zero l hole full = absurd (omega arith)
-  occupied-is A h (suc v) (suc k) l hole full =
-      let s : suc h + v ≡ h + suc v = omega arith in
-      let here : 1 ≤ reach (A h) = grind (arith, full 0 (omega arith)) in
-      occupied-some A h k here ∙ ap suc (occupied-is A (suc h) v k (omega arith) (ap A s ∙ hole) (λ j l.
-      grind (arith, full (suc j) (omega arith))))
+  occupied-is A h v zero l hole full = absurd (omega arith)
+  occupied-is A h zero (suc k) l hole full = grind arith
+  occupied-is A h (suc v) (suc k) l hole full = grind (arith, full 0, occupied-is A (suc h) v k (omega arith) (grind arith) (λ j l. grind (arith, full (suc j))))
 
   occupied-above : (A : ℕ → Option (Placed E)) (h v k : ℕ) → v ≤ k → ((j : ℕ) → j < v → 1 ≤ reach (A (h + j))) → v ≤ occupied A h k
   occupied-above A h zero k l full = omega arith
   occupied-above A h (suc v) zero l full = absurd (omega arith)
-  occupied-above A h (suc v) (suc k) l full =
-      grind (arith, full 0, occupied-some A h k, occupied-above A (suc h) v k (omega arith) (λ j l. grind (arith, full (suc j))))
+  occupied-above A h (suc v) (suc k) l full = grind (arith, full 0, occupied-above A (suc h) v k (omega arith) (λ j l. grind (arith, full (suc j))))
 
   -- the run of h ends at the first empty slot
   pub run-is : (slots : List (Option (Placed E))) (h v : ℕ) → v < length slots → slot_at slots (h + v) ≡ None → ((j : ℕ) → j < v → 1 ≤ reach (slot_at slots (h + j))) → run slots h ≡ v

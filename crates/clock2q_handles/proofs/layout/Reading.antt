@@ -2,14 +2,12 @@
 use Rattle.std.proofs.Common.{◌≡◌, ℕ, zero, suc, ◌+◌, ◌%◌, ◌<◌, ◌≤◌, inl, inr, refl, ap, sym, ◌∙◌, arith, List, [], ◌∷◌, length, set, get_or, replicate, get_or-set_same, get_or-set_other}
 use Rattle.std.proofs.Common.{length-set, Option, Some, None, mod-eq_of_lt, slice_get}
 use Rattle.std.proofs.lemmas.Bool.{cases_lt}
-use Rattle.std.proofs.lemmas.List.{get_or_past, length-replicate}
+use Rattle.std.proofs.lemmas.List.{get_or_past, get_or-replicate, length-replicate}
 use Rattle.std.proofs.lemmas.Option.{slice_get_within}
-use Rattle.std.proofs.Math.ListN.{get_or-replicate}
 use Rattle.std.proofs.Math.Nat.{add-mod_right}
 use Rattle.clock2q_handles.specs.Homes.{listed, count}
 use Rattle.clock2q_handles.specs.Layout.{Placed, placed, spill, spill_of, slot_at, put_from, layout_upto, layout}
-use Rattle.clock2q_handles.proofs.layout.Spill.{Roomy, spill-again, spill-lt}
-use Rattle.clock2q_handles.proofs.layout.Tiles.{IsGap, apart}
+use Rattle.clock2q_handles.proofs.layout.Spill.{Roomy, spill-again, spill-lt, IsGap, apart}
 use Rattle.clock2q_handles.proofs.layout.Periods.{rem-same, rems-differ}
 use Rattle.clock2q_handles.proofs.layout.Laid.{IsLaid}
 
@@ -30,8 +28,6 @@ module _ {E : Type 0} where
   pub count-again : (homes : List (List E)) (n : ℕ) → count homes (n + length homes) ≡ count homes n
   count-again homes n = ap length (listed-again homes n)
 
-  -- the slots in which a list is put
-
   pub length-put_from : (slots : List (Option (Placed E))) (n d : ℕ) (es : List E) → length (put_from slots n d es) ≡ length slots
   length-put_from slots n d [] = refl
   length-put_from slots n d (e ∷ es) = length-put_from (set slots (n % length slots) (Some (placed d e))) (suc n) (suc d) es ∙ length-set slots (n % length slots) (Some (placed d e))
@@ -40,18 +36,14 @@ module _ {E : Type 0} where
       → ((i : ℕ) → i < length es → p ≡ (n + i) % m → ⊥) → get_or (put_from slots n d es) p None ≡ get_or slots p None
   put_from_other m slots n d [] p len other = refl
   put_from_other m slots n d (e ∷ es) p len other =
-      let z : n + 0 ≡ n = omega arith in
-      let rest = put_from_other m (set slots (n % length slots) (Some (placed d e))) (suc n) (suc d) es p (length-set slots (n % length slots) (Some (placed d e)) ∙ len) (λ i l q.
-      let s : suc n + i ≡ n + suc i = omega arith in
-      other (suc i) (omega arith) (q ∙ ap (λ x. x % m) s)) in
-      grind (arith, rest, z, other 0, len, get_or-set_other slots (n % length slots) p (Some (placed d e)) None)
+      let rest = put_from_other m (set slots (n % length slots) (Some (placed d e))) (suc n) (suc d) es p (rw length-set len) (λ i l q. grind (arith, other (suc i))) in
+      grind (arith, rest, other 0, len, get_or-set_other slots (n % length slots) p (Some (placed d e)) None)
 
   put_from_at : (m : ℕ) (slots : List (Option (Placed E))) (n d : ℕ) (es : List E) (i : ℕ) (e : E) → length slots ≡ m → 0 < m
       → length es ≤ m → slice_get es i ≡ Some e → get_or (put_from slots n d es) ((n + i) % m) None ≡ Some (placed (d + i) e)
   put_from_at m slots n d [] i e len some fits is = absurd (cc)
   put_from_at m slots n d (x ∷ es) zero e len some fits is = grind (arith, put_from_other, length-set, rems-differ, get_or-set_same)
-  put_from_at m slots n d (x ∷ es) (suc i) e len some fits is =
-      grind (arith, length-set, put_from_at m (set slots (n % length slots) (Some (placed d x))) (suc n) (suc d) es i e (length-set slots (n % length slots) (Some (placed d x)) ∙ len) some)
+  put_from_at m slots n d (x ∷ es) (suc i) e len some fits is = grind (arith, length-set, put_from_at m (set slots (n % length slots) (Some (placed d x))) (suc n) (suc d) es i e)
 
   pub length-layout_upto : (homes : List (List E)) (k : ℕ) → length (layout_upto homes k) ≡ length homes
   length-layout_upto homes zero = length-replicate (length homes) None
@@ -69,17 +61,24 @@ module _ {E : Type 0} where
     upto_at : (k : ℕ) → k ≤ length homes → (h i : ℕ) (e : E) → h < k → slice_get (listed homes h) i ≡ Some e
         → get_or (layout_upto homes k) ((h + spill_of homes h + i) % length homes) None ≡ Some (placed (spill_of homes h + i) e)
     upto_at zero u h i e l is = absurd (omega arith)
-    upto_at (suc k) u h i e l is =
-        elim (cases_lt h k) [
-          | inl below ↦ put_from_other (length homes) (layout_upto homes k) (k + spill_of homes k) (spill_of homes k) (listed homes k) ((h + spill_of homes h + i) % length homes)
-              (length-layout_upto homes k) (λ j lj. rems-differ (length homes) (h + spill_of homes h + i) (k + spill_of homes k + j)
-              (omega (arith, apart (count homes) (length homes) roomy h k below, slice_get_within (listed homes h) i e is))
-              (omega (arith, apart (count homes) (length homes) roomy k (h + length homes) (omega arith), spill-again (count homes) (length homes) roomy.again h)))
-              ∙ upto_at k (omega arith) h i e below is
-          | inr from ↦
-              let fits : count homes k ≤ length homes = omega (arith, apart (count homes) (length homes) roomy k (suc k) (omega arith), spill-lt (count homes) (length homes) roomy (suc k)) in
-              grind (arith, put_from_at (length homes) (layout_upto homes k) (k + spill_of homes k) (spill_of homes k) (listed homes k) i e (length-layout_upto homes k))
-        ]
+    upto_at (suc k) u h i e l is = elim (cases_lt h k) [
+      | inl below ↦ put_from_other (length homes) (layout_upto homes k) (k + spill_of homes k) (spill_of homes k) (listed homes k) ((h + spill_of homes h + i) % length homes)
+          (length-layout_upto homes k) (λ j lj. grind (
+            arith,
+            rems-differ (length homes) (h + spill_of homes h + i) (k + spill_of homes k + j),
+            slice_get_within (listed homes h) i e,
+            apart (count homes) (length homes) roomy h k,
+            apart (count homes) (length homes) roomy k (h + length homes),
+            spill-again (count homes) (length homes) roomy.again h,
+          ))
+          ∙ upto_at k (omega arith) h i e below is
+      | inr from ↦ grind (
+        arith,
+        put_from_at (length homes) (layout_upto homes k) (k + spill_of homes k) (spill_of homes k) (listed homes k) i e (length-layout_upto homes k),
+        apart (count homes) (length homes) roomy k (suc k),
+        spill-lt (count homes) (length homes) roomy (suc k),
+      )
+    ]
 
     at_slot : (n : ℕ) → slot_at (layout homes) n ≡ get_or (layout_upto homes (length homes)) (n % length homes) None
     unfolding layout
@@ -87,24 +86,37 @@ module _ {E : Type 0} where
 
     gap_other : (n : ℕ) → n < length homes → IsGap (count homes) (length homes) n → (h i : ℕ) → h < length homes → i < count homes h → n ≡ (h + spill_of homes h + i) % length homes → ⊥
     gap_other n l g h i lh li e =
-        let clear = apart (count homes) (length homes) roomy h in
-        let differ = rems-differ (length homes) (h + spill_of homes h + i) in
-        let around = spill-again (count homes) (length homes) roomy.again n in
-        grind (arith, mod-eq_of_lt l, clear n, clear (n + length homes), around, differ n, differ (n + length homes), add-mod_right n (length homes))
+        grind (
+          arith,
+          mod-eq_of_lt l,
+          apart (count homes) (length homes) roomy h,
+          spill-again (count homes) (length homes) roomy.again n,
+          rems-differ (length homes) (h + spill_of homes h + i) n,
+          rems-differ (length homes) (h + spill_of homes h + i) (n + length homes),
+          add-mod_right n (length homes),
+        )
 
     -- the layout lays out the lists
     pub layout-laid : IsLaid (length homes) (listed homes) (slot_at (layout homes))
-    layout-laid =
-        let m : ℕ = length homes in
-        record {
-          standing = λ h i e is.
-              let ls = rem-same (listed homes) m (listed-again homes) h in
-              let ss = rem-same (spill (count homes) m) m (spill-again (count homes) m roomy.again) h in
-              let rem = rem-same (λ x. (x + spill_of homes h + i) % m) m (λ n. grind (arith, add-mod_right (n + spill_of homes h + i) m)) h in
-              grind (arith, roomy.room, at_slot (h + spill_of homes h + i), rem, ss, ls, upto_at m (omega arith) (h % m) i e);
-          rest = λ n g.
-              at_slot n ∙ upto_other homes (n % m) m (gap_other (n % m) (omega (arith, roomy.room)) (record {
-                spilled = rem-same (spill (count homes) m) m (spill-again (count homes) m roomy.again) n ∙ g.spilled;
-                counted = rem-same (count homes) m (count-again homes) n ∙ g.counted;
-              }));
-        }
+    layout-laid = record {
+      standing = λ h i e is. grind (
+        arith,
+        roomy.room,
+        at_slot (h + spill_of homes h + i),
+        upto_at (length homes) (omega arith) (h % length homes) i e,
+        rem-same (listed homes) (length homes) (listed-again homes) h,
+        rem-same (spill (count homes) (length homes)) (length homes) (spill-again (count homes) (length homes) roomy.again) h,
+        rem-same (λ x. (x + spill_of homes h + i) % length homes) (length homes) (λ n. grind (arith, add-mod_right (n + spill_of homes h + i) (length homes))) h,
+      );
+      rest = λ n g. grind (
+        arith,
+        roomy.room,
+        at_slot n,
+        upto_other homes (n % length homes) (length homes),
+        gap_other (n % length homes),
+        g.spilled,
+        g.counted,
+        rem-same (spill (count homes) (length homes)) (length homes) (spill-again (count homes) (length homes) roomy.again) n,
+        rem-same (count homes) (length homes) (count-again homes) n,
+      );
+    }

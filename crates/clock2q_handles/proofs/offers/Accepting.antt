@@ -1,19 +1,19 @@
 -- The candidate that a closure accepts, and those that it rejected before.
-use Rattle.std.proofs.Common.{◌≡◌, ℕ, ◌+◌, ◌-◌, ◌%◌, ◌<◌, ◌≤◌, Bool, true, false, List, [], ◌∷◌, ◌++◌, ◌==◌, length, Option, Some, None, refl, ap, sym, ◌∙◌, subst, arith}
+use Rattle.std.proofs.Common.{◌≡◌, ℕ, ◌+◌, ◌-◌, ◌%◌, ◌<◌, ◌≤◌, Bool, true, false, List, [], ◌∷◌, ◌++◌, ◌==◌, length, Option, Some, None, refl, sym, ◌∙◌, subst, arith}
 use Rattle.std.proofs.lemmas.List.{map-append, append_cancel_right}
 use Rattle.std.proofs.lemmas.List.Elements.{filter-append}
 use Rattle.std.proofs.Math.Seq.{take-append_seam}
 use Rattle.std.specs.Fn.{Called, Mut}
 use Rattle.clock2q_handles.specs.Homes.{top, candidates_before}
-use Rattle.clock2q_handles.specs.Layout.{Placed, placed, slot_at, reach, met, homes_of, IsTidy}
+use Rattle.clock2q_handles.specs.Layout.{Placed, placed, slot_at, met, homes_of, IsTidy}
 use Rattle.clock2q_handles.specs.Candidates.{left_at, left_from, met_before, IsWalkFor, IsFoundAt}
 use Rattle.clock2q_handles.specs.Offers.{Offers}
 use Rattle.clock2q_handles.specs.Positions.{IsEntryAt}
 use Rattle.clock2q_handles.specs.Slots.{Mark}
 use Rattle.clock2q_handles.proofs.shifts.Changes.{read-split}
-use Rattle.clock2q_handles.proofs.walks.Cursors.{left_is, rem-plus}
+use Rattle.clock2q_handles.proofs.walks.Cursors.{home_of_walk, rem-plus}
 use Rattle.clock2q_handles.proofs.layout.Laid.{met-add, met-same}
-use Rattle.clock2q_handles.proofs.walks.Positions.{past_at, here_within, here_entry}
+use Rattle.clock2q_handles.proofs.walks.Positions.{past_at, here_entry}
 use Rattle.clock2q_handles.proofs.shifts.Steps.{past_home}
 
 module _ {F H : Type 0} (g : Mut F (H × Unit {0}) Bool) where
@@ -26,14 +26,7 @@ module _ {F H : Type 0} (g : Mut F (H × Unit {0}) Bool) where
 module _ {H : Type 0} (slots : List (Option (Placed (ℕ × H)))) (tidy : IsTidy slots) (x : ℕ) where
   -- what a walk still has to yield is what it looks for from its slot on
   walk_left : (wanted : Mark) (n : ℕ) (walk : IsWalkFor slots x wanted n) → left_at slots wanted n ≡ left_from slots x walk.distance
-  walk_left wanted n walk =
-      ap (λ s. left_at slots s n) walk.mark ∙ left_is slots tidy walk.distance (top x) n (record {
-        hash = x;
-        slot = walk.come.slot ∙ rem-plus (length slots) x walk.distance;
-        fingerprint = refl;
-        within = walk.come.within;
-        passed = λ j l. omega (arith, walk.come.passed j l, ap reach (past_home slots (length slots) (x % length slots) x refl refl j));
-      })
+  walk_left wanted n walk = rw (walk.mark, home_of_walk slots x walk.distance n walk.come.within (walk.come.slot ∙ rem-plus (length slots) x walk.distance)) refl
 
   -- the candidates are those that a walk has met and those that it still has to yield
   left_split : (d : ℕ) → d ≤ length slots → left_from slots x 0 ≡ met_before slots x d ++ left_from slots x d
@@ -44,8 +37,7 @@ module _ {H : Type 0} (slots : List (Option (Placed (ℕ × H)))) (tidy : IsTidy
   -- so the candidates offered before are those that it has met
   pub offered_met : (wanted : Mark) (n : ℕ) (before : List H) (walk : IsWalkFor slots x wanted n) → left_from slots x 0 ≡ before ++ left_at slots wanted n → before ≡ met_before slots x walk.distance
   offered_met wanted n before walk all =
-      append_cancel_right before (met_before slots x walk.distance) (left_from slots x walk.distance)
-      (ap (λ hs. before ++ hs) (sym (walk_left wanted n walk)) ∙ sym all ∙ left_split walk.distance (omega (arith, walk.come.within)))
+      append_cancel_right before (met_before slots x walk.distance) (left_from slots x walk.distance) (grind (arith, all, walk_left wanted n walk, left_split walk.distance))
 
   module _ (some : 0 < length slots) (n : ℕ) (v : H) (found : IsFoundAt slots x v n) where
     -- what was found is among the entries of its home, and the candidates before it are those that the walk has met
@@ -55,8 +47,5 @@ module _ {H : Type 0} (slots : List (Option (Placed (ℕ × H)))) (tidy : IsTidy
         let here : slot_at slots (x + d) ≡ Some (placed d (top x, v)) = sym (past_at slots tidy some x d n found.come.slot) ∙ found.here in
         let before : List (ℕ × H) = met (slot_at slots) x 0 d in
         let same = met-same (slot_at slots) (slot_at slots) (x % length slots) x 0 d (λ j _ _. past_home slots (length slots) (x % length slots) x refl refl j) in
-        let split = read-split slots x d (top x, v) (here_within slots tidy some x d (top x, v) here) here in (
-          length before,
-          here_entry slots tidy some x d (top x, v) here n (found.come.slot ∙ rem-plus (length slots) x d),
-          grind (arith, split, take-append_seam before, same),
-        )
+        let entry_at = here_entry slots tidy some x d (top x, v) here n (found.come.slot ∙ rem-plus (length slots) x d) in
+        (length before, entry_at, grind (arith, read-split slots x d (top x, v) found.come.within here, take-append_seam before, same))

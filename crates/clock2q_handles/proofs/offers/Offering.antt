@@ -30,8 +30,7 @@ module _ {M H : Type 0} (m : Mut M (H × Unit {0}) Bool) where
   module _ {F : Type 0} (g : Mut F (H × Unit {0}) ℕ) (rehash : F) (homes : List (List (ℕ × H))) (x : ℕ) (I : M → Type 0) (takes : (f : M) (h : H) → I f → IsHeld homes h → Takes m f (h, tt))
       (keeps : (f : M) (h : H) (next : M) → I f → IsHeld homes h → Called m f (h, tt) false next → I next) where
     pub offered_held_by : (f : M) → I f → AfterGrowth g rehash homes (λ hs. MayBeOffered m f (candidates hs x))
-    offered_held_by f i key gives =
-        record { in_turn = offered_by I (IsHeld homes) takes keeps (candidates _ x) f i (λ k h is. grown_from key homes h (candidate_held _ x k h is)) }
+    offered_held_by f i key gives = record { in_turn = offered_by I (IsHeld homes) takes keeps (candidates _ x) f i (λ k h is. grown_from key homes h (candidate_held _ x k h is)) }
 
   -- a closure that agrees with a test on what it is offered finds what the test does
   module _ (I : M → Type 0) (allowed : H → Type 0) (test : H → Bool) (says : (f : M) (h : H) (b : Bool) (next : M) → I f → allowed h → Called m f (h, tt) b next → (b ≡ test h) × I next) where
@@ -42,14 +41,8 @@ module _ {M H : Type 0} (m : Mut M (H × Unit {0}) Bool) where
         let s = says f h false next i (all 0 h refl) called in
         later found (sym s.0) (offers_find hs next found last s.1 (λ k v is. all (suc k) v is) rest)
       where
-        none_by : (k : ℕ) (v : H) → slice_get (h ∷ hs) k ≡ Some v → test h ≡ false → ((i : ℕ) (u : H) → slice_get hs i ≡ Some u → test u ≡ false) → test v ≡ false
-        none_by zero v is fails r =
-            let q : h ≡ v = cc in
-            subst (λ u. test u ≡ false) q fails
-        none_by (suc k) v is fails r = r k v is
-
         later : (found : Option H) → test h ≡ false → IsFound test hs found → IsFound test (h ∷ hs) found
-        later None fails r = λ k v is. none_by k v is fails r
+        later None fails r = λ k v. elim k as (λ k. slice_get (h ∷ hs) k ≡ Some v → test v ≡ false) [ zero ↦ λ is. subst (λ u. test u ≡ false) (cc) fails | suc i ↦ r i v ]
         later (Some c) fails r = (r.0, suc r.1, r.2)
 
 module _ {M H F : Type 0} {m : Mut M (H × Unit {0}) Bool} {g : Mut F (H × Unit {0}) ℕ} {rehash : F} {homes : List (List (ℕ × H))} {f : M} where

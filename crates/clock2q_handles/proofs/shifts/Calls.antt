@@ -1,28 +1,43 @@
 -- What the calls of a table that put an entry in, take one out or exchange two result in, from what they do to its slots.
-use Rattle.std.proofs.Common.{◌≡◌, ℕ, ◌+◌, ◌^◌, ◌%◌, ◌<◌, ◌≤◌, refl, ap, sym, ◌∙◌, subst, arith, Bool, true, ◌-◌, List, length, Option}
+use Rattle.std.proofs.Common.{◌≡◌, ℕ, ◌+◌, ◌^◌, ◌%◌, ◌<◌, ◌≤◌, refl, ap, sym, ◌∙◌, subst, arith, Bool, true, ◌-◌, List, length, Option, suc, Err, Ok}
 use Rattle.std.specs.List.{list_any}
-use Rattle.std.specs.Prelude.{Err, Ok}
 use Rattle.clock2q_handles.specs.declared.error.TableError.TheVariants.{RunTooLong}
 use Rattle.clock2q_handles.specs.Candidates.{EndsAt}
 use Rattle.clock2q_handles.specs.Changes.{Exchanges, Inserts, IsLaidOut, PutsUnder, ReadsAtMost, RisesAtMost, WritesAtMost}
-use Rattle.clock2q_handles.specs.Found.{FindsAt, TakesOutAt}
+use Rattle.clock2q_handles.specs.Found.{FindsAt, TakesOutAt, TakesOut}
 use Rattle.clock2q_handles.specs.Homes.{top, capacity, is_entry_of, listed, removed, total}
-use Rattle.clock2q_handles.specs.Layout.{Placed, homes_of, run, walk}
+use Rattle.clock2q_handles.specs.Layout.{Placed, homes_of, run, walk, slot_at, reach, IsTidy}
 use Rattle.clock2q_handles.specs.Positions.{GapValue, gap_of}
 use Rattle.clock2q_handles.specs.Shifts.{HasRoomAt, LacksRoomAt, PutsAt}
 use Rattle.clock2q_handles.specs.Slots.{Mark}
 use Rattle.clock2q_handles.specs.Table.{IsTable}
 use Rattle.clock2q_handles.specs.TableStep.{IsBelowCapacity, TableValue, table_value}
-use Rattle.clock2q_handles.proofs.Promises.{few_fit, restored_by}
 use Rattle.clock2q_handles.proofs.layout.FewerEntries.{walk-is}
 use Rattle.clock2q_handles.proofs.layout.MoreEntries.{walk-more}
 use Rattle.clock2q_handles.proofs.layout.TidyLayout.{length-homes_of, tidy-room}
-use Rattle.clock2q_handles.proofs.shifts.Exchanges.{put_on, taken_within}
+use Rattle.clock2q_handles.proofs.layout.Reaching.{run-is}
+use Rattle.clock2q_handles.proofs.layout.Reading.{slot-again, slots_again}
+use Rattle.clock2q_handles.proofs.layout.TooLong.{first-vacant}
+use Rattle.clock2q_handles.proofs.layout.Walk.{after as after_stop}
+use Rattle.clock2q_handles.proofs.walks.Positions.{gap_ends}
+use Rattle.clock2q_handles.proofs.Promises.{few_fit, restored_by}
 use Rattle.clock2q_handles.proofs.shifts.Insertions.{IsEnd, Insertion, few_room, inserted, refusal}
 use Rattle.clock2q_handles.proofs.shifts.Taking.{Removal, found_taken, removal}
 use Rattle.clock2q_handles.proofs.shifts.Removals.{exchanged-homes, held-still, removed-walk}
 use Rattle.clock2q_handles.proofs.shifts.Steps.{listed-home, table-laid}
-use Rattle.clock2q_handles.proofs.walks.Positions.{gap_ends}
+use Rattle.clock2q_handles.proofs.shifts.Carrying.{come_at}
+use Rattle.clock2q_handles.proofs.shifts.Shifts.{opened-on, reach-moved_on}
+
+module _ {E : Type 0} {slots more : List (Option (Placed E))} (tidy : IsTidy slots) (tidy' : IsTidy more) (same : length more ≡ length slots) (some : 0 < length slots)
+    (on : (k : ℕ) → reach (slot_at more (suc k)) ≤ suc (reach (slot_at slots k))) where
+  -- a removal after an insertion writes at most one slot more than the run was long before both
+  taken_within : {test : E → Bool} {less : List (Option (Placed E))} (x : ℕ) {before after : ℕ} → TakesOut test more less x before after → after ≤ before + (run slots x + 1)
+  taken_within {test} {less} x {before} {after} taken =
+      let v = first-vacant slots tidy some x in
+      let is : run slots x ≡ v.0 = run-is slots x v.0 v.1 v.2 v.3 in
+      let end : reach (slot_at more (x + suc v.0)) ≤ 1 = grind (arith, on (x + v.0), v.2) in
+      let stop = after_stop (slot_at more) tidy'.ordered x 0 (suc v.0) (omega (arith, end)) taken.distance in
+      grind (arith, is, taken.written, taken.closes.opens.moved v.0, taken.closes.occupied (suc v.0), reach-moved_on (slot_at less (x + v.0)), taken.finds.here, stop)
 
 -- v is taken out under x
 pub record TakesUnder {H : Type 0} (eq : H → H → Bool) (x : ℕ) (v : H) (old new : TableValue H) : Type 0 where
@@ -35,21 +50,12 @@ pub record TakesUnder {H : Type 0} (eq : H → H → Bool) (x : ℕ) (v : H) (ol
 
 -- an entry that was put in isn't refused
 pub put_in : {H : Type 0} (eq : H → H → Bool) {x : ℕ} {v : H} {n : ℕ} {old new : TableValue H} → (total old.homes + 1 < 2 ^ 24 → n ≡ 0) → PutsUnder eq x v n old new → Inserts eq x v (Ok tt) old new
-put_in eq none puts = record {
-  put = (puts.put, puts.short);
-  refused = tt;
-  few = λ _. refl;
-  writes = puts.writes;
-  reads = λ few. omega (arith, none few, puts.reads);
-  counted = omega (arith, puts.reads, puts.writes.0);
-  restores = puts.restores;
-  laid = puts.laid;
-}
+put_in eq none puts = grind (arith, none, puts)
 
 -- a table, as its fields say and as contracts see it
 module _ {H : Type 0} {slots : List (Option (Placed (ℕ × H)))} {len w r : ℕ} {old : TableValue H} (table : IsTable slots len) (is : table_value (homes_of slots) slots w r ≡ old) where
   below : IsBelowCapacity old.homes → total (homes_of slots) < capacity (length slots)
-  below room = let fits : total (homes_of slots) < capacity (length (homes_of slots)) = rw (ap (λ t. t.homes) is) room in omega (arith, length-homes_of slots, fits)
+  below room = grind (arith, is, length-homes_of slots)
 
   -- a walk that has ended
   pub end_here : {x : ℕ} {mark : Mark} {s : ℕ} → IsBelowCapacity old.homes → EndsAt slots x mark s → IsEnd slots x mark s
@@ -60,8 +66,7 @@ module _ {H : Type 0} {slots : List (Option (Placed (ℕ × H)))} {len w r : ℕ
 
   -- and one that ends at a gap
   pub end_of_gap : {x : ℕ} {gap : GapValue} → IsBelowCapacity old.homes → gap ≡ gap_of old.homes x → IsEnd slots x gap.mark gap.position
-  end_of_gap {x} {gap} room at =
-      record { fits = below room; ends = gap_ends slots table.tidy (omega (arith, below room)) x gap (at ∙ ap (λ t. gap_of t.homes x) (sym is)) }
+  end_of_gap {x} {gap} room at = record { fits = below room; ends = gap_ends slots table.tidy (omega (arith, below room)) x gap (at ∙ ap (λ t. gap_of t.homes x) (sym is)) }
 
   -- has room among few entries
   pub end_room : {x : ℕ} {mark : Mark} {s : ℕ} → total old.homes + 1 < 2 ^ 24 → IsEnd slots x mark s → HasRoomAt slots mark s
@@ -70,17 +75,8 @@ module _ {H : Type 0} {slots : List (Option (Placed (ℕ × H)))} {len w r : ℕ
   -- where there is no room, an entry is refused
   pub refusing : (eq : H → H → Bool) {x : ℕ} (v : H) {mark : Mark} {s : ℕ} → IsEnd slots x mark s → LacksRoomAt slots mark s → {r' : ℕ} → r ≤ r' → Inserts eq x v (Err RunTooLong) old (table_value (homes_of slots) slots w r')
   refusing eq {x} v end far {r'} counted =
-      let long = refusal table end v far in
-      subst (λ t. Inserts eq x v (Err RunTooLong) t (table_value (homes_of slots) slots w r')) is (record {
-        put = (refl, refl, long);
-        refused = refl;
-        few = λ few. absurd (few_fit (homes_of slots) x v (omega (arith, end.fits, length-homes_of slots)) few long);
-        writes = (omega arith, omega arith);
-        reads = λ few. absurd (few_fit (homes_of slots) x v (omega (arith, end.fits, length-homes_of slots)) few long);
-        counted = counted;
-        restores = tt;
-        laid = table-laid slots len table w r';
-      })
+      let few = few_fit (homes_of slots) x v (omega (arith, end.fits, length-homes_of slots)) in
+      subst (λ t. Inserts eq x v (Err RunTooLong) t (table_value (homes_of slots) slots w r')) is (grind (arith, refusal table end v far, few, counted, table-laid slots len table w r'))
 
   module _ (eq : H → H → Bool) {x : ℕ} {v : H} {mark : Mark} {s : ℕ} (end : IsEnd slots x mark s) (room : HasRoomAt slots mark s) {more : List (Option (Placed (ℕ × H)))} {w' : ℕ} (puts : PutsAt slots more mark s v w w') where
     done : Insertion x v slots more len w w'
@@ -89,14 +85,8 @@ module _ {H : Type 0} {slots : List (Option (Placed (ℕ × H)))} {len w r : ℕ
     -- an entry that is put in there
     pub putting : eq v v ≡ true → (r' n : ℕ) → r' + w ≡ r + n + w' → PutsUnder eq x v n old (table_value (homes_of more) more w' r')
     putting same r' n reads =
-        subst (λ t. PutsUnder eq x v n t (table_value (homes_of more) more w' r')) is (record {
-          put = done.homes;
-          short = done.short;
-          writes = (done.counted, omega (arith, done.writes));
-          reads = reads;
-          restores = restored_by eq slots (homes_of slots) (homes_of more) x v refl table.tidy (omega (arith, end.fits, length-homes_of slots)) same done.homes;
-          laid = table-laid more (len + 1) done.table w' r';
-        })
+        let restores = restored_by eq slots (homes_of slots) (homes_of more) x v refl table.tidy (omega (arith, end.fits, length-homes_of slots)) same done.homes in
+        subst (λ t. PutsUnder eq x v n t (table_value (homes_of more) more w' r')) is (grind (arith, done, reads, restores, table-laid more (len + 1) done.table w' r'))
 
     -- and then an entry that was held before is taken out
     module _ (y : ℕ) (v' : H) (held : list_any (is_entry_of eq y v') (listed old.homes y) ≡ true) where
@@ -107,9 +97,7 @@ module _ {H : Type 0} {slots : List (Option (Placed (ℕ × H)))} {len w r : ℕ
       some = omega (arith, end.fits, length-homes_of slots)
 
       pub held_on : list_any (is_entry_of eq y v') (listed (homes_of more) (y % length more)) ≡ true
-      held_on =
-          ap (list_any (is_entry_of eq y v')) (listed-home more (y % length more) y (λ _. refl))
-          ∙ ap (λ hs. list_any (is_entry_of eq y v') (listed hs y)) done.homes ∙ held-still eq (homes_of slots) x y v v' some was_held
+      held_on = grind (arith, listed-home more (y % length more) y (λ _. refl), done.homes, held-still eq (homes_of slots) x y v v' some was_held)
 
       module _ {k : ℕ} (found : FindsAt (is_entry_of eq y v') more (y % length more) k) {less : List (Option (Placed (ℕ × H)))} {w'' : ℕ} (taken : TakesOutAt more less k w' w'') where
         out : Removal eq y v' more less (len + 1) w' w''
@@ -120,17 +108,15 @@ module _ {H : Type 0} {slots : List (Option (Placed (ℕ × H)))} {len w r : ℕ
 
         pub exchanging : {r' r'' : ℕ} → (i : ℕ) → i + w ≡ r + w' → RisesAtMost (walk (homes_of more) y) i r' → r'' + w' ≡ r' + w'' → Exchanges eq x v y v' old (table_value (homes_of less) less w'' r'')
         exchanging {r'} {r''} i put_reads found_reads taken_reads =
-            let within = taken_within slots more table.tidy done.table.tidy puts.len (omega (arith, end.fits)) (put_on x table.tidy end.ends.walk puts) y (found_taken found taken) in
+            let come = come_at slots x end.ends.walk.distance s end.ends.walk.come in
+            let on = opened-on (puts.opens x end.ends.walk.distance (top x) come end.ends.walk.mark).2 (slot-again slots) (slots_again more (length slots) puts.len) table.tidy.ordered come.passed in
+            let within = taken_within table.tidy done.table.tidy puts.len (omega (arith, end.fits)) on y (found_taken found taken) in
             let longer : (z : ℕ) → walk (homes_of more) z ≤ walk (homes_of slots) z + 1 = λ z. omega (arith, ap (λ hs. walk hs z) done.homes, walk-more (homes_of slots) x (top x, v) some z) in
-            subst (λ t. Exchanges eq x v y v' t (table_value (homes_of less) less w'' r'')) is (record {
-              exchanged = out.homes ∙ ap (λ hs. removed eq hs y v') done.homes ∙ exchanged-homes eq (homes_of slots) x y v v' some was_held;
-              accesses = (
-                omega (arith, done.counted, out.counted, put_reads, found_reads.0, taken_reads),
-                omega (arith, done.counted, done.writes, out.counted, put_reads, found_reads.1, taken_reads, within, longer y, walk-is (homes_of slots) x some),
-              );
-              longer = λ z. omega (arith, ap (λ hs. walk hs z) out.homes, removed-walk eq (homes_of more) y v' (tidy-room more done.table.tidy) z, longer z);
-              laid = table-laid less len exchanged_table w'' r'';
-            })
+            let homes = out.homes ∙ ap (λ hs. removed eq hs y v') done.homes ∙ exchanged-homes eq (homes_of slots) x y v v' some was_held in
+            let shorter = removed-walk eq (homes_of more) y v' (tidy-room more done.table.tidy) in
+            let laid = table-laid less len exchanged_table w'' r'' in
+            subst (λ t. Exchanges eq x v y v' t (table_value (homes_of less) less w'' r'')) is
+            (grind (arith, homes, put_reads, found_reads, taken_reads, done.counted, done.writes, out.counted, within, longer, walk-is (homes_of slots) x some, shorter, out.homes, laid))
 
   -- an entry that is taken out
   module _ (eq : H → H → Bool) {y : ℕ} {v : H} {k : ℕ} (found : FindsAt (is_entry_of eq y v) slots (y % length slots) k) {less : List (Option (Placed (ℕ × H)))} {w' : ℕ} (taken : TakesOutAt slots less k w w') where
@@ -138,11 +124,6 @@ module _ {H : Type 0} {slots : List (Option (Placed (ℕ × H)))} {len w r : ℕ
     gone = removal eq y v slots less len w w' table (found_taken found taken)
 
     pub taking : {r' : ℕ} → (i : ℕ) → RisesAtMost (walk (homes_of slots) y) r i → r' + w ≡ i + w' → TakesUnder eq y v old (table_value (homes_of less) less w' r')
-    taking {r'} i found_reads taken_reads = subst (λ t. TakesUnder eq y v t (table_value (homes_of less) less w' r')) is (record {
-      removed = gone.homes;
-      held = gone.found;
-      writes = (gone.counted, gone.writes);
-      reads = (omega (arith, found_reads.0, taken_reads, gone.counted), omega (arith, found_reads.1, taken_reads));
-      laid = table-laid less (len - 1) gone.table w' r';
-      shorter = λ z. omega (arith, ap (λ hs. walk hs z) gone.homes, removed-walk eq (homes_of slots) y v (tidy-room slots table.tidy) z);
-    })
+    taking {r'} i found_reads taken_reads =
+        subst (λ t. TakesUnder eq y v t (table_value (homes_of less) less w' r')) is
+        (grind (arith, gone, found_reads, taken_reads, table-laid less (len - 1) gone.table w' r', removed-walk eq (homes_of slots) y v (tidy-room slots table.tidy)))

@@ -1,9 +1,8 @@
 -- Walks and moves that keep a slot: how far it is from the home, and what the moves result in, seen from the slot where they began.
-use Rattle.std.proofs.Common.{◌≡◌, ◌↔◌, Bool, false, IsTrue, ℕ, zero, suc, ◌+◌, ◌-◌, ◌%◌, ◌<◌, ◌≤◌, inl, inr, refl, ap, sym, ◌∙◌, subst, arith, List, length, set, length-set, Option, Some}
+use Rattle.std.proofs.Common.{◌≡◌, ◌↔◌, Bool, false, IsTrue, ℕ, zero, suc, ◌+◌, ◌-◌, ◌%◌, ◌<◌, ◌≤◌, refl, ap, sym, ◌∙◌, subst, arith, List, length, set, length-set, Option, Some, mod-eq_of_lt}
 use Rattle.std.proofs.Common.{None, IfSome, below_more}
 use Rattle.std.proofs.lemmas.Bool.{cases_lt}
-use Rattle.std.proofs.lemmas.Nat.{mod_below}
-use Rattle.std.proofs.Math.Nat.{mod-eq_of_lt, mod-mod, add-mod_right}
+use Rattle.std.proofs.Math.Nat.{mod-mod, mod-add-mod, add-mod_right}
 use Rattle.clock2q_handles.specs.Candidates.{IsWalkFor}
 use Rattle.clock2q_handles.specs.Homes.{top}
 use Rattle.clock2q_handles.specs.Layout.{Placed, placed, slot_at, reach, longest_reach, IsTidy, AreNear}
@@ -11,22 +10,14 @@ use Rattle.clock2q_handles.specs.Shifts.{Opens, Closes, HasCome, HasRoomAt, Lack
 use Rattle.clock2q_handles.specs.Slots.{Mark, cell, mark_of, mark_on, mark_back, mark_reach}
 use Rattle.clock2q_handles.proofs.layout.Periods.{lap, lap-lt, lap-same, rem-same}
 use Rattle.clock2q_handles.proofs.layout.Reading.{slot-again}
-use Rattle.clock2q_handles.proofs.shifts.Moves.{apart_on_lap, at_written, at_other, less_than_lap, cell-mark_on, cell-mark_back, reach_of_meaning}
-use Rattle.clock2q_handles.proofs.shifts.Moves.{vacant_of_meaning}
+use Rattle.clock2q_handles.proofs.layout.Laid.{reach-none}
+use Rattle.clock2q_handles.proofs.shifts.Moves.{apart_on_lap, slot_at-set_same, slot_at-set_other, less_than_lap, cell-mark_on, cell-mark_back, reach_of_meaning, vacant_of_meaning}
 use Rattle.clock2q_handles.proofs.shifts.Steps.{past_home}
-use Rattle.clock2q_handles.proofs.walks.Cursors.{rem-plus, goes_on}
+use Rattle.clock2q_handles.proofs.walks.Cursors.{goes_on}
 
 -- the distance from s of the slot k past it is k
 pub lap-at : (m s k t : ℕ) → k < m → t ≡ (s + k) % m → lap m s t ≡ k
-lap-at m s k t within at =
-    grind (arith, lap-lt m s t (omega arith), lap-same (λ y. y % m) m (λ n. add-mod_right n m) (omega arith) s t, mod-mod (s + k) m, apart_on_lap m s (lap m s t) k)
-
--- one slot on
-pub slot_on : (m s k t t' : ℕ) → t ≡ (s + k) % m → t' ≡ (t + 1) % m → t' ≡ (s + suc k) % m
-slot_on m s k t t' at on = grind (arith, rem-plus m (s + k) 1)
-
-pub slot_begins : (m s : ℕ) → s < m → s ≡ (s + 0) % m
-slot_begins m s within = grind (arith, mod-eq_of_lt)
+lap-at m s k t within at = grind (arith, lap-lt m s t (omega arith), lap-same (λ y. y % m) m (λ n. add-mod_right n m) (omega arith) s t, mod-mod (s + k) m, apart_on_lap m s (lap m s t) k)
 
 module _ {E : Type 0} (slots : List (Option (Placed E))) where
   -- the contents of a slot, seen from another
@@ -36,45 +27,26 @@ module _ {E : Type 0} (slots : List (Option (Placed E))) where
   pub slot_from_plus : (h n s i : ℕ) → s ≡ (h + n) % length slots → slot_at slots (s + i) ≡ slot_at slots (h + (n + i))
   slot_from_plus h n s i at =
       let e : h + n + i ≡ h + (n + i) = omega arith in
-      ap (λ y. slot_at slots (y + i)) at
-      ∙ rem-same (λ y. slot_at slots (y + i)) (length slots) (λ y. let q : y + length slots + i ≡ y + i + length slots = omega arith in
-      ap (slot_at slots) q ∙ slot-again slots (y + i)) (h + n) ∙ ap (slot_at slots) e
-
-  -- a slot before s, seen from s the long way round
-  pub slot_from_before : (h n s j : ℕ) → s ≡ (h + n) % length slots → n < length slots → j < n → slot_at slots (s + (length slots - n + j)) ≡ slot_at slots (h + j)
-  slot_from_before h n s j at within l =
-      let m : ℕ = length slots in
-      grind (arith, slot_from_plus h n s (m - n + j) at, slot-again slots (h + j))
-
-  pub come_begins : (g : ℕ) → g < length slots → HasCome slots g 0 g
-  come_begins g within = record { slot = slot_begins (length slots) g within; within = omega (arith, within); passed = λ j l. absurd (omega (arith, l)) }
+      rw (at, mod-add-mod (h + n) (length slots) i, e)
 
   pub come_home : (g s : ℕ) → s ≡ g → g < length slots → HasCome slots g 0 s
-  come_home g s at within = subst (HasCome slots g 0) (sym at) (come_begins g within)
+  come_home g s at within = grind (arith, mod-eq_of_lt)
 
   pub come_here : (g d s : ℕ) → HasCome slots g d s → slot_at slots s ≡ slot_at slots (g + d)
   come_here g d s come = slot_from g d s come.slot
 
   pub come_slot : (g d s : ℕ) → HasCome slots g d s → s < length slots
-  come_slot g d s come = omega (arith, come.slot, mod_below (g + d) (length slots) (omega (arith, come.within)))
+  come_slot g d s come = omega (arith, come.slot, come.within)
 
   -- a walk from the home of x, seen from x
   pub come_at : (x d s : ℕ) → HasCome slots (x % length slots) d s → HasCome slots x d s
-  come_at x d s come = record {
-    slot = come.slot ∙ rem-plus (length slots) x d;
-    within = come.within;
-    passed = λ j l. omega (arith, come.passed j l, ap reach (past_home slots (length slots) (x % length slots) x refl refl j));
-  }
+  come_at x d s come = grind (arith, come, mod-add-mod x (length slots) d, past_home slots (length slots) (x % length slots) x refl refl)
 
   -- a walk that goes on
   pub come_on : IsTidy slots → (g d s s' : ℕ) → HasCome slots g d s → d < reach (slot_at slots s) → s' ≡ (s + 1) % length slots → HasCome slots g (suc d) s'
   come_on tidy g d s s' come far on =
       let passed : (j : ℕ) → j < suc d → j < reach (slot_at slots (g + j)) = λ j l. grind (arith, come.passed j, come_here g d s come) in
-      record {
-        slot = slot_on (length slots) g d s s' come.slot on;
-        within = less_than_lap slots g (suc d) tidy (omega (arith, come.within)) (λ j l. omega (arith, passed j l));
-        passed = passed;
-      }
+      grind (arith, passed, mod-add-mod (g + d) (length slots) 1, come.slot, less_than_lap slots g (suc d) tidy (omega (arith, come.within)) (λ j l. omega (arith, passed j l)))
 
 -- a walk from s on has gone k slots, to t, past occupied ones
 pub record IsRun {E : Type 0} (slots : List (Option (Placed E))) (s t k : ℕ) : Type 0 where
@@ -84,21 +56,18 @@ pub record IsRun {E : Type 0} (slots : List (Option (Placed E))) (s t k : ℕ) :
 
 module _ {E : Type 0} (slots : List (Option (Placed E))) {s : ℕ} where
   pub run_begins : s < length slots → IsRun slots s s 0
-  run_begins within = record { slot = slot_begins (length slots) s within; within = omega (arith, within); occupied = λ j l. absurd (omega (arith, l)) }
+  run_begins within = grind (arith, mod-eq_of_lt)
 
   module _ {t k : ℕ} (run : IsRun slots s t k) where
     pub run_slot : t < length slots
-    run_slot = omega (arith, run.slot, mod_below (s + k) (length slots) (omega (arith, run.within)))
+    run_slot = omega (arith, run.slot, run.within)
 
     pub run_here : slot_at slots t ≡ slot_at slots (s + k)
     run_here = slot_from slots s k t run.slot
 
     -- seen from the home
     pub run_full : (h n : ℕ) → HasCome slots h n s → (j : ℕ) → j < n + k → 0 < reach (slot_at slots (h + j))
-    run_full h n come j l = elim (cases_lt j n) [
-      | inl before ↦ omega (arith, come.passed j before)
-      | inr from ↦ grind (arith, run.occupied (j - n) (omega (arith, l, from)), ap reach (slot_from_plus slots h n s (j - n) come.slot), from)
-    ]
+    run_full h n come j l = grind (arith, cases_lt j n, come.passed j, run.occupied (j - n), slot_from_plus slots h n s (j - n) come.slot)
 
     module _ (tidy : IsTidy slots) where
       pub run_within : (h n : ℕ) → HasCome slots h n s → n + k < length slots
@@ -107,37 +76,26 @@ module _ {E : Type 0} (slots : List (Option (Placed E))) {s : ℕ} where
       -- it goes on past one more
       pub run_on : 0 < reach (slot_at slots t) → {t' : ℕ} → t' ≡ (t + 1) % length slots → IsRun slots s t' (suc k)
       run_on some {t'} on =
-          let full = below_more (λ j. 0 < reach (slot_at slots (s + j))) k run.occupied (omega (arith, some, ap reach run_here)) in
-          let all : (j : ℕ) → j < suc k → 0 < reach (slot_at slots (s + j)) = λ j l. full j (omega (arith, l)) in
-          record { slot = slot_on (length slots) s k t t' run.slot on; within = less_than_lap slots s (suc k) tidy (omega (arith, run.within)) all; occupied = all }
+          let all : (j : ℕ) → j < suc k → 0 < reach (slot_at slots (s + j)) = λ j l. grind (arith, run.occupied j, run_here) in
+          grind (arith, all, mod-add-mod (s + k) (length slots) 1, run.slot, less_than_lap slots s (suc k) tidy (omega (arith, run.within)) all)
 
     -- and comes nearer to a whole lap
     pub run_nearer : {t' k' : ℕ} → IsRun slots s t' k' → k < k' → length slots - lap (length slots) s t' < length slots - lap (length slots) s t
     run_nearer {t'} {k'} next more = omega (arith, lap-at (length slots) s k t run.within run.slot, lap-at (length slots) s k' t' next.within next.slot, more, next.within)
 
--- B is A with the k slots from s on moved on by one, up to an empty one
-record AreMoved {E : Type 0} (A B : ℕ → Option (Placed E)) (m s k : ℕ) : Type 0 where
-  moved : (j : ℕ) → j < k → B (s + suc j) ≡ moved_on (A (s + j))
-  vacant : A (s + k) ≡ None
-  kept : (j : ℕ) → k < j → j < m → B (s + j) ≡ A (s + j)
-
--- seen from the home of the entry in s
+-- the k slots from s on that moved on by one, up to an empty one, seen from the home of the entry in s
 moved_opens : {E : Type 0} (slots slots' : List (Option (Placed E))) (m h n s k : ℕ) (e : E) → length slots ≡ m → length slots' ≡ m → s ≡ (h + n) % m → n + k < m
-    → slot_at slots' s ≡ Some (placed n e) → AreMoved (slot_at slots) (slot_at slots') m s k → Opens (slot_at slots) (slot_at slots') m h n (n + k) e
-moved_opens slots slots' m h n s k e len len' slot within put done =
-    let at : s ≡ (h + n) % length slots = slot ∙ ap (λ x. (h + n) % x) (sym len) in
+    → slot_at slots' s ≡ Some (placed n e) → ((j : ℕ) → j < k → slot_at slots' (s + suc j) ≡ moved_on (slot_at slots (s + j))) → slot_at slots (s + k) ≡ None
+    → ((j : ℕ) → k < j → j < m → slot_at slots' (s + j) ≡ slot_at slots (s + j)) → Opens (slot_at slots) (slot_at slots') m h n (n + k) e
+moved_opens slots slots' m h n s k e len len' slot within put moved vacant kept =
     let at' : s ≡ (h + n) % length slots' = slot ∙ ap (λ x. (h + n) % x) (sym len') in
-    let from = λ (i : ℕ). slot_from_plus slots h n s i at in
+    let from = λ (i : ℕ). slot_from_plus slots h n s i (slot ∙ ap (λ x. (h + n) % x) (sym len)) in
     let from' = λ (i : ℕ). slot_from_plus slots' h n s i at' in
-    record {
-      from = omega arith;
-      upto = within;
-      vacant = sym (from k) ∙ done.vacant;
-      put = sym (slot_from slots' h n s at') ∙ put;
-      moved = λ j l u. grind (arith, from (j - n), from' (suc (j - n)), done.moved (j - n));
-      before = λ j l. grind (arith, len, len', slot_from_before slots h n s j at, slot_from_before slots' h n s j at', done.kept (m - n + j));
-      after = λ j l u. grind (arith, from (j - n), from' (j - n), done.kept (j - n));
-    }
+    let on : (j : ℕ) → n ≤ j → j < n + k → slot_at slots' (h + suc j) ≡ moved_on (slot_at slots (h + j)) = λ j l u. grind (arith, from (j - n), from' (suc (j - n)), moved (j - n)) in
+    let before : (j : ℕ) → j < n → slot_at slots' (h + j) ≡ slot_at slots (h + j) = λ j l.
+    grind (arith, len, len', from (m - n + j), from' (m - n + j), slot-again slots (h + j), slot-again slots' (h + j), kept (m - n + j)) in
+    let after : (j : ℕ) → n + k < j → j < m → slot_at slots' (h + j) ≡ slot_at slots (h + j) = λ j l u. grind (arith, from (j - n), from' (j - n), kept (j - n)) in
+    grind (arith, on, before, after, from k, slot_from slots' h n s at')
 
 -- the new contents of the slots from s on, when an entry is put in there and the rest moves on
 abbrev pub carried : {E : Type 0} → (ℕ → Option (Placed E)) → Option (Placed E) → ℕ → ℕ → Option (Placed E)
@@ -165,11 +123,6 @@ pub record CloseState {H : Type 0} (old now : List (Option (Placed (ℕ × H))))
   pub rest : (j : ℕ) → steps < j → j < length old → slot_at now (s + j) ≡ slot_at old (s + j)
   pub writes : w' ≡ w + steps
 
--- a mark of an entry
-occupied_mark : {H : Type 0} (s : Mark) (o : Option (Placed (ℕ × H))) → (s ≡ None → ⊥) → s ≡ mark_of o → 0 < reach o
-occupied_mark s None some is = absurd (some is)
-occupied_mark s (Some p) some is = omega arith
-
 -- `now` with x written in the slot k past s
 record IsWritten {E : Type 0} (now now' : List (Option (Placed E))) (m s k : ℕ) (x : Option (Placed E)) : Type 0 where
   here : slot_at now' (s + k) ≡ x
@@ -177,14 +130,7 @@ record IsWritten {E : Type 0} (now now' : List (Option (Placed E))) (m s k : ℕ
   len : length now' ≡ m
 
 written : {E : Type 0} {old now now' : List (Option (Placed E))} {s t k : ℕ} {x : Option (Placed E)} → IsRun old s t k → length now ≡ length old → now' ≡ set now t x → IsWritten now now' (length old) s k x
-written {now = now} {now' = now'} {s} {t} {k} {x} run len is =
-    let within : k < length now = omega (arith, run.within, len) in
-    let at : now' ≡ set now ((s + k) % length now) x = is ∙ ap (λ i. set now i x) (run.slot ∙ ap (λ m. (s + k) % m) (sym len)) in
-    record {
-      here = at_written (slot_at now) now now' x s k within at;
-      other = λ j l ne. at_other (slot_at now) now now' x s k j within (omega (arith, l, len)) ne at;
-      len = ap length is ∙ length-set now t x ∙ len;
-    }
+written {now = now} {now' = now'} {s} {t} {k} {x} run len is = grind (arith, run, len, is, length-set, slot_at-set_same now x (s + k), slot_at-set_other now x (s + k), apart_on_lap (length now) s)
 
 -- the slot that a run has reached, in slots of the same number
 reached : {E : Type 0} {old : List (Option (Placed E))} (now : List (Option (Placed E))) {s t k : ℕ} → IsRun old s t k → length now ≡ length old → slot_at now t ≡ slot_at now (s + k)
@@ -196,13 +142,12 @@ module _ {H : Type 0} (old now : List (Option (Placed (ℕ × H)))) where
     carry_slot = omega (arith, run_slot old state.run, state.len)
 
     carry_full : (there ≡ None → ⊥) → 0 < reach (slot_at old t)
-    carry_full occ = occupied_mark there (slot_at old t) occ state.there_is
+    carry_full occ = grind (arith, state.there_is, reach-none (slot_at old t))
 
     pub carry_room : {mark : Mark} → HasRoomAt old mark s → (there ≡ None → ⊥) → mark_reach there ≤ 16777214
     carry_room room occ =
-        let here = run_here old state.run in
-        let full = below_more (λ j. 0 < reach (slot_at old (s + j))) state.steps state.run.occupied (omega (arith, carry_full occ, ap reach here)) in
-        omega (arith, room.others state.steps (λ j l. full j (omega (arith, l))), reach_of_meaning there (slot_at old t) state.there_is, ap reach here)
+        let full : (j : ℕ) → j ≤ state.steps → 0 < reach (slot_at old (s + j)) = λ j l. grind (arith, state.run.occupied j, carry_full occ, run_here old state.run) in
+        omega (arith, room.others state.steps full, reach_of_meaning there (slot_at old t) state.there_is, ap reach (run_here old state.run))
 
     carried_more : {now' : List (Option (Placed (ℕ × H)))} → IsWritten now now' (length old) s state.steps next → (j : ℕ) → j ≤ state.steps → slot_at now' (s + j) ≡ carried (slot_at old) first s j
     carried_more {now'} new j l = below_more (λ i. slot_at now' (s + i) ≡ carried (slot_at old) first s i) state.steps
@@ -218,16 +163,8 @@ module _ {H : Type 0} (old now : List (Option (Placed (ℕ × H)))) where
         let run : IsRun old s t' (suc k) = run_on old state.run tidy (carry_full occ) (on ∙ ap (λ m. (t + 1) % m) new.len) in
         let untouched : slot_at now t ≡ slot_at old t = reached now state.run state.len ∙ state.rest k (omega arith) state.run.within ∙ sym (run_here old state.run) in
         let rest : (j : ℕ) → suc k ≤ j → j < length old → slot_at now' (s + j) ≡ slot_at old (s + j) = λ j from l. new.other j l (λ q. omega (arith, q, from)) ∙ state.rest j (omega (arith, from)) l in
-        record {
-          steps = suc k;
-          run = run;
-          len = new.len;
-          moved = λ j l. carried_more new j (omega (arith, l));
-          rest = rest;
-          next_is = cell-mark_on there mark' (slot_at old t) held state.there_is more (subst (λ o. IfSome o (λ p. held ≡ p.entry.1)) untouched handle) ∙ ap moved_on (run_here old state.run);
-          there_is = meaning' ∙ ap mark_of (reached now' run new.len ∙ rest (suc k) (omega arith) run.within ∙ sym (run_here old run));
-          writes = omega (arith, state.writes);
-        }
+        let further = cell-mark_on there mark' (slot_at old t) held state.there_is more (subst (λ o. IfSome o (λ p. held ≡ p.entry.1)) untouched handle) in
+        grind (arith, run, new.len, carried_more new, rest, further, run_here old state.run, reached now' run new.len, run_here old run, state.writes)
 
     -- the last is put into the empty slot
     pub carry_ends : (now' : List (Option (Placed (ℕ × H)))) → there ≡ None → now' ≡ set now t next → (h n : ℕ) (e : ℕ × H) → HasCome old h n s → first ≡ Some (placed n e)
@@ -235,14 +172,9 @@ module _ {H : Type 0} (old now : List (Option (Placed (ℕ × H)))) where
     carry_ends now' none is h n e come first_is =
         let k : ℕ = state.steps in
         let new : IsWritten now now' (length old) s k next = written state.run state.len is in
-        let done : AreMoved (slot_at old) (slot_at now') (length old) s k = record {
-          moved = λ j l. carried_more new (suc j) (omega (arith, l));
-          vacant = sym (run_here old state.run) ∙ vacant_of_meaning there (slot_at old t) none state.there_is;
-          kept = λ j from l. new.other j l (λ q. omega (arith, q, from)) ∙ state.rest j (omega (arith, from)) l;
-        } in
         let start : s + 0 ≡ s = omega arith in
-        let opens = moved_opens old now' (length old) h n s k e refl new.len come.slot (run_within old state.run tidy h n come)
-        (ap (slot_at now') (sym start) ∙ carried_more new 0 (omega arith) ∙ first_is) done in
+        let opens = moved_opens old now' (length old) h n s k e refl new.len come.slot (run_within old state.run tidy h n come) (grind (arith, start, carried_more new 0))
+        (λ j l. carried_more new (suc j) (omega (arith, l))) (grind (arith, run_here old state.run, vacant_of_meaning there (slot_at old t) none state.there_is)) (grind (arith, new, state.rest)) in
         (n + k, record { vacant = opens.vacant; occupied = run_full old state.run h n come }, opens, omega (arith, state.writes))
 
   module _ (tidy : IsTidy old) {s t w w' : ℕ} (state : CloseState old now s t w w') where
@@ -266,15 +198,7 @@ module _ {H : Type 0} (old now : List (Option (Placed (ℕ × H)))) where
           let back : slot_at old (s + suc state.steps) ≡ moved_on (cell mark' held) = sym (next_was ∙ run_here old next_run) ∙ cell-mark_back mark mark' (slot_at now t') held far_next meaning less handle in
           let all = below_more (λ i. slot_at old (s + suc i) ≡ moved_on (slot_at now' (s + i))) state.steps
           (λ i l. state.moved i l ∙ ap moved_on (sym (new.other i (omega (arith, l, state.run.within)) (λ q. omega (arith, q, l))))) (back ∙ ap moved_on (sym new.here)) in
-          record {
-            steps = suc state.steps;
-            run = next_run;
-            here = omega (arith, far_next, ap reach next_was);
-            len = new.len;
-            moved = λ j l. all j (omega (arith, l));
-            rest = λ j from l. new.other j l (λ q. omega (arith, q, from)) ∙ state.rest j (omega (arith, from)) l;
-            writes = omega (arith, state.writes);
-          }
+          grind (arith, next_run, far_next, next_was, new, all, state.rest, state.writes)
 
       -- the hole is emptied once nothing can move into it
       pub close_ends : (now' : List (Option (Placed (ℕ × H)))) → reach (slot_at now t') ≤ 1
@@ -283,20 +207,10 @@ module _ {H : Type 0} (old now : List (Option (Placed (ℕ × H)))) where
       close_ends now' near is h n e come was =
           let k : ℕ = state.steps in
           let new : IsWritten now now' (length old) s k None = written state.run state.len is in
-          let done : AreMoved (slot_at now') (slot_at old) (length old) s k = record {
-            moved = λ j l. state.moved j l ∙ ap moved_on (sym (new.other j (omega (arith, l, state.run.within)) (λ q. omega (arith, q, l))));
-            vacant = new.here;
-            kept = λ j from l. sym (new.other j l (λ q. omega (arith, q, from)) ∙ state.rest j from l);
-          } in
-          let past : n + suc k ≡ suc (n + k) = omega arith in (
-            n + k,
-            record {
-              opens = moved_opens now' old (length old) h n s k e new.len refl come.slot (run_within old state.run tidy h n come) (come_here old h n s come ∙ was) done;
-              ends = omega (arith, near, ap reach next_was, ap reach (run_here old next_run), ap reach (slot_from_plus old h n s (suc k) come.slot), ap (λ i. reach (slot_at old (h + i))) past);
-              occupied = λ j l. run_full old next_run h n come j (omega (arith, l));
-            },
-            omega (arith, state.writes),
-          )
+          let opens = moved_opens now' old (length old) h n s k e new.len refl come.slot (run_within old state.run tidy h n come) (come_here old h n s come ∙ was)
+          (grind (arith, state.moved, state.run.within, new.other)) new.here (grind (arith, new, state.rest)) in
+          let past : n + suc k ≡ suc (n + k) = omega arith in
+          grind (arith, opens, near, past, next_was, run_here old next_run, slot_from_plus old h n s (suc k) come.slot, run_full old next_run h n come, state.writes)
 
 module _ {H : Type 0} (old : List (Option (Placed (ℕ × H)))) where
   pub carry_begins : (first : Option (Placed (ℕ × H))) (there : Mark) (s w : ℕ) → s < length old → there ≡ mark_of (slot_at old s) → CarryState old old first first there s s w w
@@ -308,12 +222,11 @@ module _ {H : Type 0} (old : List (Option (Placed (ℕ × H)))) where
 module _ {H : Type 0} (slots : List (Option (Placed (ℕ × H)))) (tidy : IsTidy slots) where
   -- a walk for a hash goes on
   pub walks_on : (x : ℕ) (s s' : Mark) (n n' : ℕ) → IsWalkFor slots x s n → mark_reach s ≤ reach (slot_at slots n) → s' ≡ mark_on s → n' ≡ (n + 1) % length slots → IsWalkFor slots x s' n'
-  walks_on x s s' n n' walk far more on =
-      grind (arith, come_on slots tidy (x % length slots) walk.distance n n' walk.come (omega (arith, far, ap mark_reach walk.mark)) on)
+  walks_on x s s' n n' walk far more on = grind (arith, come_on slots tidy (x % length slots) walk.distance n n' walk.come (omega (arith, far, ap mark_reach walk.mark)) on)
 
   -- and begins at the home
   pub walks_begin : (x : ℕ) (s : Mark) (n : ℕ) → 0 < length slots → n ≡ x % length slots → s ≡ Some (0, top x) → IsWalkFor slots x s n
-  walks_begin x s n some at is = record { distance = 0; come = come_home slots (x % length slots) n at (mod_below x (length slots) some); mark = is }
+  walks_begin x s n some at is = grind (arith, come_home slots (x % length slots) n at (omega (arith, some)))
 
   -- one that doesn't end at a slot has room to go on
   pub looks_room : (s : ℕ) (b : Bool) (wanted mark : Mark) → IsTrue b ↔ (mark_reach mark < mark_reach wanted) → b ≡ false
@@ -339,8 +252,7 @@ module _ {E : Type 0} (slots : List (Option (Placed E))) (s : ℕ) where
         → {t' : ℕ} → t' ≡ (t + 1) % length slots → IsPassing slots s t' × (length slots - lap (length slots) s t' < length slots - lap (length slots) s t)
     pass_goes tidy some far on =
         let next = run_on slots so_far.run tidy some on in
-        let less = below_more (λ j. reach (slot_at slots (s + j)) < longest_reach) so_far.steps so_far.near (omega (arith, far, ap reach (run_here slots so_far.run))) in
-        (record { steps = suc so_far.steps; run = next; near = λ j l. less j (omega (arith, l)) }, run_nearer slots so_far.run next (omega arith))
+        grind (arith, next, so_far.near, far, run_here slots so_far.run, run_nearer slots so_far.run next)
 
     -- at an empty slot there is room
     pub pass_room : {mark : Mark} → mark_reach mark ≤ longest_reach → slot_at slots t ≡ None → HasRoomAt slots mark s

@@ -1,33 +1,17 @@
 -- Two vectors side by side, read and written as one list of slots.
-use Rattle.std.proofs.Common.{◌≡◌, ℕ, zero, suc, ◌+◌, ◌-◌, ◌%◌, ◌<◌, List, [], ◌∷◌, length, get_or, take, ◌++◌, refl, sym, ap, ◌∙◌, arith, Some, None, IfSome}
-use Rattle.std.proofs.Math.ListN.{set, replicate}
-use Rattle.std.proofs.Math.Nat.{sub-zero, mod-eq_of_lt}
-use Rattle.std.proofs.Math.Seq.{take-append_seam, set-get_or}
-use Rattle.std.proofs.lemmas.Nat.{and_mask, mod_below}
-use Rattle.std.specs.Int.Bits.{bit_and}
+use Rattle.std.proofs.Common.{◌≡◌, ℕ, zero, suc, ◌+◌, ◌-◌, ◌%◌, ◌<◌, List, [], ◌∷◌, length, get_or, take, ◌++◌, refl, sym, ap, ◌∙◌, arith, None, IfSome, mod-eq_of_lt, set, replicate, bit_and}
+use Rattle.std.proofs.Math.Seq.{set-get_or, take_all}
+use Rattle.std.proofs.lemmas.Nat.{and_mask}
+use Rattle.std.proofs.lemmas.List.{length-replicate, take_at}
 use Rattle.clock2q_handles.specs.Layout.{slot_at}
-use Rattle.clock2q_handles.specs.Slots.{Mark, meaning, cell, mark_of, cells, SlotsValue, slots_value, IsSlotCount}
+use Rattle.clock2q_handles.specs.Slots.{meaning, cell, mark_of, cells, SlotsValue, slots_value, IsSlotCount}
 use Rattle.clock2q_handles.specs.declared.metadata.Metadata.{Metadata}
 
 -- masking by a slot count minus one is a remainder
 pub slot_mask : (n m : ℕ) → IsSlotCount m → 0 < m → bit_and n (m - 1) ≡ n % m
 slot_mask n m is_count some = grind (arith, and_mask)
 
--- an empty vector that is filled up
-filled : {X : Type 0} (n k : ℕ) (xs : List X) (x : X) → xs ≡ [] → k ≡ 0 → take n xs ++ replicate (n - k) x ≡ replicate n x
-filled n k xs x e ek = rw (e, ek, sub-zero) (elim n as (λ i. take i [] ++ replicate i x ≡ replicate i x) [ zero ↦ refl | suc i ↦ refl ])
-
 module _ {H : Type 0} where
-  -- a cell has the mark that it was made with
-  pub mark_of-cell : (s : Mark) (v : H) → mark_of (cell s v) ≡ s
-  mark_of-cell None v = refl
-  mark_of-cell (Some s) v = refl
-
-  -- a cell has the handle that it was made with
-  pub handle_of_cell : (s : Mark) (v : H) → IfSome (cell s v) (λ p. v ≡ p.entry.1)
-  handle_of_cell None v = tt
-  handle_of_cell (Some s) v = refl
-
   pub length-cells : (ms : List Metadata) (vs : List H) → length vs ≡ length ms → length (cells ms vs) ≡ length ms
   length-cells [] vs e = refl
   length-cells (m ∷ ms) [] e = e
@@ -40,14 +24,11 @@ module _ {H : Type 0} where
   -- masking by the number of slots minus one is a remainder
   pub masked : (x mask : ℕ) (ms : List Metadata) (vs : List H) → length vs ≡ length ms → IsSlotCount (length ms) → (0 < length ms → mask + 1 ≡ length ms)
       → 0 < length (cells ms vs) → bit_and x mask ≡ x % length (cells ms vs)
-  masked x mask ms vs same is_count mask_of some =
-      let len = length-cells ms vs same in
-      let down : mask ≡ length ms - 1 = omega (arith, mask_of (omega (arith, some, len))) in
-      ap (bit_and x) down ∙ slot_mask x (length ms) is_count (omega (arith, some, len)) ∙ ap (λ m. x % m) (sym len)
+  masked x mask ms vs same is_count mask_of some = grind (arith, mask_of, slot_mask x (length ms) is_count, some, length-cells ms vs same)
 
   pub masked_within : (x mask : ℕ) (ms : List Metadata) (vs : List H) → length vs ≡ length ms → IsSlotCount (length ms) → (0 < length ms → mask + 1 ≡ length ms)
       → 0 < length (cells ms vs) → bit_and x mask < length (cells ms vs)
-  masked_within x mask ms vs same is_count mask_of some = omega (arith, masked x mask ms vs same is_count mask_of some, mod_below x (length (cells ms vs)) some)
+  masked_within x mask ms vs same is_count mask_of some = omega (arith, masked x mask ms vs same is_count mask_of some)
 
   -- the contents of a slot, read off the two vectors
   pub get_or-cells : (ms : List Metadata) (vs : List H) (n : ℕ) (m : Metadata) (v : H) → length vs ≡ length ms
@@ -68,27 +49,18 @@ module _ {H : Type 0} where
   pub set_empty : (ms : List Metadata) (vs : List H) (n : ℕ) (m : Metadata) → meaning m ≡ None → length vs ≡ length ms → cells (set ms n m) vs ≡ set (cells ms vs) n None
   set_empty [] vs n m is e = refl
   set_empty (x ∷ ms) [] n m is e = absurd (omega (arith, e))
-  set_empty (x ∷ ms) (y ∷ vs) zero m is e = ap (λ s. cell s y ∷ cells ms vs) is
-  set_empty (x ∷ ms) (y ∷ vs) (suc n) m is e = ap (λ c. cell (meaning x) y ∷ c) (set_empty ms vs n m is (omega (arith, e)))
+  set_empty (x ∷ ms) (y ∷ vs) n m is e = grind (arith, set-cells (x ∷ ms) (y ∷ vs) n m (get_or (y ∷ vs) n y) e, set-get_or (y ∷ vs) n y)
 
-  -- empty marks make empty slots
-  pub cells-replicate : (n : ℕ) (m : Metadata) (v : H) → meaning m ≡ None → cells (replicate n m) (replicate n v) ≡ replicate n None
-  cells-replicate zero m v e = refl
-  cells-replicate (suc n) m v e = ap (λ s. cell s v ∷ cells (replicate n m) (replicate n v)) e ∙ ap (λ c. None ∷ c) (cells-replicate n m v e)
-
-  -- they do so whatever the handles are
+  -- empty marks make empty slots, whatever the handles are
   pub cells-emptied : (ms : List Metadata) (vs : List H) (n : ℕ) (m : Metadata) → meaning m ≡ None → ms ≡ replicate n m → length vs ≡ n → cells ms vs ≡ replicate n None
-  cells-emptied ms vs n m e is len = ap (λ x. cells x vs) is ∙ emptied n vs len
-    where
-      emptied : (n : ℕ) (vs : List H) → length vs ≡ n → cells (replicate n m) vs ≡ replicate n None
-      emptied zero vs l = refl
-      emptied (suc n) [] l = absurd (omega (arith, l))
-      emptied (suc n) (v ∷ vs) l = ap (λ s. s ∷ cells (replicate n m) vs) (ap (λ s. cell s v) e) ∙ ap (λ c. None ∷ c) (emptied n vs (omega (arith, l)))
+  cells-emptied ms vs zero m e is len = rw is
+  cells-emptied ms [] (suc n) m e is len = absurd (omega (arith, len))
+  cells-emptied ms (v ∷ vs) (suc n) m e is len = rw is (grind (arith, cells-emptied (replicate n m) vs n m e refl))
 
   -- vectors that are filled up with empty marks make empty slots
   pub filled_cells : (n i j : ℕ) (ms ms' : List Metadata) (vs vs' : List H) (m : Metadata) (v : H) → meaning m ≡ None → ms ≡ [] → vs ≡ []
       → i ≡ 0 → j ≡ 0 → ms' ≡ take n ms ++ replicate (n - i) m → vs' ≡ take n vs ++ replicate (n - j) v → cells ms' vs' ≡ replicate n None
-  filled_cells n i j ms ms' vs vs' m v e none-ms none-vs ei ej er es = grind (arith, filled, cells-replicate)
+  filled_cells n i j ms ms' vs vs' m v e none-ms none-vs ei ej er es = grind (arith, take_all n ms, take_all n vs, cells-emptied ms' vs' n m e, length-replicate)
 
   -- a slot named by its number
   slot_within : (ms : List Metadata) (vs : List H) (k : ℕ) → length vs ≡ length ms → k < length ms → slot_at (cells ms vs) k ≡ get_or (cells ms vs) k None
@@ -96,26 +68,23 @@ module _ {H : Type 0} where
 
   -- the handle of a slot that is read
   pub handle_read_at : (ms : List Metadata) (vs : List H) (k : ℕ) (v : H) → length vs ≡ length ms → k < length ms → v ≡ get_or vs k v → IfSome (slot_at (cells ms vs) k) (λ p. v ≡ p.entry.1)
-  handle_read_at ms vs k v same within is =
-      let z : Metadata = record { word = 0 } in
-      grind (arith, slot_within ms vs k same within, get_or-cells ms vs k z v same within, handle_of_cell (meaning (get_or ms k z)) v)
+  handle_read_at ms vs k v same within is = grind (arith, slot_within ms vs k same within, get_or-cells ms vs k (record { word = 0 }) v same within)
 
   -- and its mark
   pub mark_read_or : (ms : List Metadata) (vs : List H) (k : ℕ) (z : Metadata) → length vs ≡ length ms → k < length ms → meaning (get_or ms k z) ≡ mark_of (slot_at (cells ms vs) k)
   mark_read_or ms [] k z same within = absurd (omega (arith, same, within))
-  mark_read_or ms (v ∷ vs) k z same within =
-      sym (ap mark_of (slot_within ms (v ∷ vs) k same within ∙ get_or-cells ms (v ∷ vs) k z v same within) ∙ mark_of-cell (meaning (get_or ms k z)) (get_or (v ∷ vs) k v))
+  mark_read_or ms (v ∷ vs) k z same within = grind (arith, slot_within ms (v ∷ vs) k same within, get_or-cells ms (v ∷ vs) k z v same within)
 
   -- a handle that is written alone
   pub handle_replaced_cells : (ms : List Metadata) (vs : List H) (n : ℕ) (v : H) → length vs ≡ length ms → n < length ms
       → cells ms (set vs n v) ≡ set (cells ms vs) n (cell (mark_of (slot_at (cells ms vs) n)) v)
   handle_replaced_cells ms vs n v same within =
       let z : Metadata = record { word = 0 } in
-      ap (λ x. cells x (set vs n v)) (sym (set-get_or ms n z)) ∙ set-cells ms vs n (get_or ms n z) v same ∙ ap (λ m. set (cells ms vs) n (cell m v)) (mark_read_or ms vs n z same within)
+      grind (arith, set-get_or ms n z, set-cells ms vs n (get_or ms n z) v same, mark_read_or ms vs n z same within)
 
 -- a vector whose slice was written contains what the slice does
 pub kept_whole : {X : Type 0} (xs ys : List X) (n : ℕ) → length xs ≡ n → take n (xs ++ ys) ≡ xs
-kept_whole xs ys n len = ap (λ k. take k (xs ++ ys)) (sym len) ∙ take-append_seam xs ys
+kept_whole xs ys n len = take_at xs ys n len
 
 -- there are as many cells as words of metadata
 pub ruleset counted_cells = (length-cells)

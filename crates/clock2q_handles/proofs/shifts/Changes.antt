@@ -1,18 +1,16 @@
 -- Lists with another in one home's place, and what is read off a table's slots.
-use Rattle.std.proofs.Common.{◌≡◌, ℕ, suc, ◌+◌, ◌-◌, ◌%◌, ◌<◌, ◌≤◌, inl, inr, refl, ap, sym, ◌∙◌, subst, arith, eq-eqb, List, [], ◌∷◌, ◌++◌, length, get_or-set_same, get_or-set_other}
+use Rattle.std.proofs.Common.{◌≡◌, ℕ, suc, ◌+◌, ◌-◌, ◌%◌, ◌<◌, ◌≤◌, refl, ap, sym, ◌∙◌, subst, arith, eq-eqb, List, ◌∷◌, ◌++◌, length, get_or-set_same, get_or-set_other}
 use Rattle.std.proofs.Common.{length-set, Option, Some, None}
 use Rattle.std.proofs.lemmas.Bool.{cases_lt}
 use Rattle.std.proofs.lemmas.List.Sums.{sum_by-set}
 use Rattle.clock2q_handles.specs.Homes.{home, listed, count, total, with_list}
-use Rattle.clock2q_handles.specs.Layout.{Placed, placed, spill, spill_of, slot_at, reach, at_home, met, homes_of, IsTidy}
-use Rattle.clock2q_handles.proofs.layout.Spill.{Roomy, spill-lt}
-use Rattle.clock2q_handles.proofs.layout.Tiles.{IsGap}
+use Rattle.clock2q_handles.specs.Layout.{Placed, placed, spill, spill_of, slot_at, reach, met, homes_of, IsTidy}
+use Rattle.clock2q_handles.proofs.layout.Spill.{Roomy, spill-lt, IsOneMore, one-more}
 use Rattle.clock2q_handles.proofs.layout.Periods.{lap, lap-lt, lap-same, other_home}
 use Rattle.clock2q_handles.proofs.layout.Laid.{counts, IsLaid, met-add, none-gap}
 use Rattle.clock2q_handles.proofs.layout.Walk.{Stops, stop-sum, met-count, met-stop}
 use Rattle.clock2q_handles.proofs.layout.Reading.{slot-again}
 use Rattle.clock2q_handles.proofs.layout.TidyLayout.{roomy-of, length-homes_of, listed-homes_of, tidy-vacant}
-use Rattle.clock2q_handles.proofs.layout.Gaps.{IsOneMore, one-more}
 
 module _ {E : Type 0} where
   pub length-with_list : (homes : List (List E)) (x : ℕ) (es : List E) → length (with_list homes x es) ≡ length homes
@@ -31,21 +29,17 @@ module _ {E : Type 0} where
   pub vacant_within : (A : ℕ → Option (Placed E)) (m h v : ℕ) → ((n : ℕ) → A (n + m) ≡ A n) → 0 < m → (w : ℕ) → A w ≡ None → ((j : ℕ) → j < v → 1 ≤ reach (A (h + j))) → v < m
   vacant_within A m h v again some w vacant full = grind (arith, cases_lt v m, lap m h w, lap-lt m h w some, lap-same A m again some h w)
 
-  at_home-same : (d : ℕ) (e : E) → at_home (Some (placed d e)) d ≡ e ∷ []
-  at_home-same d e = rw (eq-eqb d d refl)
-
   -- the entry d past its home is between what a walk meets before and after it
   pub read-split : (slots : List (Option (Placed E))) (h d : ℕ) (e : E) → d < length slots → slot_at slots (h + d) ≡ Some (placed d e)
       → listed (homes_of slots) h ≡ met (slot_at slots) h 0 d ++ e ∷ met (slot_at slots) h (suc d) (length slots - suc d)
-  read-split slots h d e l here = grind (arith, at_home-same d e, listed-homes_of slots h, met-add (slot_at slots) h 0 d (suc (length slots - suc d)))
+  read-split slots h d e l here = grind (arith, eq-eqb d d refl, listed-homes_of slots h, met-add (slot_at slots) h 0 d (suc (length slots - suc d)))
 
   -- where a walk of an ordered table stops
   pub read-stop : (slots : List (Option (Placed E))) → IsTidy slots → 0 < length slots → (h n : ℕ) → Stops (slot_at slots) h 0 n → n ≡ spill_of (homes_of slots) h + count (homes_of slots) h
   read-stop slots tidy some h n stops =
       let v = tidy-vacant slots tidy some in
       let at = stop-sum (slot_at slots) tidy.ordered (length slots) (slot-again slots) some v.0 v.1 h n stops in
-      subst (λ L. n ≡ spill (counts L) (length slots) h + counts L h) (λ i x. sym (listed-homes_of slots x) i) at
-      ∙ ap (λ x. spill (count (homes_of slots)) x h + count (homes_of slots) h) (sym (length-homes_of slots))
+      grind (arith, length-homes_of slots, subst (λ L. n ≡ spill (counts L) (length slots) h + counts L h) (λ i x. sym (listed-homes_of slots x) i) at)
 
   -- what it has met by then is its home's list
   pub read-met : (slots : List (Option (Placed E))) → IsTidy slots → 0 < length slots → (h n : ℕ)
@@ -60,32 +54,19 @@ module _ {E : Type 0} where
   read-count slots tidy some h d r =
       let v = tidy-vacant slots tidy some in
       let at = met-count (slot_at slots) tidy.ordered (length slots) (slot-again slots) some v.0 v.1 h d r in
-      ap (λ x. spill (count (homes_of slots)) x h + length (met (slot_at slots) h 0 d)) (length-homes_of slots)
-      ∙ subst (λ L. spill (counts L) (length slots) h + length (met (slot_at slots) h 0 d) ≡ d) (λ i x. sym (listed-homes_of slots x) i) at
+      rw (length-homes_of slots) (subst (λ L. spill (counts L) (length slots) h + length (met (slot_at slots) h 0 d) ≡ d) (λ i x. sym (listed-homes_of slots x) i) at)
 
   -- one more entry in a home from which the slots are full up to a hole
   pub one-put : (m h v : ℕ) (L M : ℕ → List E) (A : ℕ → Option (Placed E)) → Roomy (counts L) m → Roomy (counts M) m → v < m → counts M h ≡ suc (counts L h)
       → ((n : ℕ) → (n % m ≡ h % m → ⊥) → counts M n ≡ counts L n) → IsLaid m L A → ((n : ℕ) → A (n + m) ≡ A n)
       → A (h + v) ≡ None → ((j : ℕ) → j < v → 1 ≤ reach (A (h + j))) → IsOneMore (counts L) (counts M) m (h + suc v) (m - suc v)
   one-put m h v L M A roomy roomy' within more other laid again hole full =
-      one-more (counts L) (counts M) m (h + suc v) (m - suc v) roomy roomy' (omega arith) more_there (λ j l q. other (h + suc v + j) (other_home m h v j within l q)) put_full put_gap
-    where
-      more_there : counts M (h + suc v + (m - suc v)) ≡ suc (counts L (h + suc v + (m - suc v)))
-      more_there = grind (arith, more, roomy.again h, roomy'.again h)
-
-      put_full : (j : ℕ) → m - suc v ≤ j → suc j < m → 1 ≤ spill (counts L) m (h + suc v + j) + counts L (h + suc v + j)
-      put_full j from l =
-          let k : ℕ = j - (m - suc v) in
-          let q : h + suc v + j ≡ h + k + m = omega arith in
-          elim (cases_lt 0 (spill (counts L) m (h + suc v + j) + counts L (h + suc v + j))) [
-            | inl some ↦ some
-            | inr none ↦
-                let empty = laid.rest (h + suc v + j) (record { spilled = omega arith; counted = omega arith }) in
-                absurd (omega (arith, full k (omega arith), ap reach empty, ap (λ x. reach (A x)) q, ap reach (again (h + k))))
-          ]
-
-      put_gap : (j : ℕ) → suc j ≡ m → IsGap (counts L) m (h + suc v + j)
-      put_gap j l = none-gap m L A roomy laid (h + suc v + j) (omega (arith, spill-lt (counts L) m roomy 0)) (grind (arith, again (h + v), hole))
+      one-more (counts L) (counts M) m (h + suc v) (m - suc v) roomy roomy' (omega arith) (grind (arith, more, roomy.again h, roomy'.again h)) (λ j l q.
+      other (h + suc v + j) (other_home m h v j within l q)) (λ j from l.
+      let k : ℕ = j - (m - suc v) in
+      let q : h + suc v + j ≡ h + k + m = omega arith in
+      grind (arith, laid.rest (h + suc v + j), full k, q, again (h + k)))
+      (λ j l. none-gap m L A roomy laid (h + suc v + j) (omega (arith, spill-lt (counts L) m roomy 0)) (grind (arith, again (h + v), hole)))
 
   pub roomy_at : (homes : List (List E)) (m : ℕ) → length homes ≡ m → total homes < m → Roomy (count homes) m
   roomy_at homes m len l = subst (Roomy (count homes)) len (roomy-of homes (omega arith))

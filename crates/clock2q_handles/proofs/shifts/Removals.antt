@@ -1,11 +1,10 @@
 -- What removing an entry from its home's list results in: the list that a removal specifies, the table as it was before an insertion, and walks that are no longer.
-use Rattle.std.proofs.Common.{◌≡◌, ℕ, suc, ◌<◌, ◌≤◌, refl, ap, sym, ◌∙◌, arith, Bool, true, false, cond, eq-eqb, List, [], ◌∷◌, ◌++◌, length, set, set-set, append-nil}
+use Rattle.std.proofs.Common.{◌≡◌, ℕ, suc, ◌<◌, ◌≤◌, refl, ap, sym, ◌∙◌, arith, Bool, true, false, cond, eq-eqb, List, [], ◌∷◌, ◌++◌, length, set-set, append-nil, Option}
 use Rattle.std.proofs.lemmas.List.{set_comm}
 use Rattle.std.proofs.lemmas.List.Folds.{list_any-append}
-use Rattle.std.proofs.Common.{Option}
 use Rattle.std.specs.List.{list_any}
 use Rattle.std.proofs.Math.Seq.{set-get_or}
-use Rattle.clock2q_handles.specs.Homes.{top, capacity, home, listed, total, with_list, put_last, without_first, with_handle, is_entry_of, removed, IsNew}
+use Rattle.clock2q_handles.specs.Homes.{top, capacity, listed, total, with_list, put_last, without_first, with_handle, is_entry_of, removed, IsNew}
 use Rattle.clock2q_handles.specs.Positions.{with_first, handle_replaced}
 use Rattle.clock2q_handles.specs.Layout.{Placed, walk, layout, homes_of, IsTidy}
 use Rattle.clock2q_handles.proofs.layout.TidyLayout.{tidy-layout, length-homes_of}
@@ -36,10 +35,9 @@ module _ {E : Type 0} (test : E → Bool) where
   length-without_some [] some = absurd (cc)
   length-without_some (e ∷ es) some = grind (arith, length-without_some es)
 
-module _ {E : Type 0} (test : E → Bool) (new : E) where
-  with_first-append : (es ys : List E) → list_any test es ≡ true → with_first test new (es ++ ys) ≡ with_first test new es ++ ys
-  with_first-append [] ys some = absurd (cc)
-  with_first-append (e ∷ es) ys some = grind (arith, with_first-append es ys)
+  with_first-append : (new : E) (es ys : List E) → list_any test es ≡ true → with_first test new (es ++ ys) ≡ with_first test new es ++ ys
+  with_first-append new [] ys some = absurd (cc)
+  with_first-append new (e ∷ es) ys some = grind (arith, with_first-append new es ys)
 
 -- a change of the list of y that leaves what is put last may be made after e is put in under x
 changed-after : {E : Type 0} (f : List E → List E) (homes : List (List E)) (x y : ℕ) (e : E) → 0 < length homes → f (listed homes y ++ e ∷ []) ≡ f (listed homes y) ++ e ∷ []
@@ -49,7 +47,7 @@ changed-after {E} f homes x y e some kept = grind (arith, length-with_list, list
 module _ {H : Type 0} (eq : H → H → Bool) where
   -- if there is no such entry, nothing changes
   pub removed-none : (homes : List (List (ℕ × H))) (x : ℕ) (v : H) → IsNew eq homes x v → removed eq homes x v ≡ homes
-  removed-none homes x v none = ap (set homes (home homes x)) (without_first-none (is_entry_of eq x v) (listed homes x) none) ∙ set-get_or homes (home homes x) []
+  removed-none homes x v none = grind (arith, without_first-none, set-get_or)
 
   -- an entry that is held is held once another is put in
   pub held-still : (homes : List (List (ℕ × H))) (x y : ℕ) (v w : H) → 0 < length homes → list_any (is_entry_of eq y w) (listed homes y) ≡ true
@@ -59,32 +57,28 @@ module _ {H : Type 0} (eq : H → H → Bool) where
   -- an entry may be removed after another is put in
   pub exchanged-homes : (homes : List (List (ℕ × H))) (x y : ℕ) (v w : H) → 0 < length homes → list_any (is_entry_of eq y w) (listed homes y) ≡ true
       → removed eq (with_handle homes x v) y w ≡ with_handle (removed eq homes y w) x v
-  exchanged-homes homes x y v w some held =
-      changed-after (without_first (is_entry_of eq y w)) homes x y (top x, v) some (without_first-append (is_entry_of eq y w) (listed homes y) ((top x, v) ∷ []) held)
+  exchanged-homes homes x y v w some held = changed-after (without_first (is_entry_of eq y w)) homes x y (top x, v) some (grind (arith, without_first-append))
 
   -- or get another handle
   pub replaced-homes : (homes : List (List (ℕ × H))) (x y : ℕ) (v w w' : H) → 0 < length homes → list_any (is_entry_of eq y w) (listed homes y) ≡ true
       → handle_replaced eq (with_handle homes x v) y w w' ≡ with_handle (handle_replaced eq homes y w w') x v
-  replaced-homes homes x y v w w' some held =
-      changed-after (with_first (is_entry_of eq y w) (top y, w')) homes x y (top x, v) some (with_first-append (is_entry_of eq y w) (top y, w') (listed homes y) ((top x, v) ∷ []) held)
+  replaced-homes homes x y v w w' some held = changed-after (with_first (is_entry_of eq y w) (top y, w')) homes x y (top x, v) some (grind (arith, with_first-append))
 
   -- one entry fewer is left
   pub removed-fewer : (homes : List (List (ℕ × H))) (x : ℕ) (v : H) → list_any (is_entry_of eq x v) (listed homes x) ≡ true → suc (total (removed eq homes x v)) ≡ total homes
   removed-fewer [] x v held = absurd (cc)
   removed-fewer (es ∷ homes) x v held =
-      let test = is_entry_of eq x v in
-      let less = without_first test (listed (es ∷ homes) x) in
-      omega (arith, total-with_list (es ∷ homes) x less (omega arith), length-without_some test (listed (es ∷ homes) x) held)
+      let less = without_first (is_entry_of eq x v) (listed (es ∷ homes) x) in
+      omega (arith, total-with_list (es ∷ homes) x less (omega arith), length-without_some (is_entry_of eq x v) (listed (es ∷ homes) x) held)
 
   -- no walk becomes longer
   pub removed-walk : (homes : List (List (ℕ × H))) (x : ℕ) (v : H) → total homes ≤ capacity (length homes) → (y : ℕ) → walk (removed eq homes x v) y ≤ walk homes y
   removed-walk homes x v room y = shorter-walk homes x y (without_first (is_entry_of eq x v) (listed homes x)) room (length-without_first (is_entry_of eq x v) (listed homes x))
 
-  -- removing an entry that was put in restores the lists
-  pub restored-homes : (homes : List (List (ℕ × H))) (x : ℕ) (v : H) → 0 < length homes → eq v v ≡ true → IsNew eq homes x v → removed eq (with_handle homes x v) x v ≡ homes
-  restored-homes homes x v some same new = grind (arith, length-with_list, listed-with_same, eq-eqb, without_first-at, append-nil, set-set, set-get_or)
-
-  -- and so the slots
+  -- removing an entry that was put in restores the slots
   pub restored-slots : (slots : List (Option (Placed (ℕ × H)))) (x : ℕ) (v : H) → IsTidy slots → 0 < length slots
       → eq v v ≡ true → IsNew eq (homes_of slots) x v → layout (removed eq (with_handle (homes_of slots) x v) x v) ≡ slots
-  restored-slots slots x v tidy some same new = ap layout (restored-homes (homes_of slots) x v (omega (arith, length-homes_of slots)) same new) ∙ sym (tidy-layout slots tidy)
+  restored-slots slots x v tidy some same new =
+      let homes : removed eq (with_handle (homes_of slots) x v) x v ≡ homes_of slots =
+      grind (arith, length-homes_of, length-with_list, listed-with_same, eq-eqb, without_first-at, append-nil, set-set, set-get_or) in
+      ap layout homes ∙ sym (tidy-layout slots tidy)

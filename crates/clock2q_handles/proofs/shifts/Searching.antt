@@ -1,15 +1,13 @@
 -- Walks for the first entry of a home that equals another.
 use Rattle.std.proofs.Common.{◌≡◌, ℕ, suc, ◌+◌, ◌%◌, ◌<◌, ◌≤◌, refl, ap, sym, ◌∙◌, arith, Bool, true, false, List, length, Option, Some, IfSome}
-use Rattle.std.proofs.lemmas.Nat.{mod_below}
 use Rattle.std.specs.List.{list_any}
 use Rattle.clock2q_handles.specs.Candidates.{IsWalkFor}
-use Rattle.clock2q_handles.specs.Found.{FindsAt}
+use Rattle.clock2q_handles.specs.Found.{Finds, FindsAt}
 use Rattle.clock2q_handles.specs.Homes.{top, is_entry_of, listed}
 use Rattle.clock2q_handles.specs.Layout.{Placed, placed, slot_at, reach, at_home, met, homes_of, walk, IsTidy}
 use Rattle.clock2q_handles.specs.Slots.{Mark, mark_of, mark_on, mark_reach}
 use Rattle.clock2q_handles.proofs.shifts.Carrying.{come_here, come_home, come_on}
-use Rattle.clock2q_handles.proofs.walks.Finding.{met_all, none_more, candidate, is_entry_of-candidate, any-other, any-failed}
-use Rattle.clock2q_handles.proofs.walks.Reads.{come_reads}
+use Rattle.clock2q_handles.proofs.walks.Finding.{met_all, none_more, candidate, is_entry_of-candidate, any-other, any-failed, come_reads}
 
 -- a walk for x has reached slot n, and has met no entry that `remove` of v under x may remove
 pub record IsSearching {H : Type 0} (eq : H → H → Bool) (v : H) (slots : List (Option (Placed (ℕ × H)))) (x : ℕ) (wanted : Mark) (n : ℕ) : Type 0 where
@@ -18,7 +16,7 @@ pub record IsSearching {H : Type 0} (eq : H → H → Bool) (v : H) (slots : Lis
 
 module _ {H : Type 0} (eq : H → H → Bool) (v : H) (slots : List (Option (Placed (ℕ × H)))) (tidy : IsTidy slots) (x : ℕ) where
   pub search_begins : (s : Mark) (n : ℕ) → 0 < length slots → n ≡ x % length slots → s ≡ Some (0, top x) → IsSearching eq v slots x s n
-  search_begins s n some at is = record { at = record { distance = 0; come = come_home slots (x % length slots) n at (mod_below x (length slots) some); mark = is }; none = refl }
+  search_begins s n some at is = record { at = record { distance = 0; come = come_home slots (x % length slots) n at (omega (arith, some)); mark = is }; none = refl }
 
   module _ {s : Mark} {n : ℕ} (search : IsSearching eq v slots x s n) where
     abbrev d : ℕ
@@ -37,13 +35,10 @@ module _ {H : Type 0} (eq : H → H → Bool) (v : H) (slots : List (Option (Pla
 
     -- whose handle equals v is found
     pub search_finds : {w : H} → s ≡ mark_of (slot_at slots n) → IfSome (slot_at slots n) (λ p. w ≡ p.entry.1) → eq w v ≡ true → FindsAt (is_entry_of eq x v) slots (x % length slots) n
-    search_finds {w} is handle equal = record {
-      distance = d;
-      slot = search.at.come.slot;
-      within = search.at.come.within;
-      passed = search.at.come.passed;
-      finds = record { entry = (top x, w); here = marked is handle; passes = is_entry_of-candidate eq x v w ∙ equal; none_before = search.none };
-    }
+    search_finds {w} is handle equal =
+        let passes = is_entry_of-candidate eq x v w ∙ equal in
+        let finds : Finds (is_entry_of eq x v) (slot_at slots) (x % length slots) d = record { entry = (top x, w); here = marked is handle; passes = passes; none_before = search.none } in
+        grind (arith, search.at.come, finds)
 
     -- at the end of the walk there is none
     pub search_ends : reach (slot_at slots n) < mark_reach s → list_any (is_entry_of eq x v) (listed (homes_of slots) (x % length slots)) ≡ false
@@ -63,11 +58,7 @@ module _ {H : Type 0} (eq : H → H → Bool) (v : H) (slots : List (Option (Pla
     search_on {s'} {n'} other far more on =
         let come = come_on slots tidy (x % length slots) d n n' search.at.come (omega (arith, far, ap mark_reach search.at.mark)) on in
         let mark : s' ≡ Some (suc d, top x) = more ∙ ap mark_on search.at.mark in
-        let one : d + 1 ≡ suc d = omega arith in (
-          record {
-            at = record { distance = suc d; come = come; mark = mark };
-            none = ap (λ k. list_any (is_entry_of eq x v) (met (slot_at slots) (x % length slots) 0 k)) (sym one) ∙ none_more (is_entry_of eq x v) (slot_at slots) (x % length slots) d search.none other;
-          },
-          omega (arith, ap mark_reach mark, ap mark_reach search.at.mark),
-          omega (arith, ap mark_reach mark, come.within),
-        )
+        let one : d + 1 ≡ suc d = omega arith in
+        let none = rw one at (none_more (is_entry_of eq x v) (slot_at slots) (x % length slots) d search.none other) in
+        let far' = ap mark_reach mark in
+        (record { at = record { distance = suc d; come = come; mark = mark }; none = none }, omega (arith, far', ap mark_reach search.at.mark), omega (arith, far', come.within))

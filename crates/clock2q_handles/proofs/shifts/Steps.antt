@@ -1,23 +1,19 @@
 -- A home's slots and list, by any hash of it, and where a table's entries are.
-use Rattle.std.proofs.Common.{◌≡◌, ℕ, ◌+◌, ◌%◌, ◌<◌, ap, sym, ◌∙◌, arith, List, length, Option}
+use Rattle.std.proofs.Common.{◌≡◌, ℕ, ◌+◌, ◌%◌, ◌<◌, arith, List, length, Option}
 use Rattle.std.proofs.lemmas.List.{get_or_past}
-use Rattle.std.proofs.Math.Nat.{mod-mod}
+use Rattle.std.proofs.Math.Nat.{mod-mod, mod-add-mod}
 use Rattle.clock2q_handles.specs.Homes.{listed}
 use Rattle.clock2q_handles.specs.Layout.{Placed, slot_at, homes_of}
 use Rattle.clock2q_handles.specs.Table.{IsTable}
 use Rattle.clock2q_handles.specs.TableStep.{table_value}
 use Rattle.clock2q_handles.specs.Changes.{IsLaidOut}
-use Rattle.clock2q_handles.proofs.layout.Periods.{rem-same}
-use Rattle.clock2q_handles.proofs.layout.Reading.{slot-again}
 use Rattle.clock2q_handles.proofs.layout.TidyLayout.{length-homes_of, tidy-layout, tidy-room}
 use Rattle.clock2q_handles.proofs.layout.Placement.{best-placed}
 
 module _ {E : Type 0} where
   -- the slots past a home are those past any hash of it
   pub past_home : (slots : List (Option (Placed E))) (m g x : ℕ) → length slots ≡ m → g ≡ x % m → (j : ℕ) → slot_at slots (g + j) ≡ slot_at slots (x + j)
-  past_home slots m g x len at j =
-      ap (λ n. slot_at slots (n + j)) (at ∙ ap (λ n. x % n) (sym len))
-      ∙ rem-same (λ n. slot_at slots (n + j)) (length slots) (λ n. let e : n + length slots + j ≡ n + j + length slots = omega arith in ap (slot_at slots) e ∙ slot-again slots (n + j)) x
+  past_home slots m g x len at j = grind (arith, len, at, mod-add-mod x m j)
 
   -- a home's list, by any hash of it
   pub listed-home : (slots : List (Option (Placed E))) (g x : ℕ) → (0 < length slots → g ≡ x % length slots) → listed (homes_of slots) g ≡ listed (homes_of slots) x

@@ -1,11 +1,10 @@
 -- What removing the entry that a search found results in.
-use Rattle.std.proofs.Common.{◌≡◌, ℕ, suc, ◌+◌, ◌-◌, ◌%◌, ◌<◌, ◌≤◌, refl, ap, sym, ◌∙◌, subst, arith, Bool, true, false, List, ◌∷◌, length, Option}
+use Rattle.std.proofs.Common.{◌≡◌, ℕ, suc, ◌+◌, ◌-◌, ◌%◌, ◌<◌, ◌≤◌, refl, ap, sym, ◌∙◌, arith, Bool, true, false, List, ◌∷◌, length, Option}
 use Rattle.std.proofs.lemmas.List.Folds.{list_any-append}
 use Rattle.std.specs.List.{list_any}
 use Rattle.clock2q_handles.specs.Found.{FindsAt, TakesOut, TakesOutAt}
 use Rattle.clock2q_handles.specs.Homes.{capacity, listed, total, is_entry_of, removed, without_first}
-use Rattle.clock2q_handles.specs.Layout.{Placed, slot_at, reach, longest_reach, entries, homes_of, met, run, IsTidy}
-use Rattle.clock2q_handles.specs.Slots.{IsSlotCount}
+use Rattle.clock2q_handles.specs.Layout.{Placed, slot_at, reach, longest_reach, homes_of, met, run, IsTidy}
 use Rattle.clock2q_handles.specs.Table.{IsTable}
 use Rattle.clock2q_handles.proofs.layout.Laid.{met-same}
 use Rattle.clock2q_handles.proofs.layout.Reaching.{run-above}
@@ -26,18 +25,7 @@ module _ {E : Type 0} {test : E → Bool} {slots : List (Option (Placed E))} whe
   found_at {x} {s} found =
       let past = past_home slots (length slots) (x % length slots) x refl refl in
       let come = come_at slots x found.distance s (record { slot = found.slot; within = found.within; passed = found.passed }) in
-      record {
-        distance = found.distance;
-        slot = come.slot;
-        within = come.within;
-        passed = come.passed;
-        finds = record {
-          entry = found.finds.entry;
-          here = sym (past found.distance) ∙ found.finds.here;
-          passes = found.finds.passes;
-          none_before = ap (list_any test) (met-same (slot_at slots) (slot_at slots) x (x % length slots) 0 found.distance (λ j _ _. sym (past j))) ∙ found.finds.none_before;
-        };
-      }
+      grind (arith, come, found.finds, past, met-same (slot_at slots) (slot_at slots) x (x % length slots) 0 found.distance (λ j _ _. sym (past j)))
 
   -- removing the entry in that slot removes the first that passes
   pub found_taken : {x s : ℕ} → FindsAt test slots (x % length slots) s → {new : List (Option (Placed E))} {before after : ℕ} → TakesOutAt slots new s before after → TakesOut test slots new x before after
@@ -55,54 +43,28 @@ pub record Removal {H : Type 0} (eq : H → H → Bool) (x : ℕ) (v : H) (other
   pub counted : before ≤ after
   pub writes : after ≤ before + run others x
 
-module _ {H : Type 0} (eq : H → H → Bool) (x : ℕ) (v : H) (others slots : List (Option (Placed (ℕ × H)))) (len before after : ℕ)
-    (table : IsTable others len) (taken : TakesOut (is_entry_of eq x v) others slots x before after) where
-  abbrev m : ℕ
-  m = length others
-
-  abbrev n : ℕ
-  n = taken.distance
-
-  abbrev w : ℕ
-  w = taken.vacancy
-
-  abbrev entry : ℕ × H
-  entry = taken.finds.entry
-
-  abbrev again : (k : ℕ) → slot_at slots (k + m) ≡ slot_at slots k
-  again = slots_again slots m taken.len
-
-  fewer : length (entries others) ≡ suc (length (entries slots))
-  fewer = opened-entries slots others m x n w entry taken.len refl taken.closes.opens
-
-  tidy : IsTidy slots
-  tidy = record {
-    ordered = closed-ordered (slot_at slots) (slot_at others) m x n w entry again (slot-again others) taken.closes.opens table.tidy.ordered taken.closes.ends taken.closes.occupied;
-    room = omega (arith, table.tidy.room, fewer, ap capacity taken.len);
-  }
-
-  pub removal : Removal eq x v others slots len before after
-  removal =
-      let test = is_entry_of eq x v in
-      let A = slot_at slots in
-      let own = own-before slots others m x n w entry taken.len refl taken.closes.opens tidy.ordered table.tidy.ordered taken.closes.ends in
-      let was = own-after slots others m x n w entry taken.len refl taken.closes.opens tidy.ordered table.tidy.ordered taken.closes.ends in
-      let kept = others-kept slots others m x n w entry taken.len refl taken.closes.opens tidy.ordered table.tidy.ordered taken.closes.ends in
-      let none : list_any test (met A x 0 n) ≡ false =
-      ap (list_any test) (met-same A (slot_at others) x x 0 n (λ j _ l. sym (taken.closes.opens.before j (omega (arith, l))))) ∙ taken.finds.none_before in
-      let less : suc (total (homes_of slots)) ≡ len = omega (arith, fewer, tidy-total slots tidy, tidy-total others table.tidy, table.counted) in
-      let without : listed (homes_of slots) x ≡ without_first test (listed (homes_of others) x) =
-      own ∙ sym (ap (without_first test) was ∙ without_first-at test (met A x 0 n) (met A x n (w - n)) entry none taken.finds.passes) in
-      record {
-        homes = with_list-read others slots x (without_first test (listed (homes_of others) x)) taken.len (omega (arith, taken.within)) without (λ h other. sym (kept h other));
-        found = grind (arith, was, taken.finds.passes, list_any-append test (met A x 0 n) (entry ∷ met A x n (w - n)));
-        total_less = less;
-        table = record {
-          tidy = tidy;
-          counted = omega (arith, less);
-          slot_count = subst IsSlotCount (sym taken.len) table.slot_count;
-          near = closed-within A (slot_at others) m x n w entry again (slot-again others) taken.closes.opens longest_reach table.near;
-        };
-        counted = omega (arith, taken.written, taken.closes.opens.from);
-        writes = omega (arith, taken.written, run-above others x (suc w) taken.closes.opens.upto (λ j l. taken.closes.occupied j (omega (arith, l))));
-      }
+pub removal : {H : Type 0} (eq : H → H → Bool) (x : ℕ) (v : H) (others slots : List (Option (Placed (ℕ × H)))) (len before after : ℕ)
+    → IsTable others len → TakesOut (is_entry_of eq x v) others slots x before after → Removal eq x v others slots len before after
+removal eq x v others slots len before after table taken =
+    let test = is_entry_of eq x v in
+    let A = slot_at slots in
+    let n : ℕ = taken.distance in
+    let rest : ℕ = taken.vacancy - n in
+    let opens = taken.closes.opens in
+    let again = slots_again slots (length others) taken.len in
+    let fewer = opened-entries slots others taken.len refl opens in
+    let ordered = closed-ordered opens again (slot-again others) table.tidy.ordered taken.closes.ends taken.closes.occupied in
+    let tidy : IsTidy slots = record { ordered = ordered; room = omega (arith, table.tidy.room, fewer, ap capacity taken.len) } in
+    let own = own-before slots others taken.len refl opens ordered table.tidy.ordered taken.closes.ends in
+    let was = own-after slots others taken.len refl opens ordered table.tidy.ordered taken.closes.ends in
+    let kept = others-kept slots others taken.len refl opens ordered table.tidy.ordered taken.closes.ends in
+    let none : list_any test (met A x 0 n) ≡ false = ap (list_any test) (met-same A (slot_at others) x x 0 n (λ j _ l. sym (opens.before j (omega (arith, l))))) ∙ taken.finds.none_before in
+    let less : suc (total (homes_of slots)) ≡ len = omega (arith, fewer, tidy-total slots tidy, tidy-total others table.tidy, table.counted) in
+    let without : listed (homes_of slots) x ≡ without_first test (listed (homes_of others) x) =
+    own ∙ sym (ap (without_first test) was ∙ without_first-at test (met A x 0 n) (met A x n rest) taken.finds.entry none taken.finds.passes) in
+    let homes = with_list-read others slots x (without_first test (listed (homes_of others) x)) taken.len (omega (arith, taken.within)) without (λ h other. sym (kept h other)) in
+    let found : list_any test (listed (homes_of others) x) ≡ true = grind (arith, was, taken.finds.passes, list_any-append test (met A x 0 n) (taken.finds.entry ∷ met A x n rest)) in
+    let near = closed-within opens again (slot-again others) longest_reach table.near in
+    let writes = run-above others x (suc taken.vacancy) opens.upto (λ j l. taken.closes.occupied j (omega (arith, l))) in
+    let left : IsTable slots (len - 1) = grind (arith, less, tidy, taken.len, table.slot_count, near) in
+    grind (arith, homes, found, less, left, taken.written, opens.from, writes)

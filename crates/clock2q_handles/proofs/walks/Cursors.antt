@@ -1,49 +1,35 @@
 -- Lookups that keep a slot and what they look for there: how far they are, and what a step does to what is left.
-use Rattle.std.proofs.Common.{◌≡◌, ◌≢◌, ℕ, suc, ◌+◌, ◌-◌, ◌%◌, ◌<◌, ◌≤◌, refl, ap, sym, ◌∙◌, arith, ◌==◌, eq-eqb, List, [], ◌∷◌, ◌++◌, map, filter, length, get_or, Option, Some, None, IfSome}
+use Rattle.std.proofs.Common.{◌≡◌, ◌≢◌, ℕ, suc, ◌+◌, ◌-◌, ◌%◌, ◌<◌, ◌≤◌, refl, ap, sym, ◌∙◌, arith, ◌==◌, eq-eqb, List, [], ◌∷◌, ◌++◌, map, filter, length, Option, Some, None, IfSome}
 use Rattle.std.specs.Prelude.{IsSome, IsTrue, Bool, true, false, ◌↔◌}
 use Rattle.std.proofs.lemmas.Bool.{cases_lt, eqb-true, and_parts}
 use Rattle.std.proofs.lemmas.Bool.Decides.{eqb_tells}
 use Rattle.std.proofs.lemmas.List.{map-append}
 use Rattle.std.proofs.lemmas.List.Elements.{filter-append}
-use Rattle.std.proofs.lemmas.Nat.{mod_below}
-use Rattle.std.proofs.Math.Nat.{add-mod_right}
+use Rattle.std.proofs.Math.Nat.{add-mod_right, mod-add-mod}
 use Rattle.clock2q_handles.specs.Homes.{top}
-use Rattle.clock2q_handles.specs.Layout.{Placed, slot_at, reach, at_home, met, homes_of, walk, IsTidy, AreNear}
+use Rattle.clock2q_handles.specs.Layout.{Placed, slot_at, reach, at_home, homes_of, IsTidy, AreNear}
 use Rattle.clock2q_handles.specs.Candidates.{left_from, unread_from, home_back, left_at, unread_at, is_mark, peeked_at, IsOnWalk, IsLookup}
 use Rattle.clock2q_handles.specs.Slots.{Mark, mark_of, mark_on, mark_reach}
-use Rattle.clock2q_handles.proofs.layout.FewerEntries.{walk-again, walk-none}
+use Rattle.clock2q_handles.proofs.layout.FewerEntries.{walk-none}
 use Rattle.clock2q_handles.proofs.layout.Periods.{rem-same}
 use Rattle.clock2q_handles.proofs.layout.Reading.{slot-again}
 use Rattle.clock2q_handles.proofs.layout.TidyLayout.{length-homes_of}
 use Rattle.clock2q_handles.proofs.layout.Walk.{met-late}
 use Rattle.clock2q_handles.proofs.shifts.Moves.{less_than_lap, refused, reach_of_meaning}
-use Rattle.clock2q_handles.proofs.walks.Yields.{walk-at, walk-beyond}
+use Rattle.clock2q_handles.proofs.walks.Yields.{walk-home, walk-at, walk-beyond}
 
 -- adding to a remainder
 pub rem-plus : (m y k : ℕ) → (y % m + k) % m ≡ (y + k) % m
-rem-plus m y k = rem-same (λ z. (z + k) % m) m (λ n. let e : n + m + k ≡ n + k + m = omega arith in ap (λ z. z % m) e ∙ add-mod_right (n + k) m) y
+rem-plus m y k = mod-add-mod y m k
 
 -- the home of a walk that has come from x
 pub home_of_walk : {H : Type 0} (slots : List (Option (Placed (ℕ × H)))) (x d n : ℕ) → d < length slots → n ≡ (x + d) % length slots → home_back slots n d ≡ x % length slots
-home_of_walk slots x d n within at =
-    let m : ℕ = length slots in
-    grind (arith, rem-plus m (x + d) (m - d), add-mod_right x m)
-
-this_mark : (s : ℕ × ℕ) (m : Mark) → is_mark s m ≡ true → m ≡ Some s
-this_mark s None h = absurd (cc)
-this_mark s (Some m) h = grind (arith, and_parts (s.0 == m.0) (s.1 == m.1) h, eqb-true s.0 m.0, eqb-true s.1 m.1)
+home_of_walk slots x d n within at = grind (arith, rem-plus (length slots) (x + d) (length slots - d), add-mod_right x (length slots))
 
 module _ {H : Type 0} where
   -- the candidates among the entries of a home that are in one slot
   abbrev candidate_in : Option (Placed (ℕ × H)) → ℕ → ℕ → List H
   candidate_in o d f = map (λ e. e.1) (filter (λ e. e.0 == f) (at_home o d))
-
-  -- and in those of k slots
-  abbrev candidates_in : (ℕ → Option (Placed (ℕ × H))) → ℕ → ℕ → ℕ → ℕ → List H
-  candidates_in A h d k f = map (λ e. e.1) (filter (λ e. e.0 == f) (met A h d k))
-
-  candidates_more : (A : ℕ → Option (Placed (ℕ × H))) (h d k f : ℕ) → candidates_in A h d (suc k) f ≡ candidate_in (A (h + d)) d f ++ candidates_in A h (suc d) k f
-  candidates_more A h d k f = grind (arith, filter-append, map-append)
 
   candidate_in-other : (o : Option (Placed (ℕ × H))) (d f : ℕ) → mark_of o ≢ Some (d, f) → candidate_in o d f ≡ []
   candidate_in-other None d f other = refl
@@ -53,54 +39,15 @@ module _ {H : Type 0} where
   candidate_in-here None d f r is handle = absurd (cc)
   candidate_in-here (Some p) d f r is handle = grind (arith, eq-eqb)
 
-  -- a slot with a mark has a handle
-  handle_there : (o : Option (Placed (ℕ × H))) (s : ℕ × ℕ) → mark_of o ≡ Some s → (r : H) × IfSome o (λ p. r ≡ p.entry.1)
-  handle_there None s is = absurd (cc)
-  handle_there (Some p) s is = (p.entry.1, refl)
+  -- a slot with the mark that is looked for has a handle
+  found_in : (o : Option (Placed (ℕ × H))) (s : ℕ × ℕ) → is_mark s (mark_of o) ≡ true → (mark_of o ≡ Some s) × ((r : H) × IfSome o (λ p. r ≡ p.entry.1))
+  found_in None s h = absurd (cc)
+  found_in (Some p) s h = (grind (arith, and_parts (s.0 == p.displacement) (s.1 == p.entry.0) h, eqb-true s.0 p.displacement, eqb-true s.1 p.entry.0), (p.entry.1, refl))
 
-module _ {H : Type 0} (slots : List (Option (Placed (ℕ × H)))) (tidy : IsTidy slots) (d f n : ℕ) (on : IsOnWalk slots d f n) where
-  home_is : home_back slots n d ≡ on.hash % length slots
-  home_is = home_of_walk slots on.hash d n on.within on.slot
-
-  -- the contents of the slot that the walk has reached
-  walk_here : slot_at slots n ≡ slot_at slots (on.hash + d)
-  walk_here = ap (slot_at slots) on.slot ∙ rem-same (slot_at slots) (length slots) (slot-again slots) (on.hash + d)
-
-  home_here : slot_at slots (on.hash % length slots + d) ≡ slot_at slots n
-  home_here = ap (λ y. get_or slots y None) (rem-plus (length slots) on.hash d) ∙ sym walk_here
-
-  -- what is left in slot n is what is left d slots past the home
-  pub left_is : left_at slots (Some (d, f)) n ≡ left_from slots on.hash d
-  left_is = grind (arith, home_is)
-
-  unread_is : unread_at slots (Some (d, f)) n ≡ unread_from slots on.hash d
-  unread_is = grind (arith, home_is, rem-same (walk (homes_of slots)) (length (homes_of slots)) (walk-again (homes_of slots)), length-homes_of slots)
-
-  some_slots : 0 < length slots
-  some_slots = omega (arith, on.within)
-
-  -- what is left is what this slot has and what is left after it
-  left_more : left_at slots (Some (d, f)) n ≡ candidate_in (slot_at slots n) d f ++ left_from slots on.hash (suc d)
-  left_more =
-      let m : ℕ = length slots in
-      let e : m - d ≡ suc (m - suc d) = omega (arith, on.within) in
-      left_is ∙ ap (λ k. candidates_in (slot_at slots) (on.hash % m) d k (top on.hash)) e ∙ candidates_more (slot_at slots) (on.hash % m) d (m - suc d) (top on.hash)
-      ∙ ap (λ o. candidate_in o d (top on.hash) ++ left_from slots on.hash (suc d)) home_here ∙ ap (λ t. candidate_in (slot_at slots n) d t ++ left_from slots on.hash (suc d)) (sym on.fingerprint)
-
-  module _ (far : d < reach (slot_at slots n)) (next : ℕ) (at : next ≡ (n + 1) % length slots) where
-    passed_more : (j : ℕ) → j < suc d → j < reach (slot_at slots (on.hash + j))
-    passed_more j l = grind (arith, cases_lt j d, walk_here)
-
-    -- it goes on to the next slot
-    abbrev walk_goes : IsOnWalk slots (suc d) f next
-    walk_goes =
-        record {
-          hash = on.hash;
-          slot = grind (arith, on.slot, rem-plus (length slots) (on.hash + d) 1);
-          fingerprint = on.fingerprint;
-          within = less_than_lap slots on.hash (suc d) tidy some_slots (λ j l. omega (arith, passed_more j l));
-          passed = passed_more;
-        }
+-- what is left in a slot on a walk for x, and what is unread
+left_home : {H : Type 0} (slots : List (Option (Placed (ℕ × H)))) (x d n : ℕ) → d < length slots → n ≡ (x + d) % length slots
+    → (left_at slots (Some (d, top x)) n ≡ left_from slots x d) × (unread_at slots (Some (d, top x)) n ≡ unread_from slots x d)
+left_home slots x d n within at = let home = home_of_walk slots x d n within at in (cc home, cc (home, walk-home slots x))
 
 -- what a step does to a lookup
 pub record HasStepped {H : Type 0} (slots : List (Option (Placed (ℕ × H)))) (s s' : Mark) (n n' : ℕ) : Type 0 where
@@ -110,37 +57,62 @@ pub record HasStepped {H : Type 0} (slots : List (Option (Placed (ℕ × H)))) (
   pub skips : mark_of (slot_at slots n) ≢ s → left_at slots s n ≡ left_at slots s' n'
   pub takes : (r : H) → mark_of (slot_at slots n) ≡ s → IfSome (slot_at slots n) (λ p. r ≡ p.entry.1) → left_at slots s n ≡ r ∷ left_at slots s' n'
 
-module _ {H : Type 0} (slots : List (Option (Placed (ℕ × H)))) where
-  lookup_slot : (s : Mark) (n : ℕ) → IsSome s → IsLookup slots s n → n < length slots
-  lookup_slot None n some lookup = absurd (cc)
-  lookup_slot (Some s) n some lookup = omega (arith, lookup.walk.slot, lookup.walk.within, mod_below (lookup.walk.hash + s.0) (length slots))
+module _ {H : Type 0} (slots : List (Option (Placed (ℕ × H)))) (tidy : IsTidy slots) (d f n : ℕ) (on : IsOnWalk slots d f n) where
+  -- the contents of the slot that the walk has reached
+  walk_here : slot_at slots n ≡ slot_at slots (on.hash + d)
+  walk_here = ap (slot_at slots) on.slot ∙ rem-same (slot_at slots) (length slots) (slot-again slots) (on.hash + d)
 
+  home_here : slot_at slots (on.hash % length slots + d) ≡ slot_at slots n
+  home_here = grind (arith, rem-plus (length slots) on.hash d, walk_here)
+
+  -- what is left in slot n is what is left d slots past the home
+  pub left_is : left_at slots (Some (d, f)) n ≡ left_from slots on.hash d
+  left_is = cc (on.fingerprint, (left_home slots on.hash d n on.within on.slot).0)
+
+  unread_is : unread_at slots (Some (d, f)) n ≡ unread_from slots on.hash d
+  unread_is = (left_home slots on.hash d n on.within on.slot).1
+
+  -- what is left is what this slot has and what is left after it
+  left_more : left_at slots (Some (d, f)) n ≡ candidate_in (slot_at slots n) d f ++ left_from slots on.hash (suc d)
+  left_more =
+      let e : length slots - d ≡ suc (length slots - suc d) = omega (arith, on.within) in
+      left_is ∙ rw e (simp (filter-append, map-append, home_here, on.fingerprint))
+
+  -- it goes on to the next slot
+  stepped : AreNear slots → d < reach (slot_at slots n) → (next : ℕ) → next ≡ (n + 1) % length slots → HasStepped slots (Some (d, f)) (Some (suc d, f)) n next
+  stepped near far next at =
+      let slot : next ≡ (on.hash + suc d) % length slots = grind (arith, on.slot, rem-plus (length slots) (on.hash + d) 1) in
+      let passed : (j : ℕ) → j < suc d → j < reach (slot_at slots (on.hash + j)) = λ j l. grind (arith, cases_lt j d, walk_here) in
+      let within = less_than_lap slots on.hash (suc d) tidy (omega (arith, on.within)) (λ j l. omega (arith, passed j l)) in
+      let left = left_home slots on.hash (suc d) next within slot in
+      record {
+        lookup = record { tidy = tidy; near = near; walk = record { hash = on.hash; slot = slot; fingerprint = on.fingerprint; within = within; passed = passed } };
+        some = refl;
+        read = omega (arith, unread_is, left.1, on.fingerprint, walk-beyond slots tidy on.hash d (omega (arith, on.within)) (omega (arith, far, ap reach walk_here)));
+        skips = λ other. grind (arith, left_more, on.fingerprint, left.0, candidate_in-other (slot_at slots n) d f other);
+        takes = λ r mark handle. grind (arith, left_more, on.fingerprint, left.0, candidate_in-here (slot_at slots n) d f r mark handle);
+      }
+
+module _ {H : Type 0} (slots : List (Option (Placed (ℕ × H)))) where
   pub lookup_ends : (s : Mark) (n : ℕ) → IsSome s → IsLookup slots s n → reach (slot_at slots n) < mark_reach s → (left_at slots s n ≡ []) × (unread_at slots s n ≡ 1)
   lookup_ends None n some lookup near = absurd (cc)
   lookup_ends (Some s) n some lookup near =
       let on = lookup.walk in
-      let here = home_here slots lookup.tidy s.0 s.1 n on in
-      let late = met-late (slot_at slots) lookup.tidy.ordered (on.hash % length slots) s.0 (length slots - s.0) in
-      let unread = unread_is slots lookup.tidy s.0 s.1 n on in
-      grind (arith, home_is slots lookup.tidy s.0 s.1 n on, here, late, unread, walk-at slots lookup.tidy on.hash s.0, on.passed, walk_here slots lookup.tidy s.0 s.1 n on)
+      grind (
+        arith,
+        left_is slots lookup.tidy s.0 s.1 n on,
+        home_here slots lookup.tidy s.0 s.1 n on,
+        unread_is slots lookup.tidy s.0 s.1 n on,
+        walk-at slots lookup.tidy on.hash s.0,
+        on.passed,
+        met-late (slot_at slots) lookup.tidy.ordered (on.hash % length slots) s.0 (length slots - s.0),
+        walk_here slots lookup.tidy s.0 s.1 n on,
+      )
 
   -- a slot that doesn't end a lookup is followed by the next
   pub lookup_steps : (s s' : Mark) (n n' : ℕ) → IsSome s → s' ≡ mark_on s → n' ≡ (n + 1) % length slots → IsLookup slots s n → mark_reach s ≤ reach (slot_at slots n) → HasStepped slots s s' n n'
   lookup_steps None s' n n' some is at lookup far = absurd (cc)
-  lookup_steps (Some s) s' n n' some is at lookup far =
-      let tidy = lookup.tidy in
-      let on = lookup.walk in
-      let goes : IsOnWalk slots (suc s.0) s.1 n' = walk_goes slots tidy s.0 s.1 n on (omega (arith, far)) n' at in
-      let more = left_more slots tidy s.0 s.1 n on in
-      let left = left_is slots tidy (suc s.0) s.1 n' goes in
-      let beyond = walk-beyond slots tidy on.hash s.0 (some_slots slots tidy s.0 s.1 n on) (omega (arith, far, ap reach (walk_here slots tidy s.0 s.1 n on))) in
-      rw is (record {
-        lookup = record { tidy = tidy; near = lookup.near; walk = goes };
-        some = refl;
-        read = omega (arith, unread_is slots tidy s.0 s.1 n on, unread_is slots tidy (suc s.0) s.1 n' goes, beyond.0);
-        skips = λ other. grind (arith, more, left, candidate_in-other (slot_at slots n) s.0 s.1 other);
-        takes = λ r mark handle. grind (arith, more, left, candidate_in-here (slot_at slots n) s.0 s.1 r mark handle);
-      })
+  lookup_steps (Some s) s' n n' some is at lookup far = rw is (stepped slots lookup.tidy s.0 s.1 n lookup.walk lookup.near (omega (arith, far)) n' at)
 
   -- a lookup that has read nothing yet, if there are slots
   pub lookup_begins : (x n : ℕ) → IsTidy slots → AreNear slots → 0 < length slots → n ≡ x % length slots → IsLookup slots (Some (0, top x)) n
@@ -149,10 +121,7 @@ module _ {H : Type 0} (slots : List (Option (Placed (ℕ × H)))) where
   -- has everything left
   pub begins_whole : (x n : ℕ) → IsTidy slots → AreNear slots → 0 < length slots → n ≡ x % length slots
       → (left_at slots (Some (0, top x)) n ≡ left_from slots x 0) × (unread_at slots (Some (0, top x)) n ≡ unread_from slots x 0)
-  unfolding lookup_begins
-  begins_whole x n tidy near some at =
-      let on = (lookup_begins x n tidy near some at).walk in
-      (left_is slots tidy 0 (top x) n on, unread_is slots tidy 0 (top x) n on)
+  begins_whole x n tidy near some at = left_home slots x 0 n some (grind arith)
 
   -- and if there are no slots, there is nothing
   pub begins_empty : (x : ℕ) → IsTidy slots → length slots ≡ 0 → ([] ≡ left_from slots x 0) × (0 ≡ unread_from slots x 0)
@@ -164,13 +133,7 @@ module _ {H : Type 0} (slots : List (Option (Placed (ℕ × H)))) where
 
 -- a walk in a slot where it has found what it looks for
 module _ {H : Type 0} (slots : List (Option (Placed (ℕ × H)))) where
-  peeked_found : (s : Mark) (n : ℕ) → peeked_at slots s n ≡ true → IsSome s × (mark_of (slot_at slots n) ≡ s) × ((r : H) × IfSome (slot_at slots n) (λ p. r ≡ p.entry.1))
-  peeked_found None n h = absurd (cc)
-  peeked_found (Some s) n h =
-      let is = this_mark s (mark_of (slot_at slots n)) h in
-      (refl, is, handle_there (slot_at slots n) s is)
-
-  -- and goes on from there
+  -- a walk goes on from there
   pub record HasPassed (s s' : Mark) (n n' : ℕ) : Type 0 where
     pub lookup : IsLookup slots s' n'
     pub read : unread_at slots s n ≡ unread_at slots s' n' + 1
@@ -183,15 +146,15 @@ module _ {H : Type 0} (slots : List (Option (Placed (ℕ × H)))) where
     pub far : mark_reach s ≤ reach (slot_at slots n)
 
   pub standing : (s : Mark) (n : ℕ) → IsLookup slots s n → peeked_at slots s n ≡ true → IsCandidate s n
-  standing s n lookup h =
-      let is = peeked_found s n h in
-      grind (arith, is, lookup_slot slots s n is.0 lookup, reach_of_meaning s (slot_at slots n) (sym is.1))
+  standing None n lookup h = absurd (cc)
+  standing (Some s) n lookup h = grind (arith, found_in (slot_at slots n) s h, lookup.walk.slot, lookup.walk.within, reach_of_meaning (Some s) (slot_at slots n))
 
   pub passed_on : (s s' : Mark) (n n' : ℕ) → IsLookup slots s n → peeked_at slots s n ≡ true → s' ≡ mark_on s → n' ≡ (n + 1) % length slots → HasPassed s s' n n'
-  passed_on s s' n n' lookup h is at =
-      let found = peeked_found s n h in
-      let step = lookup_steps slots s s' n n' found.0 is at lookup (standing s n lookup h).far in
-      record { lookup = step.lookup; read = step.read; left = (found.2.0, step.takes found.2.0 found.1 found.2.1) }
+  passed_on None s' n n' lookup h is at = absurd (cc)
+  passed_on (Some s) s' n n' lookup h is at =
+      let found = found_in (slot_at slots n) s h in
+      let step = lookup_steps slots (Some s) s' n n' refl is at lookup (standing (Some s) n lookup h).far in
+      record { lookup = step.lookup; read = step.read; left = (found.1.0, step.takes found.1.0 found.0 found.1.1) }
 
 -- a walk that looked for s in slot n has found the handle r in slot n', where it looks for s', and has read slots on from w up to w'
 pub record HasFound {H : Type 0} (slots : List (Option (Placed (ℕ × H)))) (s s' : Mark) (n n' : ℕ) (r : H) (w w' : ℕ) : Type 0 where
@@ -204,8 +167,4 @@ pub has_found : {H : Type 0} (slots : List (Option (Placed (ℕ × H)))) {s s' :
     → w' + unread_at slots s' n' ≡ w + unread_at slots s n + 1 → HasFound slots s s' n n' r w w'
 has_found slots {s' = s'} {n' = n'} r lookup some found left handle read =
     let far : mark_reach s' ≤ reach (slot_at slots n') = omega (arith, reach_of_meaning s' (slot_at slots n') (sym found)) in
-    record {
-      far = far;
-      read = read;
-      on = λ t k more at. let step = lookup_steps slots s' t n' k some more at lookup far in (step, left ∙ step.takes r found handle);
-    }
+    record { far = far; read = read; on = λ t k more at. let step = lookup_steps slots s' t n' k some more at lookup far in (step, left ∙ step.takes r found handle) }

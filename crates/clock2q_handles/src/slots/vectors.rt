@@ -164,7 +164,7 @@ impl<H: Copy + Default, A: Allocator> Slots<H, A> {
     /// Inserts an entry at a gap. The rest of the run moves on by one slot, and each slot that is
     /// written is read.
     #[inline(always)]
-    #[tactic(auto, using(crate::proofs::shifts::Cells::counted_cells, crate::proofs::shifts::Wrapping::cells_along, crate::proofs::shifts::Carrying::carry_begins, crate::proofs::shifts::Cells::mark_read_or, crate::proofs::shifts::Carrying::carry_slot))]
+    #[tactic(auto, using(crate::proofs::shifts::Cells::counted_cells, crate::proofs::shifts::Wrapping::cells_along, crate::proofs::shifts::Carrying::carry_begins, crate::proofs::shifts::Cells::mark_read_or, crate::proofs::shifts::Carrying::carry_slot, crate::proofs::shifts::Cells::kept_whole))]
     pub(crate) fn put_at(&mut self, gap: &Gap, handle: H, reads: &mut Count)
         requires tidy { IsTidy self.old.slots }
         requires within { gap.now.position < length self.old.slots }
@@ -200,7 +200,7 @@ impl<H: Copy + Default, A: Allocator> Slots<H, A> {
     /// or an entry at its home. It reads as many slots as it writes. The handle of the slot that is
     /// left empty stays in memory, but no lookup reaches it.
     #[inline(always)]
-    #[tactic(auto, using(crate::proofs::shifts::Cells::counted_cells, crate::proofs::shifts::Wrapping::cells_along, crate::proofs::shifts::Carrying::close_begins, crate::proofs::shifts::Carrying::close_slot))]
+    #[tactic(auto, using(crate::proofs::shifts::Cells::counted_cells, crate::proofs::shifts::Wrapping::cells_along, crate::proofs::shifts::Carrying::close_begins, crate::proofs::shifts::Carrying::close_slot, crate::proofs::shifts::Cells::kept_whole, crate::proofs::shifts::Cells::written_cells))]
     pub(crate) fn take_out(&mut self, slot: usize, reads: &mut Count)
         requires tidy { IsTidy self.old.slots }
         requires within { slot < length self.old.slots }

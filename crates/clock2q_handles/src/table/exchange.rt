@@ -65,6 +65,7 @@ impl<H: Copy + Eq + Default, A: Allocator> Table<H, A> {
 
     /// Exchanges an entry whose gap is not known, in a table that may be full.
     #[inline(never)]
+    #[tactic(auto, using(crate::proofs::Attributes::exchanging))]
     fn take_then_insert(&mut self, hash: u64, handle: H, old_hash: u64, old: H)
         requires few { total self.old.homes < 2 ^ 24 }
         requires held { list_any (is_entry_of H.PartialEq.eq old_hash old)

@@ -16,7 +16,7 @@ use std::alloc::Allocator;
 const MIN_SLOTS: usize = 16;
 
 /// Returns the smallest slot count in which `entries` entries fit, if it can be counted.
-#[tactic(auto, using(crate::proofs::rebuild::SlotCounts::fit_from_power, crate::proofs::rebuild::SlotCounts::slot_count_from_power, crate::proofs::rebuild::SlotCounts::fit_enough))]
+#[tactic(auto, using(crate::proofs::rebuild::Growth::fit_from_power, crate::proofs::rebuild::Growth::slot_count_from_power, crate::proofs::rebuild::Growth::fit_enough))]
 pub(super) fn slots_for(entries: usize) -> Option<usize>
     ensures count { MatchOption result (2 ^ 64 ≤ fit entries) (λ count. count ≡ fit entries) }
     ensures power { IfSome result IsSlotCount }
@@ -44,7 +44,7 @@ impl<H: Copy + Eq + Default, A: Allocator + Copy> Table<H, A> {
     /// # Cost
     ///
     /// Constant if there is room already, and otherwise linear in the number of slots.
-    #[tactic(auto, using(crate::proofs::Promises::whole_laid))]
+    #[tactic(auto, using(crate::proofs::Promises::whole_laid, crate::proofs::rebuild::Growth::larger_multiple))]
     pub fn reserve<F: FnMut(H) -> u64>(
         &mut self,
         additional: usize,
@@ -117,6 +117,7 @@ impl<H: Copy + Eq + Default, A: Allocator + Copy> Table<H, A> {
 
     /// Rebuilds a full table in twice its slots, or in `MIN_SLOTS` if that is more.
     #[inline(never)]
+    #[tactic(auto, using(crate::proofs::Attributes::rebuilding, crate::proofs::rebuild::Growth::slot_count_doubled, crate::proofs::rebuild::Growth::doubled_is, crate::proofs::rebuild::Growth::doubled_more, crate::proofs::rebuild::Growth::doubled_multiple, crate::proofs::rebuild::Growth::rebuilt_room, crate::proofs::Attributes::laid_out))]
     fn grow<F: FnMut(H) -> u64>(&mut self, rehash: &mut F) -> Result<(), TableError>
         requires full { IsFull self.old.homes }
         requires asked { MayRehash F.FnMut rehash.old self.old.homes }
@@ -140,6 +141,7 @@ impl<H: Copy + Eq + Default, A: Allocator + Copy> Table<H, A> {
 
     /// Returns a table of the same entries in `count` slots, each under the hash that `rehash`
     /// returns for its handle.
+    #[tactic(auto, using(crate::proofs::Attributes::rebuilding, crate::proofs::Attributes::laid_out))]
     fn rebuilt<F: FnMut(H) -> u64>(
         &self,
         count: usize,

@@ -18,6 +18,7 @@ impl<H: Copy + Eq + Default, A: Allocator> Table<H, A> {
     ///
     /// It reads the walk to the entry. It writes the slots from the removed entry's to that of the
     /// last entry that moves back, and reads as many more.
+    #[tactic(auto, using(crate::proofs::shifts::Taking::found_occupied, crate::proofs::shifts::Steps::home_lists, crate::proofs::Attributes::laid_out, crate::proofs::Attributes::absent))]
     pub fn remove(&mut self, hash: u64, handle: H) -> bool
         ensures removed { self.new.homes ≡ removed H.PartialEq.eq self.old.homes hash handle }
         ensures found { result ≡ list_any (is_entry_of H.PartialEq.eq hash handle)

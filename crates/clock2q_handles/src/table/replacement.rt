@@ -17,6 +17,7 @@ impl<H: Copy + Eq + Default, A: Allocator> Table<H, A> {
     ///
     /// The walk to the entry, and one write of a slot.
     #[inline(always)]
+    #[tactic(auto, using(crate::proofs::shifts::Steps::home_lists, std::proofs::lemmas::Nat::mod_below, crate::proofs::Attributes::laid_out))]
     pub fn replace_handle(&mut self, hash: u64, handle: H, new: H)
         requires held { list_any (is_entry_of H.PartialEq.eq hash handle)
             (listed self.old.homes hash) ≡ true }

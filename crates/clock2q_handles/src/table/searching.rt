@@ -19,6 +19,7 @@ impl<H: Copy + Eq + Default, A: Allocator> Table<H, A> {
     ///
     /// That of [get](Table::get).
     #[inline(always)]
+    #[tactic(auto, using(crate::proofs::layout::TidyLayout::homes_length, crate::proofs::walks::Yields::left_at_start))]
     pub fn search<M: FnMut(H) -> bool>(&self, hash: u64, mut matches: M) -> Result<(H, usize), Gap>
         requires slots { 0 < length self.now.homes }
         requires callable { MayBeOffered M.FnMut matches (candidates self.now.homes hash) }

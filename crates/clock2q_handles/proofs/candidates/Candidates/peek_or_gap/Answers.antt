@@ -1,4 +1,4 @@
-use Rattle.std.proofs.Common.{◌≡◌, ◌+◌, ◌%◌, length, arith, sym, ap, ◌∙◌, subst, refl, IfSome, slice_get}
+use Rattle.std.proofs.Common.{◌+◌, ◌%◌, length, arith, sym, ap, ◌∙◌, subst, refl}
 use Rattle.std.specs.Prelude.{IsSome}
 use Rattle.clock2q_handles.specs.Layout.{slot_at}
 use Rattle.clock2q_handles.specs.Candidates.{end_at}
@@ -7,7 +7,7 @@ use Rattle.clock2q_handles.proofs.shifts.Moves.{reach_of_meaning}
 use Rattle.clock2q_handles.proofs.walks.Cursors.{HasStepped, lookup_steps}
 use Rattle.clock2q_handles.proofs.walks.Positions.{some_sought, same_end, end_is}
 use Rattle.clock2q_handles.proofs.candidates.Candidates.peek_or_gap.Given.{Over}
-use Rattle.clock2q_handles.proofs.candidates.Candidates.peek_or_gap.Goals.{After-candidate, After-handle-handle}
+use Rattle.clock2q_handles.proofs.candidates.Candidates.peek_or_gap.Goals.{After-handle-handle}
 use Rattle.clock2q_handles.proofs.candidates.Candidates.peek_or_gap.Goals as goal
 
 -- the walk would go on to the slot after the candidate's
@@ -20,20 +20,12 @@ on g c =
     (omega (arith, reach_of_meaning wanted (slot_at slots c.in-Ok.slot) (sym c.in-Ok.ensures.found)))
 
 pub returns-in-Ok-clause-candidate : goal.returns-in-Ok-clause-candidate
-returns-in-Ok-clause-candidate g c =
-    let before = goal.at.returns-in-Ok-clause-candidate g c in
-    let v = c.handle-handle.result in
-    let handle = subst (λ s. IfSome (slot_at s c.in-Ok.slot) (λ p. v ≡ p.entry.1)) c.candidate.ensures.same c.handle-handle.ensures.handle in
-    ap (λ hs. slice_get hs 0) (ap (λ t. t.left) (sym c.self.view_is) ∙ c.in-Ok.ensures.left ∙ (on g before.After-handle-handle).takes v c.in-Ok.ensures.found handle)
-
--- it looks for something
-looks : (g : Over) (c : After-candidate g) → IsSome (sought c.self.inside.wanted)
-looks g c = some_sought c.self.inside.reader.slots (sought c.self.inside.wanted) c.self.inside.slot (subst IsSome (sym (ap (λ t. t.end) c.self.view_is)) c.requires.walking)
+returns-in-Ok-clause-candidate g c = grind (arith, (on g (goal.at.returns-in-Ok-clause-candidate g c).After-handle-handle).takes c.handle-handle.result c.in-Ok.ensures.found)
 
 pub returns-in-Err-clause-gap : goal.returns-in-Err-clause-gap
 returns-in-Err-clause-gap g c =
     let slots = c.self.inside.reader.slots in
-    let some = looks g (goal.at.returns-in-Err-clause-gap g c).After-candidate in
+    let some = some_sought slots (sought c.self.inside.wanted) c.self.inside.slot (subst IsSome (sym (ap (λ t. t.end) c.self.view_is)) c.requires.walking) in
     ap (λ t. t.end) (sym c.self.view_is)
     ∙ end_is slots (sought c.self.inside.wanted) c.in-Err.gap.mark c.self.inside.slot c.in-Err.gap.position some c.self.invariant c.in-Err.ensures.ends
 
@@ -43,6 +35,6 @@ returns-in-Ok-clause-within g c = grind (arith, on)
 pub returns-in-Ok-clause-end : goal.returns-in-Ok-clause-end
 returns-in-Ok-clause-end g c =
     let slots = c.self.inside.reader.slots in
-    let some = looks g (goal.at.returns-in-Ok-clause-end g c).After-candidate in
+    let some = some_sought slots (sought c.self.inside.wanted) c.self.inside.slot (subst IsSome (sym (ap (λ t. t.end) c.self.view_is)) c.requires.walking) in
     ap (λ s. end_at s (sought c.in-Ok.wanted) c.in-Ok.slot) (c.handle-handle.ensures.same ∙ c.candidate.ensures.same)
     ∙ sym (same_end slots (sought c.self.inside.wanted) (sought c.in-Ok.wanted) c.self.inside.slot c.in-Ok.slot some c.self.invariant c.in-Ok.ensures.walks) ∙ ap (λ t. t.end) c.self.view_is

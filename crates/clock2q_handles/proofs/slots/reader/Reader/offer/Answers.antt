@@ -1,7 +1,7 @@
 use Rattle.std.proofs.Common.{◌≡◌, ◌+◌, ◌%◌, [], ◌∷◌, ◌++◌, length, false, None, IfSome, refl, sym, ap, ◌∙◌, subst, arith}
 use Rattle.std.proofs.lemmas.List.{append_assoc}
 use Rattle.std.specs.Fn.{Called}
-use Rattle.clock2q_handles.specs.Candidates.{left_at, IsWalkFor, EndsAt}
+use Rattle.clock2q_handles.specs.Candidates.{left_at, IsWalkFor}
 use Rattle.clock2q_handles.specs.Layout.{slot_at}
 use Rattle.clock2q_handles.specs.Offers.{Offers, TakesInTurn}
 use Rattle.clock2q_handles.specs.Slots.{sought, mark_of, mark_on}
@@ -10,26 +10,16 @@ use Rattle.clock2q_handles.proofs.shifts.Carrying.{walks_begin, walks_on}
 use Rattle.clock2q_handles.proofs.walks.Cursors.{HasStepped, HasFound, has_found, begins_whole, lookup_begins}
 use Rattle.clock2q_handles.proofs.walks.Finding.{candidate}
 use Rattle.clock2q_handles.proofs.slots.reader.Reader.offer.Given.{Over}
-use Rattle.clock2q_handles.proofs.slots.reader.Reader.offer.Goals.{After-handle-handle, After-next-wanted}
+use Rattle.clock2q_handles.proofs.slots.reader.Reader.offer.Goals.{After-handle-handle}
 use Rattle.clock2q_handles.proofs.slots.reader.Reader.offer.Goals as goal
 
 pub loop-gap-init : goal.loop-gap-init
 loop-gap-init g c =
-    let slots = c.args.self.now.slots in
-    let x = c.args.hash in
-    let n = c.home-slot.result in
-    grind (
-      arith,
-      begins_whole slots x n c.requires.tidy c.requires.near c.requires.some (c.home-slot.ensures.home c.requires.some),
-      lookup_begins slots x n c.requires.tidy c.requires.near c.requires.some (c.home-slot.ensures.home c.requires.some),
-      walks_begin slots c.requires.tidy x (sought c.new-wanted.result) n c.requires.some (c.home-slot.ensures.home c.requires.some) c.new-wanted.ensures,
-    )
+    let whole = begins_whole c.args.self.now.slots c.args.hash c.home-slot.result c.requires.tidy c.requires.near c.requires.some (c.home-slot.ensures.home c.requires.some) in
+    grind (arith, lookup_begins c.args.self.now.slots c.args.hash, walks_begin c.args.self.now.slots c.requires.tidy c.args.hash)
 
 pub returns-in-Err-clause-ends : goal.returns-in-Err-clause-ends
-returns-in-Err-clause-ends g c =
-    let l = c.loop-gap.invariant in
-    subst (λ s. EndsAt s c.args.hash c.in-Err.gap.mark c.in-Err.gap.position) l.same
-    (c.in-Err.ensures.ends c.args.hash (subst (λ s. IsWalkFor s c.args.hash (sought c.loop-gap.wanted) c.loop-gap.slot) (sym l.same) l.walk))
+returns-in-Err-clause-ends g c = grind (arith, c.in-Err.ensures.ends c.args.hash)
 
 -- the candidate that was found
 found : (g : Over) (c : After-handle-handle g)
@@ -44,31 +34,30 @@ found g c =
 came : (g : Over) (c : After-handle-handle g) → IsWalkFor c.args.self.now.slots c.args.hash (sought c.in-Ok.found) c.in-Ok.here
 came g c = grind arith
 
+-- it is the first that is left, and the walk goes on after it
+first : (g : Over) (c : After-handle-handle g) → let slots = c.args.self.now.slots in let next = (c.in-Ok.here + 1) % length slots in
+    HasStepped slots (sought c.in-Ok.found) (mark_on (sought c.in-Ok.found)) c.in-Ok.here next
+    × (left_at slots (sought c.loop-gap.wanted) c.loop-gap.slot ≡ c.handle-handle.result ∷ left_at slots (mark_on (sought c.in-Ok.found)) next)
+first g c = (found g c).on (mark_on (sought c.in-Ok.found)) ((c.in-Ok.here + 1) % length c.args.self.now.slots) refl refl
+
 pub returns-then-matches-clause-at : goal.returns-then-matches-clause-at
 returns-then-matches-clause-at g c =
     let slots = c.args.self.now.slots in
     let l = c.loop-gap.invariant in
-    let r = c.handle-handle.result in
     let walk = came g (goal.at.returns-then-matches-clause-at g c).After-handle-handle in
-    let mark = subst (λ s. mark_of (slot_at s c.in-Ok.here) ≡ sought c.in-Ok.found) l.same c.in-Ok.ensures.found in
-    let handle = subst (λ s. IfSome (slot_at s c.in-Ok.here) (λ p. r ≡ p.entry.1)) (c.candidate.ensures.same ∙ l.same) c.handle-handle.ensures.handle in
-    let left = subst (λ s. left_at s (sought c.loop-gap.wanted) c.loop-gap.slot ≡ left_at s (sought c.in-Ok.found) c.in-Ok.here) l.same c.in-Ok.ensures.left in
-    let before = l.rejected.0 in
-    let met = offered_met slots c.requires.tidy c.args.hash (sought c.in-Ok.found) c.in-Ok.here before walk (l.rejected.1 ∙ ap (λ hs. before ++ hs) left) in
+    let mark : sought c.in-Ok.found ≡ mark_of (slot_at slots c.in-Ok.here) = cc (c.in-Ok.ensures.found) in
+    let handle = subst (λ s. IfSome (slot_at s c.in-Ok.here) (λ p. c.handle-handle.result ≡ p.entry.1)) (c.candidate.ensures.same ∙ l.same) c.handle-handle.ensures.handle in
+    let left : left_at slots (sought c.loop-gap.wanted) c.loop-gap.slot ≡ left_at slots (sought c.in-Ok.found) c.in-Ok.here = grind arith in
+    let met = offered_met slots c.requires.tidy c.args.hash (sought c.in-Ok.found) c.in-Ok.here l.rejected.0 walk (l.rejected.1 ∙ ap (λ hs. l.rejected.0 ++ hs) left) in
     record {
-      at = record { distance = walk.distance; come = walk.come; here = candidate c.args.hash (sought c.in-Ok.found) (slot_at slots c.in-Ok.here) walk.distance r (sym mark) walk.mark handle };
+      at = record { distance = walk.distance; come = walk.come; here = candidate c.args.hash _ _ _ _ mark walk.mark handle };
       accepts = record {
         asked = c.loop-gap.matches;
         last = c.matches.new.self;
         rejects = subst (λ hs. Offers g.F.FnMut c.args.matches.now hs None c.loop-gap.matches) met l.rejected.2;
-        accepts = subst (λ b. Called g.F.FnMut c.loop-gap.matches (r, tt) b c.matches.new.self) c.if-matches.true c.matches.ensures;
+        accepts = subst (λ b. Called g.F.FnMut c.loop-gap.matches (c.handle-handle.result, tt) b c.matches.new.self) c.if-matches.true c.matches.ensures;
       };
     }
-
--- it is the first that is left
-first : (g : Over) (c : After-handle-handle g) → left_at c.args.self.now.slots (sought c.loop-gap.wanted) c.loop-gap.slot
-    ≡ c.handle-handle.result ∷ left_at c.args.self.now.slots (mark_on (sought c.in-Ok.found)) ((c.in-Ok.here + 1) % length c.args.self.now.slots)
-first g c = ((found g c).on (mark_on (sought c.in-Ok.found)) ((c.in-Ok.here + 1) % length c.args.self.now.slots) refl refl).1
 
 pub matches-requires : goal.matches-requires
 matches-requires g c = grind (arith, first)
@@ -77,51 +66,36 @@ pub returns-then-matches-clause-offers : goal.returns-then-matches-clause-offers
 returns-then-matches-clause-offers g c = grind (arith, first)
 
 pub returns-then-matches-clause-read : goal.returns-then-matches-clause-read
-returns-then-matches-clause-read g c =
-    let here = found g (goal.at.returns-then-matches-clause-read g c).After-handle-handle in
-    let step = (here.on (mark_on (sought c.in-Ok.found)) ((c.in-Ok.here + 1) % length c.args.self.now.slots) refl refl).0 in
-    omega (arith, c.loop-gap.invariant.read, here.read, step.read, c.handle-handle.ensures.reads)
+returns-then-matches-clause-read g c = grind (arith, found, first)
 
 pub returns-then-matches-clause-handles : goal.returns-then-matches-clause-handles
 returns-then-matches-clause-handles g c = grind (arith, first)
 
--- the walk goes on to the next slot
-on : (g : Over) (c : After-next-wanted g)
-    → HasFound c.args.self.now.slots (sought c.loop-gap.wanted) (sought c.in-Ok.found)
-    c.loop-gap.slot c.in-Ok.here c.handle-handle.result c.loop-gap.self.reads c.candidate.new.self.reads
-    → HasStepped c.args.self.now.slots (sought c.in-Ok.found) (sought c.next-wanted.result) c.in-Ok.here c.after-slot.result
-    × (left_at c.args.self.now.slots (sought c.loop-gap.wanted) c.loop-gap.slot
-    ≡ c.handle-handle.result ∷ left_at c.args.self.now.slots (sought c.next-wanted.result) c.after-slot.result)
-on g c here =
-    here.on (sought c.next-wanted.result) c.after-slot.result c.next-wanted.ensures (c.after-slot.ensures.after
-    ∙ ap (λ s. (c.in-Ok.here + 1) % length s) (c.handle-handle.ensures.same ∙ c.candidate.ensures.same ∙ c.loop-gap.invariant.same))
-
 pub loop-gap-smaller : goal.loop-gap-smaller
-loop-gap-smaller g c = grind (arith, found, on)
+loop-gap-smaller g c = grind (arith, found, first)
 
 pub loop-gap-preserved : goal.loop-gap-preserved
 loop-gap-preserved g c =
     let slots = c.args.self.now.slots in
     let l = c.loop-gap.invariant in
-    let here = found g (goal.at.loop-gap-preserved g c).After-handle-handle in
-    let next = on g c here in
+    let before = (goal.at.loop-gap-preserved g c).After-handle-handle in
+    let here = found g before in
+    let at : c.after-slot.result ≡ (c.in-Ok.here + 1) % length slots = cc in
+    let next = here.on (sought c.next-wanted.result) c.after-slot.result c.next-wanted.ensures at in
     let r = c.handle-handle.result in
     let f = c.matches.new.self in
-    let rest = left_at slots (sought c.next-wanted.result) c.after-slot.result in
     let called = subst (λ b. Called g.F.FnMut c.loop-gap.matches (r, tt) b f) c.if-matches.false c.matches.ensures in
-    let walk = came g (goal.at.loop-gap-preserved g c).After-handle-handle in
     record {
-      same = c.handle-handle.ensures.same ∙ c.candidate.ensures.same ∙ l.same;
+      same = cc;
       lookup = next.0.lookup;
       some = next.0.some;
-      walk = walks_on slots c.requires.tidy c.args.hash (sought c.in-Ok.found) (sought c.next-wanted.result) c.in-Ok.here c.after-slot.result walk here.far c.next-wanted.ensures
-          (c.after-slot.ensures.after ∙ ap (λ s. (c.in-Ok.here + 1) % length s) (c.handle-handle.ensures.same ∙ c.candidate.ensures.same ∙ l.same));
-      reads = omega (arith, l.reads, c.candidate.ensures.reads, c.handle-handle.ensures.reads);
-      read = omega (arith, l.read, here.read, next.0.read, c.handle-handle.ensures.reads);
-      handles = omega (arith, l.handles, ap length next.1, c.candidate.ensures.handles, c.handle-handle.ensures.counted);
+      walk = walks_on slots c.requires.tidy c.args.hash (sought c.in-Ok.found) (sought c.next-wanted.result) c.in-Ok.here c.after-slot.result (came g before) here.far c.next-wanted.ensures at;
+      reads = omega arith;
+      read = omega (arith, here.read, next.0.read);
+      handles = omega (arith, ap length next.1);
       rejected = (
         l.rejected.0 ++ r ∷ [],
-        l.rejected.1 ∙ ap (λ hs. l.rejected.0 ++ hs) next.1 ∙ sym (append_assoc l.rejected.0 (r ∷ []) rest),
+        l.rejected.1 ∙ ap (λ hs. l.rejected.0 ++ hs) next.1 ∙ sym (append_assoc l.rejected.0 (r ∷ []) _),
         Offers-push g.F.FnMut c.args.matches.now l.rejected.0 c.loop-gap.matches r f l.rejected.2 called,
       );
       callable = (subst (λ hs. TakesInTurn g.F.FnMut c.loop-gap.matches hs) next.1 l.callable).1 f called;

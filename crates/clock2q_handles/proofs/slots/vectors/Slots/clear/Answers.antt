@@ -5,10 +5,5 @@ use Rattle.clock2q_handles.proofs.slots.vectors.Slots.clear.Goals as goal
 
 pub returns : goal.returns
 returns g c =
-    grind (
-      arith,
-      words c.self.inside.metadata.items c.self.inside.handles.items c.self.invariant.same c.self.view_is,
-      kept_whole,
-      length-replicate (length c.args.self.now.slots) c.empty.result,
-      cells-emptied,
-    )
+    let whole = words c.self.inside.metadata.items c.self.inside.handles.items c.self.invariant.same c.self.view_is in
+    grind (arith, whole, kept_whole, length-replicate (length c.args.self.now.slots) c.empty.result, cells-emptied)

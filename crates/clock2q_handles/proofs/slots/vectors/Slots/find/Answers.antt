@@ -1,7 +1,6 @@
-use Rattle.std.proofs.Common.{◌≡◌, ap, ◌<◌, ◌≤◌, suc, length, arith, sym, ◌∙◌}
+use Rattle.std.proofs.Common.{◌≡◌, ap, ◌≤◌, suc, length, arith, sym, ◌∙◌}
 use Rattle.clock2q_handles.specs.Layout.{slot_at}
 use Rattle.clock2q_handles.specs.Slots.{sought, mark_reach}
-use Rattle.clock2q_handles.proofs.layout.TidyLayout.{listed-homes_of}
 use Rattle.clock2q_handles.proofs.shifts.Moves.{refused, reach_of_meaning}
 use Rattle.clock2q_handles.proofs.shifts.Searching.{IsSearching, search_begins, search_reads, search_finds, search_ends, search_on, other_handle, other_mark}
 use Rattle.clock2q_handles.proofs.walks.Cursors.{goes_on}
@@ -10,16 +9,10 @@ use Rattle.clock2q_handles.proofs.slots.vectors.Slots.find.Goals.{After-next-wan
 use Rattle.clock2q_handles.proofs.slots.vectors.Slots.find.Goals as goal
 
 pub loop-handle-init : goal.loop-handle-init
-loop-handle-init g c =
-    let slots = c.args.self.now.slots in
-    let some : 0 < length slots = omega (arith, c.if-count-eq0.false, c.count.ensures.count) in
-    record {
-      search = search_begins g.H.PartialEq.eq c.args.handle slots c.requires.tidy c.args.hash (sought c.new-wanted.result) c.home-slot.result some (c.home-slot.ensures.home some) c.new-wanted.ensures;
-      reads = omega (arith, ap mark_reach c.new-wanted.ensures);
-    }
-
-pub returns-then-count-eq0-clause-none : goal.returns-then-count-eq0-clause-none
-returns-then-count-eq0-clause-none g c = grind (arith, listed-homes_of)
+loop-handle-init g c = record {
+  search = search_begins g.H.PartialEq.eq c.args.handle _ c.requires.tidy c.args.hash _ _ (omega arith) (c.home-slot.ensures.home (omega arith)) c.new-wanted.ensures;
+  reads = omega (arith, ap mark_reach c.new-wanted.ensures);
+}
 
 pub returns-then-eq-clause-found : goal.returns-then-eq-clause-found
 returns-then-eq-clause-found g c =
@@ -54,6 +47,4 @@ pub loop-handle-smaller : goal.loop-handle-smaller
 loop-handle-smaller g c = let next = more g (goal.at.loop-handle-smaller g c).After-next-wanted in omega (arith, next.1, next.2)
 
 pub loop-handle-preserved : goal.loop-handle-preserved
-loop-handle-preserved g c =
-    let next = more g (goal.at.loop-handle-preserved g c).After-next-wanted in
-    record { search = next.0; reads = omega (arith, c.loop-handle.invariant.reads, c.read-metadata.ensures.counted, next.1) }
+loop-handle-preserved g c = let next = more g (goal.at.loop-handle-preserved g c).After-next-wanted in record { search = next.0; reads = omega (arith, next.1, c.read-metadata.ensures.counted) }

@@ -1,20 +1,18 @@
-use Rattle.std.proofs.Common.{◌≡◌, ◌%◌, ◌<◌, ◌≤◌, suc, length, arith, ap, sym, ◌∙◌}
+use Rattle.std.proofs.Common.{◌≡◌, ◌%◌, ◌≤◌, suc, length, arith, ap, sym, ◌∙◌}
 use Rattle.clock2q_handles.specs.Homes.{is_entry_of}
 use Rattle.clock2q_handles.specs.Layout.{slot_at, reach}
 use Rattle.clock2q_handles.specs.Slots.{sought, mark_reach}
 use Rattle.clock2q_handles.proofs.shifts.Moves.{refused}
 use Rattle.clock2q_handles.proofs.shifts.Searching.{IsSearching, search_begins, search_reads, search_finds, search_on, other_handle, other_mark}
-use Rattle.clock2q_handles.proofs.walks.Holding.{held_somewhere, held_further}
+use Rattle.clock2q_handles.proofs.walks.Finding.{held_somewhere, held_further}
 use Rattle.clock2q_handles.proofs.slots.vectors.Slots.find_existing.Given.{Over}
 use Rattle.clock2q_handles.proofs.slots.vectors.Slots.find_existing.Goals.{After-next-wanted, else-is-via-then-is+else-eq, else-is-via-else-is}
 use Rattle.clock2q_handles.proofs.slots.vectors.Slots.find_existing.Goals as goal
 
 pub loop-handle-init : goal.loop-handle-init
 loop-handle-init g c =
-    let slots = c.args.self.now.slots in
-    let some : 0 < length slots = held_somewhere (is_entry_of g.H.PartialEq.eq c.args.hash c.args.handle) slots c.requires.tidy (c.args.hash % length slots) c.requires.held in
-    record {
-      search = search_begins g.H.PartialEq.eq c.args.handle slots c.requires.tidy c.args.hash (sought c.new-wanted.result) c.home-slot.result some (c.home-slot.ensures.home some) c.new-wanted.ensures;
+    let some = held_somewhere (is_entry_of g.H.PartialEq.eq c.args.hash c.args.handle) _ c.requires.tidy (c.args.hash % length c.args.self.now.slots) c.requires.held in record {
+      search = search_begins g.H.PartialEq.eq c.args.handle _ c.requires.tidy c.args.hash _ _ some (c.home-slot.ensures.home some) c.new-wanted.ensures;
       reads = omega (arith, ap mark_reach c.new-wanted.ensures);
     }
 
@@ -44,6 +42,4 @@ pub loop-handle-smaller : goal.loop-handle-smaller
 loop-handle-smaller g c = let next = more g (goal.at.loop-handle-smaller g c).After-next-wanted in omega (arith, next.1, next.2)
 
 pub loop-handle-preserved : goal.loop-handle-preserved
-loop-handle-preserved g c =
-    let next = more g (goal.at.loop-handle-preserved g c).After-next-wanted in
-    record { search = next.0; reads = omega (arith, c.loop-handle.invariant.reads, c.read-metadata.ensures.counted, next.1) }
+loop-handle-preserved g c = let next = more g (goal.at.loop-handle-preserved g c).After-next-wanted in record { search = next.0; reads = omega (arith, next.1, c.read-metadata.ensures.counted) }

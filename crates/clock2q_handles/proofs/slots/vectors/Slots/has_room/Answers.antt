@@ -1,7 +1,7 @@
-use Rattle.std.proofs.Common.{◌≤◌, ◌<◌, ◌-◌, inl, inr, length, arith}
+use Rattle.std.proofs.Common.{◌<◌, ◌-◌, length, arith}
 use Rattle.std.proofs.lemmas.Bool.{cases_lt}
-use Rattle.clock2q_handles.specs.Layout.{slot_at, reach, longest_reach}
-use Rattle.clock2q_handles.specs.Slots.{mark_reach, meaning}
+use Rattle.clock2q_handles.specs.Layout.{slot_at}
+use Rattle.clock2q_handles.specs.Slots.{meaning}
 use Rattle.clock2q_handles.proofs.layout.Periods.{lap}
 use Rattle.clock2q_handles.proofs.shifts.Moves.{refused, occupied_of_meaning, vacant_of_meaning, reach_of_meaning}
 use Rattle.clock2q_handles.proofs.shifts.Carrying.{IsPassing, pass_goes, pass_room, pass_far}
@@ -16,29 +16,19 @@ returns-then-is_empty-clause-room g c =
 
 pub returns-then-not-can_move_on-clause-far : goal.returns-then-not-can_move_on-clause-far
 returns-then-not-can_move_on-clause-far g c =
-    let here = reach_of_meaning (meaning c.read-metadata.result) (slot_at c.args.self.now.slots c.loop-metadata.slot) c.read-metadata.ensures.meaning in
-    let far : longest_reach ≤ reach (slot_at c.args.self.now.slots c.loop-metadata.slot) = elim (cases_lt 16777214 (mark_reach (meaning c.read-metadata.result))) [
-      | inl far ↦ omega (arith, far, here)
-      | inr near ↦ absurd (refused c.can_move_on.result c.can_move_on.ensures c.if-not-can_move_on.true near)
-    ] in
-    pass_far c.args.self.now.slots c.args.gap.now.position c.loop-metadata.invariant.passing c.args.gap.now.mark far
+    pass_far c.args.self.now.slots c.args.gap.now.position c.loop-metadata.invariant.passing c.args.gap.now.mark (grind (arith, refused, reach_of_meaning, cases_lt))
 
 -- the entry there may move on, and the walk continues past it
 on : (g : Over) (c : After-after-slot g) → IsPassing c.args.self.now.slots c.args.gap.now.position c.after-slot.result
     × (length c.args.self.now.slots - lap (length c.args.self.now.slots) c.args.gap.now.position c.after-slot.result < length c.args.self.now.slots - lap (length c.args.self.now.slots) c.args.gap.now.position c.loop-metadata.slot)
 on g c =
-    let slots = c.args.self.now.slots in
-    let m = meaning c.read-metadata.result in
-    let some = occupied_of_meaning c.is_empty.result m (slot_at slots c.loop-metadata.slot) c.is_empty.ensures c.if-is_empty.false c.read-metadata.ensures.meaning in
-    let here = reach_of_meaning m (slot_at slots c.loop-metadata.slot) c.read-metadata.ensures.meaning in
-    pass_goes slots c.args.gap.now.position c.loop-metadata.invariant.passing c.requires.tidy some (omega (arith, c.can_move_on.ensures.0 c.if-not-can_move_on.false, here)) c.after-slot.ensures.after
+    let here = reach_of_meaning (meaning c.read-metadata.result) (slot_at c.args.self.now.slots c.loop-metadata.slot) c.read-metadata.ensures.meaning in
+    pass_goes c.args.self.now.slots c.args.gap.now.position c.loop-metadata.invariant.passing c.requires.tidy
+    (occupied_of_meaning c.is_empty.result _ _ c.is_empty.ensures c.if-is_empty.false c.read-metadata.ensures.meaning)
+    (omega (arith, c.can_move_on.ensures.0 c.if-not-can_move_on.false, here)) c.after-slot.ensures.after
 
 pub loop-metadata-smaller : goal.loop-metadata-smaller
 loop-metadata-smaller g c = (on g (goal.at.loop-metadata-smaller g c).After-after-slot).1
 
 pub loop-metadata-preserved : goal.loop-metadata-preserved
-loop-metadata-preserved g c = record {
-  own = c.loop-metadata.invariant.own;
-  passing = (on g (goal.at.loop-metadata-preserved g c).After-after-slot).0;
-  counted = omega (arith, c.loop-metadata.invariant.counted, c.read-metadata.ensures.counted);
-}
+loop-metadata-preserved g c = grind (arith, on)

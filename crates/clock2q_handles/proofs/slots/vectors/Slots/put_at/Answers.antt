@@ -1,25 +1,21 @@
 use Rattle.std.proofs.Common.{rules, ◌≡◌, ◌+◌, ◌<◌, ◌%◌, length, arith, ap, sym, subst, ◌∙◌, get_or, length-set}
-use Rattle.clock2q_handles.specs.Layout.{IsTidy}
 use Rattle.clock2q_handles.specs.Shifts.{HasCome, HasRoomAt, PutsAt}
 use Rattle.clock2q_handles.specs.Slots.{cell, cells, meaning}
 use Rattle.clock2q_handles.proofs.shifts.Cells.{length-cells, mark_read_or, handle_read_at}
 use Rattle.clock2q_handles.proofs.shifts.Moves.{refused}
-use Rattle.clock2q_handles.proofs.shifts.Carrying.{CarryState, carry_slot, run_nearer, carry_room, carry_goes, carry_ends}
+use Rattle.clock2q_handles.proofs.shifts.Carrying.{CarryState, carry_begins, carry_slot, run_nearer, carry_room, carry_goes, carry_ends}
 use Rattle.clock2q_handles.proofs.shifts.Wrapping.{cells_along, cells_back, puts_at_along}
 use Rattle.clock2q_handles.proofs.slots.vectors.Slots.put_at.Given.{Over}
 use Rattle.clock2q_handles.proofs.slots.vectors.Slots.put_at.Goals.{In-loop-there, After-after-slot}
 use Rattle.clock2q_handles.proofs.slots.vectors.Slots.put_at.Goals as goal
 
--- the slots that the loop begins with
-start : (g : Over) (c : In-loop-there g) → cells c.as_mut_slice-metadata.result.now c.as_mut_slice-handles.result.now ≡ c.args.self.now.slots
-start g c = cells_along c.as_mut_slice-metadata.ensures.value c.as_mut_slice-handles.ensures.value ∙ ap (λ s. s.slots) c.self.view_is
-
-tidy : (g : Over) (c : In-loop-there g) → IsTidy (cells c.as_mut_slice-metadata.result.now c.as_mut_slice-handles.result.now)
-tidy g c = rw (start g c) c.requires.tidy
+pub loop-there-init : goal.loop-there-init
+loop-there-init g c = grind (arith, cells_along {H = g.row.H.Denot}, length-cells {H = g.row.H.Denot}, carry_begins {H = g.row.H.Denot}, mark_read_or {H = g.row.H.Denot})
 
 -- the slot that the loop has reached
 within : (g : Over) (c : In-loop-there g) → c.loop-there.slot < length c.loop-there.metadata
-within g c = omega (arith, carry_slot _ (cells c.loop-there.metadata c.loop-there.handles) (tidy g c) c.loop-there.invariant.state, length-cells _ _ c.loop-there.invariant.pair.same)
+within g c =
+    let l = c.loop-there.invariant in omega (arith, carry_slot _ (cells c.loop-there.metadata c.loop-there.handles) l.tidy l.state, length-cells _ _ l.pair.same)
 
 pub offset_bounds-handles-slot : goal.offset_bounds-handles-slot
 offset_bounds-handles-slot g c =
@@ -27,62 +23,43 @@ offset_bounds-handles-slot g c =
 
 pub one_further-word-requires-clause-room : goal.one_further-word-requires-clause-room
 one_further-word-requires-clause-room g c =
-    let at = (goal.at.one_further-word-requires-clause-room g c).In-loop-there in
-    let room = subst (λ p. HasRoomAt (cells c.as_mut_slice-metadata.result.now c.as_mut_slice-handles.result.now) p.mark p.position) (sym c.gap.view_is) (rw (start g at) c.requires.room) in
-    carry_room _ (cells c.loop-there.metadata c.loop-there.handles) (tidy g at) c.loop-there.invariant.state room (λ e. refused c.is_empty.result c.is_empty.ensures c.loop-there-test.true e)
-
--- the slot after it is in the slices
-as_many : (g : Over) (c : In-loop-there g) → c.self.inside.mask + 1 ≡ length c.as_mut_slice-metadata.result.now
-as_many g c =
-    let same = ap length c.as_mut_slice-metadata.ensures.value in
-    omega (arith, same, c.self.invariant.mask_of (omega (arith, same, within g c, c.loop-there.invariant.len)))
+    let start = cells_along c.as_mut_slice-metadata.ensures.value c.as_mut_slice-handles.ensures.value ∙ ap (λ s. s.slots) c.self.view_is in
+    let room = subst (λ p. HasRoomAt (cells c.as_mut_slice-metadata.result.now c.as_mut_slice-handles.result.now) p.mark p.position) (sym c.gap.view_is) (rw start c.requires.room) in
+    carry_room _ _ c.loop-there.invariant.tidy c.loop-there.invariant.state room (λ e. refused c.is_empty.result c.is_empty.ensures c.loop-there-test.true e)
 
 -- what the next turn starts from
-more : (g : Over) (c : After-after-slot g) → c.loop-there.slot < length c.loop-there.metadata → IsTidy (cells c.as_mut_slice-metadata.result.now c.as_mut_slice-handles.result.now) → c.self.inside.mask + 1 ≡ length c.as_mut_slice-metadata.result.now
+more : (g : Over) (c : After-after-slot g) → c.loop-there.slot < length c.loop-there.metadata
     → CarryState (cells c.as_mut_slice-metadata.result.now c.as_mut_slice-handles.result.now) (cells c.write.new.metadata c.write.new.handles) (cell (meaning c.metadata-word.result) c.args.handle)
     (cell (meaning c.one_further-word.result) c.index-handles-slot.result) (meaning (get_or c.write.new.metadata c.after-slot.result (record { word = 0 })))
     c.gap.inside.slot c.after-slot.result c.self.inside.writes.total (c.loop-there.writes.total + 1)
-more g c here start_tidy count =
+more g c here =
+    let l = c.loop-there.invariant in
     let new = cells c.write.new.metadata c.write.new.handles in
-    let as_long : c.self.inside.mask + 1 ≡ length new =
-    omega (arith, count, c.loop-there.invariant.len, c.write.ensures.len, length-cells c.write.new.metadata c.write.new.handles c.write.ensures.pair.same) in
-    let on = c.after-slot.ensures.after ∙ ap (λ m. (c.loop-there.slot + 1) % m) as_long in
-    let inside : c.after-slot.result < length c.write.new.metadata = omega (arith, c.after-slot.ensures.within, count, c.write.ensures.len, c.loop-there.invariant.len) in
-    carry_goes (cells c.as_mut_slice-metadata.result.now c.as_mut_slice-handles.result.now) (cells c.loop-there.metadata c.loop-there.handles) start_tidy c.loop-there.invariant.state new c.after-slot.result c.index-handles-slot.result
-    (meaning (get_or c.write.new.metadata c.after-slot.result (record { word = 0 }))) (meaning c.one_further-word.result)
+    let as_long : c.self.inside.mask + 1 ≡ length new = omega (arith, l.mask, c.write.ensures.len, length-cells c.write.new.metadata c.write.new.handles c.write.ensures.pair.same) in
+    let inside : c.after-slot.result < length c.write.new.metadata = omega (arith, c.after-slot.ensures.within, l.mask, c.write.ensures.len) in
+    carry_goes _ (cells c.loop-there.metadata c.loop-there.handles) l.tidy l.state new c.after-slot.result c.index-handles-slot.result _ _
     (λ e. refused c.is_empty.result c.is_empty.ensures c.loop-there-test.true e) c.write.ensures.written
-    (handle_read_at c.loop-there.metadata c.loop-there.handles c.loop-there.slot c.index-handles-slot.result c.loop-there.invariant.pair.same here c.index-handles-slot.is)
-    c.one_further-word.ensures on (mark_read_or c.write.new.metadata c.write.new.handles c.after-slot.result (record { word = 0 }) c.write.ensures.pair.same inside)
+    (handle_read_at c.loop-there.metadata c.loop-there.handles c.loop-there.slot c.index-handles-slot.result l.pair.same here c.index-handles-slot.is)
+    c.one_further-word.ensures (c.after-slot.ensures.after ∙ ap (λ m. (c.loop-there.slot + 1) % m) as_long)
+    (mark_read_or c.write.new.metadata c.write.new.handles c.after-slot.result (record { word = 0 }) c.write.ensures.pair.same inside)
 
 pub loop-there-smaller : goal.loop-there-smaller
-loop-there-smaller g c =
-    let before = goal.at.loop-there-smaller g c in
-    let l = before.In-loop-there in
-    let next = more g before.After-after-slot (within g l) (tidy g l) (as_many g l) in
-    let state = c.loop-there.invariant.state in
-    run_nearer _ state.run next.run (omega (arith, state.writes, next.writes))
+loop-there-smaller g c = let before = goal.at.loop-there-smaller g c in grind (arith, run_nearer, more g before.After-after-slot (within g before.In-loop-there))
 
 pub loop-there-preserved : goal.loop-there-preserved
-loop-there-preserved g c =
-    let before = goal.at.loop-there-preserved g c in
-    let l = before.In-loop-there in
-    grind (arith, more g before.After-after-slot (within g l) (tidy g l) (as_many g l))
+loop-there-preserved g c = let before = goal.at.loop-there-preserved g c in grind (arith, more g before.After-after-slot (within g before.In-loop-there))
 
 pub returns-clause-puts : goal.returns-clause-puts
 returns-clause-puts g c =
-    let same = cells_along c.as_mut_slice-metadata.ensures.value c.as_mut_slice-handles.ensures.value ∙ ap (λ s. s.slots) c.self.view_is in
-    let ordered : IsTidy (cells c.as_mut_slice-metadata.result.now c.as_mut_slice-handles.result.now) = rw same c.requires.tidy in
-    let now = cells c.loop-there.metadata c.loop-there.handles in
+    let l = c.loop-there.invariant in
     let new = cells c.write-2.new.metadata c.write-2.new.handles in
-    let ms : length c.write-2.new.metadata ≡ c.self.inside.metadata.len = omega (arith, c.write-2.ensures.len, c.loop-there.invariant.len, ap length c.as_mut_slice-metadata.ensures.value, c.self.inside.metadata.ok.0) in
-    let vs : length c.write-2.new.handles ≡ c.self.inside.handles.len = omega (arith, ms, c.write-2.ensures.pair.same, c.self.invariant.same, c.self.inside.metadata.ok.0, c.self.inside.handles.ok.0) in
     let puts : PutsAt (cells c.as_mut_slice-metadata.result.now c.as_mut_slice-handles.result.now) new c.args.gap.now.mark c.args.gap.now.position c.args.handle c.self.inside.writes.total c.write-2.new.writes.total = record {
       opens = λ h n f come is.
           let first = ap (λ m. cell m c.args.handle) (c.metadata-word.ensures ∙ ap (λ p. p.mark) c.gap.view_is ∙ is) in
-          let ended = carry_ends (cells c.as_mut_slice-metadata.result.now c.as_mut_slice-handles.result.now) now ordered c.loop-there.invariant.state new (c.is_empty.ensures.0 c.loop-there-test.false) c.write-2.ensures.written h n (f, c.args.handle)
+          let ended = carry_ends _ (cells c.loop-there.metadata c.loop-there.handles) l.tidy l.state new (c.is_empty.ensures.0 c.loop-there-test.false) c.write-2.ensures.written h n (f, c.args.handle)
           (subst (λ p. HasCome (cells c.as_mut_slice-metadata.result.now c.as_mut_slice-handles.result.now) h n p.position) (sym c.gap.view_is) come) first in
           (ended.0, ended.1, ended.2, omega (arith, ended.3, c.write-2.ensures.counted));
-      len = ap length c.write-2.ensures.written ∙ length-set now c.loop-there.slot (cell (meaning c.loop-there.word) c.loop-there.handle) ∙ c.loop-there.invariant.state.len;
+      len = ap length c.write-2.ensures.written ∙ length-set (cells c.loop-there.metadata c.loop-there.handles) c.loop-there.slot (cell (meaning c.loop-there.word) c.loop-there.handle) ∙ l.state.len;
     } in
-    puts_at_along puts same (cells_back c.write-2.new.metadata c.self.inside.metadata.items c.write-2.new.handles c.self.inside.handles.items c.self.inside.metadata.len c.self.inside.handles.len ms vs)
-    (ap (λ s. s.writes) c.self.view_is)
+    puts_at_along puts (cells_along c.as_mut_slice-metadata.ensures.value c.as_mut_slice-handles.ensures.value ∙ ap (λ s. s.slots) c.self.view_is)
+    (cells_back _ c.self.inside.metadata.items _ c.self.inside.handles.items _ _ (grind arith) (grind arith)) (ap (λ s. s.writes) c.self.view_is)

@@ -1,4 +1,5 @@
 use Rattle.std.proofs.Common.{◌≡◌, ◌+◌, ◌-◌, ◌≤◌, length}
+use Rattle.clock2q_handles.specs.Layout.{IsTidy}
 use Rattle.clock2q_handles.specs.Slots.{cell, cells, meaning, ArePaired}
 use Rattle.clock2q_handles.proofs.layout.Periods.{lap}
 use Rattle.clock2q_handles.proofs.shifts.Carrying.{CarryState}
@@ -6,6 +7,8 @@ use Rattle.clock2q_handles.proofs.slots.vectors.Slots.put_at.Given as goal
 
 abbrev pub invariant-loop-there : goal.invariant-loop-there
 invariant-loop-there g l = record {
+  tidy : IsTidy (cells l.initial.metadata l.initial.handles);
+  mask : l.mask + 1 ≡ length l.metadata;
   pair : ArePaired l.metadata l.handles;
   len : length l.metadata ≡ length l.initial.metadata;
   state : CarryState (cells l.initial.metadata l.initial.handles) (cells l.metadata l.handles) (cell (meaning l.initial.word) l.initial.handle)
