@@ -208,8 +208,10 @@ impl<K: Hash + Eq, V, S: BuildHasher, A: Allocator> Cache<K, V, S, A> {
         ensures value { option_copied result ≡ value_at slot (K.eq key.now) self.old.machine }
     {
         let found = self.find_at(slot, key)?;
-        self.record_hit(found, key);
-        Some(self.value(found))
+        // before the bit is set, so that the entries' position isn't read twice
+        let stored = self.directory.value(found);
+        self.queues.hit(found);
+        Some(stored)
     }
 
     /// Returns the value of a resident key to write to and records a hit, as [`get`](Cache::get)
@@ -350,24 +352,13 @@ impl<K: Hash + Eq, V, S: BuildHasher, A: Allocator> Cache<K, V, S, A> {
     }
 
     /// Records a hit on the key that is resident at a slot.
-    fn record_hit(&mut self, slot: u32, key: &K)
-        requires { slot_of (K.eq key.now) self.old.machine ≡ Some slot }
-        ensures machine { self.new.machine ≡ hit (K.eq key.now) self.old.machine }
-        ensures kept { self.new ≡ record self.old { machine = self.new.machine } }
-    {
-        let _ = key;
-        self.queues.hit(slot);
-    }
-
-    /// Does what [`record_hit`](Cache::record_hit) does, out of line, for a call that mostly inserts:
-    /// it has fewer registers to save then.
-    #[inline(never)]
-    fn record_rare_hit(&mut self, resident: u32, key: &K)
+    fn record_hit(&mut self, resident: u32, key: &K)
         requires { slot_of (K.eq key.now) self.old.machine ≡ Some resident }
         ensures machine { self.new.machine ≡ hit (K.eq key.now) self.old.machine }
         ensures kept { self.new ≡ record self.old { machine = self.new.machine } }
     {
-        self.record_hit(resident, key);
+        let _ = key;
+        self.queues.hit(resident);
     }
 
     /// Removes the key, for which a lookup found `found`, from the history, and returns true if it
@@ -417,6 +408,7 @@ impl<K: Hash + Eq + Drop, V: Drop, S: BuildHasher, A: Allocator> Cache<K, V, S, 
     /// most four changes of the index: two under the key's hash, one under that of the key that
     /// leaves, and one under that of the oldest remembered key. A lookup reads at most the walk of
     /// its hash, and a change reads and writes at most that and twice its run with one more slot.
+    #[inline(never)]
     pub fn put(&mut self, key: K, value: V) -> Option<V>
         ensures value { result ≡ value_of (K.eq key) self.old.machine }
         ensures machine { self.new.machine ≡ put (K.eq key) key value self.old.machine }
@@ -427,13 +419,14 @@ impl<K: Hash + Eq + Drop, V: Drop, S: BuildHasher, A: Allocator> Cache<K, V, S, 
         ensures costs { Costs K.Hash S.BuildHasher S.Hasher.Hasher
             (Put key value) self.old self.new }
     {
+        // out of line, so that a caller's loop keeps its own values in registers
         let hash = self.hash(&key);
         let found = self.lookup(hash, &key);
         let Found::Resident(slot) = found else {
             self.insert(hash, key, value, found);
             return None;
         };
-        self.record_rare_hit(slot, &key);
+        self.record_hit(slot, &key);
         Some(self.replace(slot, value))
     }
 

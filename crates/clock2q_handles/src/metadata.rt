@@ -6,9 +6,9 @@ ghost use Rattle.std.specs.Prelude.{◌≡◌, ◌+◌, ◌≤◌, ◌<◌, ◌�
 /// below it.
 const UNIT: u32 = 1 << 8;
 
-/// An empty slot's word. Any word below a unit would do; the bytes of this one aren't all equal, so
-/// the compiler fills slots word by word and not byte by byte.
-const EMPTY: u32 = 1;
+/// An empty slot's word. Any word below a unit would do; the bytes of this one are all equal, so slots
+/// are filled by one call of `memset`.
+const EMPTY: u32 = 0;
 
 /// The furthest that an entry may be past its home.
 pub(super) const MAX_DISPLACEMENT: usize = (1 << 24) - 2;

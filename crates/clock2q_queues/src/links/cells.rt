@@ -65,9 +65,11 @@ impl<T: Copy, A: Allocator> Cells<T, A> {
         ensures items { self.new.items ≡ replicate (length self.old.items) item }
         ensures accesses { self.new.accesses ≡ self.old.accesses + length self.old.items }
     {
-        for at in 0..self.items.len() {
-            self.accesses.tick();
-            self.items[at] = item;
+        let items = self.items.as_mut_slice();
+        let accesses = &mut self.accesses;
+        for at in 0..items.len() {
+            items[at] = item;
+            accesses.tick();
         }
     }
 }
