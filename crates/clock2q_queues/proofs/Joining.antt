@@ -93,12 +93,6 @@ next_in rs ss s k h =
 pub in_bounds : (rs : List Record) (ss : List ℕ) (s : ℕ) → IsLinked rs ss → has s ss ≡ true → s < length rs
 in_bounds rs ss s k h = below_of (length rs) ss k.below s h
 
--- a slot of a queue has a record, and so have its neighbours
-pub neighbours_fit : (rs : List Record) (ss : List ℕ) (slot : ℕ) → IsLinked rs ss → has slot ss ≡ true
-    → (slot < length rs) × (next_at rs slot < length rs) × (previous_at rs slot < length rs)
-neighbours_fit rs ss slot k h =
-    (in_bounds rs ss slot k h, in_bounds rs ss (next_at rs slot) k (next_in rs ss slot k h), in_bounds rs ss (previous_at rs slot) k (previous_in rs ss slot k h))
-
 -- the first slot is among them
 pub first_in : (ss : List ℕ) (first : ℕ) → Some first ≡ slice_get ss 0 → has first ss ≡ true
 first_in [] first e = absurd (cc)

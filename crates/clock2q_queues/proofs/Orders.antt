@@ -9,13 +9,13 @@ use Rattle.clock2q_queues.specs.declared.links.Location.TheVariants.{Free}
 use Rattle.clock2q_queues.specs.declared.order.Chain.{Chain}
 use Rattle.clock2q_queues.specs.Rings.{has, without, AllApart, AllBelow, around}
 use Rattle.clock2q_queues.specs.Cells.{CellsState, accessed, written}
-use Rattle.clock2q_queues.specs.Links.{IsLinked, Attaches, Detaches, end_of, slots_from, record_at, next_at, previous_at, vacant}
+use Rattle.clock2q_queues.specs.Links.{RecordsState, IsLinked, Attaches, Detaches, end_of, made_below, slots_from, record_at, records_state, next_at, previous_at, vacant}
 use Rattle.clock2q_queues.specs.Order.{PlaceOrder, IsOrderOf, IsOrder, IsWholeOrder, free_places, order_shown, place_for}
 use Rattle.clock2q_queues.proofs.Records.{changed}
 use Rattle.clock2q_queues.proofs.Rings.{eqb_self, has-append, has_first, has_later, AllApart-left, AllApart-right, AllApart-append}
 use Rattle.clock2q_queues.proofs.Rings.{AllBelow-append, AllBelow-left, AllBelow-right, apart_from, apart_back, below-has, below-more, below_of, has-without}
 use Rattle.clock2q_queues.proofs.Joining.{Inserts, Inserts-before, Inserts-first, Removes, Removes-detached, IsLinked-kept, IsLinked-turned}
-use Rattle.clock2q_queues.proofs.Joining.{slots_from-is, end_some, first_in, neighbours_fit, length-without, split_last, last_before}
+use Rattle.clock2q_queues.proofs.Joining.{slots_from-is, end_some, first_in, next_in, previous_in, length-without, split_last, last_before}
 use Rattle.clock2q_queues.proofs.Booleans.{or_parts, or_neither}
 
 -- Lists of places
@@ -53,6 +53,8 @@ pub record FitsNext (limit place : ℕ) (ps fs : List ℕ) : Type 0 where
   pub apart : AllApart (place ∷ ps ++ drop 1 fs)
   pub below : AllBelow (suc (length ps) + length (drop 1 fs)) (place ∷ ps ++ drop 1 fs)
   pub within : suc (length ps) + length (drop 1 fs) ≤ limit
+  pub made : place ≤ length ps + length fs
+  pub makes : made_below (place + 1) (length ps + length fs) ≡ suc (length ps) + length (drop 1 fs)
 
 pub FitsNext-from : (limit : ℕ) (ps fs : List ℕ) → AllApart (ps ++ fs) → AllBelow (length ps + length fs) (ps ++ fs) → length ps + length fs ≤ limit → length ps < limit
     → FitsNext limit (place_for (length ps) fs) ps fs
@@ -64,6 +66,8 @@ FitsNext-from limit ps [] a b w h =
       apart = (absent_below (length ps) (ps ++ []) b', a);
       below = (omega arith, below-more (length ps) (suc (length ps) + 0) (ps ++ []) (omega arith) b');
       within = omega arith;
+      made = omega arith;
+      makes = omega arith;
     }
 FitsNext-from limit ps (f ∷ fs) a b w h =
     let n = length ps + length (f ∷ fs) in
@@ -80,6 +84,8 @@ FitsNext-from limit ps (f ∷ fs) a b w h =
       );
       below = (omega (arith, f_below), below-more n (suc (length ps) + length fs) (ps ++ fs) (omega arith) rest);
       within = omega (arith, w);
+      made = omega (arith, f_below);
+      makes = omega (arith, f_below);
     }
 
 -- the places in another order
@@ -97,20 +103,20 @@ or_swap false false h = h
 
 -- Orders
 
-pub IsOrder-from : {rs : List Record} {newest : Option ℕ} {len : ℕ} {chain : Chain} {ps fs : List ℕ} → IsOrderOf rs newest len chain ps fs → IsOrder rs newest len chain
+pub IsOrder-from : {rs : RecordsState} {newest : Option ℕ} {len : ℕ} {chain : Chain} {ps fs : List ℕ} → IsOrderOf rs newest len chain ps fs → IsOrder rs newest len chain
 IsOrder-from {rs} {newest} {len} {chain} {ps} {fs} o =
-    subst (λ z. IsOrderOf rs newest len chain z (free_places rs chain)) (sym (slots_from-is rs newest len ps o.queue))
+    subst (λ z. IsOrderOf rs newest len chain z (free_places rs.cells.items chain)) (sym (slots_from-is rs.cells.items newest len ps o.queue))
     (subst (λ z. IsOrderOf rs newest len chain ps z) (sym o.chained) o)
 
-pub IsWholeOrder-from : (l : CellsState Record) (newest : Option ℕ) (len : ℕ) (chain : Chain) → IsOrder l.items newest len chain → IsWholeOrder (order_shown l newest len chain)
+pub IsWholeOrder-from : (l : RecordsState) (newest : Option ℕ) (len : ℕ) (chain : Chain) → IsOrder l newest len chain → IsWholeOrder (order_shown l newest len chain)
 IsWholeOrder-from l newest len chain o = record { apart = o.apart; below = o.below; within = o.within; countable = o.queue.countable }
 
 -- the view of an order of these places and a chain of those
-pub order_shown-is : (l : CellsState Record) {newest : Option ℕ} {len : ℕ} {chain : Chain} {ps fs : List ℕ} → IsOrderOf l.items newest len chain ps fs
-    → order_shown l newest len chain ≡ record { places = ps; free = fs; limit = length l.items; accesses = l.accesses }
+pub order_shown-is : (l : RecordsState) {newest : Option ℕ} {len : ℕ} {chain : Chain} {ps fs : List ℕ} → IsOrderOf l newest len chain ps fs
+    → order_shown l newest len chain ≡ record { places = ps; free = fs; limit = length l.cells.items; accesses = l.cells.accesses }
 order_shown-is l {newest} {len} {chain} {ps} {fs} o =
-    ap (λ z. record { places = z; free = free_places l.items chain; limit = length l.items; accesses = l.accesses }) (slots_from-is l.items newest len ps o.queue)
-    ∙ ap (λ z. record { places = ps; free = z; limit = length l.items; accesses = l.accesses }) o.chained
+    ap (λ z. record { places = z; free = free_places l.cells.items chain; limit = length l.cells.items; accesses = l.cells.accesses }) (slots_from-is l.cells.items newest len ps o.queue)
+    ∙ ap (λ z. record { places = ps; free = z; limit = length l.cells.items; accesses = l.cells.accesses }) o.chained
 
 -- The chain
 
@@ -131,150 +137,166 @@ chain-put old new chain place r e next fits absent =
     ∙ ap (λ z. place ∷ around (next_at new.items) z chain.len) to_head
     ∙ ap (λ zs. place ∷ zs) (around-kept (next_at old.items) (next_at new.items) chain.head chain.len other)
 
-pub head_fits : (l : CellsState Record) (newest : Option ℕ) (len : ℕ) (chain : Chain) → IsOrder l.items newest len chain → 0 < chain.len → chain.head < length l.items
-head_fits l newest len chain o some = grind (arith, has_first, below_of, AllBelow-right)
+pub head_made : (l : RecordsState) (newest : Option ℕ) (len : ℕ) (chain : Chain) → IsOrder l newest len chain → 0 < chain.len → chain.head < l.made
+head_made l newest len chain o some = grind (arith, has_first, below_of, AllBelow-right)
 
-module _ (l : CellsState Record) (newest : Option ℕ) (len : ℕ) (chain : Chain) (o : IsOrder l.items newest len chain) where
+module _ (l : RecordsState) (newest : Option ℕ) (len : ℕ) (chain : Chain) (o : IsOrder l newest len chain) where
   abbrev pub places_now : List ℕ
-  places_now = slots_from l.items newest len
+  places_now = slots_from l.cells.items newest len
 
   abbrev pub free_now : List ℕ
-  free_now = free_places l.items chain
+  free_now = free_places l.cells.items chain
 
   chain_counted : length free_now ≡ chain.len
-  chain_counted = length-around (next_at l.items) chain.head chain.len
+  chain_counted = length-around (next_at l.cells.items) chain.head chain.len
+
+  -- a place in order has neighbours, and so have they
+  pub place_made : (place : ℕ) → has place places_now ≡ true → (place < l.made) × (next_at l.cells.items place < l.made) × (previous_at l.cells.items place < l.made)
+  place_made place there =
+      let below : AllBelow l.made places_now = rw o.made (AllBelow-left (length places_now + length free_now) places_now free_now o.below) in
+      let rs = l.cells.items in (
+        below_of l.made places_now below place there,
+        below_of l.made places_now below (next_at rs place) (next_in rs places_now place o.queue.linked there),
+        below_of l.made places_now below (previous_at rs place) (previous_in rs places_now place o.queue.linked there),
+      )
 
   -- A place put at the front
 
-  pub next_fits : length places_now < length l.items → FitsNext (length l.items) (place_for (length places_now) free_now) places_now free_now
-  next_fits h = FitsNext-from (length l.items) places_now free_now o.apart o.below o.within h
+  pub next_fits : length places_now < length l.cells.items → FitsNext (length l.cells.items) (place_for (length places_now) free_now) places_now free_now
+  next_fits h = FitsNext-from (length l.cells.items) places_now free_now o.apart o.below o.within h
 
   -- the place was taken from the chain, if it had one
-  pub record Chooses (mid : CellsState Record) (newest' len' : ℕ) (chain' : Chain) (place : ℕ) : Type 0 where
-    pub slots : mid.items ≡ l.items
+  pub record Chooses (mid : RecordsState) (newest' len' : ℕ) (chain' : Chain) (place : ℕ) : Type 0 where
+    pub slots : mid.cells.items ≡ l.cells.items
+    pub made : mid.made ≡ l.made
     pub first : end_of len' newest' ≡ newest
     pub count : len' ≡ len
-    pub rest : free_places mid.items chain' ≡ drop 1 free_now
+    pub rest : free_places mid.cells.items chain' ≡ drop 1 free_now
     pub is : place ≡ place_for (length places_now) free_now
 
   module _ (newest' : ℕ) (first : end_of len newest' ≡ newest) where
-    pub takes_head : 0 < chain.len → (mid : CellsState Record) → mid ≡ accessed l → (next : ℕ) → next ≡ next_at l.items chain.head
+    pub takes_head : 0 < chain.len → (mid : RecordsState) → mid ≡ records_state (accessed l.cells) l.made → (next : ℕ) → next ≡ next_at l.cells.items chain.head
         → Chooses mid newest' len (record { head = next; len = chain.len - 1 }) chain.head
     takes_head some mid read next e = grind (arith)
 
     pub takes_unused : chain.len ≡ 0 → Chooses l newest' len chain len
     takes_unused none =
-        let parts : free_now ≡ [] = ap (λ z. around (next_at l.items) chain.head z) none in
-        record { slots = refl; first = first; count = refl; rest = parts ∙ sym (ap (λ (z : List ℕ). drop 1 z) parts); is = o.queue.counted ∙ sym (ap (λ z. place_for (length places_now) z) parts) }
+        let parts : free_now ≡ [] = ap (λ z. around (next_at l.cells.items) chain.head z) none in
+        record { slots = refl; made = refl; first = first; count = refl; rest = parts ∙ sym (ap (λ (z : List ℕ). drop 1 z) parts); is = o.queue.counted ∙ sym (ap (λ z. place_for (length places_now) z) parts) }
 
   -- the order after a place was put at the front
-  pub record Pushed (place len' : ℕ) (chain' : Chain) (new : CellsState Record) : Type 0 where
-    pub order : IsOrderOf new.items (end_of (len' + 1) place) (len' + 1) chain' (place ∷ places_now) (drop 1 free_now)
-    pub as_many : length new.items ≡ length l.items
+  pub record Pushed (place len' : ℕ) (chain' : Chain) (new : RecordsState) : Type 0 where
+    pub order : IsOrderOf new (end_of (len' + 1) place) (len' + 1) chain' (place ∷ places_now) (drop 1 free_now)
+    pub as_many : length new.cells.items ≡ length l.cells.items
 
-  module _ {mid : CellsState Record} {newest' len' : ℕ} {chain' : Chain} {place : ℕ} (k : Chooses mid newest' len' chain' place) (h : length places_now < length l.items) where
-    pub fits : FitsNext (length l.items) place places_now free_now
-    fits = subst (λ z. FitsNext (length l.items) z places_now free_now) (sym k.is) (next_fits h)
+  module _ {mid : RecordsState} {newest' len' : ℕ} {chain' : Chain} {place : ℕ} (k : Chooses mid newest' len' chain' place) (h : length places_now < length l.cells.items) where
+    pub fits : FitsNext (length l.cells.items) place places_now free_now
+    fits = subst (λ z. FitsNext (length l.cells.items) z places_now free_now) (sym k.is) (next_fits h)
 
-    pub place_in : place < length mid.items
+    pub place_in : place < length mid.cells.items
     place_in = rw k.slots fits.fits
 
-    linked_mid : IsLinked mid.items places_now
+    linked_mid : IsLinked mid.cells.items places_now
     linked_mid = subst (λ (z : List Record). IsLinked z places_now) (sym k.slots) o.queue.linked
 
     starts : 0 < len' → Some newest' ≡ slice_get places_now 0
     starts some = sym (end_some len' newest' some) ∙ k.first ∙ o.queue.starts
 
-    pub first_fits : 0 < len' → (newest' < length mid.items) × (previous_at mid.items newest' < length mid.items)
-    first_fits some =
-        let f = neighbours_fit mid.items places_now newest' linked_mid (first_in places_now newest' (starts some)) in
-        (f.0, f.2)
+    pub place_next : place ≤ mid.made
+    place_next = rw (k.made, o.made) fits.made
 
-    pushes : (new : CellsState Record) → Inserts place Free places_now mid.items new.items → Pushed place len' chain' new
-    pushes new i =
-        let as_many : length new.items ≡ length l.items = i.as_many ∙ ap (λ (z : List Record). length z) k.slots in
-        let elsewhere = (λ (t : ℕ) (g : has t (free_places mid.items chain') ≡ true).
+    pub first_made : 0 < len' → (newest' < mid.made) × (previous_at mid.cells.items newest' < mid.made)
+    first_made some =
+        let f = place_made newest' (first_in places_now newest' (starts some)) in
+        rw (k.made, k.slots) (f.0, f.2)
+
+    pushes : (new : RecordsState) → new.made ≡ made_below (place + 1) mid.made → Inserts place Free places_now mid.cells.items new.cells.items → Pushed place len' chain' new
+    pushes new m i =
+        let as_many : length new.cells.items ≡ length l.cells.items = i.as_many ∙ ap (λ (z : List Record). length z) k.slots in
+        let elsewhere = (λ (t : ℕ) (g : has t (free_places mid.cells.items chain') ≡ true).
         let apart : has t (place ∷ places_now) ≡ false = apart_back (place ∷ places_now) (drop 1 free_now) fits.apart t (subst (λ zs. has t zs ≡ true) k.rest g) in
         ap (λ (z : Record). z.next) (i.others t apart)) in
         record {
           order = record {
             queue = record {
-              linked = IsLinked-turned new.items places_now (place ∷ []) i.linked;
+              linked = IsLinked-turned new.cells.items places_now (place ∷ []) i.linked;
               starts = end_some (len' + 1) place (omega arith);
               counted = omega (arith, k.count, o.queue.counted);
               countable = rw as_many o.queue.countable;
             };
-            chained = around-kept (next_at mid.items) (next_at new.items) chain'.head chain'.len elsewhere ∙ k.rest;
+            chained = around-kept (next_at mid.cells.items) (next_at new.cells.items) chain'.head chain'.len elsewhere ∙ k.rest;
             apart = fits.apart;
             below = fits.below;
             within = rw as_many fits.within;
+            made = m ∙ rw (k.made, o.made) fits.makes;
           };
           as_many = as_many;
         }
 
-    pub pushes-attached : (new : CellsState Record) → 0 < len' → Attaches place newest' Free 6 mid new → Pushed place len' chain' new
-    pushes-attached new some a = pushes new (Inserts-before mid new places_now place Free newest' linked_mid (starts some) fits.absent place_in a)
+    pub pushes-attached : (new : RecordsState) → 0 < len' → Attaches place newest' Free 6 mid.cells new.cells → new.made ≡ made_below (place + 1) mid.made → Pushed place len' chain' new
+    pushes-attached new some a m = pushes new m (Inserts-before mid.cells new.cells places_now place Free newest' linked_mid (starts some) fits.absent place_in a)
 
-    pub pushes-alone : (new : CellsState Record) → len' ≡ 0 → new ≡ written place (record { previous = place; next = place; location = Free }) mid → Pushed place len' chain' new
-    pushes-alone new none w =
+    pub pushes-alone : (new : RecordsState) → len' ≡ 0 → new.cells ≡ written place (record { previous = place; next = place; location = Free }) mid.cells → new.made ≡ made_below (place + 1) mid.made → Pushed place len' chain' new
+    pushes-alone new none w m =
         let first : None ≡ slice_get places_now 0 = ap (λ n. end_of n newest') (sym none) ∙ k.first ∙ o.queue.starts in
-        pushes new (Inserts-first mid.items new.items places_now place Free first place_in (ap (λ (z : CellsState Record). z.items) w))
+        pushes new m (Inserts-first mid.cells.items new.cells.items places_now place Free first place_in (ap (λ (z : CellsState Record). z.items) w))
 
   -- The last place moved to the front
 
   -- this place was the last of the order, and is now the first
-  pub record Reuses (new : CellsState Record) (oldest : ℕ) : Type 0 where
+  pub record Reuses (new : RecordsState) (oldest : ℕ) : Type 0 where
     pub oldest_was : last_or None places_now ≡ Some oldest
-    pub order : IsOrderOf new.items (end_of len oldest) len chain (oldest ∷ take (length places_now - 1) places_now) free_now
+    pub order : IsOrderOf new (end_of len oldest) len chain (oldest ∷ take (length places_now - 1) places_now) free_now
 
-  last_of : (first : ℕ) (ss : List ℕ) → IsLinked l.items ss → Some first ≡ slice_get ss 0 → last_or None ss ≡ Some (previous_at l.items first)
+  last_of : (first : ℕ) (ss : List ℕ) → IsLinked l.cells.items ss → Some first ≡ slice_get ss 0 → last_or None ss ≡ Some (previous_at l.cells.items first)
   last_of first [] k e = absurd (cc)
   last_of first (s ∷ ss) k e =
       let q : first ≡ s = cc in
-      last_before (next_at l.items) (previous_at l.items) s ss s k.ring ∙ ap (λ z. Some (previous_at l.items z)) (sym q)
+      last_before (next_at l.cells.items) (previous_at l.cells.items) s ss s k.ring ∙ ap (λ z. Some (previous_at l.cells.items z)) (sym q)
 
   ends_in : (ss : List ℕ) (x : ℕ) → last_or None ss ≡ Some x → (xs : List ℕ) × (ss ≡ xs ++ x ∷ [])
   ends_in [] x e = absurd (cc)
   ends_in (s ∷ ss) x e = split_last ss s x e
 
-  pub reuses : (new : CellsState Record) (first oldest : ℕ) → new ≡ accessed l → 0 < length places_now → end_of len first ≡ newest → oldest ≡ previous_at l.items first → Reuses new oldest
+  pub reuses : (new : RecordsState) (first oldest : ℕ) → new ≡ records_state (accessed l.cells) l.made → 0 < length places_now → end_of len first ≡ newest → oldest ≡ previous_at l.cells.items first → Reuses new oldest
   reuses new first oldest w some is e =
       let occupied : 0 < len = omega (arith, some, o.queue.counted) in
       let was : last_or None places_now ≡ Some oldest = last_of first places_now o.queue.linked (sym (end_some len first occupied) ∙ is ∙ o.queue.starts) ∙ ap (λ z. Some z) (sym e) in
       let p = ends_in places_now oldest was in
       let xs = p.0 in
       let front : take (length places_now - 1) places_now ≡ xs = ap (λ (z : List ℕ). take (length z - 1) z) p.1 ∙ take_front xs oldest in
-      let linked : IsLinked l.items (oldest ∷ xs) = IsLinked-turned l.items xs (oldest ∷ []) (subst (λ z. IsLinked l.items z) p.1 o.queue.linked) in
+      let linked : IsLinked l.cells.items (oldest ∷ xs) = IsLinked-turned l.cells.items xs (oldest ∷ []) (subst (λ z. IsLinked l.cells.items z) p.1 o.queue.linked) in
       let same = (λ (t : ℕ) (h : has t (oldest ∷ xs) ≡ true).
       subst (λ zs. has t zs ≡ true) (sym p.1) (has-append t xs (oldest ∷ []) ∙ or_swap (eqb t oldest) (has t xs) h)) in
       let count : length places_now ≡ suc (length xs) = omega (arith, ap (λ (z : List ℕ). length z) p.1, length-append xs (oldest ∷ [])) in
       record {
         oldest_was = was;
-        order = subst (λ z. IsOrderOf new.items (end_of len oldest) len chain (oldest ∷ z) free_now) (sym front)
-            (subst (λ (z : CellsState Record). IsOrderOf z.items (end_of len oldest) len chain (oldest ∷ xs) free_now) (sym w) (record {
+        order = subst (λ z. IsOrderOf new (end_of len oldest) len chain (oldest ∷ z) free_now) (sym front)
+            (subst (λ (z : RecordsState). IsOrderOf z (end_of len oldest) len chain (oldest ∷ xs) free_now) (sym w) (record {
               queue = record { linked = linked; starts = end_some len oldest occupied; counted = o.queue.counted ∙ count; countable = o.queue.countable };
               chained = refl;
               apart = apart-turned places_now (oldest ∷ xs) free_now linked.apart same o.apart;
               below = below-turned (suc (length xs) + length free_now) places_now (oldest ∷ xs) free_now same (subst (λ n. AllBelow (n + length free_now) (places_now ++ free_now)) count o.below);
               within = omega (arith, count, o.within);
+              made = omega (arith, count, o.made);
             }));
       }
 
   -- A place taken out
 
   module _ (place : ℕ) (there : has place places_now ≡ true) where
-    pub place_fits : (place < length l.items) × (next_at l.items place < length l.items) × (previous_at l.items place < length l.items)
-    place_fits = neighbours_fit l.items places_now place o.queue.linked there
+    pub place_fits : place < length l.cells.items
+    place_fits = below_of (length l.cells.items) places_now o.queue.linked.below place there
 
-    module _ (mid : CellsState Record) (d : Detaches place l mid) where
-      removed : Removes place places_now l.items mid.items
-      removed = Removes-detached l mid places_now place o.queue.linked there d
+    module _ (mid : RecordsState) (d : Detaches place l.cells mid.cells) where
+      removed : Removes place places_now l.cells.items mid.cells.items
+      removed = Removes-detached l.cells mid.cells places_now place o.queue.linked there d
 
-      pub free_still : free_places mid.items chain ≡ free_now
-      free_still = around-kept (next_at l.items) (next_at mid.items) chain.head chain.len
+      pub free_still : free_places mid.cells.items chain ≡ free_now
+      free_still = around-kept (next_at l.cells.items) (next_at mid.cells.items) chain.head chain.len
           (λ t g. ap (λ (z : Record). z.next) (removed.others t (apart_back places_now free_now o.apart t g)))
 
-      pub not_free : has place (free_places mid.items chain) ≡ false
+      pub not_free : has place (free_places mid.cells.items chain) ≡ false
       not_free = ap (λ zs. has place zs) free_still ∙ apart_from places_now free_now o.apart place there
 
       pub chain_fits : chain.len + 1 < 2 ^ 32
@@ -282,15 +304,15 @@ module _ (l : CellsState Record) (newest : Option ℕ) (len : ℕ) (chain : Chai
           let some : 0 < length places_now = omega (arith, length-without place places_now o.queue.linked.apart there) in
           omega (arith, some, o.within, chain_counted, o.queue.countable)
 
-      pub Unlinks : (new : CellsState Record) (r : Record) (newest' : Option ℕ) (chain' : Chain) → new ≡ written place r mid → free_places new.items chain' ≡ place ∷ free_places mid.items chain
-          → newest' ≡ slice_get (without place places_now) 0 → IsOrderOf new.items newest' (len - 1) chain' (without place places_now) (place ∷ free_now)
-      Unlinks new r newest' chain' w c starts =
-          let as_many : length new.items ≡ length l.items = ap (λ (z : CellsState Record). length z.items) w ∙ length-set mid.items place r ∙ removed.as_many in
-          let fits : place < length mid.items = rw removed.as_many place_fits.0 in
+      pub Unlinks : (new : RecordsState) (r : Record) (newest' : Option ℕ) (chain' : Chain) → new.cells ≡ written place r mid.cells → new.made ≡ l.made → free_places new.cells.items chain' ≡ place ∷ free_places mid.cells.items chain
+          → newest' ≡ slice_get (without place places_now) 0 → IsOrderOf new newest' (len - 1) chain' (without place places_now) (place ∷ free_now)
+      Unlinks new r newest' chain' w m c starts =
+          let as_many : length new.cells.items ≡ length l.cells.items = ap (λ (z : CellsState Record). length z.items) w ∙ length-set mid.cells.items place r ∙ removed.as_many in
+          let fits : place < length mid.cells.items = rw removed.as_many place_fits in
           let count = length-without place places_now o.queue.linked.apart there in
           let total : length places_now + length free_now ≡ length (without place places_now) + length (place ∷ free_now) = omega (arith, count) in
-          let records : (t : ℕ) → has t (without place places_now) ≡ true → record_at new.items t ≡ record_at mid.items t = (λ t h.
-          ap (λ (z : CellsState Record). record_at z.items t) w ∙ changed (λ p. p) mid.items place r vacant t fits ∙ rw ((has-without t place places_now h).1) refl) in
+          let records : (t : ℕ) → has t (without place places_now) ≡ true → record_at new.cells.items t ≡ record_at mid.cells.items t = (λ t h.
+          ap (λ (z : CellsState Record). record_at z.items t) w ∙ changed (λ p. p) mid.cells.items place r vacant t fits ∙ rw ((has-without t place places_now h).1) refl) in
           let apart =
           AllApart-append (without place places_now) (place ∷ free_now) removed.linked.apart (apart_from places_now free_now o.apart place there, AllApart-right places_now free_now o.apart)
           (λ t h. let g = has-without t place places_now h in or_neither (eqb t place) (has t free_now) g.1 (apart_from places_now free_now o.apart t g.0)) in
@@ -300,7 +322,7 @@ module _ (l : CellsState Record) (newest : Option ℕ) (len : ℕ) (chain : Chai
           (below_of n places_now (AllBelow-left n places_now free_now o.below) place there, AllBelow-right n places_now free_now o.below) in
           record {
             queue = record {
-              linked = IsLinked-kept mid.items new.items (without place places_now) removed.linked (as_many ∙ sym removed.as_many) records;
+              linked = IsLinked-kept mid.cells.items new.cells.items (without place places_now) removed.linked (as_many ∙ sym removed.as_many) records;
               starts = starts;
               counted = omega (arith, count, o.queue.counted);
               countable = rw as_many o.queue.countable;
@@ -309,6 +331,7 @@ module _ (l : CellsState Record) (newest : Option ℕ) (len : ℕ) (chain : Chai
             apart = apart;
             below = subst (λ z. AllBelow z (without place places_now ++ place ∷ free_now)) total below;
             within = rw as_many (omega (arith, total, o.within));
+            made = m ∙ o.made ∙ total;
           }
 
 -- the counts after a place was taken out

@@ -1,9 +1,8 @@
 -- The places of the history in the order of their keys, and the chain of the free ones.
 use Rattle.std.specs.Prelude.{◌≡◌, ℕ, ◌+◌, ◌^◌, ◌<◌, ◌≤◌, List, [], ◌∷◌, ◌++◌, length, Option}
-use Rattle.clock2q_queues.specs.Cells.{CellsState}
 use Rattle.clock2q_queues.specs.Rings.{AllApart, AllBelow, around}
 use Rattle.clock2q_queues.specs.declared.links.Record.{Record}
-use Rattle.clock2q_queues.specs.Links.{IsQueue, slots_from, next_at}
+use Rattle.clock2q_queues.specs.Links.{RecordsState, IsQueue, slots_from, next_at}
 use Rattle.clock2q_queues.specs.declared.order.Chain.{Chain}
 
 -- the places that hold a key, the newest key's first, the free ones that were used before, the number of places in all,
@@ -34,21 +33,23 @@ next_place o = place_for (length o.places) o.free
 abbrev pub free_places : List Record → Chain → List ℕ
 free_places rs chain = around (next_at rs) chain.head chain.len
 
--- the order consists of `places`, and the chain of `free`: together the places that were used, each of them once
-pub record IsOrderOf (rs : List Record) (newest : Option ℕ) (len : ℕ) (chain : Chain) (places free : List ℕ) : Type 0 where
-  pub queue : IsQueue rs newest len places
-  pub chained : free_places rs chain ≡ free
+-- the order consists of `places`, and the chain of `free`: together the places that were used, each of them once, and
+-- these alone have neighbours
+pub record IsOrderOf (rs : RecordsState) (newest : Option ℕ) (len : ℕ) (chain : Chain) (places free : List ℕ) : Type 0 where
+  pub queue : IsQueue rs.cells.items newest len places
+  pub chained : free_places rs.cells.items chain ≡ free
   pub apart : AllApart (places ++ free)
   pub below : AllBelow (length places + length free) (places ++ free)
-  pub within : length places + length free ≤ length rs
+  pub within : length places + length free ≤ length rs.cells.items
+  pub made : rs.made ≡ length places + length free
 
 -- the records represent the order and the chain
-abbrev pub IsOrder : List Record → Option ℕ → ℕ → Chain → Type 0
-IsOrder rs newest len chain = IsOrderOf rs newest len chain (slots_from rs newest len) (free_places rs chain)
+abbrev pub IsOrder : RecordsState → Option ℕ → ℕ → Chain → Type 0
+IsOrder rs newest len chain = IsOrderOf rs newest len chain (slots_from rs.cells.items newest len) (free_places rs.cells.items chain)
 
 -- the order and the chain, as the records hold them
-abbrev pub order_shown : CellsState Record → Option ℕ → ℕ → Chain → PlaceOrder
-order_shown rs newest len chain = record { places = slots_from rs.items newest len; free = free_places rs.items chain; limit = length rs.items; accesses = rs.accesses }
+abbrev pub order_shown : RecordsState → Option ℕ → ℕ → Chain → PlaceOrder
+order_shown rs newest len chain = record { places = slots_from rs.cells.items newest len; free = free_places rs.cells.items chain; limit = length rs.cells.items; accesses = rs.cells.accesses }
 
 -- what callers may rely on: no place occurs twice, each was used, and no more were used than there are
 pub record IsWholeOrder (o : PlaceOrder) : Type 0 where

@@ -4,8 +4,7 @@ ghost use Rattle.std.specs.List.{last_or};
 ghost use Rattle.clock2q_queues.specs.Cells.{Rises};
 ghost use Rattle.clock2q_queues.specs.Rings.{has, without};
 
-use crate::links::Cells;
-use crate::neighbours::{EMPTY, Neighbours};
+use crate::neighbours::{Neighbourhoods, Neighbours};
 use std::alloc::{AllocError, Allocator, Global};
 use std::marker::Model;
 
@@ -32,7 +31,7 @@ struct Chain {
 /// ```
 #[derive(Drop)]
 pub struct Order<A: Allocator = Global> {
-    records: Cells<Neighbours, A>,
+    records: Neighbourhoods<A>,
     newest: u32,
     len: u32,
     chain: Chain,
@@ -46,7 +45,7 @@ impl<A: Allocator> Model for Order<A> {
 
     ghost view = { λ o. order_shown o.records (end_of o.len o.newest) o.len o.chain };
 
-    ghost invariant = { λ o. IsOrder o.records.items (end_of o.len o.newest) o.len o.chain };
+    ghost invariant = { λ o. IsOrder o.records (end_of o.len o.newest) o.len o.chain };
 }
 
 impl<A: Allocator> Order<A> {
@@ -63,7 +62,7 @@ impl<A: Allocator> Order<A> {
         ensures whole { IfOk result IsWholeOrder }
     {
         Ok(Order {
-            records: Cells::new(Vec::from_elem(alloc, EMPTY, limit as usize)?),
+            records: Neighbourhoods::new(alloc, limit)?,
             newest: 0,
             len: 0,
             chain: Chain { head: 0, len: 0 },
@@ -82,7 +81,7 @@ impl<A: Allocator> Order<A> {
     pub fn limit(&self) -> u32
         ensures { result ≡ self.now.limit }
     {
-        self.records.len() as u32
+        self.records.places()
     }
 
     /// Puts a free place at the front, and returns it. It is the head of the chain, or the next
@@ -110,7 +109,7 @@ impl<A: Allocator> Order<A> {
                 previous: place,
                 next: place,
             };
-            self.records.write(place, alone);
+            self.records.put(place, alone);
         } else {
             self.records.attach(place, self.newest);
         }
@@ -165,6 +164,7 @@ impl<A: Allocator> Order<A> {
         ensures whole { IsWholeOrder self.new }
         ensures order { self.new ≡ record self.old { places = []; free = [] } }
     {
+        self.records.clear();
         self.len = 0;
         self.chain = Chain { head: 0, len: 0 };
     }

@@ -1,7 +1,7 @@
 use Rattle.std.proofs.Common.{◌<◌, ◌∷◌, length, drop, ap, subst, ◌∙◌, sym, arith}
 use Rattle.clock2q_queues.specs.Links.{end_of, slots_from}
 use Rattle.clock2q_queues.specs.Order.{PlaceOrder, free_places}
-use Rattle.clock2q_queues.proofs.Orders.{Chooses, Pushed, IsOrder-from, IsWholeOrder-from, order_shown-is, head_fits, takes_head, takes_unused, place_in, first_fits, pushes-attached, pushes-alone}
+use Rattle.clock2q_queues.proofs.Orders.{Chooses, Pushed, IsOrder-from, IsWholeOrder-from, order_shown-is, head_made, takes_head, takes_unused, place_in, place_next, first_made, pushes-attached, pushes-alone}
 use Rattle.clock2q_queues.proofs.order.Order.push.Given.{Over}
 use Rattle.clock2q_queues.proofs.order.Order.push.Goals.{Joined-self-gt0, Joined-self-eq0}
 use Rattle.clock2q_queues.proofs.order.Order.push.Goals as goal
@@ -10,7 +10,7 @@ use Rattle.clock2q_queues.proofs.order.Order.push.Goals.{then-self-gt0, else-sel
 pub read-requires : goal.read-requires
 read-requires g c =
     let i = c.self.inside in
-    head_fits i.records (end_of i.len i.newest) i.len i.chain c.self.invariant (omega (arith, c.if-self-gt0.true))
+    head_made i.records (end_of i.len i.newest) i.len i.chain c.self.invariant (omega (arith, c.if-self-gt0.true))
 
 -- the place is the head of the chain, or the first unused one
 chosen : (g : Over) (c : Joined-self-gt0 g) → Chooses c.self.inside.records (end_of c.self.inside.len c.self.inside.newest) c.self.inside.len c.self.inside.chain c.self.invariant
@@ -18,15 +18,15 @@ chosen : (g : Over) (c : Joined-self-gt0 g) → Chooses c.self.inside.records (e
 chosen g c = grind (arith, takes_head, takes_unused, c.self.invariant)
 
 -- there is a place
-room : (g : Over) (c : Joined-self-gt0 g) → length (slots_from c.self.inside.records.items (end_of c.self.inside.len c.self.inside.newest) c.self.inside.len) < length c.self.inside.records.items
+room : (g : Over) (c : Joined-self-gt0 g) → length (slots_from c.self.inside.records.cells.items (end_of c.self.inside.len c.self.inside.newest) c.self.inside.len) < length c.self.inside.records.cells.items
 room g c = subst (λ (z : PlaceOrder). length z.places < z.limit) (sym c.self.view_is) c.requires
 
 pub attach-requires : goal.attach-requires
 attach-requires g c =
     let i = c.self.inside in
     let j = (goal.at.attach-requires g c).Joined-self-gt0 in
-    let first = first_fits i.records (end_of i.len i.newest) i.len i.chain c.self.invariant (chosen g j) (room g j) (omega (arith, c.if-self-eq0.false)) in
-    record { place_in = place_in i.records (end_of i.len i.newest) i.len i.chain c.self.invariant (chosen g j) (room g j); before_in = first.0; previous_in = first.1 }
+    let first = first_made i.records (end_of i.len i.newest) i.len i.chain c.self.invariant (chosen g j) (room g j) (omega (arith, c.if-self-eq0.false)) in
+    record { place_in = place_in i.records (end_of i.len i.newest) i.len i.chain c.self.invariant (chosen g j) (room g j); made = place_next i.records (end_of i.len i.newest) i.len i.chain c.self.invariant (chosen g j) (room g j); before_in = first.0; previous_in = first.1 }
 
 pushed : (g : Over) (c : Joined-self-eq0 g) → Pushed c.self.inside.records (end_of c.self.inside.len c.self.inside.newest) c.self.inside.len c.self.inside.chain c.self.invariant
     c.if-self-gt0.place c.if-self-eq0.self-inside.len c.if-self-eq0.self-inside.chain c.if-self-eq0.self-inside.records
@@ -35,8 +35,8 @@ pushed g c =
     let k = chosen g c.before in
     let r = room g c.before in
     elim c.if-self-eq0.branch [
-      | then-self-eq0 w ↦ rw w.self-inside-is (pushes-alone i.records (end_of i.len i.newest) i.len i.chain c.self.invariant k r w.write.new.self (omega (arith, w.if-self-eq0.true)) w.write.ensures)
-      | else-self-eq0 w ↦ rw w.self-inside-is (pushes-attached i.records (end_of i.len i.newest) i.len i.chain c.self.invariant k r w.attach.new.self (omega (arith, w.if-self-eq0.false)) w.attach.ensures)
+      | then-self-eq0 w ↦ rw w.self-inside-is (pushes-alone i.records (end_of i.len i.newest) i.len i.chain c.self.invariant k r w.put.new.self (omega (arith, w.if-self-eq0.true)) w.put.ensures.written w.put.ensures.made)
+      | else-self-eq0 w ↦ rw w.self-inside-is (pushes-attached i.records (end_of i.len i.newest) i.len i.chain c.self.invariant k r w.attach.new.self (omega (arith, w.if-self-eq0.false)) w.attach.ensures.attached w.attach.ensures.made)
     ]
 
 pub invariant_of-self : goal.invariant_of-self
@@ -45,6 +45,9 @@ invariant_of-self g c = IsOrder-from (pushed g (goal.at.invariant_of-self g c).J
 pub returns-clause-whole : goal.returns-clause-whole
 returns-clause-whole g c = IsWholeOrder-from _ _ _ _ (IsOrder-from (pushed g (goal.at.returns-clause-whole g c).Joined-self-eq0).order)
 
+pub returns-clause-place : goal.returns-clause-place
+returns-clause-place g c = rw (← c.self.view_is) (chosen g (goal.at.returns-clause-place g c).Joined-self-gt0).is
+
 pub returns-clause-order : goal.returns-clause-order
 returns-clause-order g c =
     let i = c.self.inside in
@@ -52,8 +55,8 @@ returns-clause-order g c =
     rw (← c.self.view_is)
     (order_shown-is _ p.order
     ∙ ap (λ n. record {
-      places = c.if-self-gt0.place ∷ slots_from i.records.items (end_of i.len i.newest) i.len;
-      free = drop 1 (free_places i.records.items i.chain);
+      places = c.if-self-gt0.place ∷ slots_from i.records.cells.items (end_of i.len i.newest) i.len;
+      free = drop 1 (free_places i.records.cells.items i.chain);
       limit = n;
-      accesses = c.if-self-eq0.self-inside.records.accesses;
+      accesses = c.if-self-eq0.self-inside.records.cells.accesses;
     }) p.as_many)

@@ -1,7 +1,6 @@
 use Rattle.std.proofs.Common.{◌∷◌, ◌-◌, ◌<◌, None, length, take, refl, ap, sym, subst, ◌∙◌}
 use Rattle.std.specs.List.{last_or}
-use Rattle.clock2q_queues.specs.Cells.{CellsState}
-use Rattle.clock2q_queues.specs.Links.{end_of, vacant}
+use Rattle.clock2q_queues.specs.Links.{RecordsState, end_of}
 use Rattle.clock2q_queues.specs.declared.links.Record.{Record}
 use Rattle.clock2q_queues.specs.Order.{PlaceOrder, order_shown}
 use Rattle.clock2q_queues.proofs.Orders.{IsOrder-from, IsWholeOrder-from, order_shown-is, reuses}
@@ -11,7 +10,7 @@ pub invariant_of-self : goal.invariant_of-self
 invariant_of-self g c =
     let i = c.self.inside in
     IsOrder-from (reuses i.records (end_of i.len i.newest) i.len i.chain c.self.invariant c.read.new.self i.newest c.oldest.inside.previous c.read.ensures.counted
-    (subst (λ (z : PlaceOrder). 0 < length z.places) (sym c.self.view_is) c.requires) refl (ap (λ (z : Record). z.previous) (c.oldest.view_is ∙ c.read.ensures.value vacant))).order
+    (subst (λ (z : PlaceOrder). 0 < length z.places) (sym c.self.view_is) c.requires) refl (ap (λ (z : Record). z.previous) (c.oldest.view_is ∙ c.read.ensures.value))).order
 
 pub returns : goal.returns
 returns g c =
@@ -19,12 +18,12 @@ returns g c =
     let oldest = c.oldest.inside.previous in
     let r =
     reuses i.records (end_of i.len i.newest) i.len i.chain c.self.invariant c.read.new.self i.newest oldest c.read.ensures.counted
-    (subst (λ (z : PlaceOrder). 0 < length z.places) (sym c.self.view_is) c.requires) refl (ap (λ (z : Record). z.previous) (c.oldest.view_is ∙ c.read.ensures.value vacant)) in
+    (subst (λ (z : PlaceOrder). 0 < length z.places) (sym c.self.view_is) c.requires) refl (ap (λ (z : Record). z.previous) (c.oldest.view_is ∙ c.read.ensures.value)) in
     let q = order_shown i.records (end_of i.len i.newest) i.len i.chain in
     record {
       whole = IsWholeOrder-from _ _ _ _ (IsOrder-from r.order);
       oldest = ap (λ (z : PlaceOrder). last_or None z.places) (sym c.self.view_is) ∙ r.oldest_was;
       order = rw (← c.self.view_is) (order_shown-is _ r.order
-          ∙ ap (λ (z : CellsState Record). record { places = oldest ∷ take (length q.places - 1) q.places; free = q.free; limit = length z.items; accesses = z.accesses })
+          ∙ ap (λ (z : RecordsState). record { places = oldest ∷ take (length q.places - 1) q.places; free = q.free; limit = length z.cells.items; accesses = z.cells.accesses })
           c.read.ensures.counted);
     }

@@ -4,7 +4,7 @@ use Rattle.clock2q_queues.specs.declared.links.Record.{Record}
 use Rattle.clock2q_queues.specs.Rings.{has, without}
 use Rattle.clock2q_queues.specs.Links.{end_of, next_at, slots_from}
 use Rattle.clock2q_queues.specs.Order.{PlaceOrder, IsOrderOf, free_places, order_shown}
-use Rattle.clock2q_queues.proofs.Orders.{IsOrder-from, IsWholeOrder-from, order_shown-is, place_fits, not_free, chain_fits, chain-put, Unlinks, unlinked_counts}
+use Rattle.clock2q_queues.proofs.Orders.{IsOrder-from, IsWholeOrder-from, order_shown-is, place_fits, place_made, not_free, chain_fits, chain-put, Unlinks, unlinked_counts}
 use Rattle.clock2q_queues.proofs.Joining.{first_left}
 use Rattle.clock2q_queues.proofs.order.Order.unlink.Given.{Over}
 use Rattle.clock2q_queues.proofs.order.Order.unlink.Goals.{After-write, Then-self-place, Else-self-place}
@@ -14,48 +14,48 @@ pub detach-was-requires : goal.detach-was-requires
 detach-was-requires g c =
     let i = c.self.inside in
     let there = ap (λ (z : PlaceOrder). has c.args.place z.places) c.self.view_is ∙ c.requires in
-    let n = place_fits i.records (end_of i.len i.newest) i.len i.chain c.self.invariant c.args.place there in
+    let n = place_made i.records (end_of i.len i.newest) i.len i.chain c.self.invariant c.args.place there in
     record { place_in = n.0; next_in = n.1; previous_in = n.2 }
 
 pub write-requires : goal.write-requires
-write-requires g c = grind (arith, place_fits, c.self.view_is, c.requires, c.detach-was.ensures.detached.as_many, c.self.invariant)
+write-requires g c = grind (arith, place_made, c.self.view_is, c.requires, c.detach-was.ensures.made, c.self.invariant)
 
 pub overflow_add-self : goal.overflow_add-self
 overflow_add-self g c = grind (arith, chain_fits, c.self.view_is, c.requires, c.self.invariant, c.detach-was.ensures.detached)
 
 module _ (g : Over) (c : After-write g) (newest : ℕ)
-    (is : newest ≡ cond (eqb c.self.inside.newest c.args.place) (next_at c.self.inside.records.items c.args.place) c.self.inside.newest) where
+    (is : newest ≡ cond (eqb c.self.inside.newest c.args.place) (next_at c.self.inside.records.cells.items c.args.place) c.self.inside.newest) where
   abbrev first : Option ℕ
   first = end_of c.self.inside.len c.self.inside.newest
 
   -- the other places are in order, and this one is at the head of the chain
-  left : IsOrderOf c.write.new.self.items (end_of (c.self.inside.len - 1) newest) (c.self.inside.len - 1) (record { head = c.args.place; len = c.self.inside.chain.len + 1 })
-      (without c.args.place (slots_from c.self.inside.records.items first c.self.inside.len)) (c.args.place ∷ free_places c.self.inside.records.items c.self.inside.chain)
+  left : IsOrderOf c.write.new.self (end_of (c.self.inside.len - 1) newest) (c.self.inside.len - 1) (record { head = c.args.place; len = c.self.inside.chain.len + 1 })
+      (without c.args.place (slots_from c.self.inside.records.cells.items first c.self.inside.len)) (c.args.place ∷ free_places c.self.inside.records.cells.items c.self.inside.chain)
   left =
       let i = c.self.inside in
       let place = c.args.place in
       let there = ap (λ (z : PlaceOrder). has place z.places) c.self.view_is ∙ c.requires in
       let mid = c.detach-was.new.self in
       let d = c.detach-was.ensures.detached in
-      Unlinks i.records first i.len i.chain c.self.invariant place there mid d c.write.new.self _ (end_of (i.len - 1) newest) _ c.write.ensures
-      (chain-put mid c.write.new.self i.chain place _ c.write.ensures refl (rw d.as_many ((place_fits i.records first i.len i.chain c.self.invariant place there).0))
+      Unlinks i.records first i.len i.chain c.self.invariant place there mid d c.write.new.self _ (end_of (i.len - 1) newest) _ c.write.ensures.written (c.write.ensures.made ∙ c.detach-was.ensures.made)
+      (chain-put mid.cells c.write.new.self.cells i.chain place _ c.write.ensures.written refl (rw d.as_many (place_fits i.records first i.len i.chain c.self.invariant place there))
       (not_free i.records first i.len i.chain c.self.invariant place there mid d))
-      (first_left i.records.items i.len i.newest newest (slots_from i.records.items first i.len) place c.self.invariant.queue there is)
+      (first_left i.records.cells.items i.len i.newest newest (slots_from i.records.cells.items first i.len) place c.self.invariant.queue there is)
 
   order : order_shown c.write.new.self (end_of (c.self.inside.len - 1) newest) (c.self.inside.len - 1) (record { head = c.args.place; len = c.self.inside.chain.len + 1 })
       ≡ record c.args.self.now { places = without c.args.place c.args.self.now.places; free = c.args.place ∷ c.args.self.now.free; accesses = c.args.self.now.accesses + 7 }
   order =
       let i = c.self.inside in
       rw (← c.self.view_is)
-      (order_shown-is _ left ∙ unlinked_counts i.records c.detach-was.new.self c.write.new.self c.args.place _
-      (without c.args.place (slots_from i.records.items first i.len)) (c.args.place ∷ free_places i.records.items i.chain) c.detach-was.ensures.detached c.write.ensures)
+      (order_shown-is _ left ∙ unlinked_counts i.records.cells c.detach-was.new.self.cells c.write.new.self.cells c.args.place _
+      (without c.args.place (slots_from i.records.cells.items first i.len)) (c.args.place ∷ free_places i.records.cells.items i.chain) c.detach-was.ensures.detached c.write.ensures.written)
 
 -- the place was the newest one
-next_is : (g : Over) (c : Then-self-place g) → c.was.inside.next ≡ cond (eqb c.self.inside.newest c.args.place) (next_at c.self.inside.records.items c.args.place) c.self.inside.newest
+next_is : (g : Over) (c : Then-self-place g) → c.was.inside.next ≡ cond (eqb c.self.inside.newest c.args.place) (next_at c.self.inside.records.cells.items c.args.place) c.self.inside.newest
 next_is g c = ap (λ (r : Record). r.next) (c.was.view_is ∙ c.detach-was.ensures.value) ∙ rw (eq-eqb c.self.inside.newest c.args.place c.if-self-place.true) refl
 
 -- it was another one
-stays : (g : Over) (c : Else-self-place g) → c.self.inside.newest ≡ cond (eqb c.self.inside.newest c.args.place) (next_at c.self.inside.records.items c.args.place) c.self.inside.newest
+stays : (g : Over) (c : Else-self-place g) → c.self.inside.newest ≡ cond (eqb c.self.inside.newest c.args.place) (next_at c.self.inside.records.cells.items c.args.place) c.self.inside.newest
 stays g c = rw (ne_eqb c.self.inside.newest c.args.place c.if-self-place.false) refl
 
 pub invariant_of-self : goal.invariant_of-self
