@@ -8,6 +8,7 @@ ghost use Rattle.std.specs.Prelude.{◌≡◌, ◌<◌, true, IfOk, IfSome, IsSo
 use crate::tables::{FEWEST_OF_MANY, Layout, is_as, table_of};
 use crate::walks::{Lookups, each_yields};
 use clock2q_handles::{Gap, Table};
+use std::alloc::Global;
 use std::test::Fail;
 use testing::{same, same_at};
 
@@ -130,26 +131,36 @@ const EXCHANGED: (Lookups<'static, usize>, Layout<'static>) = (
     ],
 );
 
+/// A sixth handle comes.
+fn becomes_six(alloc: Global, table: &mut Table<usize>) -> Result<(), Fail> {
+    put_behind(table, (14, 5), &[0, 1])?;
+    same(table.len(), 6)?;
+    is_as(alloc, table, SIX_FOUND, "six")
+}
+
 #[test]
 fn inserted_at_a_gap(rt: HostRuntime) -> Result<(), Fail> {
-    let mut table = table_of(rt.alloc(), FIVE)?;
-    put_behind(&mut table, (14, 5), &[0, 1])?;
-    same(table.len(), 6)?;
-    is_as(rt.alloc(), &table, SIX_FOUND, "six")
+    becomes_six(rt.alloc(), &mut table_of(rt.alloc(), FIVE)?)
+}
+
+fn exchanges_at_a_gap(alloc: Global, table: &mut Table<usize>) -> Result<(), Fail> {
+    exchange_at_gap(table, (1, 6), (15, 2))?;
+    is_as(alloc, table, EXCHANGED, "at a gap")
 }
 
 #[test]
 fn exchanged_at_a_gap(rt: HostRuntime) -> Result<(), Fail> {
-    let mut table = table_of(rt.alloc(), SIX)?;
-    exchange_at_gap(&mut table, (1, 6), (15, 2))?;
-    is_as(rt.alloc(), &table, EXCHANGED, "at a gap")
+    exchanges_at_a_gap(rt.alloc(), &mut table_of(rt.alloc(), SIX)?)
+}
+
+fn exchanges_without_a_gap(alloc: Global, table: &mut Table<usize>) -> Result<(), Fail> {
+    exchange(table, None, (1, 6), (15, 2))?;
+    is_as(alloc, table, EXCHANGED, "without a gap")
 }
 
 #[test]
 fn exchanged_without_a_gap(rt: HostRuntime) -> Result<(), Fail> {
-    let mut table = table_of(rt.alloc(), SIX)?;
-    exchange(&mut table, None, (1, 6), (15, 2))?;
-    is_as(rt.alloc(), &table, EXCHANGED, "without a gap")
+    exchanges_without_a_gap(rt.alloc(), &mut table_of(rt.alloc(), SIX)?)
 }
 
 /// Twelve handles under one hash, as many as 16 slots hold.
@@ -174,11 +185,14 @@ const FULL_EXCHANGED: Lookups<'static, usize> = &[
 ];
 
 /// A full table has no room for an entry before another leaves it.
+fn exchanges_one(table: &mut Table<usize>) -> Result<(), Fail> {
+    same(has_spare(table), false)?;
+    exchange(table, None, (1, 12), (14, 0))?;
+    each_yields(table, FULL_EXCHANGED, "full")?;
+    same((table.len(), table.capacity()), (12, 12))
+}
+
 #[test]
 fn exchanged_in_a_full_table(rt: HostRuntime) -> Result<(), Fail> {
-    let mut table = table_of(rt.alloc(), FULL)?;
-    same(has_spare(&table), false)?;
-    exchange(&mut table, None, (1, 12), (14, 0))?;
-    each_yields(&table, FULL_EXCHANGED, "full")?;
-    same((table.len(), table.capacity()), (12, 12))
+    exchanges_one(&mut table_of(rt.alloc(), FULL)?)
 }

@@ -1,7 +1,8 @@
 //! A table in which each handle was inserted under the hash that it contains.
 ghost use Rattle.std.specs.Prelude.{◌≡◌};
 
-use crate::layout::{hold, slots_of};
+use crate::layout::{Slot, hold, slots_of};
+use crate::walks::Lookups;
 use clock2q_handles::{Table, TableError};
 use std::alloc::Global;
 use std::cell::Cell;
@@ -46,12 +47,27 @@ impl Seen {
         self.count.set(count.saturating_add(1));
     }
 
+    /// Returns the number of handles and the first eight.
+    pub(crate) fn noted(&self) -> (usize, [u64; 8]) {
+        (self.count.get(), self.first.get())
+    }
+
     /// Returns the failure of a test unless both saw the same handles, as far as they recorded them.
     pub(crate) fn is_same(&self, other: &Seen, shown: &str) -> Result<(), Fail> {
         same_at(self.count.get(), other.count.get(), shown)?;
         same_at(self.first.get(), other.first.get(), shown)?;
         same_at(self.mixed.get(), other.mixed.get(), shown)
     }
+}
+
+fn number_of(handle: Option<Handle>) -> Option<u64> {
+    Some(handle?.number)
+}
+
+/// Returns a slot with the number of its handle in place of the handle.
+fn numbered(slot: Slot<Handle>) -> Slot<u64> {
+    let (handle, past) = slot?;
+    Some((handle.number, past))
 }
 
 /// A table in which each handle was inserted under its hash.
@@ -143,13 +159,20 @@ impl Hashed {
         self.table.remove(hash, handle)
     }
 
-    pub(crate) fn yields(&self, hash: u64, wanted: &[u64]) -> Result<(), Fail> {
+    fn yields(&self, hash: u64, wanted: &[u64]) -> Result<(), Fail> {
         let mut walk = self.table.get(hash);
         for number in wanted {
-            let found = walk.next().map(|handle| handle.number);
-            same(found, Some(*number))?;
+            same(number_of(walk.next()), Some(*number))?;
         }
         same(walk.next(), None)
+    }
+
+    /// Returns the failure of a test unless the lookup of each hash yields exactly its handles.
+    pub(crate) fn each_yields(&self, lookups: Lookups<'_, u64>) -> Result<(), Fail> {
+        for (hash, wanted) in lookups {
+            self.yields(*hash, wanted)?;
+        }
+        Ok(())
     }
 
     /// Returns the failure of a test unless the table has exactly the wanted handles, each with its slot and
@@ -162,7 +185,7 @@ impl Hashed {
         same(self.table.len(), wanted.len())?;
         let mut numbers = Vec::new(alloc);
         for slot in &slots_of(alloc, &self.table)? {
-            numbers.push(slot.map(|held| (held.0.number, held.1)))?;
+            numbers.push(numbered(*slot))?;
         }
         hold(&numbers, wanted, "numbers")
     }

@@ -30,11 +30,7 @@ fn candidate<H: Copy + Eq + Default>(
 }
 
 /// Writes each candidate of the hash into its slot.
-pub(crate) fn write_down<H: Copy + Eq + Default>(
-    table: &Table<H>,
-    hash: u64,
-    slots: &mut [Slot<H>],
-) {
+fn write_down<H: Copy + Eq + Default>(table: &Table<H>, hash: u64, slots: &mut [Slot<H>]) {
     for number in 0..table.len() {
         let Some((handle, position)) = candidate(table, hash, number) else {
             return;
@@ -47,6 +43,18 @@ pub(crate) fn write_down<H: Copy + Eq + Default>(
     }
 }
 
+/// Writes the candidates of hashes with this home and one of the fingerprints into their slots.
+pub(crate) fn write_home<H: Copy + Eq + Default>(
+    table: &Table<H>,
+    home: usize,
+    fingerprints: [u64; 3],
+    slots: &mut [Slot<H>],
+) {
+    for fingerprint in fingerprints {
+        write_down(table, fingerprint << 56 | home as u64, slots);
+    }
+}
+
 /// Returns the contents of each slot, of entries with one of those fingerprints.
 pub(crate) fn slots_of<H: Copy + Eq + Default>(
     alloc: Global,
@@ -55,11 +63,30 @@ pub(crate) fn slots_of<H: Copy + Eq + Default>(
     let count = (table.capacity() / 3).saturating_mul(4);
     let mut slots = vec![in alloc; None; count]?;
     for home in 0..count {
-        for fingerprint in FINGERPRINTS {
-            write_down(table, fingerprint << 56 | home as u64, &mut slots);
-        }
+        write_home(table, home, FINGERPRINTS, &mut slots);
     }
     Ok(slots)
+}
+
+/// Returns the number of slots that hold a handle.
+fn taken<H: Copy>(slots: &[Slot<H>]) -> usize {
+    let mut taken = 0usize;
+    for slot in slots {
+        if slot.is_some() {
+            taken = taken.saturating_add(1);
+        }
+    }
+    taken
+}
+
+/// Returns what the slot at a position should hold.
+fn wanted_at<H: Copy>(wanted: &[(usize, H, usize)], position: usize) -> Slot<H> {
+    for (slot, handle, past) in wanted {
+        if *slot == position {
+            return Some((*handle, *past));
+        }
+    }
+    None
 }
 
 /// Returns the failure of a test unless the slots hold exactly the wanted handles, each with its slot and
@@ -69,11 +96,9 @@ pub(crate) fn hold<H: Copy + Eq + Debug>(
     wanted: &[(usize, H, usize)],
     shown: &str,
 ) -> Result<(), Fail> {
-    same_at(slots.iter().flatten().count(), wanted.len(), shown)?;
+    same_at(taken(slots), wanted.len(), shown)?;
     for (position, slot) in slots.iter().enumerate() {
-        let cell = wanted.iter().find(|cell| cell.0 == position);
-        let held = cell.map(|cell| (cell.1, cell.2));
-        same_at(*slot, held, (shown, position))?;
+        same_at(*slot, wanted_at(wanted, position), (shown, position))?;
     }
     Ok(())
 }

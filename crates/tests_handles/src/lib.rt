@@ -26,6 +26,8 @@ mod refused;
 #[cfg(test)]
 mod refused_commands;
 #[cfg(test)]
+mod runs;
+#[cfg(test)]
 mod seeded;
 #[cfg(test)]
 mod table_commands;

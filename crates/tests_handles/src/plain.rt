@@ -31,9 +31,11 @@ impl Plain {
     }
 
     pub(crate) fn len(&self) -> usize {
-        self.homes
-            .iter()
-            .fold(0usize, |sum, list| sum.saturating_add(list.len()))
+        let mut sum = 0usize;
+        for list in &self.homes {
+            sum = sum.saturating_add(list.len());
+        }
+        sum
     }
 
     pub(crate) fn capacity(&self) -> usize {
@@ -42,7 +44,14 @@ impl Plain {
 
     /// Returns the entry with this number, home by home.
     pub(crate) fn entry(&self, number: usize) -> Option<Handle> {
-        self.homes.iter().flatten().copied().nth(number)
+        let mut left = number;
+        for list in &self.homes {
+            if left < list.len() {
+                return Some(list[left]);
+            }
+            left = left.saturating_sub(list.len());
+        }
+        None
     }
 
     fn home(&self, hash: u64) -> usize {
@@ -88,17 +97,10 @@ impl Plain {
 
     pub(crate) fn remove(&mut self, hash: u64, handle: Handle) -> bool {
         let home = self.home(hash);
-        let Some(list) = self.homes.get_mut(home) else {
-            return false;
-        };
-        let position = list
-            .iter()
-            .position(|held| is_candidate(held, hash) && *held == handle);
-        let Some(position) = position else {
-            return false;
-        };
-        list.remove(position);
-        true
+        match self.homes.get_mut(home) {
+            Some(list) => remove_from(list, hash, handle),
+            None => false,
+        }
     }
 
     pub(crate) fn reserve(&mut self, additional: usize, asked: &Seen) -> Result<(), TableError> {
@@ -111,7 +113,10 @@ impl Plain {
         let Some(count) = slots_for(entries) else {
             return Err(TableError::Size);
         };
-        self.rebuild(count, asked).map_err(|_| TableError::Memory)
+        match self.rebuild(count, asked) {
+            Ok(()) => Ok(()),
+            Err(_) => Err(TableError::Memory),
+        }
     }
 
     /// Returns the homes that have entries.
@@ -139,26 +144,36 @@ impl Plain {
     /// Returns the number of entries past the end, which are in the first slots: what the last home
     /// hands on to the first.
     fn wrapped(&self) -> usize {
-        let homes = self.homes.iter().chain(self.homes.iter());
-        homes.fold(0, |spill, list| handed_on(spill, list))
+        let mut spill = 0;
+        for list in self.homes.iter().chain(self.homes.iter()) {
+            spill = handed_on(spill, list);
+        }
+        spill
     }
 
     fn make_room(&mut self, asked: &Seen) -> Result<(), AllocError> {
         if self.len() == self.capacity() {
             let count = self.homes.len().saturating_mul(2).max(16);
-            return self.rebuild(count, asked);
+            self.rebuild(count, asked)
+        } else {
+            Ok(())
         }
-        Ok(())
     }
 
     /// Inserts the entries again, from the first slot on.
     fn rebuild(&mut self, count: usize, asked: &Seen) -> Result<(), AllocError> {
-        let mut rebuilt = Plain::with_slots(self.alloc, count)?;
-        for (handle, _) in self.layout()?.iter().flatten() {
-            asked.note(handle.number);
-            rebuilt.put(*handle)?;
+        let slots = self.layout()?;
+        *self = Plain::with_slots(self.alloc, count)?;
+        self.put_each(&slots, asked)
+    }
+
+    fn put_each(&mut self, slots: &[Slot<Handle>], asked: &Seen) -> Result<(), AllocError> {
+        for slot in slots {
+            if let Some((handle, _)) = slot {
+                asked.note(handle.number);
+                self.put(*handle)?;
+            }
         }
-        *self = rebuilt;
         Ok(())
     }
 
@@ -173,9 +188,24 @@ impl Plain {
 
 /// Returns the smallest slot count in which `entries` entries fit, if it can be counted.
 fn slots_for(entries: usize) -> Option<usize> {
-    (4..64u32)
-        .map(|bits| 1usize << bits)
-        .find(|count| count / 4 * 3 >= entries)
+    for bits in 4..64u32 {
+        let count = 1usize << bits;
+        if count / 4 * 3 >= entries {
+            return Some(count);
+        }
+    }
+    None
+}
+
+/// Removes the first candidate of the hash that equals the handle, if there is one.
+fn remove_from(list: &mut Vec<Handle>, hash: u64, handle: Handle) -> bool {
+    for i in 0..list.len() {
+        if is_candidate(&list[i], hash) && list[i] == handle {
+            list.remove(i);
+            return true;
+        }
+    }
+    false
 }
 
 /// Returns true if a lookup of the hash should yield an entry of its home.

@@ -68,12 +68,17 @@ fn take_each(table: &mut Table<u32>, steps: &[(u64, u32, Option<usize>)]) -> Res
     Ok(())
 }
 
+const FOUND: &[(u64, u32, Led)] = &[(15, 1, Led::Found(0)), (0, 3, Led::Found(2))];
+
+fn finds(table: &mut Table<u32>) -> Result<(), Fail> {
+    lead(table, FOUND)?;
+    same(table.len(), 4)?;
+    each_yields(table, &[(15, &[0, 1]), (0, &[2, 3])], "both homes")
+}
+
 #[test]
 fn found_where_they_are(rt: HostRuntime) -> Result<(), Fail> {
-    let mut table = wrapped(rt.alloc())?;
-    lead(&mut table, &[(15, 1, Led::Found(0)), (0, 3, Led::Found(2))])?;
-    same(table.len(), 4)?;
-    each_yields(&table, &[(15, &[0, 1]), (0, &[2, 3])], "both homes")
+    finds(&mut wrapped(rt.alloc())?)
 }
 
 const INSERTED: &[(u64, u32, Led)] = &[
@@ -84,20 +89,25 @@ const INSERTED: &[(u64, u32, Led)] = &[
 
 const YIELDED: Lookups<'static, u32> = &[(15, &[0, 1, 4]), (0, &[2, 3]), (A, &[5])];
 
+fn becomes_six(table: &mut Table<u32>) -> Result<(), Fail> {
+    lead(table, INSERTED)?;
+    each_yields(table, YIELDED, "with two more")
+}
+
 #[test]
 fn inserted_where_they_are_not(rt: HostRuntime) -> Result<(), Fail> {
-    let mut table = wrapped(rt.alloc())?;
-    lead(&mut table, INSERTED)?;
-    each_yields(&table, YIELDED, "with two more")
+    becomes_six(&mut wrapped(rt.alloc())?)
+}
+
+const TAKEN: &[(u64, u32, Option<usize>)] = &[(15, 0, Some(15)), (0, 3, Some(1)), (0, 3, None)];
+
+fn loses_two(table: &mut Table<u32>) -> Result<(), Fail> {
+    take_each(table, TAKEN)?;
+    each_yields(table, &[(15, &[1]), (0, &[2])], "with two less")
 }
 
 #[test]
 fn removed_where_they_are(rt: HostRuntime) -> Result<(), Fail> {
-    let mut table = wrapped(rt.alloc())?;
-    take_each(
-        &mut table,
-        &[(15, 0, Some(15)), (0, 3, Some(1)), (0, 3, None)],
-    )?;
-    each_yields(&table, &[(15, &[1]), (0, &[2])], "with two less")?;
-    same(take(&mut Table::new(rt.alloc()), 0, 3), None)
+    loses_two(&mut wrapped(rt.alloc())?)?;
+    take_each(&mut Table::new(rt.alloc()), &[(0, 3, None)])
 }

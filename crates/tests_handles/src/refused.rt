@@ -2,10 +2,10 @@
 ghost use Rattle.std.specs.Prelude.{◌≡◌, Err, IfOk};
 ghost use Rattle.clock2q_handles.specs.TableStep.{IsHashOf};
 
+use crate::walks::yields;
 use clock2q_handles::{Table, TableError};
 use std::alloc::Global;
 use std::cell::Cell;
-use std::process::Abort;
 use std::test::Fail;
 use testing::{Refusing, same, same_at};
 
@@ -46,13 +46,16 @@ fn construct_in_turn(alloc: &Refusing<Global>) -> Result<u64, Fail> {
     Ok(MANY)
 }
 
+/// Makes tables with requests refused at first.
+fn construct_at_last(alloc: &Refusing<Global>) -> Result<(), Fail> {
+    same(construct_in_turn(alloc)?, REFUSED_TURNS)?;
+    alloc.grant();
+    same(construct(alloc), Ok((24, true)))
+}
+
 #[test]
 fn constructions(rt: HostRuntime) -> Result<(), Fail> {
-    let alloc = Refusing::new(rt.alloc());
-    same(construct_in_turn(&alloc)?, REFUSED_TURNS)?;
-    alloc.grant();
-    same(construct(&alloc), Ok((24, true)))?;
-    Ok(())
+    construct_at_last(&Refusing::new(rt.alloc()))
 }
 
 /// Returns the first candidate of a hash.
@@ -76,99 +79,119 @@ fn read_without_requests(
     same(alloc.requests(), 0)
 }
 
+/// A table that was made for no entries has no slots either.
+fn read_made_for_none(alloc: &Refusing<Global>) -> Result<(), Fail> {
+    read_without_requests(alloc, &mut Table::with_capacity(alloc, 0)?)
+}
+
 /// A table without slots requests nothing, and neither do lookups and removals in it.
 #[test]
 fn no_slots(rt: HostRuntime) -> Result<(), Fail> {
     let alloc = Refusing::new(rt.alloc());
     read_without_requests(&alloc, &mut Table::new(&alloc))?;
-    read_without_requests(&alloc, &mut Table::with_capacity(&alloc, 0)?)
+    read_made_for_none(&alloc)
 }
 
-/// Makes insertions that the table has room for.
-fn insert_two(rt: &impl Abort, table: &mut RefusedTable<'_>) -> Result<(), TableError> {
-    assert!(rt; table.len() < table.capacity());
-    table.insert(5, 5, |_| 0)?;
-    assert!(rt; table.len() < table.capacity());
-    table.insert_within_capacity(6, 6)
+/// Inserts a handle that the table has room for, with and without leave to grow.
+fn insert_with_room(table: &mut RefusedTable<'_>, handle: u64, may_grow: bool) -> Result<(), Fail> {
+    if table.len() >= table.capacity() {
+        return Err(Fail::from("the table is full"));
+    }
+    let outcome = if may_grow {
+        table.insert(handle, handle, |_| 0)
+    } else {
+        table.insert_within_capacity(handle, handle)
+    };
+    same(outcome, Ok(()))
 }
 
 /// Finds any handle under the hash, or inserts one.
-fn find_any(rt: &impl Abort, table: &mut RefusedTable<'_>) -> Result<(u64, bool), TableError> {
-    assert!(rt; table.len() < table.capacity());
-    table.find_or_insert(7, |_| true, 7, |_| 0)
+fn find_any(table: &mut RefusedTable<'_>, wanted: (u64, bool)) -> Result<(), Fail> {
+    if table.len() >= table.capacity() {
+        return Err(Fail::from("the table is full"));
+    }
+    same(table.find_or_insert(7, |_| true, 7, |_| 0), Ok(wanted))
 }
 
-/// Reserves room that is there, advances a lookup to its end, and removes a handle.
-fn read_and_remove(rt: &impl Abort, table: &mut RefusedTable<'_>) -> Result<(), TableError> {
-    assert!(rt; table.len() == 3 && table.capacity() == 12);
-    table.reserve(9, |_| 0)?;
-    let mut walk = table.get(7);
-    while walk.next().is_some() {}
-    assert!(rt; table.remove(6, 6));
-    Ok(())
+/// Reserves room that is there.
+fn reserve_nine(table: &mut RefusedTable<'_>) -> Result<(), Fail> {
+    if table.len() != 3 || table.capacity() != 12 {
+        return Err(Fail::from("the table has other sizes"));
+    }
+    same(table.reserve(9, |_| 0), Ok(()))
 }
 
 /// Makes calls that a table has room for.
-fn call_within_capacity(rt: &impl Abort, table: &mut RefusedTable<'_>) -> Result<(), Fail> {
-    insert_two(rt, table)?;
-    for wanted in [(7, true), (7, false)] {
-        same(find_any(rt, table)?, wanted)?;
-    }
-    read_and_remove(rt, table)?;
-    Ok(())
+fn call_within_capacity(table: &mut RefusedTable<'_>) -> Result<(), Fail> {
+    insert_with_room(table, 5, true)?;
+    insert_with_room(table, 6, false)?;
+    find_any(table, (7, true))?;
+    find_any(table, (7, false))?;
+    reserve_nine(table)?;
+    yields(table.get(7), &[7], "to its end")?;
+    same(table.remove(6, 6), true)
 }
 
 /// Makes these calls with all requests refused.
 fn call_without_requests(
-    rt: &impl Abort,
     alloc: &Refusing<Global>,
     table: &mut RefusedTable<'_>,
 ) -> Result<(), Fail> {
     let made = alloc.requests();
     alloc.refuse_after(0);
-    call_within_capacity(rt, table)?;
+    call_within_capacity(table)?;
     same(alloc.requests(), made)
+}
+
+/// Makes them on a table for twelve entries.
+fn call_on_twelve(alloc: &Refusing<Global>) -> Result<(), Fail> {
+    call_without_requests(alloc, &mut Table::with_capacity(alloc, 12)?)
 }
 
 #[test]
 fn no_requests(rt: HostRuntime) -> Result<(), Fail> {
-    let alloc = Refusing::new(rt.alloc());
-    call_without_requests(&rt, &alloc, &mut Table::with_capacity(&alloc, 12)?)
+    call_on_twelve(&Refusing::new(rt.alloc()))
 }
 
 /// Inserts as many handles as a table of 16 slots holds before it grows, each as its own hash.
-fn fill(rt: &impl Abort, table: &mut RefusedTable<'_>) -> Result<(), TableError>
+fn fill(table: &mut RefusedTable<'_>) -> Result<(), Fail>
     requires keyed { IsHashOf (λ handle. handle) table.old.homes }
     ensures keyed { IfOk result (λ _. IsHashOf (λ handle. handle) table.new.homes) }
 {
     for handle in 0..12 {
-        assert!(rt; table.len() < table.capacity());
+        if table.len() >= table.capacity() {
+            return Err(Fail::from("the table is full"));
+        }
         table.insert_within_capacity(handle, handle)?;
     }
     Ok(())
 }
 
-/// Returns a table with as many handles as it holds before it grows.
-fn full<'a>(rt: &impl Abort, alloc: &'a Refusing<Global>) -> Result<RefusedTable<'a>, TableError>
-    ensures keyed { IfOk result (λ table. IsHashOf (λ handle. handle) table.homes) }
+/// A call of a full table, which grows first.
+#[derive(Clone, Copy)]
+enum Call {
+    /// Inserts the handle 12.
+    Insert,
+    /// Reserves room for a handle.
+    Reserve,
+    /// Finds the handle 5, which is there.
+    Find,
+}
+
+/// The outcome of a call, the number of handles that it offered, and the number whose hash it asked
+/// for. The outcome of a find is the handle, and whether it was inserted.
+type Counted = (Result<Option<(u64, bool)>, TableError>, (u64, u64));
+
+/// Returns the outcome of a call that finds nothing.
+fn found_nothing(outcome: Result<(), TableError>) -> Result<Option<(u64, bool)>, TableError>
+    ensures refused { result ≡ Err TableError.Memory → outcome ≡ Err TableError.Memory }
 {
-    let mut table = Table::with_capacity(alloc, 12)?;
-    fill(rt, &mut table)?;
-    Ok(table)
+    outcome?;
+    Ok(None)
 }
 
-/// Returns the failure of a test unless a full table has kept its memory and its number of handles.
-fn assert_kept(
-    alloc: &Refusing<Global>,
-    held: u64,
-    table: &RefusedTable<'_>,
-    turn: u64,
-) -> Result<(), Fail> {
-    same_at((alloc.held(), table.len()), (held, 12), turn)
-}
-
-/// Inserts a handle, and returns the number of handles whose hash was asked for.
-fn insert_counted(table: &mut RefusedTable<'_>) -> (Result<(), TableError>, u64)
+/// Inserts a handle.
+fn insert_counted(table: &mut RefusedTable<'_>) -> Counted
     requires keyed { IsHashOf (λ handle. handle) table.old.homes }
     ensures kept { result.0 ≡ Err TableError.Memory → table.new ≡ table.old }
 {
@@ -183,48 +206,11 @@ fn insert_counted(table: &mut RefusedTable<'_>) -> (Result<(), TableError>, u64)
             handle
         },
     );
-    (outcome, asked.get())
+    (found_nothing(outcome), (0, asked.get()))
 }
 
-/// Inserts into a full table with requests refused, and returns the turn in which none is.
-fn insert_in_turn(alloc: &Refusing<Global>, table: &mut RefusedTable<'_>) -> Result<u64, Fail>
-    requires keyed { IsHashOf (λ handle. handle) table.old.homes }
-{
-    let held = alloc.held();
-    for turn in 0..MANY {
-        refuse_in(turn, alloc);
-        match insert_counted(table) {
-            (Ok(()), 12) => return Ok(turn),
-            (Err(TableError::Memory), 0) => assert_kept(alloc, held, table, turn)?,
-            _ => return Err(Fail::from("another reply")),
-        }
-    }
-    Ok(MANY)
-}
-
-/// Looks at a table that grew for its thirteenth handle.
-fn look_at_thirteen(table: &RefusedTable<'_>) -> Result<(), Fail> {
-    same((table.len(), table.capacity()), (13, 24))?;
-    same(first_of(table, 12), Some(12))
-}
-
-/// Inserts into a full table, in the turn in which no request is refused.
-fn insert_and_look(alloc: &Refusing<Global>, table: &mut RefusedTable<'_>) -> Result<(), Fail>
-    requires keyed { IsHashOf (λ handle. handle) table.old.homes }
-{
-    same(insert_in_turn(alloc, table)?, REFUSED_TURNS)?;
-    look_at_thirteen(table)
-}
-
-#[test]
-fn insertions(rt: HostRuntime) -> Result<(), Fail> {
-    let alloc = Refusing::new(rt.alloc());
-    let mut table = full(&rt, &alloc)?;
-    insert_and_look(&alloc, &mut table)
-}
-
-/// Reserves room for a handle, and returns the number of handles whose hash was asked for.
-fn reserve_counted(table: &mut RefusedTable<'_>) -> (Result<(), TableError>, u64)
+/// Reserves room for a handle.
+fn reserve_counted(table: &mut RefusedTable<'_>) -> Counted
     requires keyed { IsHashOf (λ handle. handle) table.old.homes }
     ensures kept { result.0 ≡ Err TableError.Memory → table.new ≡ table.old }
 {
@@ -238,51 +224,18 @@ fn reserve_counted(table: &mut RefusedTable<'_>) -> (Result<(), TableError>, u64
             handle
         },
     );
-    (outcome, asked.get())
+    (found_nothing(outcome), (0, asked.get()))
 }
 
-/// Reserves room in a full table with requests refused, and returns the turn in which none is.
-fn reserve_in_turn(alloc: &Refusing<Global>, table: &mut RefusedTable<'_>) -> Result<u64, Fail>
-    requires keyed { IsHashOf (λ handle. handle) table.old.homes }
+/// Returns the outcome of a find.
+fn found(outcome: Result<(u64, bool), TableError>) -> Result<Option<(u64, bool)>, TableError>
+    ensures refused { result ≡ Err TableError.Memory → outcome ≡ Err TableError.Memory }
 {
-    let held = alloc.held();
-    for turn in 0..MANY {
-        refuse_in(turn, alloc);
-        match reserve_counted(table) {
-            (Ok(()), 12) => return Ok(turn),
-            (Err(TableError::Memory), 0) => assert_kept(alloc, held, table, turn)?,
-            _ => return Err(Fail::from("another reply")),
-        }
-    }
-    Ok(MANY)
+    Ok(Some(outcome?))
 }
-
-/// Looks at a table that grew without another handle.
-fn look_at_twelve(table: &RefusedTable<'_>) -> Result<(), Fail> {
-    same((table.len(), table.capacity()), (12, 24))
-}
-
-/// Reserves room in a full table, in the turn in which no request is refused.
-fn reserve_and_look(alloc: &Refusing<Global>, table: &mut RefusedTable<'_>) -> Result<(), Fail>
-    requires keyed { IsHashOf (λ handle. handle) table.old.homes }
-{
-    same(reserve_in_turn(alloc, table)?, REFUSED_TURNS)?;
-    look_at_twelve(table)
-}
-
-#[test]
-fn reservations(rt: HostRuntime) -> Result<(), Fail> {
-    let alloc = Refusing::new(rt.alloc());
-    let mut table = full(&rt, &alloc)?;
-    reserve_and_look(&alloc, &mut table)
-}
-
-/// The outcome of a lookup that inserts, the number of handles that it offered, and the number
-/// whose hash it asked for.
-type Found = (Result<(u64, bool), TableError>, (u64, u64));
 
 /// Finds a handle that is there.
-fn find_counted(table: &mut RefusedTable<'_>) -> Found
+fn find_counted(table: &mut RefusedTable<'_>) -> Counted
     requires keyed { IsHashOf (λ handle. handle) table.old.homes }
     ensures kept { result.0 ≡ Err TableError.Memory → table.new ≡ table.old }
 {
@@ -302,36 +255,95 @@ fn find_counted(table: &mut RefusedTable<'_>) -> Found
             handle
         },
     );
-    (outcome, (offered.get(), asked.get()))
+    (found(outcome), (offered.get(), asked.get()))
 }
 
-/// Finds in a full table with requests refused, and returns the turn in which none is.
-fn find_in_turn(alloc: &Refusing<Global>, table: &mut RefusedTable<'_>) -> Result<u64, Fail>
+/// Makes the call of a full table.
+fn call_counted(call: Call, table: &mut RefusedTable<'_>) -> Counted
+    requires keyed { IsHashOf (λ handle. handle) table.old.homes }
+    ensures kept { result.0 ≡ Err TableError.Memory → table.new ≡ table.old }
+{
+    match call {
+        Call::Insert => insert_counted(table),
+        Call::Reserve => reserve_counted(table),
+        Call::Find => find_counted(table),
+    }
+}
+
+/// A full table has kept its memory and its number of handles.
+fn is_kept(
+    alloc: &Refusing<Global>,
+    held: u64,
+    table: &RefusedTable<'_>,
+    turn: u64,
+) -> Result<(), Fail> {
+    same_at((alloc.held(), table.len()), (held, 12), turn)
+}
+
+/// Makes the call with requests refused, and returns the turn in which none is.
+fn call_in_turn(
+    alloc: &Refusing<Global>,
+    table: &mut RefusedTable<'_>,
+    call: Call,
+    wanted: Counted,
+) -> Result<u64, Fail>
     requires keyed { IsHashOf (λ handle. handle) table.old.homes }
 {
     let held = alloc.held();
     for turn in 0..MANY {
         refuse_in(turn, alloc);
-        match find_counted(table) {
-            (Ok((5, false)), (1, 12)) => return Ok(turn),
-            (Err(TableError::Memory), (0, 0)) => assert_kept(alloc, held, table, turn)?,
-            _ => return Err(Fail::from("another reply")),
-        }
+        let (outcome, numbers) = call_counted(call, table);
+        let Err(TableError::Memory) = outcome else {
+            same_at((outcome, numbers), wanted, turn)?;
+            return Ok(turn);
+        };
+        same_at(numbers, (0, 0), turn)?;
+        is_kept(alloc, held, table, turn)?;
     }
     Ok(MANY)
 }
 
-/// Finds a handle in a full table, in the turn in which no request is refused.
-fn find_and_look(alloc: &Refusing<Global>, table: &mut RefusedTable<'_>) -> Result<(), Fail>
+/// The length and the capacity of a table, and the first candidate of the hash 12.
+type Look = (usize, usize, Option<u64>);
+
+fn look_at(table: &RefusedTable<'_>) -> Look {
+    (table.len(), table.capacity(), first_of(table, 12))
+}
+
+/// Makes the call of a full table in turn, and looks at the table that it leaves.
+fn call_and_look(
+    alloc: &Refusing<Global>,
+    table: &mut RefusedTable<'_>,
+    call: (Call, Counted),
+    left: Look,
+) -> Result<(), Fail>
     requires keyed { IsHashOf (λ handle. handle) table.old.homes }
 {
-    same(find_in_turn(alloc, table)?, REFUSED_TURNS)?;
-    look_at_twelve(table)
+    same(call_in_turn(alloc, table, call.0, call.1)?, REFUSED_TURNS)?;
+    same(look_at(table), left)
+}
+
+/// Does so with a new table.
+fn call_when_full(alloc: &Refusing<Global>, call: (Call, Counted), left: Look) -> Result<(), Fail> {
+    let mut table = Table::with_capacity(alloc, 12)?;
+    fill(&mut table)?;
+    call_and_look(alloc, &mut table, call, left)
+}
+
+#[test]
+fn insertions(rt: HostRuntime) -> Result<(), Fail> {
+    let call = (Call::Insert, (Ok(None), (0, 12)));
+    call_when_full(&Refusing::new(rt.alloc()), call, (13, 24, Some(12)))
+}
+
+#[test]
+fn reservations(rt: HostRuntime) -> Result<(), Fail> {
+    let call = (Call::Reserve, (Ok(None), (0, 12)));
+    call_when_full(&Refusing::new(rt.alloc()), call, (12, 24, None))
 }
 
 #[test]
 fn finds(rt: HostRuntime) -> Result<(), Fail> {
-    let alloc = Refusing::new(rt.alloc());
-    let mut table = full(&rt, &alloc)?;
-    find_and_look(&alloc, &mut table)
+    let call = (Call::Find, (Ok(Some((5, false))), (1, 12)));
+    call_when_full(&Refusing::new(rt.alloc()), call, (12, 24, None))
 }

@@ -1,29 +1,25 @@
 //! Runs of commands to tables whose requests for memory are refused.
-ghost use Rattle.std.specs.Prelude.{◌≡◌};
-
-use clock2q_handles::{Table, TableError};
-use clock2q_table_commands::{TableCommand, TableReply, run_table};
-use std::alloc::{Allocator, Global};
+use crate::runs::replies_of;
+use clock2q_handles::TableError;
+use clock2q_table_commands::{TableCommand, TableReply};
+use std::alloc::{AllocError, Allocator, Global};
 use std::test::Fail;
 use testing::{Refusing, same_at};
 
 type Command<'a> = TableCommand<u64, Vec<u64, &'a Refusing<Global>>>;
 
-/// A handle is its own hash.
-fn hash_of(handle: u64) -> u64
-    ensures { result ≡ handle }
-{
-    handle
+/// Which requests are refused after those that are granted.
+#[derive(Clone, Copy)]
+enum Refused {
+    OnlyTheNext,
+    AllLater,
 }
 
-/// Returns what a new table replies to commands.
-fn replies_of<A: Allocator + Copy>(
-    alloc: A,
-    entries: usize,
-    commands: &[TableCommand<u64, Vec<u64, A>>],
-) -> Result<Vec<TableReply<u64, Vec<u64, A>>, A>, TableError> {
-    let mut table = Table::with_capacity(alloc, entries)?;
-    run_table(alloc, &mut table, hash_of, commands)
+fn refuse(alloc: &Refusing<Global>, granted: u64, refused: Refused) {
+    match refused {
+        Refused::OnlyTheNext => alloc.refuse_one_after(granted),
+        Refused::AllLater => alloc.refuse_after(granted),
+    }
 }
 
 /// Whether room was made; `None` if the reply is neither that nor a refusal for want of memory.
@@ -60,57 +56,71 @@ fn replied<A: Allocator>(replies: &[TableReply<u64, Vec<u64, A>>]) -> Option<(bo
     Some((is_done(reserved)?, is_found(got)?))
 }
 
+/// Whether room was made and the handle found, or why nothing was run.
+type Done = Result<Option<(bool, bool)>, TableError>;
+
 /// The requests are: the table's two vectors, the list of replies, the two vectors of the larger
 /// table, and the list of a lookup.
-fn run_all(alloc: &Refusing<Global>) -> Result<Option<(bool, bool)>, TableError> {
-    let commands: [Command<'_>; 4] = [
+fn four_commands<'a>() -> [Command<'a>; 4] {
+    [
         TableCommand::Insert(0),
         TableCommand::Reserve(20),
         TableCommand::Get(0),
         TableCommand::Remove(0, 0),
-    ];
-    let replies = replies_of(alloc, 1, &commands)?;
+    ]
+}
+
+fn done_by<'a>(alloc: &'a Refusing<Global>, commands: &[Command<'a>]) -> Done {
+    let replies = replies_of(alloc, 1, commands)?;
     Ok(replied(&replies))
+}
+
+/// Runs the four commands with this many requests granted for each case, and compares what was
+/// done.
+fn each_does<'a>(
+    alloc: &'a Refusing<Global>,
+    refused: Refused,
+    commands: &[Command<'a>],
+    cases: &[(u64, Done)],
+) -> Result<(), Fail> {
+    for (granted, wanted) in cases {
+        refuse(alloc, *granted, refused);
+        let done = done_by(alloc, commands);
+        same_at((done, alloc.held()), (*wanted, 0), *granted)?;
+    }
+    Ok(())
 }
 
 /// If a request and all later ones are refused, so are the commands that need them.
 #[test]
 fn all_later_refused(rt: HostRuntime) -> Result<(), Fail> {
+    let cases = [
+        (0, Err(TableError::Memory)),
+        (1, Err(TableError::Memory)),
+        (2, Err(TableError::Memory)),
+        (3, Ok(Some((false, false)))),
+        (4, Ok(Some((false, false)))),
+        (5, Ok(Some((true, false)))),
+        (6, Ok(Some((true, true)))),
+    ];
     let alloc = Refusing::new(rt.alloc());
-    for granted in 0..3 {
-        alloc.refuse_after(granted);
-        same_at(run_all(&alloc), Err(TableError::Memory), granted)?;
-        same_at(alloc.held(), 0, granted)?;
-    }
-    for (granted, wanted) in [
-        (3, (false, false)),
-        (4, (false, false)),
-        (5, (true, false)),
-        (6, (true, true)),
-    ] {
-        alloc.refuse_after(granted);
-        same_at(run_all(&alloc), Ok(Some(wanted)), granted)?;
-        same_at(alloc.held(), 0, granted)?;
-    }
-    Ok(())
+    each_does(&alloc, Refused::AllLater, &four_commands(), &cases)
 }
 
 /// If only one request is refused, the run goes on with what it has. The list of a lookup is
 /// requested again, with less room.
 #[test]
 fn one_refused(rt: HostRuntime) -> Result<(), Fail> {
+    let cases = [
+        (0, Err(TableError::Memory)),
+        (1, Err(TableError::Memory)),
+        (2, Err(TableError::Memory)),
+        (3, Ok(Some((false, true)))),
+        (4, Ok(Some((false, true)))),
+        (5, Ok(Some((true, true)))),
+    ];
     let alloc = Refusing::new(rt.alloc());
-    for granted in 0..3 {
-        alloc.refuse_one_after(granted);
-        same_at(run_all(&alloc), Err(TableError::Memory), granted)?;
-        same_at(alloc.held(), 0, granted)?;
-    }
-    for (granted, wanted) in [(3, (false, true)), (4, (false, true)), (5, (true, true))] {
-        alloc.refuse_one_after(granted);
-        same_at(run_all(&alloc), Ok(Some(wanted)), granted)?;
-        same_at(alloc.held(), 0, granted)?;
-    }
-    Ok(())
+    each_does(&alloc, Refused::OnlyTheNext, &four_commands(), &cases)
 }
 
 /// A reply of a run in which only the handle 1 is looked up.
@@ -178,142 +188,145 @@ fn last_seen<'a>(
     Ok(seen_of_three(&replies))
 }
 
+/// Replies to the last three commands of a run, or why nothing was run.
+type Replied = Result<[Seen; 3], TableError>;
+
+/// Makes a run with this many requests granted for each case, and compares the last replies.
+fn each_sees<'a>(
+    alloc: &'a Refusing<Global>,
+    refused: Refused,
+    (entries, commands): (usize, &[Command<'a>]),
+    cases: &[(u64, Replied)],
+) -> Result<(), Fail> {
+    for (granted, wanted) in cases {
+        refuse(alloc, *granted, refused);
+        let seen = last_seen(alloc, entries, commands);
+        same_at((seen, alloc.held()), (*wanted, 0), *granted)?;
+    }
+    Ok(())
+}
+
 #[test]
 fn insertion_and_all_later_refused(rt: HostRuntime) -> Result<(), Fail> {
-    let alloc = Refusing::new(rt.alloc());
-    for (granted, wanted) in [
+    let cases = [
         (0, Err(TableError::Memory)),
         (1, Ok([Seen::Refused, Seen::Refused, Seen::Absent])),
         (2, Ok([Seen::Refused, Seen::Refused, Seen::Absent])),
         (3, Ok([Seen::Inserted, Seen::New, Seen::Refused])),
         (4, Ok([Seen::Inserted, Seen::New, Seen::Held])),
-    ] {
-        alloc.refuse_after(granted);
-        same_at(last_seen(&alloc, 0, &insert_first(&alloc)), wanted, granted)?;
-        same_at(alloc.held(), 0, granted)?;
-    }
-    Ok(())
+    ];
+    let alloc = Refusing::new(rt.alloc());
+    each_sees(
+        &alloc,
+        Refused::AllLater,
+        (0, &insert_first(&alloc)),
+        &cases,
+    )
 }
 
 #[test]
 fn insertion_alone_refused(rt: HostRuntime) -> Result<(), Fail> {
-    let alloc = Refusing::new(rt.alloc());
-    for (granted, wanted) in [
+    let cases = [
         (0, Err(TableError::Memory)),
         (1, Ok([Seen::Refused, Seen::New, Seen::Held])),
         (2, Ok([Seen::Refused, Seen::New, Seen::Held])),
         (3, Ok([Seen::Inserted, Seen::New, Seen::Held])),
-    ] {
-        alloc.refuse_one_after(granted);
-        same_at(last_seen(&alloc, 0, &insert_first(&alloc)), wanted, granted)?;
-        same_at(alloc.held(), 0, granted)?;
-    }
-    Ok(())
+    ];
+    let alloc = Refusing::new(rt.alloc());
+    each_sees(
+        &alloc,
+        Refused::OnlyTheNext,
+        (0, &insert_first(&alloc)),
+        &cases,
+    )
 }
 
 #[test]
 fn find_and_all_later_refused(rt: HostRuntime) -> Result<(), Fail> {
-    let alloc = Refusing::new(rt.alloc());
-    for (granted, wanted) in [
+    let cases = [
         (0, Err(TableError::Memory)),
         (1, Ok([Seen::Refused, Seen::Refused, Seen::Absent])),
         (2, Ok([Seen::Refused, Seen::Refused, Seen::Absent])),
         (3, Ok([Seen::New, Seen::Inserted, Seen::Refused])),
         (4, Ok([Seen::New, Seen::Inserted, Seen::Held])),
-    ] {
-        alloc.refuse_after(granted);
-        same_at(last_seen(&alloc, 0, &find_first(&alloc)), wanted, granted)?;
-        same_at(alloc.held(), 0, granted)?;
-    }
-    Ok(())
+    ];
+    let alloc = Refusing::new(rt.alloc());
+    each_sees(&alloc, Refused::AllLater, (0, &find_first(&alloc)), &cases)
 }
 
 #[test]
 fn find_alone_refused(rt: HostRuntime) -> Result<(), Fail> {
-    let alloc = Refusing::new(rt.alloc());
-    for (granted, wanted) in [
+    let cases = [
         (0, Err(TableError::Memory)),
         (1, Ok([Seen::Refused, Seen::Inserted, Seen::Absent])),
         (2, Ok([Seen::Refused, Seen::Inserted, Seen::Absent])),
         (3, Ok([Seen::New, Seen::Inserted, Seen::Held])),
-    ] {
-        alloc.refuse_one_after(granted);
-        same_at(last_seen(&alloc, 0, &find_first(&alloc)), wanted, granted)?;
-        same_at(alloc.held(), 0, granted)?;
+    ];
+    let alloc = Refusing::new(rt.alloc());
+    each_sees(
+        &alloc,
+        Refused::OnlyTheNext,
+        (0, &find_first(&alloc)),
+        &cases,
+    )
+}
+
+/// Puts twelve insertions before the commands.
+fn put_twelve_before(commands: &mut Vec<Command<'_>>) -> Result<(), AllocError> {
+    for later in 0..12 {
+        commands.insert(0, TableCommand::Insert(13 - later))?;
     }
     Ok(())
 }
 
-/// Returns twelve insertions followed by three commands.
-fn after_twelve<'a>(alloc: Global, three: [Command<'a>; 3]) -> Result<Vec<Command<'a>>, Fail> {
-    let mut commands = Vec::new(alloc);
-    for handle in 2..14 {
-        commands.push(TableCommand::Insert(handle))?;
-    }
-    for command in three {
-        commands.push(command)?;
-    }
-    Ok(commands)
+/// Does what [`each_sees`] does once twelve entries fill a table made for twelve.
+fn each_sees_in_full<'a>(
+    lists: Global,
+    alloc: &'a Refusing<Global>,
+    refused: Refused,
+    (three, cases): ([Command<'a>; 3], &[(u64, Replied)]),
+) -> Result<(), Fail> {
+    let mut commands = Vec::from_array(lists, three)?;
+    put_twelve_before(&mut commands)?;
+    each_sees(alloc, refused, (12, &commands), cases)
 }
 
-const BOTH_REFUSED: [Seen; 3] = [Seen::Refused, Seen::Refused, Seen::Absent];
-
-/// Twelve entries fill a table made for twelve.
 #[test]
 fn growths_and_all_later_refused(rt: HostRuntime) -> Result<(), Fail> {
+    let inserted = [
+        (3, Ok([Seen::Refused, Seen::Refused, Seen::Absent])),
+        (4, Ok([Seen::Refused, Seen::Refused, Seen::Absent])),
+        (5, Ok([Seen::Inserted, Seen::New, Seen::Refused])),
+        (6, Ok([Seen::Inserted, Seen::New, Seen::Held])),
+    ];
+    let found = [
+        (3, Ok([Seen::Refused, Seen::Refused, Seen::Absent])),
+        (4, Ok([Seen::Refused, Seen::Refused, Seen::Absent])),
+        (5, Ok([Seen::New, Seen::Inserted, Seen::Refused])),
+        (6, Ok([Seen::New, Seen::Inserted, Seen::Held])),
+    ];
     let alloc = Refusing::new(rt.alloc());
-    let inserting = after_twelve(rt.alloc(), insert_first(&alloc))?;
-    let finding = after_twelve(rt.alloc(), find_first(&alloc))?;
-    for (granted, inserted, found) in [
-        (3, BOTH_REFUSED, BOTH_REFUSED),
-        (4, BOTH_REFUSED, BOTH_REFUSED),
-        (
-            5,
-            [Seen::Inserted, Seen::New, Seen::Refused],
-            [Seen::New, Seen::Inserted, Seen::Refused],
-        ),
-        (
-            6,
-            [Seen::Inserted, Seen::New, Seen::Held],
-            [Seen::New, Seen::Inserted, Seen::Held],
-        ),
-    ] {
-        alloc.refuse_after(granted);
-        same_at(last_seen(&alloc, 12, &inserting), Ok(inserted), granted)?;
-        alloc.refuse_after(granted);
-        same_at(last_seen(&alloc, 12, &finding), Ok(found), granted)?;
-        same_at(alloc.held(), 0, granted)?;
-    }
-    Ok(())
+    let inserting = (insert_first(&alloc), inserted.as_slice());
+    each_sees_in_full(rt.alloc(), &alloc, Refused::AllLater, inserting)?;
+    let finding = (find_first(&alloc), found.as_slice());
+    each_sees_in_full(rt.alloc(), &alloc, Refused::AllLater, finding)
 }
 
 #[test]
 fn growths_alone_refused(rt: HostRuntime) -> Result<(), Fail> {
+    let inserted = [
+        (3, Ok([Seen::Refused, Seen::New, Seen::Held])),
+        (4, Ok([Seen::Refused, Seen::New, Seen::Held])),
+        (5, Ok([Seen::Inserted, Seen::New, Seen::Held])),
+    ];
+    let found = [
+        (3, Ok([Seen::Refused, Seen::Inserted, Seen::Absent])),
+        (4, Ok([Seen::Refused, Seen::Inserted, Seen::Absent])),
+        (5, Ok([Seen::New, Seen::Inserted, Seen::Held])),
+    ];
     let alloc = Refusing::new(rt.alloc());
-    let inserting = after_twelve(rt.alloc(), insert_first(&alloc))?;
-    let finding = after_twelve(rt.alloc(), find_first(&alloc))?;
-    for (granted, inserted, found) in [
-        (
-            3,
-            [Seen::Refused, Seen::New, Seen::Held],
-            [Seen::Refused, Seen::Inserted, Seen::Absent],
-        ),
-        (
-            4,
-            [Seen::Refused, Seen::New, Seen::Held],
-            [Seen::Refused, Seen::Inserted, Seen::Absent],
-        ),
-        (
-            5,
-            [Seen::Inserted, Seen::New, Seen::Held],
-            [Seen::New, Seen::Inserted, Seen::Held],
-        ),
-    ] {
-        alloc.refuse_one_after(granted);
-        same_at(last_seen(&alloc, 12, &inserting), Ok(inserted), granted)?;
-        alloc.refuse_one_after(granted);
-        same_at(last_seen(&alloc, 12, &finding), Ok(found), granted)?;
-        same_at(alloc.held(), 0, granted)?;
-    }
-    Ok(())
+    let inserting = (insert_first(&alloc), inserted.as_slice());
+    each_sees_in_full(rt.alloc(), &alloc, Refused::OnlyTheNext, inserting)?;
+    let finding = (find_first(&alloc), found.as_slice());
+    each_sees_in_full(rt.alloc(), &alloc, Refused::OnlyTheNext, finding)
 }

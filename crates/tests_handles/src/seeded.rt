@@ -1,10 +1,10 @@
 //! Seeded lists of calls, whose replies and results are compared with plain lists.
 
 use crate::hashed::{Handle, Hashed, Seen};
-use crate::layout::write_down;
+use crate::layout::{Slot, write_home};
 use crate::plain::Plain;
 use crate::walks::yields;
-use std::alloc::Global;
+use std::alloc::{AllocError, Global};
 use std::test::Fail;
 use testing::{Draws, same_at};
 
@@ -105,6 +105,27 @@ impl DrawnCalls {
     }
 }
 
+/// The handles that closures of a call were called on.
+#[derive(Drop)]
+struct Noted {
+    offered: Seen,
+    asked: Seen,
+}
+
+impl Noted {
+    fn new() -> Noted {
+        Noted {
+            offered: Seen::new(),
+            asked: Seen::new(),
+        }
+    }
+
+    fn is_same(&self, other: &Noted, shown: &str) -> Result<(), Fail> {
+        self.offered.is_same(&other.offered, shown)?;
+        self.asked.is_same(&other.asked, shown)
+    }
+}
+
 /// A table and its plain lists.
 #[derive(Drop)]
 struct Pair {
@@ -123,57 +144,89 @@ impl Pair {
     /// Makes the call of both. The reply is the same, and so are the handles that closures were
     /// called on.
     fn call(&mut self, call: Call, shown: &str) -> Result<(), Fail> {
-        let (offered, asked) = (Seen::new(), Seen::new());
-        let (offers, asks) = (Seen::new(), Seen::new());
+        let (got, wanted) = (Noted::new(), Noted::new());
+        self.reply_is_same(call, &got, &wanted, shown)?;
+        got.is_same(&wanted, shown)
+    }
+
+    fn reply_is_same(
+        &mut self,
+        call: Call,
+        got: &Noted,
+        wanted: &Noted,
+        shown: &str,
+    ) -> Result<(), Fail> {
         match call {
-            Call::Insert(handle) => {
-                let reply = self.tested.insert(handle.hash, handle.number, &asked);
-                same_at(reply, Ok(()), shown)?;
-                self.plain.insert(handle, &asks)?;
-            }
+            Call::Insert(handle) => self.insert(handle, &got.asked, &wanted.asked, shown),
             Call::FindOrInsert(handle, accepted) => {
-                let reply = self
-                    .tested
-                    .find_or_insert(handle, accepted, &offered, &asked);
-                let wanted = self
-                    .plain
-                    .find_or_insert(handle, &[accepted], &offers, &asks)?;
-                same_at(reply, Ok(wanted), shown)?;
+                self.find((handle, accepted), got, wanted, shown)
             }
-            Call::Remove(hash, handle) => {
-                let wanted = self.plain.remove(hash, handle);
-                same_at(self.tested.remove(hash, handle), wanted, shown)?;
-            }
+            Call::Remove(hash, handle) => self.remove(hash, handle, shown),
             Call::Reserve(additional) => {
-                let reply = self.tested.reserve(additional, &asked);
-                same_at(reply, self.plain.reserve(additional, &asks), shown)?;
+                let reply = self.tested.reserve(additional, &got.asked);
+                same_at(reply, self.plain.reserve(additional, &wanted.asked), shown)
             }
-            Call::Get(hash) => self.lookup_is_same(hash, shown)?,
-            Call::Len | Call::Capacity => self.sizes_are_same(shown)?,
+            Call::Get(hash) => self.lookup_is_same(hash, shown),
+            Call::Len | Call::Capacity => self.sizes_are_same(shown),
             Call::IsEmpty => {
                 let wanted = self.plain.len() == 0;
-                same_at(self.tested.table.is_empty(), wanted, shown)?;
+                same_at(self.tested.table.is_empty(), wanted, shown)
             }
         }
-        offered.is_same(&offers, shown)?;
-        asked.is_same(&asks, shown)
+    }
+
+    fn insert(
+        &mut self,
+        handle: Handle,
+        got: &Seen,
+        wanted: &Seen,
+        shown: &str,
+    ) -> Result<(), Fail> {
+        let reply = self.tested.insert(handle.hash, handle.number, got);
+        same_at(reply, Ok(()), shown)?;
+        self.plain.insert(handle, wanted)?;
+        Ok(())
+    }
+
+    fn find(
+        &mut self,
+        (handle, accepted): (Handle, u64),
+        got: &Noted,
+        wanted: &Noted,
+        shown: &str,
+    ) -> Result<(), Fail> {
+        let reply = self
+            .tested
+            .find_or_insert(handle, accepted, &got.offered, &got.asked);
+        let plain = self
+            .plain
+            .find_or_insert(handle, &[accepted], &wanted.offered, &wanted.asked)?;
+        same_at(reply, Ok(plain), shown)
+    }
+
+    fn remove(&mut self, hash: u64, handle: Handle, shown: &str) -> Result<(), Fail> {
+        let wanted = self.plain.remove(hash, handle);
+        same_at(self.tested.remove(hash, handle), wanted, shown)
     }
 
     fn sizes_are_same(&self, shown: &str) -> Result<(), Fail> {
-        same_at(self.tested.table.len(), self.plain.len(), shown)?;
-        same_at(self.tested.table.capacity(), self.plain.capacity(), shown)
+        let sizes = (self.tested.table.len(), self.tested.table.capacity());
+        same_at(sizes, (self.plain.len(), self.plain.capacity()), shown)
+    }
+
+    /// Writes the handles of the table into their slots.
+    fn write_slots(&self, slots: &mut [Slot<Handle>]) -> Result<(), AllocError> {
+        for home in &self.plain.taken_homes()? {
+            write_home(&self.tested.table, *home, FINGERPRINTS, slots);
+        }
+        Ok(())
     }
 
     /// Each slot holds what the lists put there.
     fn slots_are_same(&self, alloc: Global, shown: &str) -> Result<(), Fail> {
         let wanted = self.plain.layout()?;
         let mut slots = vec![in alloc; None; wanted.len()]?;
-        for home in &self.plain.taken_homes()? {
-            for fingerprint in FINGERPRINTS {
-                let hash = fingerprint << 56 | *home as u64;
-                write_down(&self.tested.table, hash, &mut slots);
-            }
-        }
+        self.write_slots(&mut slots)?;
         same_at(slots.as_slice(), wanted.as_slice(), shown)
     }
 
@@ -195,50 +248,63 @@ impl Pair {
         }
         Ok(())
     }
-    /// Compares both after the call with this number.
-    fn compare(
+
+    /// Grows both after some calls, and looks up drawn hashes after others.
+    fn compare_further(
         &mut self,
-        alloc: Global,
         draws: &mut DrawnCalls,
         number: u64,
         shown: &str,
     ) -> Result<(), Fail> {
-        self.sizes_are_same(shown)?;
-        self.slots_are_same(alloc, shown)?;
         if number % (CALLS / 2) == CALLS / 2 - 1 {
             self.order_is_same(shown)?;
         }
         if number % 5 == 4 {
-            self.lookups_are_same(draws, shown)?;
+            self.lookups_are_same(draws, shown)
+        } else {
+            Ok(())
         }
-        Ok(())
     }
 
-    /// Makes the call with this number in a list of both, and compares them.
+    /// Makes the call with this number of both, and compares them.
     fn step(
         &mut self,
         alloc: Global,
         draws: &mut DrawnCalls,
-        (list, number): (u64, u64),
+        (call, number): (Call, u64),
+        shown: &str,
     ) -> Result<(), Fail> {
-        let call = draws.call(number, &self.plain);
-        let shown = format!(in alloc; "list {list}, call {number}: {call:?}")?;
-        self.call(call, shown.as_str())?;
-        self.compare(alloc, draws, number, shown.as_str())
+        self.call(call, shown)?;
+        self.sizes_are_same(shown)?;
+        self.slots_are_same(alloc, shown)?;
+        self.compare_further(draws, number, shown)
     }
+
+    /// Makes a list of drawn calls.
+    fn call_all(&mut self, alloc: Global, draws: &mut DrawnCalls, list: u64) -> Result<(), Fail> {
+        for number in 0..CALLS {
+            let call = draws.call(number, &self.plain);
+            let shown = format!(in alloc; "list {list}, call {number}: {call:?}")?;
+            self.step(alloc, draws, (call, number), shown.as_str())?;
+        }
+        Ok(())
+    }
+}
+
+/// Makes the calls of a list on a new table and on new plain lists.
+fn is_same(alloc: Global, list: u64) -> Result<(), Fail> {
+    let mut draws = DrawnCalls {
+        draws: Draws::new(list),
+        homes: 1 << (list % 4),
+    };
+    let mut pair = Pair::with_capacity(alloc, (list % 3 * 10) as usize)?;
+    pair.call_all(alloc, &mut draws, list)
 }
 
 #[test]
 fn plain_lists(rt: HostRuntime) -> Result<(), Fail> {
     for list in 0..LISTS {
-        let mut draws = DrawnCalls {
-            draws: Draws::new(list),
-            homes: 1 << (list % 4),
-        };
-        let mut pair = Pair::with_capacity(rt.alloc(), (list % 3 * 10) as usize)?;
-        for number in 0..CALLS {
-            pair.step(rt.alloc(), &mut draws, (list, number))?;
-        }
+        is_same(rt.alloc(), list)?;
     }
     Ok(())
 }

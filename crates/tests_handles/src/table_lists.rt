@@ -1,12 +1,11 @@
 //! Seeded lists of commands to a handle table, whose replies are compared with those of plain
 //! lists. Lookups are compared in their whole order. Each handle is its own hash.
-ghost use Rattle.std.specs.Prelude.{◌≡◌};
 
 use crate::hashed::{Handle, Seen};
 use crate::plain::Plain;
-use clock2q_handles::{Table, TableError};
-use clock2q_table_commands::{TableCommand, TableReply, run_table};
-use std::alloc::{AllocError, Allocator, Global};
+use crate::runs::replies_of;
+use clock2q_table_commands::{TableCommand, TableReply};
+use std::alloc::{AllocError, Global};
 use std::test::Fail;
 use testing::{Draws, same_at};
 
@@ -127,30 +126,39 @@ impl Source {
         Ok(handles)
     }
 
+    fn insert(&mut self, handle: u64) -> Result<TableReply<u64>, AllocError> {
+        self.plain.insert(entry_of(handle), &Seen::new())?;
+        Ok(TableReply::Done)
+    }
+
+    fn find(&mut self, handle: u64, accepted: &[u64]) -> Result<TableReply<u64>, AllocError> {
+        let (offered, asked) = (Seen::new(), Seen::new());
+        let entry = entry_of(handle);
+        let (found, is_new) = self
+            .plain
+            .find_or_insert(entry, accepted, &offered, &asked)?;
+        Ok(TableReply::Found(found.number, is_new))
+    }
+
+    fn make_room(&mut self, additional: usize) -> TableReply<u64> {
+        match self.plain.reserve(additional, &Seen::new()) {
+            Ok(()) => TableReply::Done,
+            Err(refusal) => TableReply::Refused(refusal),
+        }
+    }
+
     /// Makes the call of a command on the plain lists, and returns the reply that it should have.
     fn reply(&mut self, command: &TableCommand<u64>) -> Result<TableReply<u64>, AllocError> {
-        let (offered, asked) = (Seen::new(), Seen::new());
-        Ok(match command {
-            TableCommand::Insert(handle) => {
-                self.plain.insert(entry_of(*handle), &asked)?;
-                TableReply::Done
-            }
+        match command {
+            TableCommand::Insert(handle) => self.insert(*handle),
             TableCommand::Remove(hash, handle) => {
-                TableReply::Removed(self.plain.remove(*hash, entry_of(*handle)))
+                let is_removed = self.plain.remove(*hash, entry_of(*handle));
+                Ok(TableReply::Removed(is_removed))
             }
-            TableCommand::Find(handle, accepted) => {
-                let entry = entry_of(*handle);
-                let (found, inserted) = self
-                    .plain
-                    .find_or_insert(entry, accepted, &offered, &asked)?;
-                TableReply::Found(found.number, inserted)
-            }
-            TableCommand::Reserve(additional) => match self.plain.reserve(*additional, &asked) {
-                Ok(()) => TableReply::Done,
-                Err(refusal) => TableReply::Refused(refusal),
-            },
-            TableCommand::Get(hash) => TableReply::Handles(self.candidates(*hash)?),
-        })
+            TableCommand::Find(handle, accepted) => self.find(*handle, accepted),
+            TableCommand::Reserve(additional) => Ok(self.make_room(*additional)),
+            TableCommand::Get(hash) => Ok(TableReply::Handles(self.candidates(*hash)?)),
+        }
     }
 
     /// Returns the commands of a list, each with the reply of the plain lists.
@@ -174,46 +182,39 @@ fn entry_of(handle: u64) -> Handle {
     }
 }
 
-fn hash_of(handle: u64) -> u64
-    ensures { result ≡ handle }
-{
-    handle
-}
-
-/// Returns what a new table replies to commands.
-fn replies_of<A: Allocator + Copy>(
-    alloc: A,
-    handles: usize,
-    commands: &[TableCommand<u64, Vec<u64, A>>],
-) -> Result<Vec<TableReply<u64, Vec<u64, A>>, A>, TableError> {
-    let mut table = Table::with_capacity(alloc, handles)?;
-    run_table(alloc, &mut table, hash_of, commands)
-}
-
 /// Compares each reply with the wanted one.
 fn replies_are(replies: &[TableReply<u64>], list: &List, seed: u64) -> Result<(), Fail> {
     same_at(replies.len(), list.wanted.len(), seed)?;
-    let wanted = list.commands.iter().zip(list.wanted.iter());
-    for (number, (reply, (command, wanted))) in replies.iter().zip(wanted).enumerate() {
-        same_at(reply, wanted, (seed, number, command))?;
+    for number in 0..replies.len() {
+        let at = (seed, number, list.commands.get(number));
+        same_at(replies.get(number), list.wanted.get(number), at)?;
     }
     Ok(())
 }
 
+/// Draws a list for tables with room for this many handles.
+fn list_of(alloc: Global, seed: u64, handles: usize) -> Result<List, AllocError> {
+    let mut source = Source {
+        draws: Draws::new(seed),
+        homes: 1 << (seed % 4),
+        alloc,
+        plain: Plain::with_capacity(alloc, handles)?,
+    };
+    source.list()
+}
+
+/// A new table replies to a list as the plain lists do.
+fn is_answered(alloc: Global, list: &List, handles: usize, seed: u64) -> Result<(), Fail> {
+    let replies = replies_of(alloc, handles, &list.commands)?;
+    replies_are(&replies, list, seed)
+}
+
 #[test]
 fn plain_lists(rt: HostRuntime) -> Result<(), Fail> {
-    let alloc = rt.alloc();
     for seed in 0..LISTS {
         let handles = (seed % 3 * 10) as usize;
-        let mut source = Source {
-            draws: Draws::new(seed),
-            homes: 1 << (seed % 4),
-            alloc,
-            plain: Plain::with_capacity(alloc, handles)?,
-        };
-        let list = source.list()?;
-        let replies = replies_of(alloc, handles, &list.commands)?;
-        replies_are(&replies, &list, seed)?;
+        let list = list_of(rt.alloc(), seed, handles)?;
+        is_answered(rt.alloc(), &list, handles, seed)?;
     }
     Ok(())
 }

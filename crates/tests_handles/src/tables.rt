@@ -35,6 +35,9 @@ pub(crate) fn table_of(alloc: Global, entries: &[(u64, usize)]) -> Result<Table<
 /// Slots, each with its handle and displacement.
 pub(crate) type Layout<'a> = &'a [(usize, usize, usize)];
 
+/// What lookups yield, and the slots.
+type State<'a> = (Lookups<'a, usize>, Layout<'a>);
+
 /// The same of lookups that peek at each candidate first.
 fn each_yields_as_peeked(
     table: &Table<usize>,
@@ -51,20 +54,20 @@ fn each_yields_as_peeked(
 pub(crate) fn is_as(
     alloc: Global,
     table: &Table<usize>,
-    (lookups, layout): (Lookups<'_, usize>, Layout<'_>),
+    (lookups, layout): State<'_>,
     shown: &str,
 ) -> Result<(), Fail> {
     each_yields(table, lookups, shown)?;
     has_layout(alloc, table, layout, shown)
 }
 
-/// A handle is removed: lookups and slots are as the first pair says before, and as the second
-/// says afterwards.
+/// A handle is removed: lookups and slots are as the one state says before, and as the other says
+/// afterwards.
 fn loses(
     alloc: Global,
     table: &mut Table<usize>,
     (hash, handle): (u64, usize),
-    [before, after]: [(Lookups<'_, usize>, Layout<'_>); 2],
+    (before, after): (State<'_>, State<'_>),
 ) -> Result<(), Fail> {
     is_as(alloc, table, before, "before")?;
     same(table.remove(hash, handle), true)?;
@@ -94,22 +97,22 @@ const FOUR_YIELDED: Lookups<'static, usize> = &[
 const FOUR_LAID_OUT: Layout<'static> = &[(5, 0, 0), (6, 1, 1), (7, 3, 2), (8, 2, 2)];
 
 /// The lookup of the first hash once there is one more handle, and the slots.
-const FIVE: (Lookups<'static, usize>, Layout<'static>) = (
+const FIVE: State<'static> = (
     &[(FIRST, &[0, 1, 4])],
     &[(5, 0, 0), (6, 1, 1), (7, 3, 2), (8, 4, 3), (9, 2, 3)],
 );
 
 /// The same once the first handle is removed.
-const THREE: (Lookups<'static, usize>, Layout<'static>) = (
-    &[(FIRST, &[1])],
-    &[(5, 1, 0), (6, 3, 1), (7, 2, 1)],
-);
+const THREE: State<'static> = (&[(FIRST, &[1])], &[(5, 1, 0), (6, 3, 1), (7, 2, 1)]);
+
+fn is_shown(alloc: Global, table: &Table<usize>) -> Result<(), Fail> {
+    let shown = format!(in alloc; "{table:?}")?;
+    same(shown.as_str(), "Table { len: 4, slots: 16 }")
+}
 
 #[test]
 fn debug_text(rt: HostRuntime) -> Result<(), Fail> {
-    let table = table_of(rt.alloc(), FOUR)?;
-    let shown = format!(in rt.alloc(); "{table:?}")?;
-    same(shown.as_str(), "Table { len: 4, slots: 16 }")
+    is_shown(rt.alloc(), &table_of(rt.alloc(), FOUR)?)
 }
 
 /// A fifth handle comes and goes.
@@ -117,7 +120,7 @@ fn comes_and_goes(alloc: Global, table: &mut Table<usize>) -> Result<(), Fail> {
     let four = (FOUR_YIELDED, FOUR_LAID_OUT);
     is_as(alloc, table, four, "four")?;
     put(table, FIRST, 4)?;
-    loses(alloc, table, (FIRST, 4), [FIVE, four])
+    loses(alloc, table, (FIRST, 4), (FIVE, four))
 }
 
 #[test]
@@ -128,7 +131,7 @@ fn four_handles(rt: HostRuntime) -> Result<(), Fail> {
 /// The first handle leaves, and can't leave again.
 fn leaves_once(alloc: Global, table: &mut Table<usize>) -> Result<(), Fail> {
     let four = (FOUR_YIELDED, FOUR_LAID_OUT);
-    loses(alloc, table, (0xAB00_0100_0000_0005, 0), [four, THREE])?;
+    loses(alloc, table, (0xAB00_0100_0000_0005, 0), (four, THREE))?;
     same(table.remove(FIRST, 0), false)?;
     same(table.len(), 3)
 }
@@ -138,22 +141,28 @@ fn four_handles_less_one(rt: HostRuntime) -> Result<(), Fail> {
     leaves_once(rt.alloc(), &mut table_of(rt.alloc(), FOUR)?)
 }
 
+const FIGURE: State<'static> = (
+    &[(4, &[0, 1]), (7, &[3, 4])],
+    &[(4, 0, 0), (5, 1, 1), (6, 2, 1), (7, 3, 0), (8, 4, 1)],
+);
+
+const FIGURE_LESS_ONE: State<'static> = (
+    &[(4, &[0]), (5, &[2])],
+    &[(4, 0, 0), (5, 2, 0), (7, 3, 0), (8, 4, 1)],
+);
+
 #[test]
 fn figure(rt: HostRuntime) -> Result<(), Fail> {
     let mut table = table_of(rt.alloc(), &[(4, 0), (4, 1), (5, 2), (7, 3), (7, 4)])?;
-    let five = [(4, 0, 0), (5, 1, 1), (6, 2, 1), (7, 3, 0), (8, 4, 1)];
-    let four = [(4, 0, 0), (5, 2, 0), (7, 3, 0), (8, 4, 1)];
-    let before: (Lookups<'_, usize>, Layout<'_>) = (&[(4, &[0, 1]), (7, &[3, 4])], &five);
-    let after: (Lookups<'_, usize>, Layout<'_>) = (&[(4, &[0]), (5, &[2])], &four);
-    loses(rt.alloc(), &mut table, (4, 1), [before, after])
+    loses(rt.alloc(), &mut table, (4, 1), (FIGURE, FIGURE_LESS_ONE))
 }
 
-const WRAPPED: (Lookups<'static, usize>, Layout<'static>) = (
+const WRAPPED: State<'static> = (
     &[(14, &[0, 1]), (15, &[2]), (0, &[3, 4])],
     &[(14, 0, 0), (15, 1, 1), (0, 2, 1), (1, 3, 1), (2, 4, 2)],
 );
 
-const WRAPPED_LESS_ONE: (Lookups<'static, usize>, Layout<'static>) = (
+const WRAPPED_LESS_ONE: State<'static> = (
     &[(14, &[1]), (15, &[2]), (0, &[3, 4])],
     &[(14, 1, 0), (15, 2, 0), (0, 3, 0), (1, 4, 1)],
 );
@@ -162,10 +171,10 @@ const WRAPPED_LESS_ONE: (Lookups<'static, usize>, Layout<'static>) = (
 #[test]
 fn wrapped(rt: HostRuntime) -> Result<(), Fail> {
     let mut table = table_of(rt.alloc(), &[(14, 0), (14, 1), (15, 2), (0, 3), (0, 4)])?;
-    loses(rt.alloc(), &mut table, (14, 0), [WRAPPED, WRAPPED_LESS_ONE])
+    loses(rt.alloc(), &mut table, (14, 0), (WRAPPED, WRAPPED_LESS_ONE))
 }
 
-const WRAPPED_OTHERWISE: (Lookups<'static, usize>, Layout<'static>) = (
+const WRAPPED_OTHERWISE: State<'static> = (
     &[(14, &[2, 4]), (15, &[1]), (0, &[0, 3])],
     &[(14, 2, 0), (15, 4, 1), (0, 1, 1), (1, 0, 1), (2, 3, 2)],
 );
@@ -278,22 +287,26 @@ fn unallocated(rt: HostRuntime) -> Result<(), Fail> {
     is_without_slots(&mut Table::new(rt.alloc()))
 }
 
+/// Returns the capacity of a new table for this many entries.
+fn capacity_for(alloc: Global, entries: usize) -> Result<usize, TableError> {
+    let table: Table<usize> = Table::with_capacity(alloc, entries)?;
+    Ok(table.capacity())
+}
+
 #[test]
 fn capacities(rt: HostRuntime) -> Result<(), Fail> {
-    for (entries, capacity) in [(0, 0), (1, 12), (12, 12), (13, 24), (384, 384), (385, 768)] {
-        let table: Table<usize> = Table::with_capacity(rt.alloc(), entries)?;
-        same_at(table.capacity(), capacity, entries)?;
-    }
-    let most = 6_917_529_027_641_081_856;
-    for (entries, error) in [
-        (usize::MAX, TableError::Size),
-        (most, TableError::Memory),
-        (most + 1, TableError::Size),
+    for (entries, wanted) in [
+        (0, Ok(0)),
+        (1, Ok(12)),
+        (12, Ok(12)),
+        (13, Ok(24)),
+        (384, Ok(384)),
+        (385, Ok(768)),
+        (6_917_529_027_641_081_856, Err(TableError::Memory)),
+        (6_917_529_027_641_081_857, Err(TableError::Size)),
+        (usize::MAX, Err(TableError::Size)),
     ] {
-        match Table::<usize>::with_capacity(rt.alloc(), entries) {
-            Ok(_) => assert!(rt; false, "{entries} fit"),
-            Err(refusal) => same_at(refusal, error, entries)?,
-        }
+        same_at(capacity_for(rt.alloc(), entries), wanted, entries)?;
     }
     Ok(())
 }

@@ -14,19 +14,18 @@ pub(crate) type Lookups<'a, H> = &'a [(u64, &'a [H])];
 
 /// Returns the failure of a test unless a walk yields exactly the wanted handles, and `None` from then on. It
 /// peeks twice before each call, which yields the same.
-pub(crate) fn yields_as_peeked<H: Copy + Eq + Default + Debug>(
-    mut walk: Candidates<'_, H>,
-    wanted: &[H],
+pub(crate) fn yields_as_peeked(
+    mut walk: Candidates<'_, usize>,
+    wanted: &[usize],
     shown: &str,
 ) -> Result<(), Fail> {
     for handle in wanted {
-        same_at(walk.peek(), Some(*handle), shown)?;
-        same_at(walk.peek(), Some(*handle), shown)?;
-        same_at(walk.next(), Some(*handle), shown)?;
+        let wanted = Some(*handle);
+        let yielded = (walk.peek(), walk.peek(), walk.next());
+        same_at(yielded, (wanted, wanted, wanted), shown)?;
     }
-    same_at(walk.peek(), None, shown)?;
-    same_at(walk.peek(), None, shown)?;
-    same_at(walk.next(), None, shown)
+    let yielded = (walk.peek(), walk.peek(), walk.next());
+    same_at(yielded, (None, None, None), shown)
 }
 
 /// Returns the failure of a test unless a walk yields exactly the wanted handles, and `None` from then on.
@@ -38,8 +37,7 @@ pub(crate) fn yields<H: Copy + Eq + Default + Debug>(
     for handle in wanted {
         same_at(walk.next(), Some(*handle), shown)?;
     }
-    same_at(walk.next(), None, shown)?;
-    same_at(walk.next(), None, shown)
+    same_at((walk.next(), walk.next()), (None, None), shown)
 }
 
 /// Returns the failure of a test unless the lookup of each hash yields exactly its handles.

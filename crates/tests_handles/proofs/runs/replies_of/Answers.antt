@@ -1,7 +1,7 @@
 use Rattle.std.proofs.Common.{rules, sym, subst}
 use Rattle.clock2q_handles.specs.TableStep.{IsHashOf}
 use Rattle.tests_handles.proofs.Made.{hashes-made}
-use Rattle.tests_handles.proofs.refused_commands.replies_of.Goals as goal
+use Rattle.tests_handles.proofs.runs.replies_of.Goals as goal
 
 pub run_table-requires-clause-hashes : goal.run_table-requires-clause-hashes
 run_table-requires-clause-hashes g c = (
