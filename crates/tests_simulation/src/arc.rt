@@ -1,6 +1,6 @@
 //! ARC over lists.
 
-use crate::queues::{Queue, Searched, hits_of, push, taken};
+use crate::queues::{Queue, Searched, push, taken};
 use std::alloc::{AllocError, Global};
 use std::collections::VecDeque;
 use std::num::nearest_usize_to_f64;
@@ -8,7 +8,7 @@ use std::num::nearest_usize_to_f64;
 /// The lists of ARC, as in its authors' figure: residents accessed once and again, and the keys
 /// evicted from each.
 #[derive(Drop)]
-struct Four {
+pub(crate) struct Four {
     once: Queue,
     again: Queue,
     left_once: Queue,
@@ -20,7 +20,27 @@ fn length(queue: &Queue) -> f64 {
     nearest_usize_to_f64(queue.len())
 }
 
+/// Returns the target after a key came back that had left the list of those accessed once.
+fn raised(target: f64, ratio: f64, most: f64) -> f64 {
+    (target + ratio.max(1.0)).min(most)
+}
+
+/// Returns the target after one came back that had left the other list.
+fn lowered(target: f64, ratio: f64) -> f64 {
+    (target - ratio.max(1.0)).max(0.0)
+}
+
 impl Four {
+    pub(crate) fn new(alloc: Global) -> Four {
+        Four {
+            once: VecDeque::new(alloc),
+            again: VecDeque::new(alloc),
+            left_once: VecDeque::new(alloc),
+            left_again: VecDeque::new(alloc),
+            target: 0.0,
+        }
+    }
+
     fn replace(&mut self, came_from_again: bool) -> Result<(), AllocError> {
         let once = length(&self.once);
         let is_once = once >= 1.0
@@ -40,19 +60,40 @@ impl Four {
     /// Accesses a key again that was evicted from one of the lists.
     fn come_back(&mut self, room: usize, key: u32) -> Result<bool, AllocError> {
         let (once, again) = (length(&self.left_once), length(&self.left_again));
-        let was_again = if taken(&mut self.left_once, key) {
-            let most = nearest_usize_to_f64(room);
-            self.target = (self.target + (again / once).max(1.0)).min(most);
-            false
-        } else if taken(&mut self.left_again, key) {
-            self.target = (self.target - (once / again).max(1.0)).max(0.0);
-            true
-        } else {
+        let was_once = taken(&mut self.left_once, key);
+        let was_again = !was_once && taken(&mut self.left_again, key);
+        if !was_once && !was_again {
             return Ok(false);
+        }
+        self.target = if was_once {
+            raised(self.target, again / once, nearest_usize_to_f64(room))
+        } else {
+            lowered(self.target, once / again)
         };
         self.replace(was_again)?;
         push(&mut self.again, key, 0)?;
         Ok(true)
+    }
+
+    /// Makes room for a key that no list has.
+    fn make_room(&mut self, room: usize) -> Result<(), AllocError> {
+        let known_once = self.once.len().saturating_add(self.left_once.len());
+        let known_again = self.again.len().saturating_add(self.left_again.len());
+        let known = known_once.saturating_add(known_again);
+        if known_once == room && self.left_once.is_empty() {
+            let _ = self.once.pop_front();
+            return Ok(());
+        }
+        if known_once == room {
+            let _ = self.left_once.pop_front();
+        } else if known == room.saturating_mul(2) {
+            let _ = self.left_again.pop_front();
+        }
+        if known >= room {
+            self.replace(false)
+        } else {
+            Ok(())
+        }
     }
 }
 
@@ -62,35 +103,10 @@ impl Searched for Four {
             push(&mut self.again, key, 0)?;
             return Ok(true);
         }
-        if self.come_back(room, key)? {
-            return Ok(false);
+        if !self.come_back(room, key)? {
+            self.make_room(room)?;
+            push(&mut self.once, key, 0)?;
         }
-        let known_once = self.once.len().saturating_add(self.left_once.len());
-        let known_again = self.again.len().saturating_add(self.left_again.len());
-        let known = known_once.saturating_add(known_again);
-        if known_once == room && self.left_once.is_empty() {
-            let _ = self.once.pop_front();
-        } else if known_once == room {
-            let _ = self.left_once.pop_front();
-            self.replace(false)?;
-        } else if known >= room {
-            if known == room.saturating_mul(2) {
-                let _ = self.left_again.pop_front();
-            }
-            self.replace(false)?;
-        }
-        push(&mut self.once, key, 0)?;
         Ok(false)
     }
-}
-
-pub(crate) fn arc_model(alloc: Global, room: usize, trace: &[u32]) -> Result<usize, AllocError> {
-    let lists = Four {
-        once: VecDeque::new(alloc),
-        again: VecDeque::new(alloc),
-        left_once: VecDeque::new(alloc),
-        left_again: VecDeque::new(alloc),
-        target: 0.0,
-    };
-    hits_of(lists, room, trace)
 }

@@ -1,12 +1,12 @@
 //! The program's arguments.
 
+use crate::queues::non_zero;
 use clock2q_cache::MAX_CAPACITY;
 use clock2q_simulation::{
     Amount, ErrorReport, FORMATS_HELP, Format, HELP, Options, POLICIES_HELP, Policy,
     SimulationError, TraceFormat, Unit, help_for, parse_options,
 };
 use std::alloc::Global;
-use std::num::NonZeroUsize;
 use std::test::Fail;
 use testing::{same, same_at};
 
@@ -32,24 +32,29 @@ pub(crate) fn options_of(alloc: Global, line: &str) -> Result<Options<Global>, F
     }
 }
 
-/// Returns the message for a line of refused arguments, and the status.
-fn report_of(alloc: Global, line: &str) -> Result<(String, u8), Fail> {
-    let words = words_of(alloc, line)?;
-    let Err(refusal) = parse_options(alloc, &words) else {
-        return Err(Fail::from("not refused"));
-    };
+/// Checks the message of a refusal, which may be of one of the traces.
+pub(crate) fn has_message(
+    alloc: Global,
+    arguments: &[String],
+    refusal: SimulationError,
+    trace: Option<usize>,
+    wanted: &str,
+) -> Result<(), Fail> {
     let report = ErrorReport {
         refusal,
-        trace: None,
-        arguments: &words,
+        trace,
+        arguments,
     };
-    Ok((format!(in alloc; "{report}")?, refusal.status()))
+    let text = format!(in alloc; "{report}")?;
+    same(text.as_str(), wanted)
 }
 
 /// Checks the message for a line of refused arguments, and the status.
 pub(crate) fn is_refused(alloc: Global, line: &str, wanted: &str, status: u8) -> Result<(), Fail> {
-    let (text, given) = report_of(alloc, line)?;
-    same_at((text.as_str(), given), (wanted, status), line)
+    let words = words_of(alloc, line)?;
+    let refusal = parse_options(alloc, &words).err().ok_or("not refused")?;
+    same_at(refusal.status(), status, line)?;
+    has_message(alloc, &words, refusal, None, wanted)
 }
 
 const NOT_CAPACITY: &str = "not a capacity (1 to 16777215, 1k, 1M, 0.0001% to 100%, or 10..1M)";
@@ -322,13 +327,7 @@ fn traces(rt: HostRuntime) -> Result<(), Fail> {
         ),
         (SimulationError::Memory, "clock2q-simulate: no memory"),
     ] {
-        let report = ErrorReport {
-            refusal,
-            trace: Some(1),
-            arguments: &words,
-        };
-        let text = format!(in rt.alloc(); "{report}")?;
-        same(text.as_str(), wanted)?;
+        has_message(rt.alloc(), &words, refusal, Some(1), wanted)?;
     }
     Ok(())
 }
@@ -410,17 +409,9 @@ const ALL: Amount = Amount {
 
 #[test]
 fn refused_percentage(rt: HostRuntime) -> Result<(), Fail> {
-    let report = ErrorReport {
-        refusal: SimulationError::Capacity(ALL),
-        trace: None,
-        arguments: &[],
-    };
-    let text = format!(in rt.alloc(); "{report}")?;
-    same(
-        text.as_str(),
-        "clock2q-simulate: 100%: a capacity above 16777215",
-    )?;
-    Ok(())
+    let refusal = SimulationError::Capacity(ALL);
+    let wanted = "clock2q-simulate: 100%: a capacity above 16777215";
+    has_message(rt.alloc(), &[], refusal, None, wanted)
 }
 
 /// A percentage is rounded down, but to at least one key.
@@ -464,7 +455,7 @@ fn amounts_show(rt: HostRuntime) -> Result<(), Fail> {
 /// The formats of traces.
 #[test]
 fn formats(rt: HostRuntime) -> Result<(), Fail> {
-    let second = TraceFormat::Csv(NonZeroUsize::new(2).ok_or("not zero")?, None);
+    let second = TraceFormat::Csv(non_zero(2), None);
     for (line, wanted) in [
         ("5", TraceFormat::Lines),
         ("5 --format=lines", TraceFormat::Lines),

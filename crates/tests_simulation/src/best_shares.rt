@@ -1,17 +1,17 @@
 //! The shares that hit most, of those that are tried.
 
 use crate::lru_curve::trace_with;
-use crate::queues::trace_of;
-use crate::texts::written;
+use crate::queues::{non_zero, trace_of};
+use crate::texts::writes;
 use clock2q_cache::MAX_CAPACITY;
 use clock2q_simulation::{ChosenShares, Policy, TRIED_SHARES, Trace, best_shares_of, replay};
 use std::alloc::Global;
 use std::num::NonZeroUsize;
 use std::test::Fail;
-use testing::{same, same_at};
+use testing::same_at;
 
 /// Returns the hits of Clock2Q+ with some shares.
-fn hits_of(
+pub(crate) fn hits_of(
     alloc: Global,
     capacity: NonZeroUsize,
     shares: Option<ChosenShares>,
@@ -41,7 +41,7 @@ fn most_of(
 /// Checks the best shares against a replay with each of those that are tried.
 fn best_are_best(alloc: Global, trace: &Trace<Global>, skipped: usize) -> Result<(), Fail> {
     for room in [1usize, 2, 10, 21, 100, 300] {
-        let capacity = NonZeroUsize::new(room).ok_or("not zero")?;
+        let capacity = non_zero(room);
         let best = best_shares_of(alloc, capacity, &TRIED_SHARES, skipped, trace)?;
         let usual = hits_of(alloc, capacity, None, skipped, trace)?;
         let most = most_of(alloc, capacity, skipped, trace)?.max(usual);
@@ -76,18 +76,11 @@ capacity Clock2Q+     best     gain  shares
        1    33.33    33.33     0.00  usual
 ";
     let line = "1 --policies=clock2q --best-shares";
-    same(
-        written(rt.alloc(), line, input)?.as_slice(),
-        table.as_bytes(),
-    )?;
+    writes(rt.alloc(), line, input, table)?;
     let lines = "\
 capacity,accesses,clock2q_hits,clock2q_ratio,best_hits,best_ratio,best_shares
 1,3,1,0.3333,1,0.3333,\"usual\"
 ";
     let line = "--best-shares 1 --csv --policies=clock2q";
-    same(
-        written(rt.alloc(), line, input)?.as_slice(),
-        lines.as_bytes(),
-    )?;
-    Ok(())
+    writes(rt.alloc(), line, input, lines)
 }

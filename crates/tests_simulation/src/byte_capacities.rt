@@ -1,9 +1,10 @@
 //! Capacities in bytes: which words are some, what is refused, and the hits of LRU and FIFO.
 
 use crate::arguments::{is_refused, options_of};
-use crate::texts::written;
+use crate::queues::non_zero;
+use crate::texts::writes;
 use clock2q_policies::{PlainPolicy, byte_outcomes};
-use clock2q_simulation::{GrowingTrace, Policy, Trace, byte_rows_of, bytes_of};
+use clock2q_simulation::{GrowingTrace, Hits, Policy, Row, Trace, byte_rows_of, bytes_of};
 use std::alloc::Global;
 use std::num::NonZeroUsize;
 use std::test::Fail;
@@ -155,28 +156,115 @@ fn seeded(alloc: Global, seed: u64) -> Result<Trace<Global>, Fail> {
     Ok(growing.finish())
 }
 
+/// Returns the outcomes of a policy in a trace with sizes.
+fn outcomes_of(
+    alloc: Global,
+    policy: PlainPolicy,
+    capacity: usize,
+    trace: &Trace<Global>,
+) -> Result<Vec<bool>, Fail> {
+    if !trace.has_sizes() {
+        return Err(Fail::from("no sizes"));
+    }
+    let keys = u32::try_from(trace.key_count())?;
+    let (numbers, sizes) = (trace.numbers(), trace.sizes());
+    Ok(byte_outcomes(alloc, policy, capacity, numbers, sizes, keys)?)
+}
+
+/// Checks outcomes against those of a list, which is empty at first.
+fn are_of_list(
+    model: &mut Model,
+    policy: PlainPolicy,
+    trace: &Trace<Global>,
+    outcomes: &[bool],
+) -> Result<(), Fail> {
+    for ((outcome, key), size) in outcomes.iter().zip(trace.numbers()).zip(trace.sizes()) {
+        let wanted = model.access(policy, *key, *size)?;
+        same_at(*outcome, wanted, *key)?;
+    }
+    Ok(())
+}
+
+/// Checks the outcomes of a policy in a cache of some capacity.
+fn outcomes_are_same(
+    alloc: Global,
+    policy: PlainPolicy,
+    capacity: usize,
+    trace: &Trace<Global>,
+) -> Result<(), Fail> {
+    let outcomes = outcomes_of(alloc, policy, capacity, trace)?;
+    let held = Vec::new(alloc);
+    are_of_list(&mut Model { held, capacity }, policy, trace, &outcomes)
+}
+
+/// Checks the outcomes of LRU and FIFO in caches of several capacities.
+fn all_outcomes_are_same(alloc: Global, trace: &Trace<Global>) -> Result<(), Fail> {
+    for capacity in [1usize, 400, 501, 3_000, 100_000] {
+        outcomes_are_same(alloc, PlainPolicy::LeastRecentlyUsed, capacity, trace)?;
+        outcomes_are_same(alloc, PlainPolicy::FirstInFirstOut, capacity, trace)?;
+    }
+    Ok(())
+}
+
 /// The outcomes of LRU and FIFO in seeded traces are those of lists.
 #[test]
 fn outcomes(rt: HostRuntime) -> Result<(), Fail> {
-    let alloc = rt.alloc();
     for seed in [2u64, 5, 11] {
-        let trace = seeded(alloc, seed)?;
-        if !trace.has_sizes() {
-            return Err(Fail::from("no sizes"));
+        all_outcomes_are_same(rt.alloc(), &seeded(rt.alloc(), seed)?)?;
+    }
+    Ok(())
+}
+
+/// Counts the hits after the first hundred accesses, and their bytes.
+fn counted(outcomes: &[bool], sizes: &[usize]) -> (usize, usize) {
+    let (mut count, mut bytes) = (0usize, 0usize);
+    for (hit, size) in outcomes.iter().zip(sizes).skip(100) {
+        if *hit {
+            count = count.saturating_add(1);
+            bytes = bytes.saturating_add(*size);
         }
-        let keys = u32::try_from(trace.key_count())?;
-        let (numbers, sizes) = (trace.numbers(), trace.sizes());
-        for capacity in [1usize, 400, 501, 3_000, 100_000] {
-            for policy in [PlainPolicy::LeastRecentlyUsed, PlainPolicy::FirstInFirstOut] {
-                let outcomes = byte_outcomes(alloc, policy, capacity, numbers, sizes, keys)?;
-                let held = Vec::new(alloc);
-                let mut model = Model { held, capacity };
-                for ((outcome, key), size) in outcomes.iter().zip(numbers).zip(sizes) {
-                    let wanted = model.access(policy, *key, *size)?;
-                    same_at(*outcome, wanted, *key)?;
-                }
-            }
-        }
+    }
+    (count, bytes)
+}
+
+/// Checks what a row says of the hits of a policy in a cache of some capacity.
+fn are_counted(
+    alloc: Global,
+    trace: &Trace<Global>,
+    capacity: NonZeroUsize,
+    hits: Hits,
+) -> Result<(), Fail> {
+    let plain = hits.policy.in_bytes().ok_or("not in bytes")?;
+    let outcomes = outcomes_of(alloc, plain, capacity.get(), trace)?;
+    let wanted = counted(&outcomes, trace.sizes());
+    same_at((hits.hits, hits.bytes), wanted, hits.policy.name())
+}
+
+/// Checks the row of a capacity.
+fn is_row(
+    alloc: Global,
+    trace: &Trace<Global>,
+    row: &Row<Global>,
+    capacity: NonZeroUsize,
+) -> Result<(), Fail> {
+    let given = (row.capacity, row.accesses, row.hits.len());
+    same(given, (capacity, 1_400, 2))?;
+    for hits in &row.hits {
+        are_counted(alloc, trace, capacity, *hits)?;
+    }
+    Ok(())
+}
+
+/// Checks the rows of two capacities.
+fn are_rows(
+    alloc: Global,
+    trace: &Trace<Global>,
+    rows: &[Row<Global>],
+    capacities: &[NonZeroUsize],
+) -> Result<(), Fail> {
+    same(rows.len(), 2)?;
+    for (row, capacity) in rows.iter().zip(capacities) {
+        is_row(alloc, trace, row, *capacity)?;
     }
     Ok(())
 }
@@ -189,33 +277,9 @@ fn rows(rt: HostRuntime) -> Result<(), Fail> {
     if !trace.has_sizes() {
         return Err(Fail::from("no sizes"));
     }
-    let mut capacities = Vec::new(alloc);
-    for bytes in [3_000, 800] {
-        capacities.push(NonZeroUsize::new(bytes).ok_or("not zero")?)?;
-    }
-    let keys = u32::try_from(trace.key_count())?;
-    let (numbers, sizes) = (trace.numbers(), trace.sizes());
+    let capacities = [non_zero(3_000), non_zero(800)];
     let rows = byte_rows_of(alloc, &trace, &capacities, &Policy::ALL, 100)?;
-    same(rows.len(), 2)?;
-    for (row, capacity) in rows.iter().zip(&capacities) {
-        same(
-            (row.capacity, row.accesses, row.hits.len()),
-            (*capacity, 1_400, 2),
-        )?;
-        for hits in &row.hits {
-            let plain = hits.policy.in_bytes().ok_or("not in bytes")?;
-            let outcomes = byte_outcomes(alloc, plain, capacity.get(), numbers, sizes, keys)?;
-            let (mut count, mut bytes) = (0usize, 0usize);
-            for (hit, size) in outcomes.iter().zip(sizes).skip(100) {
-                if *hit {
-                    count = count.saturating_add(1);
-                    bytes = bytes.saturating_add(*size);
-                }
-            }
-            same_at((hits.hits, hits.bytes), (count, bytes), hits.policy.name())?;
-        }
-    }
-    Ok(())
+    are_rows(alloc, &trace, &rows, &capacities)
 }
 
 const TRACE: &[u8] = b"t,k,s\n1,a,40\n2,b,60\n3,a,40\n4,c,50\n5,b,60\n6,a,40\n7,d,101\n8,a,40\n";
@@ -232,21 +296,20 @@ capacity      OPT    bytes      LRU    bytes
      1kB        -        -    50.00    41.76
 -: not defined over keys of unequal sizes, as lru and fifo are
 ";
-    let line = format!(in alloc; "100B 2 1kB {SIZED} --policies=opt,lru")?;
-    same(written(alloc, &line, TRACE)?.as_slice(), table.as_bytes())?;
+    let line = "100B 2 1kB --format=csv --column=2 --size-column=3 --policies=opt,lru";
+    writes(alloc, line, TRACE, table)?;
     let lines = "\
 capacity,accesses,bytes,sieve_hits,sieve_ratio,sieve_hit_bytes,sieve_byte_ratio,lru_hits,lru_ratio,lru_hit_bytes,lru_byte_ratio
 100B,8,431,,,,,2,0.2500,80,0.1856
 ";
-    let line = format!(in alloc; "100B --csv {SIZED} --policies=sieve,lru")?;
-    same(written(alloc, &line, TRACE)?.as_slice(), lines.as_bytes())?;
+    let line = "100B --csv --format=csv --column=2 --size-column=3 --policies=sieve,lru";
+    writes(alloc, line, TRACE, lines)?;
     let json = "{\"traces\": [
   {\"trace\": \"-\", \"accesses\": 8, \"bytes\": 431, \"keys\": 4, \"keys_once\": 2, \"skipped\": 0, \"rows\": [
     {\"capacity_bytes\": 100, \"bytes\": 431, \"policies\": {\"lru\": {\"hits\": 2, \"ratio\": 0.2500, \"hit_bytes\": 80, \"byte_ratio\": 0.1856}}}
   ]}
 ]}
 ";
-    let line = format!(in alloc; "100B --json {SIZED} --policies=sieve,lru")?;
-    same(written(alloc, &line, TRACE)?.as_slice(), json.as_bytes())?;
-    Ok(())
+    let line = "100B --json --format=csv --column=2 --size-column=3 --policies=sieve,lru";
+    writes(alloc, line, TRACE, json)
 }

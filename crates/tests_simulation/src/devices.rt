@@ -94,24 +94,27 @@ struct Ended {
     text: Vec<u8>,
 }
 
+/// Returns a device that fails at a call.
+fn failing_at<'a>(
+    alloc: Global,
+    left: &'a [u8],
+    plan: Plan,
+    fails_at: usize,
+) -> Device<Failing<'a>> {
+    Device::new(Failing {
+        left,
+        taken: Vec::new(alloc),
+        step: plan.step,
+        fails_at,
+        kind: plan.kind,
+        calls: 0,
+    })
+}
+
 fn run_with(alloc: Global, line: &str, plan: Plan) -> Result<Ended, Fail> {
     let options = options_of(alloc, line)?;
-    let mut reader = Device::new(Failing {
-        left: TRACE,
-        taken: Vec::new(alloc),
-        step: plan.step,
-        fails_at: plan.reads,
-        kind: plan.kind,
-        calls: 0,
-    });
-    let mut writer = Device::new(Failing {
-        left: b"",
-        taken: Vec::new(alloc),
-        step: plan.step,
-        fails_at: plan.writes,
-        kind: plan.kind,
-        calls: 0,
-    });
+    let mut reader = failing_at(alloc, TRACE, plan, plan.reads);
+    let mut writer = failing_at(alloc, b"", plan, plan.writes);
     let mut progress = Progress::new(Vec::new(alloc), false);
     let hasher = DefaultHashBuilder::new();
     let result = simulate(
@@ -146,8 +149,17 @@ fn each_read_fails(alloc: Global, line: &str, step: usize, kind: ErrorKind) -> R
             kind,
         };
         let ended = run_with(alloc, line, plan)?;
-        same(ended.result, Err(SimulationError::Read))?;
-        same((ended.reads, ended.writes), (reads.saturating_add(1), 0))?;
+        let given = (ended.result, ended.reads, ended.writes);
+        let wanted = (Err(SimulationError::Read), reads.saturating_add(1), 0);
+        same(given, wanted)?;
+    }
+    Ok(())
+}
+
+/// Does so with errors of each kind.
+fn each_kind_of_read_fails(alloc: Global, line: &str, step: usize) -> Result<(), Fail> {
+    for kind in KINDS {
+        each_read_fails(alloc, line, step, kind)?;
     }
     Ok(())
 }
@@ -156,13 +168,10 @@ fn each_read_fails(alloc: Global, line: &str, step: usize, kind: ErrorKind) -> R
 fn failing_reads(rt: HostRuntime) -> Result<(), Fail> {
     for (line, _) in TEXTS {
         for step in [1, 3, 100] {
-            for kind in KINDS {
-                each_read_fails(rt.alloc(), line, step, kind)?;
-            }
+            each_kind_of_read_fails(rt.alloc(), line, step)?;
         }
     }
-    same(SimulationError::Read.status(), 4)?;
-    Ok(())
+    same(SimulationError::Read.status(), 4)
 }
 
 /// Lets each write fail in turn, and then the flush.
@@ -180,10 +189,21 @@ fn each_write_fails(
             kind,
         };
         let ended = run_with(alloc, line, plan)?;
-        same(ended.result, Err(SimulationError::Write))?;
-        same(ended.writes, writes.saturating_add(1))?;
         let taken = text.len().min(writes.saturating_mul(step));
-        same(ended.text.as_slice(), &text.as_bytes()[..taken])?;
+        let given = (ended.result, ended.writes, ended.text.as_slice());
+        let refused = Err(SimulationError::Write);
+        same(
+            given,
+            (refused, writes.saturating_add(1), &text.as_bytes()[..taken]),
+        )?;
+    }
+    Ok(())
+}
+
+/// Does so with errors of each kind.
+fn each_kind_of_write_fails(alloc: Global, of_line: (&str, &str), step: usize) -> Result<(), Fail> {
+    for kind in KINDS {
+        each_write_fails(alloc, of_line, step, kind)?;
     }
     Ok(())
 }
@@ -192,13 +212,10 @@ fn each_write_fails(
 fn failing_writes(rt: HostRuntime) -> Result<(), Fail> {
     for of_line in TEXTS {
         for step in [1, 7, 1000] {
-            for kind in KINDS {
-                each_write_fails(rt.alloc(), of_line, step, kind)?;
-            }
+            each_kind_of_write_fails(rt.alloc(), of_line, step)?;
         }
     }
-    same(SimulationError::Write.status(), 4)?;
-    Ok(())
+    same(SimulationError::Write.status(), 4)
 }
 
 #[test]
@@ -211,8 +228,10 @@ fn nothing_fails(rt: HostRuntime) -> Result<(), Fail> {
             kind: ErrorKind::Other,
         };
         let ended = run_with(rt.alloc(), line, plan)?;
-        same(ended.result, Ok(()))?;
-        same(ended.text.as_slice(), text.as_bytes())?;
+        same(
+            (ended.result, ended.text.as_slice()),
+            (Ok(()), text.as_bytes()),
+        )?;
     }
     Ok(())
 }

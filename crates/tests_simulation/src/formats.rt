@@ -1,9 +1,9 @@
 //! Traces in each format, and those that aren't in it.
 
-use crate::arguments::{options_of, words_of};
+use crate::arguments::{has_message, options_of, words_of};
 use clock2q_cache::DefaultHashBuilder;
 use clock2q_ports::Device;
-use clock2q_simulation::{ErrorReport, Progress, SimulationError, Trace, read_trace, simulate};
+use clock2q_simulation::{Progress, SimulationError, Trace, read_trace, simulate};
 use std::alloc::Global;
 use std::io::{Read, Result as IoResult};
 use std::test::Fail;
@@ -120,14 +120,19 @@ fn refused_lines(rt: HostRuntime) -> Result<(), Fail> {
 
 const ORACLE: &str = "5 --format=oracleGeneral";
 
+/// Adds a record with an id, whose other bytes are all the same.
+fn push_record(bytes: &mut Vec<u8>, id: u64, other: u8) -> Result<(), Fail> {
+    bytes.extend_from_slice(&[other; 4])?;
+    bytes.extend_from_slice(&id.to_le_bytes())?;
+    Ok(bytes.extend_from_slice(&[other; 12])?)
+}
+
 /// Writes records with these ids, whose other fields are all different.
 fn records_of(alloc: Global, ids: &[u64]) -> Result<Vec<u8>, Fail> {
     let mut bytes = Vec::new(alloc);
     let mut other = 1u8;
     for id in ids {
-        bytes.extend_from_slice(&[other; 4])?;
-        bytes.extend_from_slice(&id.to_le_bytes())?;
-        bytes.extend_from_slice(&[other; 12])?;
+        push_record(&mut bytes, *id, other)?;
         other = other.wrapping_add(1);
     }
     Ok(bytes)
@@ -175,13 +180,7 @@ fn reports(rt: HostRuntime) -> Result<(), Fail> {
             "clock2q-simulate: -: offset 48: less than the 24 bytes of a record",
         ),
     ] {
-        let report = ErrorReport {
-            refusal,
-            trace,
-            arguments: &words,
-        };
-        let text = format!(in rt.alloc(); "{report}")?;
-        same(text.as_str(), wanted)?;
+        has_message(rt.alloc(), &words, refusal, trace, wanted)?;
     }
     Ok(())
 }

@@ -1,11 +1,26 @@
 //! Hits worked out by hand.
 
+use crate::best_shares::hits_of;
 use crate::numbers::trace_of;
-use clock2q_simulation::{ChosenShares, Policy, SimulationError, Trace, replay};
+use crate::queues::non_zero;
+use clock2q_simulation::{ChosenShares, Policy, Row, SimulationError, Trace, replay};
 use std::alloc::Global;
 use std::num::NonZeroUsize;
 use std::test::Fail;
-use testing::same;
+use testing::{same, same_at};
+
+/// Checks a row: its number of accesses, and the hits of each policy.
+pub(crate) fn has_hits(
+    alloc: Global,
+    row: &Row<Global>,
+    capacity: NonZeroUsize,
+    accesses: usize,
+    wanted: &[usize],
+) -> Result<(), Fail> {
+    let hits: Vec<usize> = row.hits.iter().map(|hits| hits.hits).collect(alloc)?;
+    let given = (row.capacity, row.accesses, hits.as_slice());
+    same(given, (capacity, accesses, wanted))
+}
 
 /// Checks the hits of Clock2Q+, LRU and FIFO in a cache of some capacity.
 fn hits_are(
@@ -19,12 +34,9 @@ fn hits_are(
         Policy::LeastRecentlyUsed,
         Policy::FirstInFirstOut,
     ];
-    let capacity = NonZeroUsize::new(capacity).ok_or("not zero")?;
+    let capacity = non_zero(capacity);
     let row = replay(alloc, capacity, &policies, None, 0, trace)?;
-    same((row.capacity, row.accesses), (capacity, 8))?;
-    let hits: Vec<usize> = row.hits.iter().map(|hits| hits.hits).collect(alloc)?;
-    same(hits.as_slice(), wanted)?;
-    Ok(())
+    has_hits(alloc, &row, capacity, 8, wanted)
 }
 
 #[test]
@@ -47,32 +59,29 @@ fn hits_of_each_policy(rt: HostRuntime) -> Result<(), Fail> {
 #[test]
 fn hits_of_chosen_shares(rt: HostRuntime) -> Result<(), Fail> {
     let trace = trace_of(rt.alloc(), b"a\nb\nc\nd\na\ne\na\n")?;
-    let capacity = NonZeroUsize::new(4).ok_or("not zero")?;
-    for (shares, wanted) in [("small=0,window=0", 2), ("window=3,small=3", 1)] {
-        let shares = ChosenShares::written(shares).ok_or("no shares")?;
-        let row = replay(
-            rt.alloc(),
-            capacity,
-            &[Policy::Clock2Q],
-            Some(shares),
-            0,
-            &trace,
-        )?;
-        same(row.hits.first().map(|hits| hits.hits), Some(wanted))?;
+    for (word, wanted) in [("small=0,window=0", 2), ("window=3,small=3", 1)] {
+        let shares = ChosenShares::written(word);
+        let hits = hits_of(rt.alloc(), non_zero(4), shares, 0, &trace)?;
+        same_at((shares.is_some(), hits), (true, wanted), word)?;
     }
     Ok(())
+}
+
+/// Checks that the usual shares of a small cache change nothing if they are written.
+fn usual_are_same(alloc: Global, trace: &Trace<Global>, capacity: usize) -> Result<(), Fail> {
+    let (room, policies) = (non_zero(capacity), [Policy::Clock2Q]);
+    let shares = ChosenShares::written("small=1,window=1");
+    let written = replay(alloc, room, &policies, shares, 0, trace)?;
+    let usual = replay(alloc, room, &policies, None, 0, trace)?;
+    let given = (shares.is_some(), written.hits.as_slice());
+    same_at(given, (true, usual.hits.as_slice()), capacity)
 }
 
 #[test]
 fn usual_shares_written(rt: HostRuntime) -> Result<(), Fail> {
     let trace = trace_of(rt.alloc(), b"a\nb\na\nc\nb\nd\na\nb\n")?;
-    let usual = ChosenShares::written("small=1,window=1").ok_or("no shares")?;
     for capacity in 2..5 {
-        let capacity = NonZeroUsize::new(capacity).ok_or("not zero")?;
-        let policies = [Policy::Clock2Q];
-        let chosen = replay(rt.alloc(), capacity, &policies, Some(usual), 0, &trace)?;
-        let row = replay(rt.alloc(), capacity, &policies, None, 0, &trace)?;
-        same(chosen.hits.as_slice(), row.hits.as_slice())?;
+        usual_are_same(rt.alloc(), &trace, capacity)?;
     }
     Ok(())
 }
@@ -80,7 +89,7 @@ fn usual_shares_written(rt: HostRuntime) -> Result<(), Fail> {
 #[test]
 fn shares_that_do_not_fit(rt: HostRuntime) -> Result<(), Fail> {
     let trace = trace_of(rt.alloc(), b"a\n")?;
-    for (shares, capacity) in [
+    for (word, capacity) in [
         ("small=4,window=1", 4),
         ("small=2,window=3", 4),
         ("small=0,window=1", 4),
@@ -88,19 +97,26 @@ fn shares_that_do_not_fit(rt: HostRuntime) -> Result<(), Fail> {
         ("small=100%,window=1%", 4),
         ("small=10%,window=50%", 1),
     ] {
-        let shares = ChosenShares::written(shares).ok_or("no shares")?;
-        let room = NonZeroUsize::new(capacity).ok_or("not zero")?;
-        let refused = replay(
-            rt.alloc(),
-            room,
-            &[Policy::Clock2Q],
-            Some(shares),
-            0,
-            &trace,
-        );
-        same(refused.err(), Some(SimulationError::Shares(capacity)))?;
+        let shares = ChosenShares::written(word);
+        let (room, policies) = (non_zero(capacity), [Policy::Clock2Q]);
+        let refusal = replay(rt.alloc(), room, &policies, shares, 0, &trace).err();
+        let wanted = Some(SimulationError::Shares(capacity));
+        same_at((shares.is_some(), refusal), (true, wanted), word)?;
     }
     Ok(())
+}
+
+/// Checks the hits of LRU and OPT after skipped accesses in a cache for three keys.
+fn has_hits_after(
+    alloc: Global,
+    trace: &Trace<Global>,
+    skipped: usize,
+    accesses: usize,
+    wanted: &[usize],
+) -> Result<(), Fail> {
+    let policies = [Policy::LeastRecentlyUsed, Policy::Optimal];
+    let row = replay(alloc, non_zero(3), &policies, None, skipped, trace)?;
+    has_hits(alloc, &row, non_zero(3), accesses, wanted)
 }
 
 /// The hits that remain if the first accesses only warm the cache, with OPT too, whose hits among
@@ -108,8 +124,6 @@ fn shares_that_do_not_fit(rt: HostRuntime) -> Result<(), Fail> {
 #[test]
 fn skipped_accesses(rt: HostRuntime) -> Result<(), Fail> {
     let trace = trace_of(rt.alloc(), b"a\nb\na\nc\nb\nd\na\nb\n")?;
-    let capacity = NonZeroUsize::new(3).ok_or("not zero")?;
-    let policies = [Policy::LeastRecentlyUsed, Policy::Optimal];
     for (skipped, accesses, wanted) in [
         (0, 8, [3, 4]),
         (2, 6, [3, 4]),
@@ -118,10 +132,7 @@ fn skipped_accesses(rt: HostRuntime) -> Result<(), Fail> {
         (8, 0, [0, 0]),
         (9, 0, [0, 0]),
     ] {
-        let row = replay(rt.alloc(), capacity, &policies, None, skipped, &trace)?;
-        let hits: Vec<usize> = row.hits.iter().map(|hits| hits.hits).collect(rt.alloc())?;
-        same(hits.as_slice(), wanted.as_slice())?;
-        same(row.accesses, accesses)?;
+        has_hits_after(rt.alloc(), &trace, skipped, accesses, &wanted)?;
     }
     Ok(())
 }

@@ -11,6 +11,8 @@ mod best_shares;
 #[cfg(test)]
 mod byte_capacities;
 #[cfg(test)]
+mod byte_hits;
+#[cfg(test)]
 mod devices;
 #[cfg(test)]
 mod formats;

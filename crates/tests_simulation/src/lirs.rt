@@ -1,6 +1,6 @@
 //! LIRS over lists.
 
-use crate::queues::{Queue, Searched, hits_of, push, taken};
+use crate::queues::{Queue, Searched, push, taken};
 use std::alloc::{AllocError, Global};
 use std::collections::VecDeque;
 
@@ -9,12 +9,19 @@ const LOW: u8 = 1;
 
 /// The stack, from its bottom, and the queue of residents that are high.
 #[derive(Drop)]
-struct Recencies {
+pub(crate) struct Recencies {
     stack: Queue,
     queue: Queue,
 }
 
 impl Recencies {
+    pub(crate) fn new(alloc: Global) -> Recencies {
+        Recencies {
+            stack: VecDeque::new(alloc),
+            queue: VecDeque::new(alloc),
+        }
+    }
+
     fn low(&self) -> usize {
         self.stack.iter().filter(|(_, mark)| *mark == LOW).count()
     }
@@ -65,12 +72,4 @@ impl Searched for Recencies {
         }
         Ok(is_hit)
     }
-}
-
-pub(crate) fn lirs_model(alloc: Global, room: usize, trace: &[u32]) -> Result<usize, AllocError> {
-    let recencies = Recencies {
-        stack: VecDeque::new(alloc),
-        queue: VecDeque::new(alloc),
-    };
-    hits_of(recencies, room, trace)
 }

@@ -1,12 +1,12 @@
 //! LRU-2 over a list of residents that is searched for the one to evict.
 
-use crate::queues::{Queue, Searched, has, hits_of, push};
+use crate::queues::{Queue, Searched, has, push};
 use std::alloc::{AllocError, Global};
 use std::collections::VecDeque;
 
 /// The residents, and the last two accesses of each key: 0 if there was none.
 #[derive(Drop)]
-struct Histories {
+pub(crate) struct Histories {
     residents: Queue,
     last: Vec<u64>,
     before: Vec<u64>,
@@ -14,6 +14,15 @@ struct Histories {
 }
 
 impl Histories {
+    pub(crate) fn new(alloc: Global, keys: u32) -> Result<Histories, AllocError> {
+        Ok(Histories {
+            residents: VecDeque::new(alloc),
+            last: vec![in alloc; 0u64; keys as usize]?,
+            before: vec![in alloc; 0u64; keys as usize]?,
+            now: 0,
+        })
+    }
+
     fn evict(&mut self) {
         let mut oldest = (u64::MAX, u64::MAX);
         let mut place = 0;
@@ -47,19 +56,4 @@ impl Searched for Histories {
         }
         Ok(is_hit)
     }
-}
-
-pub(crate) fn lru_2_model(
-    alloc: Global,
-    room: usize,
-    trace: &[u32],
-    keys: u32,
-) -> Result<usize, AllocError> {
-    let histories = Histories {
-        residents: VecDeque::new(alloc),
-        last: vec![in alloc; 0u64; keys as usize]?,
-        before: vec![in alloc; 0u64; keys as usize]?,
-        now: 0,
-    };
-    hits_of(histories, room, trace)
 }

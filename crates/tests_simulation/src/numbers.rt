@@ -53,23 +53,27 @@ fn keys_that_begin_others(rt: HostRuntime) -> Result<(), Fail> {
 
 #[test]
 fn long_keys_differ_in_their_last_byte(rt: HostRuntime) -> Result<(), Fail> {
-    let mut input = vec![in rt.alloc(); b'k'; 100_000]?;
-    input.push(b'\n')?;
-    for _ in 0..100_000 {
-        input.push(b'k')?;
+    let mut input = vec![in rt.alloc(); b'k'; 200_003]?;
+    for end in [100_000, 200_002] {
+        if let Some(byte) = input.get_mut(end) {
+            *byte = b'\n';
+        }
     }
-    input.extend_from_slice(b"k\n")?;
     let trace = trace_of(rt.alloc(), &input)?;
-    same(trace.numbers(), [0, 1].as_slice())?;
-    Ok(())
+    same(trace.numbers(), [0, 1].as_slice())
+}
+
+/// Adds a line with a number.
+fn push_line(alloc: Global, lines: &mut Vec<u8>, number: u32) -> Result<(), Fail> {
+    let line = format!(in alloc; "{number}\n")?;
+    Ok(lines.extend_from_slice(line.as_bytes())?)
 }
 
 /// Returns 65,537 keys, more than 16 bits can number, each twice: first ascending, then descending.
 fn many_lines(alloc: Global) -> Result<Vec<u8>, Fail> {
     let mut input = Vec::new(alloc);
     for key in (0..65_537u32).chain((0..65_537).rev()) {
-        let line = format!(in alloc; "{key}\n")?;
-        input.extend_from_slice(line.as_bytes())?;
+        push_line(alloc, &mut input, key)?;
     }
     Ok(input)
 }

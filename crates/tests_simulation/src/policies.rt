@@ -1,20 +1,22 @@
 //! Tests against lists that are searched and shifted, over traces of several kinds.
 
-use crate::arc::arc_model;
-use crate::lirs::lirs_model;
-use crate::lru_2::lru_2_model;
-use crate::queues::{Queue, evict_unmarked, marked, push, trace_of};
-use crate::s3_fifo::s3_fifo_model;
-use crate::two_q::two_q_model;
-use crate::w_tiny_lfu::w_tiny_lfu_model;
+use crate::arc::Four;
+use crate::lirs::Recencies;
+use crate::lru_2::Histories;
+use crate::lru_curve::trace_with;
+use crate::queues::{Queue, evict_unmarked, hits_of, marked, non_zero, push, trace_of};
+use crate::s3_fifo::Three;
+use crate::two_q::Queues;
+use crate::w_tiny_lfu::Segments;
 use clock2q_policies::tested::{
     arc_outcomes, lirs_outcomes, lru_2_outcomes, s3_fifo_outcomes, sieve_outcomes, two_q_outcomes,
     w_tiny_lfu_outcomes,
 };
 use clock2q_policies::{PlainPolicy, optimal_hits, optimal_outcomes, plain_hits, plain_outcomes};
-use clock2q_simulation::{GrowingTrace, Policy, Trace, clock_outcomes, replay};
+use clock2q_simulation::{Policy, clock_outcomes, replay};
 use std::alloc::{AllocError, Global};
 use std::collections::VecDeque;
+use std::fmt::Debug;
 use std::num::NonZeroUsize;
 use std::test::Fail;
 use testing::{same, same_at};
@@ -112,26 +114,46 @@ fn count(outcomes: &[bool]) -> usize {
     outcomes.iter().filter(|hit| **hit).count()
 }
 
-/// Checks that each policy's hits are those of its lists, in a cache of some capacity.
-fn hits_are_same(alloc: Global, capacity: NonZeroUsize, trace: &[u32]) -> Result<(), Fail> {
-    let room = capacity.get();
-    let clock = count(&clock_outcomes(alloc, capacity, trace)?);
-    same_at(clock, clock_model(alloc, room, trace)?, ("CLOCK", room))?;
-    let sieve = count(&sieve_outcomes(alloc, capacity, trace, KEYS)?);
-    same_at(sieve, sieve_model(alloc, room, trace)?, ("SIEVE", room))?;
-    let s3_fifo = count(&s3_fifo_outcomes(alloc, capacity, trace, KEYS)?);
-    let model = s3_fifo_model(alloc, room, trace)?;
-    same_at(s3_fifo, model, ("S3-FIFO", room))?;
-    let arc = count(&arc_outcomes(alloc, capacity, trace, KEYS)?);
-    same_at(arc, arc_model(alloc, room, trace)?, ("ARC", room))?;
-    let optimal = optimal_is_same(alloc, capacity, trace)?;
-    let most = hits_of_more_are_same(alloc, capacity, trace, KEYS)?;
-    let most = most.max(clock).max(sieve).max(s3_fifo).max(arc);
-    same_at(most <= optimal, true, ("OPT", room))?;
-    Ok(())
+/// Checks that a policy's hits are those of its lists. Returns them.
+fn same_hits<E: Debug + Drop>(
+    outcomes: Result<Vec<bool>, E>,
+    wanted: Result<usize, AllocError>,
+    at: (&str, usize),
+) -> Result<usize, Fail> {
+    let hits = count(&outcomes?);
+    same_at(hits, wanted?, at)?;
+    Ok(hits)
 }
 
-/// Does the same for the policies that remember more about a key. Returns their most hits.
+/// Checks that the hits of policies that remember little about a key are those of their lists, in a
+/// cache of some capacity. Returns the most.
+fn hits_of_few_are_same(
+    alloc: Global,
+    capacity: NonZeroUsize,
+    trace: &[u32],
+    keys: u32,
+) -> Result<usize, Fail> {
+    let room = capacity.get();
+    let outcomes = clock_outcomes(alloc, capacity, trace);
+    let clock = same_hits(outcomes, clock_model(alloc, room, trace), ("CLOCK", room))?;
+    let outcomes = sieve_outcomes(alloc, capacity, trace, keys);
+    let sieve = same_hits(outcomes, sieve_model(alloc, room, trace), ("SIEVE", room))?;
+    let outcomes = s3_fifo_outcomes(alloc, capacity, trace, keys);
+    let s3_fifo = same_hits(
+        outcomes,
+        hits_of(Three::new(alloc), room, trace),
+        ("S3-FIFO", room),
+    )?;
+    let outcomes = arc_outcomes(alloc, capacity, trace, keys);
+    let arc = same_hits(
+        outcomes,
+        hits_of(Four::new(alloc), room, trace),
+        ("ARC", room),
+    )?;
+    Ok(clock.max(sieve).max(s3_fifo).max(arc))
+}
+
+/// Does the same for the policies that remember more about a key.
 fn hits_of_more_are_same(
     alloc: Global,
     capacity: NonZeroUsize,
@@ -139,44 +161,51 @@ fn hits_of_more_are_same(
     keys: u32,
 ) -> Result<usize, Fail> {
     let room = capacity.get();
-    let two_q = count(&two_q_outcomes(alloc, capacity, trace, keys)?);
-    same_at(two_q, two_q_model(alloc, room, trace)?, ("2Q", room))?;
-    let lirs = count(&lirs_outcomes(alloc, capacity, trace, keys)?);
-    same_at(lirs, lirs_model(alloc, room, trace)?, ("LIRS", room))?;
-    let lru_2 = count(&lru_2_outcomes(alloc, capacity, trace, keys)?);
-    let model = lru_2_model(alloc, room, trace, keys)?;
-    same_at(lru_2, model, ("LRU-2", room))?;
-    let w_tiny_lfu = count(&w_tiny_lfu_outcomes(alloc, capacity, trace, keys)?);
-    let model = w_tiny_lfu_model(alloc, room, trace)?;
-    same_at(w_tiny_lfu, model, ("W-TinyLFU", room))?;
+    let outcomes = two_q_outcomes(alloc, capacity, trace, keys);
+    let two_q = same_hits(
+        outcomes,
+        hits_of(Queues::new(alloc), room, trace),
+        ("2Q", room),
+    )?;
+    let outcomes = lirs_outcomes(alloc, capacity, trace, keys);
+    let lirs = same_hits(
+        outcomes,
+        hits_of(Recencies::new(alloc), room, trace),
+        ("LIRS", room),
+    )?;
+    let lists = Histories::new(alloc, keys)?;
+    let outcomes = lru_2_outcomes(alloc, capacity, trace, keys);
+    let lru_2 = same_hits(outcomes, hits_of(lists, room, trace), ("LRU-2", room))?;
+    let lists = Segments::new(alloc, room)?;
+    let outcomes = w_tiny_lfu_outcomes(alloc, capacity, trace, keys);
+    let w_tiny_lfu = same_hits(outcomes, hits_of(lists, room, trace), ("W-TinyLFU", room))?;
     Ok(two_q.max(lirs).max(lru_2).max(w_tiny_lfu))
 }
 
-/// Returns the trace of these keys.
-fn numbered(alloc: Global, keys: &[u32]) -> Result<Trace<Global>, Fail> {
-    let mut growing = GrowingTrace::new(alloc);
-    for key in keys {
-        growing.push(&key.to_le_bytes())?;
-    }
-    Ok(growing.finish())
+/// Returns the most hits that a cache of some capacity can have.
+fn most_hits(alloc: Global, capacity: NonZeroUsize, keys: &[u32]) -> Result<usize, Fail> {
+    let trace = trace_with(alloc, keys)?;
+    let row = replay(alloc, capacity, &[Policy::Optimal], None, 0, &trace)?;
+    Ok(row.hits.first().map_or(0, |hits| hits.hits))
 }
 
 /// Checks the most hits by a list that is searched for the key that the trace needs last. Returns
 /// them.
 fn optimal_is_same(alloc: Global, capacity: NonZeroUsize, keys: &[u32]) -> Result<usize, Fail> {
     let room = capacity.get();
-    let trace = numbered(alloc, keys)?;
-    let row = replay(alloc, capacity, &[Policy::Optimal], None, 0, &trace)?;
-    let optimal = row.hits.first().copied().ok_or("no hits")?.hits;
+    let optimal = most_hits(alloc, capacity, keys)?;
     same_at(optimal, optimal_model(alloc, room, keys)?, ("OPT", room))?;
     Ok(optimal)
 }
 
-/// Does the same in caches of several capacities.
+/// Checks the hits of all policies in caches of several capacities.
 fn all_hits_are_same(alloc: Global, trace: &[u32]) -> Result<(), Fail> {
     for room in [1usize, 2, 3, 7, 10, 20, 22, 30, 41] {
-        let capacity = NonZeroUsize::new(room).ok_or("not zero")?;
-        hits_are_same(alloc, capacity, trace)?;
+        let capacity = non_zero(room);
+        let optimal = optimal_is_same(alloc, capacity, trace)?;
+        let few = hits_of_few_are_same(alloc, capacity, trace, KEYS)?;
+        let more = hits_of_more_are_same(alloc, capacity, trace, KEYS)?;
+        same_at(few.max(more) <= optimal, true, ("OPT", room))?;
     }
     Ok(())
 }
@@ -192,7 +221,7 @@ fn hits_are_those_of_lists(rt: HostRuntime) -> Result<(), Fail> {
 /// Checks the most hits in caches of several capacities.
 fn all_optimal_hits_are_same(alloc: Global, trace: &[u32]) -> Result<(), Fail> {
     for room in [1usize, 2, 5, 20] {
-        let capacity = NonZeroUsize::new(room).ok_or("not zero")?;
+        let capacity = non_zero(room);
         optimal_is_same(alloc, capacity, trace)?;
     }
     Ok(())
@@ -203,12 +232,21 @@ fn optimal_hits_of_a_long_trace(rt: HostRuntime) -> Result<(), Fail> {
     all_optimal_hits_are_same(rt.alloc(), &trace_of(rt.alloc(), 4, 9000, KEYS)?)
 }
 
+/// Checks outcomes, and that their hits are those that are counted without them.
+fn are_counted(
+    outcomes: Result<Vec<bool>, AllocError>,
+    hits: Result<usize, AllocError>,
+    wanted: &[bool],
+) -> Result<(), Fail> {
+    let outcomes = outcomes?;
+    same((outcomes.as_slice(), hits?), (wanted, count(wanted)))
+}
+
 /// Worked out by hand: LRU keeps 0, FIFO evicts it for 2, and OPT evicts 1, which isn't accessed
 /// again.
 #[test]
 fn outcomes_are_those_counted(rt: HostRuntime) -> Result<(), Fail> {
-    let room = NonZeroUsize::new(2).ok_or("not zero")?;
-    let trace = [0, 1, 0, 2, 0, 2];
+    let (alloc, room, trace) = (rt.alloc(), non_zero(2), [0, 1, 0, 2, 0, 2]);
     for (policy, wanted) in [
         (
             PlainPolicy::LeastRecentlyUsed,
@@ -219,30 +257,26 @@ fn outcomes_are_those_counted(rt: HostRuntime) -> Result<(), Fail> {
             [false, false, true, false, false, true],
         ),
     ] {
-        let outcomes = plain_outcomes(rt.alloc(), policy, room, &trace, 3)?;
-        same(outcomes.as_slice(), wanted.as_slice())?;
-        same(
-            plain_hits(rt.alloc(), policy, room, &trace, 3)?,
-            count(&outcomes),
-        )?;
+        let outcomes = plain_outcomes(alloc, policy, room, &trace, 3);
+        let hits = plain_hits(alloc, policy, room, &trace, 3);
+        are_counted(outcomes, hits, &wanted)?;
     }
-    let outcomes = optimal_outcomes(rt.alloc(), room, &trace, 3)?;
-    same(
-        outcomes.as_slice(),
-        [false, false, true, false, true, true].as_slice(),
-    )?;
-    same(optimal_hits(rt.alloc(), room, &trace, 3)?, count(&outcomes))?;
-    Ok(())
+    let outcomes = optimal_outcomes(alloc, room, &trace, 3);
+    let hits = optimal_hits(alloc, room, &trace, 3);
+    are_counted(outcomes, hits, &[false, false, true, false, true, true])
+}
+
+/// Checks how many accesses hit.
+fn hits_are(outcomes: Result<Vec<bool>, AllocError>, wanted: usize) -> Result<(), Fail> {
+    same(count(&outcomes?), wanted)
 }
 
 /// Worked out by hand: 0 and 1 are accessed again, so a scan of 2, 3, 4 takes the room of keys
 /// accessed once; 2 is accessed again after its eviction.
 #[test]
 fn arc_keeps_what_came_again(rt: HostRuntime) -> Result<(), Fail> {
-    let capacity = NonZeroUsize::new(3).ok_or("not zero")?;
     let trace = [0, 1, 0, 1, 2, 3, 4, 0, 1, 2, 2];
-    same(count(&arc_outcomes(rt.alloc(), capacity, &trace, 5)?), 5)?;
-    Ok(())
+    hits_are(arc_outcomes(rt.alloc(), non_zero(3), &trace, 5), 5)
 }
 
 /// A hundredth of the room is up to three keys.
@@ -250,7 +284,7 @@ fn arc_keeps_what_came_again(rt: HostRuntime) -> Result<(), Fail> {
 fn hits_in_large_caches_are_those_of_lists(rt: HostRuntime) -> Result<(), Fail> {
     let trace = trace_of(rt.alloc(), 5, 4000, MANY_KEYS)?;
     for room in [99usize, 201, 333] {
-        let capacity = NonZeroUsize::new(room).ok_or("not zero")?;
+        let capacity = non_zero(room);
         hits_of_more_are_same(rt.alloc(), capacity, &trace, MANY_KEYS)?;
     }
     Ok(())
@@ -260,40 +294,29 @@ fn hits_in_large_caches_are_those_of_lists(rt: HostRuntime) -> Result<(), Fail> 
 /// another hit of 2 in the queue doesn't keep it there.
 #[test]
 fn two_q_keeps_what_came_after_it_left(rt: HostRuntime) -> Result<(), Fail> {
-    let capacity = NonZeroUsize::new(4).ok_or("not zero")?;
     let trace = [0, 1, 2, 3, 4, 0, 0, 2, 5, 2, 2];
-    same(count(&two_q_outcomes(rt.alloc(), capacity, &trace, 6)?), 3)?;
-    Ok(())
+    hits_are(two_q_outcomes(rt.alloc(), non_zero(4), &trace, 6), 3)
 }
 
 /// Worked out by hand: 2 and 0 are accessed again while they are in the stack, and 3 has left the
 /// queue for them; 1 and 2 stay low.
 #[test]
 fn lirs_keeps_what_came_again_soon(rt: HostRuntime) -> Result<(), Fail> {
-    let capacity = NonZeroUsize::new(3).ok_or("not zero")?;
     let trace = [0, 1, 2, 3, 2, 0, 1, 3, 0, 2];
-    same(count(&lirs_outcomes(rt.alloc(), capacity, &trace, 4)?), 3)?;
-    Ok(())
+    hits_are(lirs_outcomes(rt.alloc(), non_zero(3), &trace, 4), 3)
 }
 
 /// Worked out by hand: 0 stays while 1 and 2 were accessed once; then the one whose last access but
 /// one is older is evicted.
 #[test]
 fn lru_2_keeps_what_came_twice(rt: HostRuntime) -> Result<(), Fail> {
-    let capacity = NonZeroUsize::new(2).ok_or("not zero")?;
     let trace = [0, 0, 1, 2, 0, 1, 2, 1, 0];
-    same(count(&lru_2_outcomes(rt.alloc(), capacity, &trace, 3)?), 3)?;
-    Ok(())
+    hits_are(lru_2_outcomes(rt.alloc(), non_zero(2), &trace, 3), 3)
 }
 
 /// Worked out by hand: 2 was accessed once and doesn't replace 0, which was accessed twice.
 #[test]
 fn w_tiny_lfu_keeps_what_came_more_often(rt: HostRuntime) -> Result<(), Fail> {
-    let capacity = NonZeroUsize::new(3).ok_or("not zero")?;
     let trace = [0, 0, 1, 2, 3, 0, 1];
-    same(
-        count(&w_tiny_lfu_outcomes(rt.alloc(), capacity, &trace, 4)?),
-        3,
-    )?;
-    Ok(())
+    hits_are(w_tiny_lfu_outcomes(rt.alloc(), non_zero(3), &trace, 4), 3)
 }

@@ -2,6 +2,7 @@
 
 use std::alloc::{AllocError, Global};
 use std::collections::VecDeque;
+use std::num::NonZeroUsize;
 
 /// Returns a trace of keys below a number: a third random, a third skewed, and the rest a loop over
 /// a little more than half of the keys.
@@ -29,6 +30,11 @@ pub(crate) fn trace_of(
             .map_err(AllocError::from)?;
     }
     Ok(trace)
+}
+
+/// Returns a number that isn't 0 as such, and 1 for 0.
+pub(crate) fn non_zero(number: usize) -> NonZeroUsize {
+    NonZeroUsize::new(number).unwrap_or(NonZeroUsize::MIN)
 }
 
 /// Keys, oldest first, each with a mark.

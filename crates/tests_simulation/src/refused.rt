@@ -7,7 +7,7 @@ use clock2q_simulation::{Progress, SimulationError, parse_options, simulate};
 use std::alloc::{Allocator, Global};
 use std::env;
 use std::test::Fail;
-use testing::{Refusing, Tried, same, try_in_turn};
+use testing::{Refusing, Tried, same, same_at, try_in_turn};
 
 const TRACE: &[u8] = b"a\nb\na\nc\nb\nd\na\nb\n";
 
@@ -50,8 +50,17 @@ fn arguments_fetched(rt: HostRuntime) -> Result<(), Fail> {
     let tried = try_in_turn(&alloc, true, SimulationError::Memory, || {
         has_arguments(&rt, &alloc)
     });
-    assert!(rt; matches!(tried, Tried::Done(_)), "{tried:?}");
-    Ok(())
+    same_at(matches!(tried, Tried::Done(_)), true, tried)
+}
+
+/// Refuses in turn each request made for the arguments of a line and for what is written.
+fn each_is_refused(alloc: Global, line: &str) -> Result<(), Fail> {
+    let words = words_of(alloc, line)?;
+    let refusing = Refusing::new(alloc);
+    let tried = try_in_turn(&refusing, true, SimulationError::Memory, || {
+        Ok(written(&refusing, alloc, &words)? > 0)
+    });
+    same_at(matches!(tried, Tried::Done(_)), true, (line, tried))
 }
 
 /// Each form over capacities of each kind: with all policies, and windows with two.
@@ -67,12 +76,7 @@ fn each_request(rt: HostRuntime) -> Result<(), Fail> {
         ("--svg --window=5", "clock2q,opt"),
     ] {
         let line = format!(in rt.alloc(); "{form} {asked} {policies}")?;
-        let words = words_of(rt.alloc(), &line)?;
-        let alloc = Refusing::new(rt.alloc());
-        let tried = try_in_turn(&alloc, true, SimulationError::Memory, || {
-            Ok(written(&alloc, rt.alloc(), &words)? > 0)
-        });
-        assert!(rt; matches!(tried, Tried::Done(_)), "{line}: {tried:?}");
+        each_is_refused(rt.alloc(), &line)?;
     }
     same(SimulationError::Memory.status(), 3)?;
     Ok(())

@@ -1,18 +1,26 @@
 //! S3-FIFO over lists.
 
-use crate::queues::{Queue, Searched, evict_unmarked, hits_of, marked, push};
+use crate::queues::{Queue, Searched, evict_unmarked, marked, push, taken};
 use std::alloc::{AllocError, Global};
 use std::collections::VecDeque;
 
 /// The queues of S3-FIFO.
 #[derive(Drop)]
-struct Three {
+pub(crate) struct Three {
     small: Queue,
     main: Queue,
-    left: VecDeque<u32>,
+    left: Queue,
 }
 
 impl Three {
+    pub(crate) fn new(alloc: Global) -> Three {
+        Three {
+            small: VecDeque::new(alloc),
+            main: VecDeque::new(alloc),
+            left: VecDeque::new(alloc),
+        }
+    }
+
     /// Evicts a key of the small queue if it has its tenth and not all its keys move on.
     fn evict(&mut self, room: usize) -> Result<(), AllocError> {
         let tenth = (room / 10).max(1);
@@ -36,7 +44,7 @@ impl Three {
     }
 
     fn leave(&mut self, key: u32, rest: usize) -> Result<(), AllocError> {
-        self.left.push_back(key).map_err(AllocError::from)?;
+        push(&mut self.left, key, 0)?;
         if self.left.len() > rest {
             let _ = self.left.pop_front();
         }
@@ -54,27 +62,12 @@ impl Searched for Three {
                 self.evict(room)?;
             }
         }
-        let index = self.left.iter().position(|other| *other == key);
-        match index {
-            Some(index) => {
-                let _ = self.left.remove(index);
-                push(&mut self.main, key, 0)?;
-            }
-            None => push(&mut self.small, key, 0)?,
-        }
+        let queue = if taken(&mut self.left, key) {
+            &mut self.main
+        } else {
+            &mut self.small
+        };
+        push(queue, key, 0)?;
         Ok(false)
     }
-}
-
-pub(crate) fn s3_fifo_model(
-    alloc: Global,
-    room: usize,
-    trace: &[u32],
-) -> Result<usize, AllocError> {
-    let queues = Three {
-        small: VecDeque::new(alloc),
-        main: VecDeque::new(alloc),
-        left: VecDeque::new(alloc),
-    };
-    hits_of(queues, room, trace)
 }

@@ -1,6 +1,6 @@
 //! Samples of the keys: which keys are in one, and that only those are replayed.
 
-use crate::texts::written;
+use crate::texts::{writes, written};
 use clock2q_simulation::Sample;
 use std::alloc::Global;
 use std::test::Fail;
@@ -73,6 +73,12 @@ fn samples_have_their_part(rt: HostRuntime) -> Result<(), Fail> {
     Ok(())
 }
 
+/// Adds a line with a number.
+fn push_line(alloc: Global, lines: &mut String, number: u64) -> Result<(), Fail> {
+    let line = format!(in alloc; "{number}\n")?;
+    Ok(lines.push_str(&line)?)
+}
+
 /// Returns a trace of numbers as lines, and the lines of those in a sample.
 fn lines_of(alloc: Global, sample: Sample) -> Result<(String, String), Fail> {
     let (mut all, mut kept) = (String::new(alloc), String::new(alloc));
@@ -81,12 +87,10 @@ fn lines_of(alloc: Global, sample: Sample) -> Result<(String, String), Fail> {
         state = state
             .wrapping_mul(6364136223846793005)
             .wrapping_add(1442695040888963407);
-        let key = format!(in alloc; "{}", (state >> 33) % 200)?;
-        all.push_str(key.as_str())?;
-        all.push('\n')?;
-        if sample.has(key.as_bytes()) {
-            kept.push_str(key.as_str())?;
-            kept.push('\n')?;
+        let key = (state >> 33) % 200;
+        push_line(alloc, &mut all, key)?;
+        if sample.has(format!(in alloc; "{key}")?.as_bytes()) {
+            push_line(alloc, &mut kept, key)?;
         }
     }
     Ok((all, kept))
@@ -120,9 +124,5 @@ capacity      LRU
        1    25.00
 ";
     let line = "1 50% --sample 100% --policies=lru";
-    same(
-        written(rt.alloc(), line, input)?.as_slice(),
-        table.as_bytes(),
-    )?;
-    Ok(())
+    writes(rt.alloc(), line, input, table)
 }

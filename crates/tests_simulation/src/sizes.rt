@@ -1,15 +1,13 @@
-//! Traces with sizes: which sizes are read, which are refused, and the bytes of hits.
+//! Traces with sizes: which sizes are read, which are refused, and how they are summed and shown.
 
 use crate::arguments::options_of;
-use crate::texts::written;
+use crate::texts::writes;
 use clock2q_cache::DefaultHashBuilder;
 use clock2q_ports::Device;
 use clock2q_simulation::{
-    GrowingTrace, Policy, Progress, Row, Sample, SimulationError, Trace, asked_bytes, hit_bytes,
-    policy_outcomes, read_sample, replay, windows_of,
+    GrowingTrace, Progress, Sample, SimulationError, Trace, asked_bytes, hit_bytes, read_sample,
 };
 use std::alloc::Global;
-use std::num::NonZeroUsize;
 use std::test::Fail;
 use testing::{same, same_at};
 
@@ -37,6 +35,19 @@ fn read(
     ))
 }
 
+/// Checks the sizes of a trace that has some.
+fn has_sizes(alloc: Global, line: &str, bytes: &[u8], wanted: &[usize]) -> Result<(), Fail> {
+    let trace = read(alloc, line, bytes)??;
+    let given = (trace.has_sizes(), trace.sizes(), trace.numbers().len());
+    same_at(given, (true, wanted, wanted.len()), line)
+}
+
+/// Checks that a trace has no sizes.
+fn has_no_sizes(alloc: Global, line: &str, bytes: &[u8]) -> Result<(), Fail> {
+    let trace = read(alloc, line, bytes)??;
+    same_at((trace.has_sizes(), trace.sizes().len()), (false, 0), line)
+}
+
 /// Sizes in a column before and after the keys, between quotes, with zeros, and of more than 64 bits.
 #[test]
 fn sizes_of_lines(rt: HostRuntime) -> Result<(), Fail> {
@@ -62,35 +73,37 @@ fn sizes_of_lines(rt: HostRuntime) -> Result<(), Fail> {
         ),
     ];
     for (line, bytes, wanted) in cases {
-        let trace = read(rt.alloc(), line, bytes)??;
-        same(trace.has_sizes(), true)?;
-        same_at(trace.sizes(), wanted, line)?;
-        same(trace.numbers().len(), wanted.len())?;
+        has_sizes(rt.alloc(), line, bytes, wanted)?;
     }
-    for line in ["5", "5 --format=csv --column=2"] {
-        let trace = read(rt.alloc(), line, b"t,k,s\n1,a,x\n")??;
-        same(trace.has_sizes(), false)?;
-        same_at(trace.sizes().len(), 0, line)?;
-    }
+    has_no_sizes(rt.alloc(), "5", b"t,k,s\n1,a,x\n")?;
+    has_no_sizes(rt.alloc(), "5 --format=csv --column=2", b"t,k,s\n1,a,x\n")
+}
+
+/// Adds a record of some size.
+fn push_record(bytes: &mut Vec<u8>, size: u32) -> Result<(), Fail> {
+    bytes.extend_from_slice(&[9; 4])?;
+    bytes.extend_from_slice(&u64::from(size % 3).to_le_bytes())?;
+    bytes.extend_from_slice(&size.to_le_bytes())?;
+    bytes.extend_from_slice(&[8; 8])?;
     Ok(())
 }
 
 /// Sizes of records, whose bytes are in the order of a little-endian number.
 #[test]
 fn sizes_of_records(rt: HostRuntime) -> Result<(), Fail> {
-    let sizes = [1u32, 256, 0x0102_0304, u32::MAX, 0];
     let mut bytes = Vec::new(rt.alloc());
-    for size in sizes {
-        bytes.extend_from_slice(&[9; 4])?;
-        bytes.extend_from_slice(&u64::from(size % 3).to_le_bytes())?;
-        bytes.extend_from_slice(&size.to_le_bytes())?;
-        bytes.extend_from_slice(&[8; 8])?;
+    for size in [1u32, 256, 0x0102_0304, u32::MAX, 0] {
+        push_record(&mut bytes, size)?;
     }
     let trace = read(rt.alloc(), "5 --format=oracleGeneral", &bytes)??;
     let wanted = [1usize, 256, 0x0102_0304, 0xFFFF_FFFF, 0];
-    same(trace.sizes(), wanted.as_slice())?;
-    same(trace.key_count(), 2)?;
-    Ok(())
+    same((trace.sizes(), trace.key_count()), (wanted.as_slice(), 2))
+}
+
+/// Checks how a trace is refused.
+fn is_refused(alloc: Global, bytes: &[u8], wanted: SimulationError) -> Result<(), Fail> {
+    let refusal = read(alloc, CSV, bytes)?.err();
+    same_at((refusal, wanted.status()), (Some(wanted), 2), bytes.len())
 }
 
 /// Values that aren't sizes, and lines without one.
@@ -109,19 +122,25 @@ fn refused_sizes(rt: HostRuntime) -> Result<(), Fail> {
         (b"t,k,s\n1,a,7\n2", SimulationError::Line(3, 2)),
     ];
     for (bytes, wanted) in cases {
-        same_at(
-            read(rt.alloc(), CSV, bytes)?.err(),
-            Some(wanted),
-            bytes.len(),
-        )?;
-        same(wanted.status(), 2)?;
+        is_refused(rt.alloc(), bytes, wanted)?;
     }
     let text = format!(in rt.alloc(); "{size}")?;
     same(
         text.as_str(),
         "line 3: not a size in bytes, as 4096, in column 3",
-    )?;
-    Ok(())
+    )
+}
+
+/// Adds a line with a number as its size, and returns true if its key is in the sample.
+fn push_line(
+    alloc: Global,
+    lines: &mut String,
+    number: usize,
+    sample: Sample,
+) -> Result<bool, Fail> {
+    let key = number % 30;
+    lines.push_str(&format!(in alloc; "0,{key},{number}\n")?)?;
+    Ok(sample.has(format!(in alloc; "{key}")?.as_bytes()))
 }
 
 /// Of a sample the sizes of its keys alone are kept.
@@ -132,17 +151,20 @@ fn sizes_of_a_sample(rt: HostRuntime) -> Result<(), Fail> {
     let mut all = String::from_str(alloc, "t,k,s\n")?;
     let mut wanted = Vec::new(alloc);
     for number in 0..200usize {
-        let key = format!(in alloc; "{}", number % 30)?;
-        all.push_str(&format!(in alloc; "0,{key},{number}\n")?)?;
-        if sample.has(key.as_bytes()) {
+        if push_line(alloc, &mut all, number, sample)? {
             wanted.push(number)?;
         }
     }
     let line = "5 --format=csv --column=2 --size-column=3 --sample=50%";
-    let trace = read(alloc, line, all.as_bytes())??;
-    same(trace.sizes(), wanted.as_slice())?;
-    same(0 < wanted.len() && wanted.len() < 200, true)?;
-    Ok(())
+    has_sizes(alloc, line, all.as_bytes(), &wanted)?;
+    same(0 < wanted.len() && wanted.len() < 200, true)
+}
+
+/// Checks that a trace without sizes keeps none.
+fn keeps_no_size(alloc: Global) -> Result<(), Fail> {
+    let mut growing = GrowingTrace::new(alloc);
+    growing.push_sized(b"a", 70)?;
+    same(growing.finish().sizes().len(), 0)
 }
 
 /// A key that is added without a size has size 1.
@@ -154,12 +176,11 @@ fn growing_traces(rt: HostRuntime) -> Result<(), Fail> {
     growing.push(b"a")?;
     growing.push_sized(b"b", 0)?;
     let trace = growing.finish();
-    same(trace.sizes(), [70usize, 1, 0].as_slice())?;
-    same(trace.numbers(), [0u32, 0, 1].as_slice())?;
-    let mut growing = GrowingTrace::new(rt.alloc());
-    growing.push_sized(b"a", 70)?;
-    same(growing.finish().sizes().len(), 0)?;
-    Ok(())
+    same(
+        (trace.sizes(), trace.numbers()),
+        ([70usize, 1, 0].as_slice(), [0u32, 0, 1].as_slice()),
+    )?;
+    keeps_no_size(rt.alloc())
 }
 
 /// Sums of parts, of lists that end before others, and of more than 64 bits.
@@ -187,131 +208,25 @@ fn sums(_rt: HostRuntime) -> Result<(), Fail> {
     Ok(())
 }
 
-/// Returns a trace of keys and sizes that a seed makes.
-fn seeded(alloc: Global, seed: u64) -> Result<Trace<Global>, Fail> {
-    let hasher = DefaultHashBuilder::new();
-    let mut growing = GrowingTrace::with_sizes(alloc, hasher, None, true);
-    let mut state = seed;
-    for _ in 0..2_000 {
-        state = state
-            .wrapping_mul(6364136223846793005)
-            .wrapping_add(1442695040888963407);
-        let key = (state >> 33) % ((state >> 50) % 90 + 1);
-        let size = ((state >> 40) % 5000) as usize;
-        growing.push_sized(&key.to_le_bytes(), size)?;
-    }
-    Ok(growing.finish())
-}
-
-/// Sums the sizes of the accesses after the first ones that hit with a policy.
-fn model(
-    alloc: Global,
-    trace: &Trace<Global>,
-    policy: Policy,
-    capacity: NonZeroUsize,
-    skipped: usize,
-) -> Result<usize, Fail> {
-    let (numbers, keys) = (trace.numbers(), trace.key_count());
-    let outcomes = policy_outcomes(alloc, policy, capacity, None, numbers, keys)?;
-    let mut bytes = 0usize;
-    for (index, (hit, size)) in outcomes.iter().zip(trace.sizes()).enumerate() {
-        if *hit && index >= skipped {
-            bytes = bytes.saturating_add(*size);
-        }
-    }
-    Ok(bytes)
-}
-
-/// Checks the bytes of a row against the outcomes of each policy.
-fn is_row(
-    alloc: Global,
-    trace: &Trace<Global>,
-    row: &Row<Global>,
-    skipped: usize,
-) -> Result<(), Fail> {
-    for hits in &row.hits {
-        let wanted = model(alloc, trace, hits.policy, row.capacity, skipped)?;
-        same_at(hits.bytes, wanted, hits.policy.name())?;
-    }
-    Ok(())
-}
-
-/// The bytes of each policy's hits in seeded traces, with and without skipped accesses.
-#[test]
-fn bytes_of_hits(rt: HostRuntime) -> Result<(), Fail> {
-    let alloc = rt.alloc();
-    for seed in [1u64, 7, 99] {
-        let trace = seeded(alloc, seed)?;
-        let mut sum = 0usize;
-        for size in trace.sizes() {
-            sum = sum.saturating_add(*size);
-        }
-        for (capacity, skipped) in [(1, 0), (7, 0), (30, 500), (90, 2_000), (90, 5_000)] {
-            let capacity = NonZeroUsize::new(capacity).ok_or("not zero")?;
-            let row = replay(alloc, capacity, &Policy::ALL, None, skipped, &trace)?;
-            is_row(alloc, &trace, &row, skipped)?;
-            if skipped == 0 {
-                same_at(row.bytes, sum, seed)?;
-            }
-            if skipped >= 2_000 {
-                same_at(row.bytes, 0, seed)?;
-            }
-        }
-    }
-    Ok(())
-}
-
-/// The bytes of all windows are those of the counted accesses.
-#[test]
-fn bytes_of_windows(rt: HostRuntime) -> Result<(), Fail> {
-    let alloc = rt.alloc();
-    let trace = seeded(alloc, 3)?;
-    let room = NonZeroUsize::new(20).ok_or("not zero")?;
-    let size = NonZeroUsize::new(300).ok_or("not zero")?;
-    let row = replay(alloc, room, &Policy::ALL, None, 100, &trace)?;
-    let windows = windows_of(alloc, room, &Policy::ALL, None, 100, size, &trace)?;
-    same(windows.len(), 7)?;
-    let mut asked = 0usize;
-    let mut sums = vec![in alloc; 0usize; Policy::ALL.len()]?;
-    for window in &windows {
-        asked = asked.saturating_add(window.row.bytes);
-        for (sum, hits) in sums.iter_mut().zip(&window.row.hits) {
-            *sum = sum.saturating_add(hits.bytes);
-        }
-    }
-    same(asked, row.bytes)?;
-    for (sum, hits) in sums.iter().zip(&row.hits) {
-        same_at(*sum, hits.bytes, hits.policy.name())?;
-    }
-    Ok(())
-}
-
 const SIZED: &[u8] = b"t,k,s\n1,a,100\n2,b,10\n3,a,100\n4,c,40\n5,b,10\n6,d,30\n7,a,100\n8,b,10\n";
 
 /// The byte hit ratios as a table, as CSV and as JSON.
 #[test]
 fn texts(rt: HostRuntime) -> Result<(), Fail> {
-    let sized = "--format=csv --column=2 --size-column=3 --policies=lru,fifo,opt";
     let table =
         "8 accesses of 400 bytes, 4 keys, 2 asked for once, hits and their bytes in percent, the best of a row with *
 capacity      LRU    bytes     FIFO    bytes      OPT    bytes
        3   *37.50   *30.00    25.00    27.50    50.00    55.00
 ";
-    let line = format!(in rt.alloc(); "3 {sized}")?;
-    same(
-        written(rt.alloc(), &line, SIZED)?.as_slice(),
-        table.as_bytes(),
-    )?;
+    let line = "3 --format=csv --column=2 --size-column=3 --policies=lru,fifo,opt";
+    writes(rt.alloc(), line, SIZED, table)?;
     let lines = "\
 capacity,first,accesses,bytes,lru_hits,lru_ratio,lru_hit_bytes,lru_byte_ratio
 3,0,4,250,1,0.2500,100,0.4000
 3,4,4,150,2,0.5000,20,0.1333
 ";
     let line = "3 --csv --window=4 --policies=lru --format=csv --column=2 --size-column=3";
-    same(
-        written(rt.alloc(), line, SIZED)?.as_slice(),
-        lines.as_bytes(),
-    )?;
+    writes(rt.alloc(), line, SIZED, lines)?;
     let json = "{\"traces\": [
   {\"trace\": \"-\", \"accesses\": 8, \"bytes\": 400, \"keys\": 4, \"keys_once\": 2, \"skipped\": 0, \"rows\": [
     {\"capacity\": 3, \"bytes\": 400, \"policies\": {\"lru\": {\"hits\": 3, \"ratio\": 0.3750, \"hit_bytes\": 120, \"byte_ratio\": 0.3000}}}
@@ -319,11 +234,7 @@ capacity,first,accesses,bytes,lru_hits,lru_ratio,lru_hit_bytes,lru_byte_ratio
 ]}
 ";
     let line = "3 --json --policies=lru --format=csv --column=2 --size-column=3";
-    same(
-        written(rt.alloc(), line, SIZED)?.as_slice(),
-        json.as_bytes(),
-    )?;
-    Ok(())
+    writes(rt.alloc(), line, SIZED, json)
 }
 
 /// Sizes that are all 0 have no ratio.
@@ -334,7 +245,5 @@ capacity,accesses,bytes,lru_hits,lru_ratio,lru_hit_bytes,lru_byte_ratio
 3,2,0,1,0.5000,0,0.0000
 ";
     let line = "3 --csv --policies=lru --format=csv --column=2 --size-column=3";
-    let text = written(rt.alloc(), line, b"t,k,s\n1,a,0\n1,a,0\n")?;
-    same(text.as_slice(), lines.as_bytes())?;
-    Ok(())
+    writes(rt.alloc(), line, b"t,k,s\n1,a,0\n1,a,0\n", lines)
 }

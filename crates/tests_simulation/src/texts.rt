@@ -3,15 +3,25 @@
 use crate::arguments::options_of;
 use clock2q_cache::DefaultHashBuilder;
 use clock2q_ports::Device;
-use clock2q_simulation::{Progress, replay_source, simulate, write_outcomes};
+use clock2q_simulation::{
+    Options, Progress, SimulationError, replay_source, simulate, write_outcomes,
+};
 use std::alloc::Global;
 use std::hash::{BuildHasher, RandomState};
+use std::io::Write;
 use std::test::Fail;
+use std::time::Clock;
 use testing::{Spread, same, same_at};
 
 /// Returns what a simulation writes.
 pub(crate) fn written(alloc: Global, line: &str, input: &[u8]) -> Result<Vec<u8>, Fail> {
     written_with(alloc, line, input, DefaultHashBuilder::new())
+}
+
+/// Checks what a simulation writes.
+pub(crate) fn writes(alloc: Global, line: &str, input: &[u8], wanted: &str) -> Result<(), Fail> {
+    let text = written(alloc, line, input)?;
+    same_at(text.as_slice(), wanted.as_bytes(), line)
 }
 
 /// Returns what a simulation with a hasher writes.
@@ -22,16 +32,21 @@ fn written_with<S: BuildHasher + Drop>(
     hasher: S,
 ) -> Result<Vec<u8>, Fail> {
     let options = options_of(alloc, line)?;
-    let mut output = Device::new(Vec::new(alloc));
     let mut progress = Progress::new(Vec::new(alloc), true);
-    simulate(
-        alloc,
-        &options,
-        hasher,
-        &mut Device::new(input),
-        &mut output,
-        &mut progress,
-    )?;
+    Ok(replayed(alloc, &options, hasher, input, &mut progress)?)
+}
+
+/// Returns what a simulation with a hasher, options and progress writes.
+pub(crate) fn replayed<S: BuildHasher + Drop, P: Write, C: Clock>(
+    alloc: Global,
+    options: &Options<Global>,
+    hasher: S,
+    input: &[u8],
+    progress: &mut Progress<P, C>,
+) -> Result<Vec<u8>, SimulationError> {
+    let mut reader = Device::new(input);
+    let mut output = Device::new(Vec::new(alloc));
+    simulate(alloc, options, hasher, &mut reader, &mut output, progress)?;
     Ok(output.into_inner())
 }
 
@@ -41,22 +56,14 @@ fn texts(rt: HostRuntime) -> Result<(), Fail> {
 capacity Clock2Q+    SIEVE  S3-FIFO      LRU      OPT
        1     0.00     0.00     0.00     0.00     0.00
 ";
-    same(written(rt.alloc(), "1", b"")?.as_slice(), table.as_bytes())?;
+    writes(rt.alloc(), "1", b"", table)?;
     let lines = "\
 capacity,accesses,clock2q_hits,clock2q_ratio,lru_hits,lru_ratio,fifo_hits,fifo_ratio
 3,8,3,0.3750,3,0.3750,2,0.2500
 1,8,0,0.0000,0,0.0000,0,0.0000
 ";
-    same(
-        written(
-            rt.alloc(),
-            "3 1 --csv --policies clock2q,lru,fifo",
-            b"a\nb\na\nc\nb\nd\na\nb\n",
-        )?
-        .as_slice(),
-        lines.as_bytes(),
-    )?;
-    Ok(())
+    let line = "3 1 --csv --policies clock2q,lru,fifo";
+    writes(rt.alloc(), line, b"a\nb\na\nc\nb\nd\na\nb\n", lines)
 }
 
 /// Two thirds and one third, whose decimals don't end.
@@ -66,15 +73,11 @@ fn rounded_ratios(rt: HostRuntime) -> Result<(), Fail> {
 capacity      LRU
        1    66.67
 ";
-    let written_table = written(rt.alloc(), "1 --policies lru", b"a\na\na\n")?;
-    same(written_table.as_slice(), table.as_bytes())?;
+    writes(rt.alloc(), "1 --policies lru", b"a\na\na\n", table)?;
     let lines = "capacity,accesses,lru_hits,lru_ratio\n1,3,1,0.3333\n";
-    let written_lines = written(rt.alloc(), "1 --csv --policies lru", b"a\na\nb\n")?;
-    same(written_lines.as_slice(), lines.as_bytes())?;
+    writes(rt.alloc(), "1 --csv --policies lru", b"a\na\nb\n", lines)?;
     let lines = "capacity,accesses,lru_hits,lru_ratio\n1,3,2,0.6667\n";
-    let written_lines = written(rt.alloc(), "1 --csv --policies lru", b"a\na\na\n")?;
-    same(written_lines.as_slice(), lines.as_bytes())?;
-    Ok(())
+    writes(rt.alloc(), "1 --csv --policies lru", b"a\na\na\n", lines)
 }
 
 /// More than ten capacities, one of them three times, in the order of the arguments.
@@ -98,11 +101,7 @@ capacity,accesses,lru_hits,lru_ratio
 3,4,1,0.2500
 ";
     let line = "2 1..700 67% --csv 33% 100% --policies lru";
-    same(
-        written(rt.alloc(), line, b"a\nb\na\nc\n")?.as_slice(),
-        lines.as_bytes(),
-    )?;
-    Ok(())
+    writes(rt.alloc(), line, b"a\nb\na\nc\n", lines)
 }
 
 /// The capacities of a range, and then those from 1 to 60, some of them twice.
@@ -117,9 +116,7 @@ fn more_than_fifty_capacities(rt: HostRuntime) -> Result<(), Fail> {
         line.push_str(&format!(in rt.alloc(); " {capacity}")?)?;
         lines.push_str(&row_of_two(rt.alloc(), capacity)?)?;
     }
-    let text = written(rt.alloc(), &line, b"a\nb\na\n")?;
-    same(text.as_slice(), lines.as_bytes())?;
-    Ok(())
+    writes(rt.alloc(), &line, b"a\nb\na\n", &lines)
 }
 
 /// The numbers from 1 to the largest capacity that a range has.
@@ -141,9 +138,7 @@ fn largest_capacity(rt: HostRuntime) -> Result<(), Fail> {
 capacity Clock2Q+    SIEVE  S3-FIFO      LRU      OPT     FIFO    CLOCK      ARC
 16777215    50.00    50.00    50.00    50.00    50.00    50.00    50.00    50.00
 ";
-    let text = written(rt.alloc(), line, b"a\nb\na\nb\n")?;
-    same(text.as_slice(), table.as_bytes())?;
-    Ok(())
+    writes(rt.alloc(), line, b"a\nb\na\nb\n", table)
 }
 
 /// The other policies; apart, as one test has a minute.
@@ -154,9 +149,7 @@ fn largest_capacity_of_others(rt: HostRuntime) -> Result<(), Fail> {
 capacity       2Q     LIRS    LRU-2 WTinyLFU
 16777215    50.00    50.00    50.00    50.00
 ";
-    let text = written(rt.alloc(), line, b"a\nb\na\nb\n")?;
-    same(text.as_slice(), table.as_bytes())?;
-    Ok(())
+    writes(rt.alloc(), line, b"a\nb\na\nb\n", table)
 }
 
 /// With random numbers, and with hashers that spread the keys badly.
@@ -186,9 +179,7 @@ capacity Clock2Q+    SIEVE  S3-FIFO      LRU      OPT
        2   *37.50    12.50    25.00    12.50    37.50
        3    37.50   *50.00    25.00    37.50    50.00
 ";
-    let text = written(rt.alloc(), "1..3", TRACE)?;
-    same(text.as_slice(), table.as_bytes())?;
-    Ok(())
+    writes(rt.alloc(), "1..3", TRACE, table)
 }
 
 #[test]
@@ -200,13 +191,22 @@ fn json(rt: HostRuntime) -> Result<(), Fail> {
   ]}
 ]}
 "#;
-    let text = written(rt.alloc(), "2 3 --json --policies=lru,opt --skip 3", TRACE)?;
-    same(text.as_slice(), wanted.as_bytes())?;
-    Ok(())
+    writes(
+        rt.alloc(),
+        "2 3 --json --policies=lru,opt --skip 3",
+        TRACE,
+        wanted,
+    )
+}
+
+/// Checks what is written for two traces.
+pub(crate) fn writes_of_two(alloc: Global, line: &str, wanted: &str) -> Result<(), Fail> {
+    let text = of_two(alloc, line)?;
+    same_at(text.as_slice(), wanted.as_bytes(), line)
 }
 
 /// Returns what is written for two traces.
-pub(crate) fn of_two(alloc: Global, line: &str) -> Result<Vec<u8>, Fail> {
+fn of_two(alloc: Global, line: &str) -> Result<Vec<u8>, Fail> {
     let options = options_of(alloc, line)?;
     let mut progress = Progress::new(Vec::new(alloc), false);
     let mut outcomes = Vec::new(alloc);
@@ -230,13 +230,10 @@ capacity     FIFO      LRU  trace
        3    25.00   *37.50  a \"b\"
        3     0.00     0.00  c
 ";
-    let text = of_two(rt.alloc(), "3 --policies fifo,lru")?;
-    same(text.as_slice(), table.as_bytes())?;
+    writes_of_two(rt.alloc(), "3 --policies fifo,lru", table)?;
     let lines = "capacity,accesses,lru_hits,lru_ratio,trace
 3,8,3,0.3750,\"a \"\"b\"\"\"
 3,1,0,0.0000,\"c\"
 ";
-    let text = of_two(rt.alloc(), "3 --policies=lru --csv")?;
-    same(text.as_slice(), lines.as_bytes())?;
-    Ok(())
+    writes_of_two(rt.alloc(), "3 --policies=lru --csv", lines)
 }

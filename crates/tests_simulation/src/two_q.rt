@@ -1,18 +1,26 @@
 //! 2Q over lists.
 
-use crate::queues::{Queue, Searched, has, hits_of, push, taken};
+use crate::queues::{Queue, Searched, has, push, taken};
 use std::alloc::{AllocError, Global};
 use std::collections::VecDeque;
 
 /// The queues of 2Q.
 #[derive(Drop)]
-struct Queues {
+pub(crate) struct Queues {
     came: Queue,
     left: Queue,
     main: Queue,
 }
 
 impl Queues {
+    pub(crate) fn new(alloc: Global) -> Queues {
+        Queues {
+            came: VecDeque::new(alloc),
+            left: VecDeque::new(alloc),
+            main: VecDeque::new(alloc),
+        }
+    }
+
     fn evict(&mut self, room: usize) -> Result<(), AllocError> {
         if self.came.len() <= room / 4 {
             let _ = self.main.pop_front();
@@ -50,13 +58,4 @@ impl Searched for Queues {
         push(queue, key, 0)?;
         Ok(false)
     }
-}
-
-pub(crate) fn two_q_model(alloc: Global, room: usize, trace: &[u32]) -> Result<usize, AllocError> {
-    let queues = Queues {
-        came: VecDeque::new(alloc),
-        left: VecDeque::new(alloc),
-        main: VecDeque::new(alloc),
-    };
-    hits_of(queues, room, trace)
 }

@@ -1,6 +1,6 @@
 //! W-TinyLFU over lists.
 
-use crate::queues::{Queue, Searched, has, hits_of, push, taken};
+use crate::queues::{Queue, Searched, has, push, taken};
 use std::alloc::{AllocError, Global};
 use std::collections::VecDeque;
 
@@ -24,6 +24,17 @@ fn column(row: usize, key: u32, width: usize) -> usize {
 }
 
 impl Counters {
+    fn new(alloc: Global, room: usize) -> Result<Counters, AllocError> {
+        let width = room.checked_next_power_of_two().ok_or(AllocError)?;
+        let rows = [
+            vec![in alloc; 0u8; width]?,
+            vec![in alloc; 0u8; width]?,
+            vec![in alloc; 0u8; width]?,
+            vec![in alloc; 0u8; width]?,
+        ];
+        Ok(Counters { rows, added: 0 })
+    }
+
     fn add(&mut self, room: usize, key: u32) {
         for (row, counters) in self.rows.iter_mut().enumerate() {
             let width = counters.len();
@@ -54,7 +65,7 @@ impl Counters {
 
 /// The window and the two segments, with the counters.
 #[derive(Drop)]
-struct Segments {
+pub(crate) struct Segments {
     window: Queue,
     probation: Queue,
     protected: Queue,
@@ -62,6 +73,15 @@ struct Segments {
 }
 
 impl Segments {
+    pub(crate) fn new(alloc: Global, room: usize) -> Result<Segments, AllocError> {
+        Ok(Segments {
+            window: VecDeque::new(alloc),
+            probation: VecDeque::new(alloc),
+            protected: VecDeque::new(alloc),
+            counters: Counters::new(alloc, room)?,
+        })
+    }
+
     /// Returns the key that leaves next: the oldest on probation, or the oldest of the protected ones.
     fn victim(&self) -> Option<u32> {
         let (key, _) = self.probation.front().or(self.protected.front())?;
@@ -112,25 +132,4 @@ impl Searched for Segments {
         }
         Ok(true)
     }
-}
-
-pub(crate) fn w_tiny_lfu_model(
-    alloc: Global,
-    room: usize,
-    trace: &[u32],
-) -> Result<usize, AllocError> {
-    let width = room.checked_next_power_of_two().ok_or(AllocError)?;
-    let rows = [
-        vec![in alloc; 0u8; width]?,
-        vec![in alloc; 0u8; width]?,
-        vec![in alloc; 0u8; width]?,
-        vec![in alloc; 0u8; width]?,
-    ];
-    let segments = Segments {
-        window: VecDeque::new(alloc),
-        probation: VecDeque::new(alloc),
-        protected: VecDeque::new(alloc),
-        counters: Counters { rows, added: 0 },
-    };
-    hits_of(segments, room, trace)
 }

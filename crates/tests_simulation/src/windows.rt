@@ -1,10 +1,13 @@
 //! The hits of a trace in windows of its accesses: worked out by hand, and as texts.
 
+use crate::hits::has_hits;
 use crate::numbers::trace_of;
-use crate::texts::{TRACE, of_two, written};
-use clock2q_simulation::{Policy, Row, Trace, Window, all_windows_of, replay, windows_of};
+use crate::queues::non_zero;
+use crate::texts::{TRACE, writes, writes_of_two};
+use clock2q_simulation::{
+    Policy, Row, SimulationError, Trace, Window, Windows, all_windows_of, replay, windows_of,
+};
 use std::alloc::Global;
-use std::num::NonZeroUsize;
 use std::test::Fail;
 use testing::{same, same_at};
 
@@ -19,18 +22,25 @@ fn windows_for(
     trace: &Trace<Global>,
     skipped: usize,
     size: usize,
-) -> Result<Vec<Window<Global>>, Fail> {
-    let room = NonZeroUsize::new(3).ok_or("not zero")?;
-    let size = NonZeroUsize::new(size).ok_or("not zero")?;
-    Ok(windows_of(alloc, room, &POLICIES, None, skipped, size, trace)?)
+) -> Result<Vec<Window<Global>>, SimulationError> {
+    let (room, size) = (non_zero(3), non_zero(size));
+    windows_of(alloc, room, &POLICIES, None, skipped, size, trace)
 }
 
 /// Checks a window.
 fn is_window(alloc: Global, window: &Window<Global>, wanted: Wanted) -> Result<(), Fail> {
     let (first, accesses, wanted) = wanted;
-    same((window.first, window.row.accesses), (first, accesses))?;
-    let hits: Vec<usize> = window.row.hits.iter().map(|hits| hits.hits).collect(alloc)?;
-    same_at(hits.as_slice(), wanted.as_slice(), first)
+    same(window.first, first)?;
+    has_hits(alloc, &window.row, non_zero(3), accesses, &wanted)
+}
+
+/// Checks all windows.
+fn are_windows(alloc: Global, windows: &[Window<Global>], wanted: &[Wanted]) -> Result<(), Fail> {
+    same(windows.len(), wanted.len())?;
+    for (window, wanted) in windows.iter().zip(wanted) {
+        is_window(alloc, window, *wanted)?;
+    }
+    Ok(())
 }
 
 /// Windows that divide the accesses, that don't, that begin after skipped ones, and one of more
@@ -47,23 +57,18 @@ fn windows_by_hand(rt: HostRuntime) -> Result<(), Fail> {
     ];
     for (skipped, size, wanted) in cases {
         let windows = windows_for(rt.alloc(), &trace, skipped, size)?;
-        same(windows.len(), wanted.len())?;
-        for (window, wanted) in windows.iter().zip(wanted) {
-            is_window(rt.alloc(), window, *wanted)?;
-        }
+        are_windows(rt.alloc(), &windows, wanted)?;
     }
     Ok(())
 }
 
-/// Returns the row of all policies at a capacity.
+/// Returns the row of all policies at a capacity, after one skipped access.
 fn row_at(
     alloc: Global,
     capacity: usize,
-    skipped: usize,
     trace: &Trace<Global>,
-) -> Result<Row<Global>, Fail> {
-    let capacity = NonZeroUsize::new(capacity).ok_or("not zero")?;
-    Ok(replay(alloc, capacity, &Policy::ALL, None, skipped, trace)?)
+) -> Result<Row<Global>, SimulationError> {
+    replay(alloc, non_zero(capacity), &Policy::ALL, None, 1, trace)
 }
 
 /// Returns the hits of a policy in all windows.
@@ -77,6 +82,24 @@ fn hits_in_all(windows: &[Window<Global>], index: usize) -> usize {
     sum
 }
 
+/// Checks the hits of four windows against those of the counted accesses.
+fn add_up(windows: &Windows<Global>, row: &Row<Global>) -> Result<(), Fail> {
+    same((windows.capacity, windows.windows.len()), (row.capacity, 4))?;
+    for (index, hits) in row.hits.iter().enumerate() {
+        same_at(hits_in_all(&windows.windows, index), hits.hits, index)?;
+    }
+    Ok(())
+}
+
+/// Checks the windows of all rows.
+fn all_add_up(all: &[Windows<Global>], rows: &[Row<Global>]) -> Result<(), Fail> {
+    same(all.len(), rows.len())?;
+    for (windows, row) in all.iter().zip(rows) {
+        add_up(windows, row)?;
+    }
+    Ok(())
+}
+
 /// With each policy, the hits of all windows are those of the counted accesses.
 #[test]
 fn windows_add_up(rt: HostRuntime) -> Result<(), Fail> {
@@ -85,19 +108,9 @@ fn windows_add_up(rt: HostRuntime) -> Result<(), Fail> {
         alloc,
         b"a\nb\na\nc\nb\nd\na\nb\ne\na\nf\nb\nc\na\nb\nd\na\n",
     )?;
-    let size = NonZeroUsize::new(5).ok_or("not zero")?;
-    let mut rows = Vec::new(alloc);
-    rows.push(row_at(alloc, 2, 1, &trace)?)?;
-    rows.push(row_at(alloc, 3, 1, &trace)?)?;
-    let all = all_windows_of(alloc, &rows, &Policy::ALL, None, 1, size, &trace)?;
-    same(all.len(), rows.len())?;
-    for (windows, row) in all.iter().zip(&rows) {
-        same((windows.capacity, windows.windows.len()), (row.capacity, 4))?;
-        for (index, hits) in row.hits.iter().enumerate() {
-            same_at(hits_in_all(&windows.windows, index), hits.hits, index)?;
-        }
-    }
-    Ok(())
+    let rows = [row_at(alloc, 2, &trace)?, row_at(alloc, 3, &trace)?];
+    let all = all_windows_of(alloc, &rows, &Policy::ALL, None, 1, non_zero(5), &trace)?;
+    all_add_up(&all, &rows)
 }
 
 #[test]
@@ -111,15 +124,18 @@ capacity      first     FIFO      LRU
        3          3    33.33    33.33
        3          6     0.00   *50.00
 ";
-    let text = written(rt.alloc(), "2 3 --window=3 --policies=fifo,lru", TRACE)?;
-    same(text.as_slice(), table.as_bytes())?;
+    writes(
+        rt.alloc(),
+        "2 3 --window=3 --policies=fifo,lru",
+        TRACE,
+        table,
+    )?;
     let lines = "capacity,first,accesses,lru_hits,lru_ratio,trace
 3,0,5,2,0.4000,\"a \"\"b\"\"\"
 3,5,3,1,0.3333,\"a \"\"b\"\"\"
 3,0,1,0,0.0000,\"c\"
 ";
-    let text = of_two(rt.alloc(), "3 --window 5 --policies=lru --csv")?;
-    same(text.as_slice(), lines.as_bytes())
+    writes_of_two(rt.alloc(), "3 --window 5 --policies=lru --csv", lines)
 }
 
 #[test]
@@ -134,6 +150,5 @@ fn json_of_windows(rt: HostRuntime) -> Result<(), Fail> {
 ]}
 "#;
     let line = "3 --json --policies=lru --skip 3 --window 4";
-    let text = written(rt.alloc(), line, TRACE)?;
-    same(text.as_slice(), wanted.as_bytes())
+    writes(rt.alloc(), line, TRACE, wanted)
 }
