@@ -1,12 +1,10 @@
 //! How many keys each call compares, and how often it hashes a key.
 
 use crate::calls::{
-    ALIKE, APART, CHANGES, Call, Counting, ENTRIES, LOOKUPS, make, remove, two_of_three,
+    ALIKE, APART, CHANGES, Call, Counting, ENTRIES, LOOKUPS, make, put_three, remove, with_counting,
 };
 use crate::counted::Counts;
-use clock2q_cache::Cache;
 use std::alloc::Global;
-use std::num::NonZeroUsize;
 use std::test::Fail;
 use testing::{Spread, same, same_at};
 
@@ -41,13 +39,7 @@ fn removes_none<'a>(
     same_at(counts.asked_and_hashed(), (comparisons, 1), id)
 }
 
-/// A cache of twenty keys, no two of which hash alike.
-fn of_twenty<'a>(alloc: Global) -> Result<Counting<'a>, Fail> {
-    let capacity = NonZeroUsize::new(20).ok_or("not zero")?;
-    Ok(Cache::with_hasher(alloc, capacity, APART)?)
-}
-
-/// Looks up and removes keys while such a cache is filled.
+/// Looks up and removes keys while a cache of twenty keys is filled, no two of which hash alike.
 fn at_most_one_is_asked<'a>(cache: &mut Counting<'a>, counts: &'a Counts) -> Result<(), Fail> {
     fill(cache, counts, 1, 21);
     for (id, comparisons) in [(20, 1), (21, 0)] {
@@ -63,21 +55,35 @@ fn at_most_one_is_asked<'a>(cache: &mut Counting<'a>, counts: &'a Counts) -> Res
 #[test]
 fn only_keys_that_hash_alike_are_asked(rt: HostRuntime) -> Result<(), Fail> {
     let counts = Counts::new();
-    let mut cache = of_twenty(rt.alloc())?;
-    at_most_one_is_asked(&mut cache, &counts)
+    with_counting(
+        rt.alloc(),
+        20,
+        APART,
+        |cache| at_most_one_is_asked(cache, &counts),
+    )
 }
 
-/// Returns how often a call on a cache that [`two_of_three`] makes asks keys, and hashes one.
-fn asked_by(alloc: Global, spread: Spread, call: Call, id: u64) -> Result<(u64, u64), Fail> {
+/// A call with a key asks this many keys of a cache in which [`put_three`] puts its keys, and hashes
+/// its own key once.
+fn asks<'a>(
+    cache: &mut Counting<'a>,
+    counts: &'a Counts,
+    call: Call,
+    (id, comparisons): (u64, u64),
+) -> Result<(), Fail> {
+    put_three(cache, counts);
+    make(cache, call, counts.key(id));
+    same_at(counts.asked_and_hashed(), (comparisons, 1), (call, id))
+}
+
+/// The same, with a cache made for it.
+fn asks_anew(alloc: Global, spread: Spread, call: Call, wanted: (u64, u64)) -> Result<(), Fail> {
     let counts = Counts::new();
-    let mut cache = two_of_three(alloc, spread, &counts)?;
-    let _ = counts.asked_and_hashed();
-    make(&mut cache, call, counts.key(id));
-    Ok(counts.asked_and_hashed())
+    with_counting(alloc, 2, spread, |cache| asks(cache, &counts, call, wanted))
 }
 
-/// Each call on a cache that [`two_of_three`] makes asks this many keys, and hashes its own key
-/// once: the ids are those of a resident, of a remembered key and of an unknown one.
+/// Each call asks this many keys: the ids are those of a resident, of a remembered key and of an
+/// unknown one.
 fn each_asks(
     alloc: Global,
     spread: Spread,
@@ -85,9 +91,8 @@ fn each_asks(
     wanted: [(u64, u64); 3],
 ) -> Result<(), Fail> {
     for call in calls {
-        for (id, comparisons) in wanted {
-            let asked = asked_by(alloc, spread, *call, id)?;
-            same_at(asked, (comparisons, 1), (call, id))?;
+        for id_and_comparisons in wanted {
+            asks_anew(alloc, spread, *call, id_and_comparisons)?;
         }
     }
     Ok(())
@@ -114,8 +119,9 @@ fn is_found_at<'a>(cache: &mut Counting<'a>, counts: &'a Counts, slot: usize, id
     cache.get_at(slot, &counts.key(id)).is_some()
 }
 
-/// Looks keys up at slots of a cache that [`two_of_three`] makes, after 2 was removed.
+/// Looks three keys up at slots, after 2 was removed.
 fn hints_ask<'a>(cache: &mut Counting<'a>, counts: &'a Counts) -> Result<(), Fail> {
+    put_three(cache, counts);
     same(remove(cache, counts, 2), true)?;
     let _ = counts.asked_and_hashed();
     for (slot, id, comparisons) in [
@@ -136,8 +142,7 @@ fn hints_ask<'a>(cache: &mut Counting<'a>, counts: &'a Counts) -> Result<(), Fai
 #[test]
 fn a_hint_asks_one_key_and_hashes_none(rt: HostRuntime) -> Result<(), Fail> {
     let counts = Counts::new();
-    let mut cache = two_of_three(rt.alloc(), ALIKE, &counts)?;
-    hints_ask(&mut cache, &counts)
+    with_counting(rt.alloc(), 2, ALIKE, |cache| hints_ask(cache, &counts))
 }
 
 /// Keeps only the key 3.
@@ -146,18 +151,22 @@ fn retain_three(cache: &mut Counting<'_>) {
 }
 
 /// Removes keys without naming them.
-fn retain_and_clear(cache: &mut Counting<'_>) -> Result<(), Fail> {
+fn retain_and_clear<'a>(cache: &mut Counting<'a>, counts: &'a Counts) -> Result<(), Fail> {
+    put_three(cache, counts);
     retain_three(cache);
     same(cache.len(), 1)?;
     cache.clear();
-    same(cache.len(), 0)
+    same(cache.len(), 0)?;
+    same(counts.asked_and_hashed(), (0, 0))
 }
 
 #[test]
 fn calls_without_a_key_ask_and_hash_none(rt: HostRuntime) -> Result<(), Fail> {
     let counts = Counts::new();
-    let mut cache = two_of_three(rt.alloc(), ALIKE, &counts)?;
-    let _ = counts.asked_and_hashed();
-    retain_and_clear(&mut cache)?;
-    same(counts.asked_and_hashed(), (0, 0))
+    with_counting(
+        rt.alloc(),
+        2,
+        ALIKE,
+        |cache| retain_and_clear(cache, &counts),
+    )
 }

@@ -1,4 +1,4 @@
-//! A run of commands, and the refusals of a cache.
+//! A cache that is lent to a function, a run of commands, and the refusals of a cache.
 
 use clock2q::command::{Command, Reply, run};
 use clock2q::{Cache, CacheError, DefaultHashBuilder, MAX_CAPACITY};
@@ -9,21 +9,16 @@ use testing::{same, same_at};
 
 pub(crate) type Numbers = Cache<u64, u64, DefaultHashBuilder>;
 
-/// A cache for this many numbers.
-pub(crate) fn numbers(alloc: Global, capacity: usize) -> Result<Numbers, Fail> {
-    let capacity = NonZeroUsize::new(capacity).ok_or("not zero")?;
-    Ok(Cache::new(alloc, capacity)?)
-}
-
-/// Makes a cache for this many numbers, and calls `work` with it.
-pub(crate) fn with_numbers<W: FnOnce(&mut Numbers) -> Result<(), Fail> + Drop>(
-    alloc: Global,
-    capacity: usize,
-    work: W,
-) -> Result<(), Fail>
+/// Makes a cache for this many numbers, each with a value, and lends it to `work`.
+pub(crate) fn with_cache<V, W>(alloc: Global, capacity: usize, work: W) -> Result<(), Fail>
+where
+    V: Drop,
+    W: FnOnce(&mut Cache<u64, V, DefaultHashBuilder>) -> Result<(), Fail> + Drop,
     requires callable { W.IsAlwaysCallable work }
 {
-    work(&mut numbers(alloc, capacity)?)
+    let capacity = NonZeroUsize::new(capacity).unwrap_or(NonZeroUsize::MAX);
+    let mut cache = Cache::new(alloc, capacity)?;
+    work(&mut cache)
 }
 
 /// What a cache for one key replies to a run.
@@ -60,15 +55,16 @@ fn replies(alloc: Global, cache: &mut Numbers) -> Result<(), Fail> {
 
 #[test]
 fn runs(rt: HostRuntime) -> Result<(), Fail> {
-    replies(rt.alloc(), &mut numbers(rt.alloc(), 1)?)
+    let alloc = rt.alloc();
+    with_cache(alloc, 1, |cache: &mut Numbers| replies(alloc, cache))
 }
 
 #[test]
 fn largest_capacity(rt: HostRuntime) -> Result<(), Fail> {
-    with_numbers(
+    with_cache(
         rt.alloc(),
         MAX_CAPACITY,
-        |cache| same(cache.capacity(), 16_777_215),
+        |cache: &mut Numbers| same(cache.capacity(), 16_777_215),
     )
 }
 
@@ -110,5 +106,5 @@ fn slot_is_taken_over(cache: &mut Numbers) -> Result<(), Fail> {
 
 #[test]
 fn slots_of_keys(rt: HostRuntime) -> Result<(), Fail> {
-    with_numbers(rt.alloc(), 2, slot_is_taken_over)
+    with_cache(rt.alloc(), 2, slot_is_taken_over)
 }

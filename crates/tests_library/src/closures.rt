@@ -1,6 +1,6 @@
 //! Closures whose answers change, and how often each is called.
 
-use crate::caches::{Numbers, with_numbers};
+use crate::caches::{Numbers, with_cache};
 use clock2q::handles::{Table, TableError};
 use std::alloc::Global;
 use std::cell::Cell;
@@ -42,7 +42,7 @@ fn every_other_is_kept(cache: &mut Numbers) -> Result<(), Fail> {
 /// removed.
 #[test]
 fn kept(rt: HostRuntime) -> Result<(), Fail> {
-    with_numbers(rt.alloc(), 5, every_other_is_kept)
+    with_cache(rt.alloc(), 5, every_other_is_kept)
 }
 
 /// Makes the slots that were never made, and returns their number.
@@ -67,7 +67,7 @@ fn slots_are_made(cache: &mut Numbers) -> Result<(), Fail> {
 
 #[test]
 fn made(rt: HostRuntime) -> Result<(), Fail> {
-    with_numbers(rt.alloc(), 6, slots_are_made)
+    with_cache(rt.alloc(), 6, slots_are_made)
 }
 
 /// Fetches the value of a key, and returns it with the number of calls of its closure.
@@ -118,7 +118,7 @@ fn closures_are_called(cache: &mut Numbers) -> Result<(), Fail> {
 /// a slot.
 #[test]
 fn called(rt: HostRuntime) -> Result<(), Fail> {
-    with_numbers(rt.alloc(), 2, closures_are_called)
+    with_cache(rt.alloc(), 2, closures_are_called)
 }
 
 /// Inserts this many handles under one hash.

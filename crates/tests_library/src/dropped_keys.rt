@@ -1,6 +1,8 @@
 //! When keys are dropped: each once.
 
-use crate::calls::{APART, CHANGES, Call, Counting, ENTRIES, LOOKUPS, make, remove, two_of_three};
+use crate::calls::{
+    APART, CHANGES, Call, Counting, ENTRIES, LOOKUPS, make, put_three, remove, with_counting,
+};
 use crate::counted::Counts;
 use std::test::Fail;
 use testing::same;
@@ -15,8 +17,9 @@ fn put<'a>(cache: &mut Counting<'a>, counts: &'a Counts, id: u64, value: u64) {
     let _ = cache.put(counts.key(id), value);
 }
 
-/// Puts a key again, then a new one, and clears a cache that [`two_of_three`] made.
+/// Puts a key again, then a new one, and clears the cache.
 fn replace_and_clear<'a>(cache: &mut Counting<'a>, counts: &'a Counts) -> Result<(), Fail> {
+    put_three(cache, counts);
     dropped(counts, (0, 3))?;
     put(cache, counts, 3, 30);
     dropped(counts, (1, 3))?;
@@ -30,12 +33,17 @@ fn replace_and_clear<'a>(cache: &mut Counting<'a>, counts: &'a Counts) -> Result
 #[test]
 fn a_key_is_dropped_where_it_is_replaced(rt: HostRuntime) -> Result<(), Fail> {
     let counts = Counts::new();
-    let mut cache = two_of_three(rt.alloc(), APART, &counts)?;
-    replace_and_clear(&mut cache, &counts)
+    with_counting(
+        rt.alloc(),
+        2,
+        APART,
+        |cache| replace_and_clear(cache, &counts),
+    )
 }
 
-/// Removes a key from such a cache, and puts another.
+/// Removes a key, and puts another.
 fn remove_and_put<'a>(cache: &mut Counting<'a>, counts: &'a Counts) -> Result<(), Fail> {
+    put_three(cache, counts);
     same(remove(cache, counts, 3), true)?;
     dropped(counts, (1, 3))?;
     put(cache, counts, 4, 4);
@@ -46,8 +54,7 @@ fn remove_and_put<'a>(cache: &mut Counting<'a>, counts: &'a Counts) -> Result<()
 #[test]
 fn a_removed_key_stays_in_its_slot(rt: HostRuntime) -> Result<(), Fail> {
     let counts = Counts::new();
-    let mut cache = two_of_three(rt.alloc(), APART, &counts)?;
-    remove_and_put(&mut cache, &counts)
+    with_counting(rt.alloc(), 2, APART, |cache| remove_and_put(cache, &counts))
 }
 
 /// Makes a call of each kind with each of five keys.
@@ -67,13 +74,23 @@ fn call_all<'a>(cache: &mut Counting<'a>, counts: &'a Counts) {
     }
 }
 
+/// Makes these calls of a cache of two keys, and removes the residents that a call put.
+fn call_and_retain<'a>(cache: &mut Counting<'a>, counts: &'a Counts) -> Result<(), Fail> {
+    put_three(cache, counts);
+    call_all(cache, counts);
+    cache.retain(|_, value| *value > 0);
+    Ok(())
+}
+
 /// Three keys are made for the cache, and twenty-three for the calls with each id.
 #[test]
 fn no_key_outlives_its_cache(rt: HostRuntime) -> Result<(), Fail> {
     let counts = Counts::new();
-    let mut cache = two_of_three(rt.alloc(), APART, &counts)?;
-    call_all(&mut cache, &counts);
-    cache.retain(|_, value| *value > 0);
-    drop(cache);
+    with_counting(
+        rt.alloc(),
+        2,
+        APART,
+        |cache| call_and_retain(cache, &counts),
+    )?;
     dropped(&counts, (118, 0))
 }

@@ -1,9 +1,8 @@
 //! Values that count how many were dropped.
 
+use crate::caches::with_cache;
 use clock2q_cache::{Cache, DefaultHashBuilder};
-use std::alloc::Global;
 use std::cell::Cell;
-use std::num::NonZeroUsize;
 use std::test::Fail;
 use testing::{same, same_at};
 
@@ -20,11 +19,6 @@ impl Drop for Dropped<'_> {
 }
 
 type Dropping<'a> = Cache<u64, Dropped<'a>, DefaultHashBuilder>;
-
-fn made<'a>(alloc: Global) -> Result<Dropping<'a>, Fail> {
-    let capacity = NonZeroUsize::new(2).ok_or("not zero")?;
-    Ok(Cache::new(alloc, capacity)?)
-}
 
 /// This many values were dropped after a new one is put.
 fn put<'a>(
@@ -56,9 +50,7 @@ fn fill_and_clear<'a>(cache: &mut Dropping<'a>, drops: &'a Cell<u64>) -> Result<
 #[test]
 fn each_value_is_dropped_once(rt: HostRuntime) -> Result<(), Fail> {
     let drops = Cell::new(0);
-    let mut cache = made(rt.alloc())?;
-    fill_and_clear(&mut cache, &drops)?;
-    drop(cache);
+    with_cache(rt.alloc(), 2, |cache| fill_and_clear(cache, &drops))?;
     same(drops.get(), 5)
 }
 
@@ -72,6 +64,5 @@ fn put_and_remove<'a>(cache: &mut Dropping<'a>, drops: &'a Cell<u64>) -> Result<
 #[test]
 fn a_free_slot_keeps_its_value(rt: HostRuntime) -> Result<(), Fail> {
     let drops = Cell::new(0);
-    let mut cache = made(rt.alloc())?;
-    put_and_remove(&mut cache, &drops)
+    with_cache(rt.alloc(), 2, |cache| put_and_remove(cache, &drops))
 }

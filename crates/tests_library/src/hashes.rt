@@ -63,11 +63,17 @@ fn is_hashed_once_a_slot(
     same_at(made.replace(0), 0, many)
 }
 
+/// The same, with a cache made for it.
+fn is_hashed_in_a_cache(alloc: Global, slots: (u64, u64)) -> Result<(), Fail> {
+    let made = Cell::new(0);
+    let mut cache = of_twenty(alloc, &made)?;
+    is_hashed_once_a_slot(&mut cache, &made, slots)
+}
+
 #[test]
 fn a_slot_made_beforehand_hashes_a_key_once(rt: HostRuntime) -> Result<(), Fail> {
-    let made = Cell::new(0);
     for slots in [(0, 20), (3, 17), (20, 0)] {
-        is_hashed_once_a_slot(&mut of_twenty(rt.alloc(), &made)?, &made, slots)?;
+        is_hashed_in_a_cache(rt.alloc(), slots)?;
     }
     Ok(())
 }

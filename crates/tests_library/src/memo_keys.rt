@@ -1,4 +1,5 @@
 //! What a memo does with its keys.
+ghost use Rattle.clock2q_memo.specs.Memo.{IsCallableAt};
 
 use crate::counted::{Counted, Counts};
 use clock2q_memo::Memo;
@@ -6,11 +7,13 @@ use std::num::NonZeroUsize;
 use std::test::Fail;
 use testing::{same, same_at};
 
-#[test]
-fn a_miss_hashes_its_key_twice(rt: HostRuntime) -> Result<(), Fail> {
-    let counts = Counts::new();
-    let capacity = NonZeroUsize::new(2).ok_or("not zero")?;
-    let mut memo = Memo::new(rt.alloc(), capacity, |_: &Counted<'_>| 7u64)?;
+/// Looks keys up, each twice.
+fn misses_hash_twice<'a, F: Fn(&Counted<'a>) -> u64>(
+    memo: &mut Memo<Counted<'a>, u64, F>,
+    counts: &'a Counts,
+) -> Result<(), Fail>
+    requires { (function : F) (key : _) → IsCallableAt F.Fn function key }
+{
     for (id, hashes) in [(1, 2), (1, 1), (2, 2), (3, 2), (2, 1)] {
         same(memo.get(counts.key(id)), 7)?;
         same_at(counts.asked_and_hashed().1, hashes, id)?;
@@ -21,13 +24,32 @@ fn a_miss_hashes_its_key_twice(rt: HostRuntime) -> Result<(), Fail> {
 }
 
 #[test]
+fn a_miss_hashes_its_key_twice(rt: HostRuntime) -> Result<(), Fail> {
+    let counts = Counts::new();
+    let capacity = NonZeroUsize::new(2).ok_or("not zero")?;
+    let mut memo = Memo::new(rt.alloc(), capacity, |_: &Counted<'_>| 7u64)?;
+    misses_hash_twice(&mut memo, &counts)
+}
+
+/// Looks six keys up, two of them for the second time.
+fn look_up_six<'a, F: Fn(&Counted<'a>) -> u64>(
+    memo: &mut Memo<Counted<'a>, u64, F>,
+    counts: &'a Counts,
+) -> Result<(), Fail>
+    requires { (function : F) (key : _) → IsCallableAt F.Fn function key }
+{
+    for id in [1, 2, 3, 1, 4, 4] {
+        same(memo.get(counts.key(id)), 7)?;
+    }
+    Ok(())
+}
+
+#[test]
 fn no_key_outlives_its_memo(rt: HostRuntime) -> Result<(), Fail> {
     let counts = Counts::new();
     let capacity = NonZeroUsize::new(2).ok_or("not zero")?;
     let mut memo = Memo::new(rt.alloc(), capacity, |_: &Counted<'_>| 7u64)?;
-    for id in [1, 2, 3, 1, 4, 4] {
-        same(memo.get(counts.key(id)), 7)?;
-    }
+    look_up_six(&mut memo, &counts)?;
     let function = memo.into_function();
     same(counts.dropped_and_left(), (6, 0))?;
     same(function(&counts.key(5)), 7)

@@ -36,11 +36,6 @@ fn squares_are_returned<F: Fn(&u64) -> u64>(memo: &mut Memo<u64, u64, F>) -> Res
     Ok(())
 }
 
-#[test]
-fn every_value_is_the_square(rt: HostRuntime) -> Result<(), Fail> {
-    squares_are_returned(&mut memo_of(rt.alloc(), 8, square)?)
-}
-
 /// Looks two keys up in turn.
 fn squares_of_two<F: Fn(&u64) -> u64>(memo: &mut Memo<u64, u64, F>) -> Result<(), Fail>
     requires { (function : F) (key : ℕ) → IsCallableAt F.Fn function key }
@@ -50,11 +45,6 @@ fn squares_of_two<F: Fn(&u64) -> u64>(memo: &mut Memo<u64, u64, F>) -> Result<()
         same(memo.get_recorded(4), 16)?;
     }
     Ok(())
-}
-
-#[test]
-fn one_value_at_a_time(rt: HostRuntime) -> Result<(), Fail> {
-    squares_of_two(&mut memo_of(rt.alloc(), 1, square)?)
 }
 
 /// Looks the keys 1 to 20 up, which fit.
@@ -103,11 +93,6 @@ fn record_one<F: Fn(&u64) -> u64>(memo: &mut Memo<u64, u64, F>) -> Result<(), Fa
     same(are_remembered(memo), (true, false))
 }
 
-#[test]
-fn a_recorded_hit_saves_the_key(rt: HostRuntime) -> Result<(), Fail> {
-    record_one(&mut memo_of(rt.alloc(), 20, square)?)
-}
-
 /// A hit that isn't recorded, and one more key.
 fn record_none<F: Fn(&u64) -> u64>(memo: &mut Memo<u64, u64, F>) -> Result<(), Fail>
     requires { (function : F) (key : ℕ) → IsCallableAt F.Fn function key }
@@ -118,11 +103,6 @@ fn record_none<F: Fn(&u64) -> u64>(memo: &mut Memo<u64, u64, F>) -> Result<(), F
     same(are_remembered(memo), (false, true))
 }
 
-#[test]
-fn an_unrecorded_hit_saves_nothing(rt: HostRuntime) -> Result<(), Fail> {
-    record_none(&mut memo_of(rt.alloc(), 20, square)?)
-}
-
 /// Looks five keys up, one of them twice.
 fn recalled<F: Fn(&u64) -> u64>(alloc: Global, memo: &mut Memo<u64, u64, F>) -> Result<(), Fail>
     requires { (function : F) (key : ℕ) → IsCallableAt F.Fn function key }
@@ -131,10 +111,62 @@ fn recalled<F: Fn(&u64) -> u64>(alloc: Global, memo: &mut Memo<u64, u64, F>) -> 
     same(values.as_slice(), [9, 1, 9, 4, 81].as_slice())
 }
 
+/// What is looked up in a memo of squares.
+#[derive(Clone, Copy)]
+enum Run {
+    Hundred,
+    Two,
+    Recorded,
+    Unrecorded,
+    List,
+}
+
+/// Looks up what the run says.
+fn look_up<F: Fn(&u64) -> u64>(
+    alloc: Global,
+    memo: &mut Memo<u64, u64, F>,
+    run: Run,
+) -> Result<(), Fail>
+    requires { (function : F) (key : ℕ) → IsCallableAt F.Fn function key }
+{
+    match run {
+        Run::Hundred => squares_are_returned(memo),
+        Run::Two => squares_of_two(memo),
+        Run::Recorded => record_one(memo),
+        Run::Unrecorded => record_none(memo),
+        Run::List => recalled(alloc, memo),
+    }
+}
+
+/// The same, with a memo of this many squares made for it.
+fn look_up_anew(alloc: Global, capacity: usize, run: Run) -> Result<(), Fail> {
+    let mut memo = memo_of(alloc, capacity, square)?;
+    look_up(alloc, &mut memo, run)
+}
+
+#[test]
+fn every_value_is_the_square(rt: HostRuntime) -> Result<(), Fail> {
+    look_up_anew(rt.alloc(), 8, Run::Hundred)
+}
+
+#[test]
+fn one_value_at_a_time(rt: HostRuntime) -> Result<(), Fail> {
+    look_up_anew(rt.alloc(), 1, Run::Two)
+}
+
+#[test]
+fn a_recorded_hit_saves_the_key(rt: HostRuntime) -> Result<(), Fail> {
+    look_up_anew(rt.alloc(), 20, Run::Recorded)
+}
+
+#[test]
+fn an_unrecorded_hit_saves_nothing(rt: HostRuntime) -> Result<(), Fail> {
+    look_up_anew(rt.alloc(), 20, Run::Unrecorded)
+}
+
 #[test]
 fn a_list_of_keys(rt: HostRuntime) -> Result<(), Fail> {
-    let mut memo = memo_of(rt.alloc(), 2, square)?;
-    recalled(rt.alloc(), &mut memo)
+    look_up_anew(rt.alloc(), 2, Run::List)
 }
 
 #[test]

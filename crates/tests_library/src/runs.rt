@@ -2,28 +2,28 @@
 ghost use Rattle.std.specs.Prelude.{IfOk, map};
 ghost use Rattle.clock2q_text.specs.Commands.{AreSupplied, call_of};
 
-use crate::calls::{ALIKE, APART, two_of_three};
+use crate::calls::{ALIKE, APART, Counting, put_three, with_counting};
 use crate::counted::{Counted, Counts};
 use clock2q_command::{Command, run};
 use std::alloc::{AllocError, Global};
 use std::test::Fail;
-use testing::{Spread, same, same_at};
+use testing::{Spread, same_at};
 
 type Commands<'a> = Vec<Command<Counted<'a>, u64>>;
 
-/// Returns how often a run on a cache that [`two_of_three`] makes asks keys, and hashes one.
-fn asked_by<'a>(
+/// A run asks keys, and hashes one, this often.
+fn asks<'a>(
     alloc: Global,
-    spread: Spread,
+    cache: &mut Counting<'a>,
     counts: &'a Counts,
     commands: Commands<'a>,
-) -> Result<(u64, u64), Fail>
+    case: (List, (u64, u64)),
+) -> Result<(), Fail>
     requires { AreSupplied (map call_of commands.items) }
 {
-    let mut cache = two_of_three(alloc, spread, counts)?;
-    let _ = counts.asked_and_hashed();
-    let _ = run(alloc, &mut cache, commands)?;
-    Ok(counts.asked_and_hashed())
+    let (list, wanted) = case;
+    let _ = run(alloc, cache, commands)?;
+    same_at(counts.asked_and_hashed(), wanted, list)
 }
 
 /// Commands that only look a key up.
@@ -67,24 +67,54 @@ fn others(alloc: Global, counts: &Counts) -> Result<Commands<'_>, AllocError>
     ]?)
 }
 
-/// Returns how often a run of [`lookups`] asks keys, and hashes one.
-fn looking_up(alloc: Global, spread: Spread, id: u64) -> Result<(u64, u64), Fail> {
-    let counts = Counts::new();
-    asked_by(alloc, spread, &counts, lookups(alloc, &counts, id)?)
+/// Which commands are run.
+#[derive(Clone, Copy, Debug)]
+enum List {
+    /// [`lookups`] of this key.
+    Lookups(u64),
+    /// [`insertions`] of this key.
+    Insertions(u64),
+    /// [`others`].
+    Others,
 }
 
-/// The same for [`insertions`].
-fn bringing_in(alloc: Global, spread: Spread, id: u64) -> Result<(u64, u64), Fail> {
+fn commands_of(alloc: Global, counts: &Counts, list: List) -> Result<Commands<'_>, AllocError>
+    ensures { IfOk result (λ commands. AreSupplied (map call_of commands.items)) }
+{
+    match list {
+        List::Lookups(id) => lookups(alloc, counts, id),
+        List::Insertions(id) => insertions(alloc, counts, id),
+        List::Others => others(alloc, counts),
+    }
+}
+
+/// Commands on a cache in which [`put_three`] puts its keys ask keys, and hash one, this often.
+fn list_asks<'a>(
+    alloc: Global,
+    cache: &mut Counting<'a>,
+    counts: &'a Counts,
+    list: List,
+    wanted: (u64, u64),
+) -> Result<(), Fail> {
+    put_three(cache, counts);
+    let commands = commands_of(alloc, counts, list)?;
+    asks(alloc, cache, counts, commands, (list, wanted))
+}
+
+/// The same, with a cache made for it.
+fn asks_anew(alloc: Global, spread: Spread, list: List, wanted: (u64, u64)) -> Result<(), Fail> {
     let counts = Counts::new();
-    asked_by(alloc, spread, &counts, insertions(alloc, &counts, id)?)
+    with_counting(alloc, 2, spread, |cache| {
+        list_asks(alloc, cache, &counts, list, wanted)
+    })
 }
 
 /// The failing fetch looks into the history too.
 #[test]
 fn lookups_ask_no_more(rt: HostRuntime) -> Result<(), Fail> {
     for (id, apart, alike) in [(3, 5, 11), (1, 1, 9), (4, 0, 11)] {
-        same_at(looking_up(rt.alloc(), APART, id)?, (apart, 5), id)?;
-        same_at(looking_up(rt.alloc(), ALIKE, id)?, (alike, 5), id)?;
+        asks_anew(rt.alloc(), APART, List::Lookups(id), (apart, 5))?;
+        asks_anew(rt.alloc(), ALIKE, List::Lookups(id), (alike, 5))?;
     }
     Ok(())
 }
@@ -95,16 +125,13 @@ fn lookups_ask_no_more(rt: HostRuntime) -> Result<(), Fail> {
 #[test]
 fn insertions_ask_no_more(rt: HostRuntime) -> Result<(), Fail> {
     for (id, apart, alike) in [(3, 5, 14), (1, 5, 9), (4, 4, 14)] {
-        same_at(bringing_in(rt.alloc(), APART, id)?, (apart, 5), id)?;
-        same_at(bringing_in(rt.alloc(), ALIKE, id)?, (alike, 5), id)?;
+        asks_anew(rt.alloc(), APART, List::Insertions(id), (apart, 5))?;
+        asks_anew(rt.alloc(), ALIKE, List::Insertions(id), (alike, 5))?;
     }
     Ok(())
 }
 
 #[test]
 fn other_commands_hash_nothing(rt: HostRuntime) -> Result<(), Fail> {
-    let alloc = rt.alloc();
-    let counts = Counts::new();
-    let asked = asked_by(alloc, ALIKE, &counts, others(alloc, &counts)?)?;
-    same(asked, (1, 0))
+    asks_anew(rt.alloc(), ALIKE, List::Others, (1, 0))
 }

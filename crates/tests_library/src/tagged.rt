@@ -9,7 +9,6 @@ use clock2q_cache::{Cache, DefaultHashBuilder};
 use std::alloc::Global;
 use std::hash::{Hash, Hasher};
 use std::num::NonZeroUsize;
-use std::process::Abort;
 use std::test::Fail;
 use testing::{same, same_at};
 
@@ -52,7 +51,7 @@ fn put(cache: &mut Tags, id: u64, tag: char, value: u64, before: Option<u64>) ->
 }
 
 /// The residents have exactly these ids and tags, by ascending slot.
-fn stay(rt: &impl Abort, cache: &mut Tags, keys: &[(u64, char)]) {
+fn stay(cache: &mut Tags, keys: &[(u64, char)]) -> Result<(), Fail> {
     let mut left = keys;
     let mut alike = true;
     cache.retain(|key, _| {
@@ -65,43 +64,46 @@ fn stay(rt: &impl Abort, cache: &mut Tags, keys: &[(u64, char)]) {
         }
         true
     });
-    assert!(rt; alike && left.is_empty(), "{keys:?}");
+    same_at(alike && left.is_empty(), true, keys)
 }
 
-/// A cache of two keys.
-fn of_two(alloc: Global) -> Result<Tags, Fail> {
-    let capacity = NonZeroUsize::new(2).ok_or("not zero")?;
-    Ok(Cache::new(alloc, capacity)?)
+/// Makes a cache of two keys, and lends it to `work`.
+fn with_two<W>(alloc: Global, work: W) -> Result<(), Fail>
+where
+    W: FnOnce(&mut Tags) -> Result<(), Fail> + Drop,
+    requires callable { W.IsAlwaysCallable work }
+{
+    let capacity = NonZeroUsize::new(2).unwrap_or(NonZeroUsize::MAX);
+    let mut cache = Cache::new(alloc, capacity)?;
+    work(&mut cache)
 }
 
 /// Puts a key again, removes it, and puts it once more.
-fn first_stays(rt: &impl Abort, cache: &mut Tags) -> Result<(), Fail> {
+fn first_stays(cache: &mut Tags) -> Result<(), Fail> {
     put(cache, 1, 'a', 10, None)?;
     put(cache, 1, 'b', 11, Some(10))?;
-    stay(rt, cache, &[(1, 'a')]);
+    stay(cache, &[(1, 'a')])?;
     let gone = Tagged { id: 1, tag: 'c' };
     same(cache.remove(&gone), true)?;
     put(cache, 1, 'd', 12, None)?;
-    stay(rt, cache, &[(1, 'd')]);
-    Ok(())
+    stay(cache, &[(1, 'd')])
 }
 
 #[test]
 fn a_stored_key_stays(rt: HostRuntime) -> Result<(), Fail> {
-    first_stays(&rt, &mut of_two(rt.alloc())?)
+    with_two(rt.alloc(), first_stays)
 }
 
 /// Puts three keys, and the first again.
-fn put_again(rt: &impl Abort, cache: &mut Tags) -> Result<(), Fail> {
+fn put_again(cache: &mut Tags) -> Result<(), Fail> {
     for id in 1..4 {
         put(cache, id, 'a', id, None)?;
     }
     put(cache, 1, 'b', 4, None)?;
-    stay(rt, cache, &[(3, 'a'), (1, 'b')]);
-    Ok(())
+    stay(cache, &[(3, 'a'), (1, 'b')])
 }
 
 #[test]
 fn a_key_that_returns_is_stored_anew(rt: HostRuntime) -> Result<(), Fail> {
-    put_again(&rt, &mut of_two(rt.alloc())?)
+    with_two(rt.alloc(), put_again)
 }

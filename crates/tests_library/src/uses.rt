@@ -1,7 +1,9 @@
 //! The callers in `clock2q_uses`, run.
 ghost use Rattle.std.specs.Prelude.{◌≡◌, ℕ, Bool, List};
+ghost use Rattle.clock2q_memo.specs.Memo.{IsCallableAt};
 ghost use Rattle.clock2q_uses.specs.WriteBack.{IsInStep};
 
+use crate::caches::with_cache;
 use clock2q::{Cache, CacheError, MAX_CAPACITY, Memo};
 use clock2q_uses::checksums::{adler32, checksums, is_unchanged};
 use clock2q_uses::interning::Interner;
@@ -38,6 +40,16 @@ fn asked_for_again(rt: HostRuntime) -> Result<(), Fail> {
     same(sums.as_slice(), wanted.as_slice())
 }
 
+/// The number of a document is its checksum here.
+fn copies_are_known<F: Fn(&usize) -> Option<u32>>(
+    memo: &mut Memo<usize, Option<u32>, F>,
+) -> Result<(), Fail>
+    requires { (function : F) (key : ℕ) → IsCallableAt F.Fn function key }
+{
+    same(is_unchanged(memo, 7, 7), true)?;
+    same(is_unchanged(memo, 7, 8), false)
+}
+
 #[test]
 fn a_client_with_a_copy(rt: HostRuntime) -> Result<(), Fail> {
     let capacity = NonZeroUsize::new(2).ok_or("not zero")?;
@@ -46,8 +58,7 @@ fn a_client_with_a_copy(rt: HostRuntime) -> Result<(), Fail> {
         capacity,
         |number: &usize| u32::try_from(*number).ok(),
     )?;
-    same(is_unchanged(&mut memo, 7, 7), true)?;
-    same(is_unchanged(&mut memo, 7, 8), false)
+    copies_are_known(&mut memo)
 }
 
 /// Five keys get their numbers, and keep them.
@@ -163,8 +174,7 @@ fn squares_are_returned(squares: &mut Cache<u64, u64>) -> Result<(), Fail> {
 
 #[test]
 fn squares_in_one_slot(rt: HostRuntime) -> Result<(), Fail> {
-    let capacity = NonZeroUsize::new(1).ok_or("not zero")?;
-    squares_are_returned(&mut Cache::new(rt.alloc(), capacity)?)
+    with_cache(rt.alloc(), 1, squares_are_returned)
 }
 
 /// A cache is filled with the keys 1 to 20, of which 3 to 20 are in Main: these are still there
@@ -190,8 +200,7 @@ fn main_outlives_a_scan(cache: &mut Cache<u64, u64>) -> Result<(), Fail> {
 
 #[test]
 fn a_scan_leaves_main(rt: HostRuntime) -> Result<(), Fail> {
-    let capacity = NonZeroUsize::new(20).ok_or("not zero")?;
-    main_outlives_a_scan(&mut Cache::new(rt.alloc(), capacity)?)
+    with_cache(rt.alloc(), 20, main_outlives_a_scan)
 }
 
 /// Three blocks through one slot: what is written goes to the device when its slot is needed, or at
