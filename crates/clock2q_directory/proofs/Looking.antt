@@ -7,7 +7,7 @@ use Rattle.std.proofs.lemmas.Bool.{cases_Bool, lt-ltb, le-ltb, ltb-true, ltb-fal
 use Rattle.clock2q_directory.specs.declared.handle.Handle.{Handle}
 use Rattle.clock2q_directory.specs.declared.found.Found.{Found}
 use Rattle.clock2q_handles.specs.Homes.{candidates}
-use Rattle.clock2q_handles.specs.Positions.{GapValue, gap_of}
+use Rattle.clock2q_handles.specs.Positions.{GapValue}
 use Rattle.clock2q_directory.specs.Index as known
 use Rattle.clock2q_directory.specs.Index.{IndexState, IsGapFor, first_remembered, unpacked, is_shared, slots_among, places_among}
 use Rattle.clock2q_queues.specs.Cells.{Rises}
@@ -65,11 +65,6 @@ some_itself : (end : Option GapValue) → IfSome end (λ gap. end ≡ Some gap)
 some_itself None = tt
 some_itself (Some gap) = refl
 
--- the gap that a lookup found in a table of slots and places, and none
-pub shared-gap : (hash : ℕ) (v : IndexState) (o : Option GapValue) → IfSome o (λ g. g ≡ gap_of v.shared hash) → is_shared v ≡ true → IsGapFor o hash v
-shared-gap hash v None is p = tt
-shared-gap hash v (Some g) is p = (is, p)
-
 pub some-not : {X : Type 0} {x : X} → Some x ≡ None → ⊥
 some-not e = absurd (cc)
 
@@ -77,6 +72,19 @@ some-not e = absurd (cc)
 pub some-same : (o : Option GapValue) {end : Option GapValue} {gap : GapValue} → end ≡ Some gap → IfSome o (λ g. end ≡ Some g) → IfSome o (λ g. g ≡ gap)
 some-same None is same = tt
 some-same (Some g) is same = cc
+
+-- the gap of a lookup that found nothing is also that of one that looked further
+pub further-gap : (hash : ℕ) (v : IndexState) (o : Option GapValue) (r : Found) → IsGapFor o hash v → (found_place r ≡ None → found_gap r ≡ o) → IsGapFor (found_gap r) hash v
+further-gap hash v o (Found.Resident slot) gap same = tt
+further-gap hash v o (Found.Remembered place) gap same = tt
+further-gap hash v o (Found.Absent gap') gap same = subst (λ z. IsGapFor z hash v) (sym (same refl)) gap
+
+-- what is found among no places is a slot, or nothing
+pub no-place-found : {resident remembered_key : ℕ → Bool} {end : Option GapValue} {hs : List ℕ} (r : Found) → IsFirst resident remembered_key end hs r → places_among hs ≡ []
+    → ((o : Option GapValue) → r ≡ Found.Absent o → ⊥) → found_slot r ≡ None → ⊥
+no-place-found (Found.Resident slot) f none found n = some-not n
+no-place-found {remembered_key = b} (Found.Remembered place) f none found n = some-not (f.place n ∙ ap (λ z. find b z) none)
+no-place-found (Found.Absent o) f none found n = found o refl
 
 module _ (a b : ℕ → Bool) (end : Option GapValue) where
   pub first-known : (hs : List ℕ) → IsFirst a b end hs (first_known a b end hs)

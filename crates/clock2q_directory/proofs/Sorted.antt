@@ -1,15 +1,14 @@
 -- What holds of every index, and what its calls rely on.
-use Rattle.std.proofs.Common.{◌≡◌, ℕ, zero, suc, ◌+◌, ◌-◌, ◌^◌, ◌<◌, true, false, ◌&&◌, ◌==◌, eqb, ltb, List, [], ◌∷◌, length, Option, Some, None, IfSome, IsSome, inl, inr, refl, sym, ap, ◌∙◌, arith}
+use Rattle.std.proofs.Common.{◌≡◌, ℕ, zero, suc, ◌+◌, ◌-◌, ◌^◌, ◌<◌, true, false, ◌&&◌, ◌==◌, eqb, ltb, List, [], ◌∷◌, length, inl, inr, refl, sym, ap, ◌∙◌, arith}
 use Rattle.std.specs.List.{list_any}
 use Rattle.std.proofs.lemmas.Bool.{both_ways, cases_Bool}
 use Rattle.std.proofs.lemmas.List.{length-map, length-replicate}
 use Rattle.std.proofs.lemmas.List.Sums.{sum_by-cons}
 use Rattle.clock2q_handles.specs.Homes.{top, listed, no_entries, capacity, total, candidates, with_handle, removed, is_entry_of}
-use Rattle.clock2q_handles.specs.Positions.{GapValue, gap_of}
 use Rattle.clock2q_handles.specs.TableStep.{made_for, HasSpare}
 use Rattle.clock2q_handles.proofs.FewerEntries.{total-no_entries}
 use Rattle.clock2q_queues.specs.Rings.{has}
-use Rattle.clock2q_directory.specs.Index.{IndexState, index_state, IsSorted, HasSlotRoom, IsGapFor, first_remembered, index_room, is_shared, slots, places, beside, slot_entries, place_entries, slots_in, places_in}
+use Rattle.clock2q_directory.specs.Index.{IndexState, index_state, IsSorted, HasSlotRoom, first_remembered, index_room, is_shared, slots, places, beside, slot_entries, place_entries, slots_in, places_in}
 use Rattle.clock2q_directory.proofs.Indexes.{any-candidate, length-put, length-taken, fits_new, total_new}
 use Rattle.clock2q_directory.proofs.Views.{place_of, listed-view, others-entered, others-left}
 
@@ -64,15 +63,6 @@ held_place v x p h held = grind (arith, any-place, listed-view, any-candidate)
 
 pub held_own : (v : IndexState) (x p : ℕ) → is_shared v ≡ false → has p (candidates (places v) x) ≡ true → list_any (is_entry_of eqb x p) (listed v.own x) ≡ true
 held_own v x p h held = grind (arith, any-candidate)
-
--- a gap that a lookup found, without where it is
-pub only-gap : (hash : ℕ) (v : IndexState) (o : Option GapValue) → IsGapFor o hash v → IfSome o (λ g. g ≡ gap_of v.shared hash)
-only-gap hash v None gap = tt
-only-gap hash v (Some g) gap = gap.0
-
-pub gap-shared : (hash : ℕ) (v : IndexState) (o : Option GapValue) → IsGapFor o hash v → IsSome o → is_shared v ≡ true
-gap-shared hash v None gap some = absurd (cc)
-gap-shared hash v (Some g) gap some = gap.1
 
 -- What holds of every index
 

@@ -2,8 +2,9 @@
 use Rattle.std.proofs.Common.{◌≡◌, ℕ, zero, suc, ◌+◌, ◌-◌, ◌%◌, ◌<◌, Bool, true, false, not, ◌&&◌, ◌||◌, if◌then◌else◌, eqb, ltb, Some, List, [], ◌∷◌, ◌++◌, length, map, set, get_or, inl, inr, refl, sym, ap, ◌∙◌, subst, arith, append-nil, eqb-true, eq-eqb, ne_eqb, lt-ltb, le-ltb, ltb-false}
 use Rattle.std.specs.List.{filter, list_any}
 use Rattle.std.proofs.lemmas.Bool.{both_ways, cases_Bool, cases_eq, eqb-false}
-use Rattle.std.proofs.lemmas.List.{append_assoc, length-append, length-map, map-set, set-get_or}
+use Rattle.std.proofs.lemmas.List.{append_assoc, length-append, length-map, map-set, nil_from_length, set-get_or}
 use Rattle.std.proofs.lemmas.List.Elements.{filter-append}
+use Rattle.std.proofs.lemmas.List.Sums.{sum_by-cons}
 use Rattle.clock2q_handles.specs.Homes.{top, home, listed, total, candidates, with_list, with_handle, removed, without_first, is_entry_of}
 use Rattle.clock2q_handles.specs.Positions.{with_first, handle_replaced}
 use Rattle.clock2q_handles.proofs.Lookups.{with_top}
@@ -152,6 +153,16 @@ candidates-places v x shared = grind (arith, with_top, listed-view, top-places)
 
 pub candidates-own : (v : IndexState) (x : ℕ) → is_shared v ≡ false → candidates (places v) x ≡ candidates v.own x
 candidates-own v x own = ap (λ b. candidates (if b then places_in v.shared else v.own) x) own
+
+none-listed : (homes : List (List (ℕ × ℕ))) (i : ℕ) → total homes ≡ 0 → get_or homes i [] ≡ []
+none-listed [] i none = refl
+none-listed (es ∷ homes) zero none = nil_from_length es (omega (arith, none, sum_by-cons length es homes))
+none-listed (es ∷ homes) (suc i) none = none-listed homes i (omega (arith, none, sum_by-cons length es homes))
+
+-- a table without places has none under a hash
+pub no-places : (v : IndexState) (x : ℕ) → total (places_in v.shared) ≡ 0 → places_among (candidates v.shared x) ≡ []
+no-places v x none =
+    sym (top-places x (listed v.shared x)) ∙ ap (λ es. with_top x es) (sym (listed-view place_entries refl v.shared x) ∙ none-listed (places_in v.shared) (home (places_in v.shared) x) none)
 
 -- A slot put in
 

@@ -1,9 +1,9 @@
 -- The history as a list of keys, newest first, and the index that has each key's place under its hash.
-use Rattle.std.specs.Prelude.{◌≡◌, ℕ, ◌+◌, ◌-◌, ◌^◌, ◌⊎◌, max, ◌<◌, ◌≤◌, Bool, false, not, nat_lt, if◌then◌else◌, List, [], ◌∷◌, length, take, drop, Option, Some, None, IfSome, map}
+use Rattle.std.specs.Prelude.{◌≡◌, ℕ, ◌+◌, ◌-◌, ◌^◌, ◌⊎◌, max, ◌<◌, ◌≤◌, Bool, false, not, nat_lt, if◌then◌else◌, List, [], ◌∷◌, length, take, drop, Option, Some, None}
 use Rattle.std.specs.List.{filter, find, zip, last_or}
 use Rattle.std.specs.Option.{option_map}
 use Rattle.std.specs.Coded.{Coded, code_by, coded×, coded_ℕ, coded_list}
-use Rattle.clock2q_handles.specs.Homes.{total, capacity, candidates}
+use Rattle.clock2q_handles.specs.Homes.{total, capacity}
 use Rattle.clock2q_handles.specs.Positions.{GapValue}
 use Rattle.clock2q_queues.specs.Rings.{has, without}
 use Rattle.clock2q_directory.specs.Index as known
@@ -11,7 +11,7 @@ use Rattle.clock2q_directory.specs.Index.{IndexState, index_code, first_remember
 use Rattle.clock2q_directory.specs.declared.found.Found.{Found}
 use Rattle.clock2q_queues.specs.Cells.{Rises}
 use Rattle.clock2q_directory.specs.declared.keys.store.Entry.{Entry}
-use Rattle.clock2q_directory.specs.Keys.{KeyPlaces, entries_of, is_key_at}
+use Rattle.clock2q_directory.specs.Keys.{KeyPlaces, entries_of}
 use Rattle.clock2q_directory.specs.Indexes.{IsIndex, AllDistinct, has_key}
 use Rattle.clock2q_queues.specs.Order.{PlaceOrder, IsWholeOrder, used, place_for}
 use mathlib.Core.Path.{refl}
@@ -102,16 +102,6 @@ abbrev pub found_gap : Found → Option GapValue
 found_gap (Found.Resident slot) = None
 found_gap (Found.Remembered place) = None
 found_gap (Found.Absent gap) = gap
-
--- a key was searched for among the residents and in the history; both counted their comparisons
-pub record Searches {K V : Type 0} (eq : K → K → Bool) (key : K) (hash : ℕ) (found : Found) (h : Remembered K) (r : KeyPlaces K V) (h' : Remembered K) (r' : KeyPlaces K V) : Type 0 where
-  pub slot : IfSome (found_slot found) (λ slot. find (is_key_at eq key r.entries) (candidates (known.slots h.places.index) hash) ≡ Some slot)
-  pub place : found_slot found ≡ None → found_place found ≡ place_of (eq key) (map (λ e. e.1) h.entries) h.places.taken
-  pub absent : found_slot found ≡ None → found_place found ≡ None → find (is_key_at eq key r.entries) (candidates (known.slots h.places.index) hash) ≡ None
-  pub residents : r' ≡ record r { comparisons = r'.comparisons }
-  pub kept : h' ≡ record h { comparisons = h'.comparisons }
-  pub asked : Rises 0 (length (candidates (known.slots h.places.index) hash)) r.comparisons r'.comparisons
-  pub comparisons : Rises 0 (length (candidates (known.places h.places.index) hash)) h.comparisons h'.comparisons
 
 -- the most entries that there may be beside the slots in their table: the places, and one that enters before another
 -- leaves

@@ -208,9 +208,9 @@ pub record IsHeld (hash slot : ℕ) (v : IndexState) : Type 0 where
   pub below : slot < 2 ^ 31
   pub there : has slot (candidates (slots v) hash) ≡ true
 
--- if a lookup of the hash found a gap, it is this one, and slots and places share a table
+-- if a lookup of the hash found a gap in the table of the slots, it is this one
 abbrev pub IsGapFor : Option GapValue → ℕ → IndexState → Type 0
-IsGapFor gap hash v = IfSome gap (λ g. (g ≡ gap_of v.shared hash) × (is_shared v ≡ true))
+IsGapFor gap hash v = IfSome gap (λ g. g ≡ gap_of v.shared hash)
 
 -- a key may take a slot, whose old key is remembered at a place: one that has no key, or that of the oldest key, whose
 -- hash this is

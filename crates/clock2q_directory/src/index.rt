@@ -1,10 +1,10 @@
 //! The index of a cache: where each known key is, under the key's hash.
-ghost use Rattle.std.specs.Prelude.{◌≡◌, ◌+◌, ◌^◌, ◌<◌, ℕ, true, Some, IfOk, IfSome, IfNone};
+ghost use Rattle.std.specs.Prelude.{◌≡◌, ◌+◌, ◌^◌, ◌<◌, ℕ, true, false, [], Some, IfOk, IfSome, IfNone};
 ghost use Rattle.clock2q_handles.specs.Homes.{candidates};
 ghost use Rattle.clock2q_queues.specs.Rings.{has};
 ghost use Rattle.clock2q_handles.specs.Layout.{walk};
 ghost use Rattle.clock2q_handles.specs.Positions.{gap_of};
-ghost use Rattle.clock2q_directory.specs.Index.{emptied, index_for, index_room, is_shared, places, entered, entered_from, left, looked_up, remembered_at, HasSlotRoom, HasPlaceRoom, HasRoomBeside, IsGapFor, IsHeld, IsWithinCapacity, forgotten_if};
+ghost use Rattle.clock2q_directory.specs.Index.{emptied, index_for, index_room, is_shared, places, places_among, entered, entered_from, left, looked_up, remembered_at, HasSlotRoom, HasPlaceRoom, HasRoomBeside, IsGapFor, IsHeld, IsWithinCapacity, forgotten_if};
 
 mod succession;
 
@@ -122,10 +122,12 @@ impl<A: Allocator> Index<A> {
         self.own.capacity() == 0
     }
 
-    /// Returns the numbers of the [handles](Handle) under a hash in the table of the slots.
+    /// Returns the numbers of the [handles](Handle) under a hash in the table of the slots, which has
+    /// no places if they have a table of their own.
     #[inline(always)]
     pub fn handles(&self, hash: u64) -> Candidates<'_, u32>
         ensures handles { result.left ≡ candidates self.now.shared hash }
+        ensures apart { is_shared self.now ≡ false → places_among result.left ≡ [] }
         ensures reads { result.reads + result.unread ≡ walk self.now.shared hash }
         ensures end { result.end ≡ Some (gap_of self.now.shared hash) }
     {
@@ -168,6 +170,7 @@ impl<A: Allocator> Index<A> {
         requires room { HasRoomBeside self.old }
         ensures renewed { self.new ≡ entered_from self.old hash slot (left old_hash slot self.old) }
     {
+        let gap = if self.is_shared() { gap } else { None }; // there may be no room before it leaves
         charge(
             &self.shared,
             &self.own,

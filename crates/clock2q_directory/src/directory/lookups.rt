@@ -7,7 +7,7 @@ ghost use Rattle.clock2q_directory.specs.Keys.{is_key_at, comparisons_of};
 ghost use Rattle.clock2q_directory.specs.Hashed.{has_hash};
 ghost use Rattle.clock2q_directory.specs.Indexes.{HasHash};
 ghost use Rattle.clock2q_directory.specs.Index.{is_shared, slots, places, slots_among, places_among, IsGapFor};
-ghost use Rattle.clock2q_directory.specs.History.{place_of, places_looked_up, found_slot, found_place, found_gap, first_known, Searches};
+ghost use Rattle.clock2q_directory.specs.History.{place_of, places_looked_up, found_slot, found_place, found_gap, first_known};
 
 use crate::directory::Directory;
 use crate::found::Found;
@@ -15,7 +15,7 @@ use crate::handle::Handle;
 use crate::keys::Keys;
 use crate::place::Place;
 use clock2q_count::Count;
-use clock2q_handles::Candidates;
+use clock2q_handles::{Candidates, Gap};
 use std::alloc::Allocator;
 
 impl<K: Eq, V, A: Allocator> Directory<K, V, A> {
@@ -51,34 +51,39 @@ impl<K: Eq, V, A: Allocator> Directory<K, V, A> {
             (places self.old.history.places.index) hash)) self.old.history.comparisons self.new.history.comparisons }
     {
         self.index.charge_lookup(hash); // once for both kinds
-        if !self.index.is_shared() {
-            return self.lookup_apart(hash, key);
-        }
-        look_among(
+        let found = look_among(
             self.index.handles(hash),
             key,
             &mut self.residents,
             &mut self.remembered,
-        )
+        );
+        match found {
+            Found::Absent(gap) if !self.index.is_shared() => self.lookup_apart(gap, hash, key),
+            found => found,
+        }
     }
 
-    /// Looks a key up as `lookup` does, if the places have a table of their own. It finds no gap, and
-    /// the index is not charged.
-    fn lookup_apart(&mut self, hash: u64, key: &K) -> Found
+    /// Looks a key that is not resident up among the remembered keys, if the places have a table of
+    /// their own. The lookup of the residents found the gap, and was charged for both.
+    fn lookup_apart(&mut self, gap: Option<Gap>, hash: u64, key: &K) -> Found
         requires apart { is_shared self.old.history.places.index ≡ false }
         requires hash { HasHash K.eq hash key.now self.old.history.entries }
-        requires made { AllByRecursion (λ slot. slot < length self.old.residents.entries)
-            (candidates (slots self.old.history.places.index) hash) }
-        ensures found { Searches K.eq key.now hash result self.old.history self.old.residents self.new.history self.new.residents }
-        ensures gap { found_gap result ≡ None }
+        ensures slot { found_slot result ≡ None }
+        ensures place { found_place result ≡
+            place_of (K.eq key.now)
+            (map (λ e. e.1) self.old.history.entries) self.old.history.places.taken }
+        ensures gap { found_place result ≡ None → found_gap result ≡ gap }
+        ensures residents { self.new.residents ≡ self.old.residents }
+        ensures kept { self.new.history ≡
+            record self.old.history { comparisons = self.new.history.comparisons } }
+        ensures comparisons { Rises 0
+            (length (candidates
+            (places self.old.history.places.index) hash)) self.old.history.comparisons self.new.history.comparisons }
     {
-        if let Some(slot) = self.residents.find(self.index.handles(hash), key) {
-            return Found::Resident(slot);
+        match self.remembered.find(self.index.own_places(hash), key) {
+            Some(place) => Found::Remembered(Place::new(place)),
+            None => Found::Absent(gap),
         }
-        if let Some(place) = self.remembered.find(self.index.own_places(hash), key) {
-            return Found::Remembered(Place::new(place));
-        }
-        Found::Absent(None)
     }
 
     /// Returns the slot of a resident key, and counts each comparison. Places are skipped. The index

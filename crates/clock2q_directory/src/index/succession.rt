@@ -6,7 +6,7 @@ use clock2q_handles::Gap;
 use std::alloc::Allocator;
 
 impl<A: Allocator> Index<A> {
-    ghost use Rattle.std.specs.Prelude.{◌≡◌, true};
+    ghost use Rattle.std.specs.Prelude.{◌≡◌, true, false};
     ghost use Rattle.clock2q_directory.specs.Index.{entered_from, forgotten_if, is_shared, remembered_at, HasPlaceRoom, HasRoomBeside, HasSlotRoom, IsGapFor, MaySucceed};
 
     /// Adds the slot of a key that becomes resident in place of another, which is remembered at a
@@ -28,16 +28,18 @@ impl<A: Allocator> Index<A> {
         ensures renewed { self.new ≡ entered_from self.old hash slot
             (remembered_at old_hash slot place (forgotten_if oldest place self.old)) }
     {
-        if gap.is_some() {
+        if self.is_shared() {
             self.succeed_shared(gap, hash, slot, old_hash, place, oldest);
         } else {
-            self.succeed_without_gap(hash, slot, old_hash, place, oldest);
+            self.succeed_apart(hash, slot, old_hash, place, oldest);
         }
     }
 
-    /// Does what `succeed` does if no gap is known. It is out of line, since it is rare.
+    /// Does what `succeed` does if the places have a table of their own. It is out of line, since it
+    /// is rare. A table of the slots alone may have no room for a key before another leaves, so the gap
+    /// is of no use.
     #[inline(never)]
-    fn succeed_without_gap(
+    fn succeed_apart(
         &mut self,
         hash: u64,
         slot: u32,
@@ -45,16 +47,13 @@ impl<A: Allocator> Index<A> {
         place: Place,
         oldest: Option<u64>,
     )
+        requires apart { is_shared self.old ≡ false }
         requires may { MaySucceed slot old_hash place oldest self.old }
         requires beside { HasRoomBeside self.old }
         requires room { HasPlaceRoom (forgotten_if oldest place self.old) }
         ensures renewed { self.new ≡ entered_from self.old hash slot
             (remembered_at old_hash slot place (forgotten_if oldest place self.old)) }
     {
-        if self.is_shared() {
-            self.succeed_shared(None, hash, slot, old_hash, place, oldest);
-            return;
-        }
         self.forget(oldest, place);
         charge(
             &self.shared,

@@ -1,51 +1,160 @@
-use Rattle.std.proofs.Common.{◌≡◌, length, refl, ap, sym, ◌∙◌, arith}
+use Rattle.std.proofs.Common.{◌≡◌, ◌≤◌, ℕ, Bool, true, false, Option, Some, None, [], length, map, inl, inr, ap, sym, ◌∙◌, arith}
+use Rattle.std.specs.Prelude.{IfSome}
 use Rattle.std.specs.List.{find}
-use Rattle.clock2q_directory.specs.Index.{is_shared, places_among}
-use Rattle.clock2q_directory.specs.Keys.{is_key_at}
-use Rattle.clock2q_directory.specs.History.{found_gap}
-use Rattle.clock2q_directory.proofs.Looking.{IsFirst, some-same, shared-gap, first-known, shared-places, slots-read}
+use Rattle.std.proofs.lemmas.Bool.{cases_Bool}
+use Rattle.clock2q_handles.specs.Homes.{candidates}
+use Rattle.clock2q_handles.specs.Positions.{GapValue}
+use Rattle.clock2q_queues.specs.Cells.{Rises}
+use Rattle.clock2q_directory.specs.declared.found.Found.{Found}
+use Rattle.clock2q_directory.specs.Index.{IsGapFor, is_shared, slots, places, slots_among, places_among}
+use Rattle.clock2q_directory.specs.Keys.{is_key_at, entries_of}
+use Rattle.clock2q_directory.specs.History.{place_of, found_slot, found_place, found_gap}
+use Rattle.clock2q_directory.proofs.Looking.{IsFirst, some-same, first-known, further-gap, no-place-found, shared-places, slots-read}
 use Rattle.clock2q_directory.proofs.Forgetting.{placed}
 use Rattle.clock2q_directory.proofs.Views.{candidates-places}
 use Rattle.clock2q_directory.proofs.directory.Directory.lookup.Given.{Over}
-use Rattle.clock2q_directory.proofs.directory.Directory.lookup.Goals.{After-is_shared}
+use Rattle.clock2q_directory.proofs.directory.Directory.lookup.Goals.{After-look_among-found}
 use Rattle.clock2q_directory.proofs.directory.Directory.lookup.Goals as goal
 
--- whether slots and places share a table is what it was before the charge
-shared : (g : Over) (c : After-is_shared g) → c.is_shared.result ≡ is_shared c.self.inside.index
-shared g c = c.is_shared.ensures.shared ∙ ap is_shared c.charge_lookup.ensures.looked
+module _ (g : Over) (c : After-look_among-found g) where
+  abbrev found : Found
+  found = c.look_among-found.result
 
-pub look_among-requires-clause-slots : goal.look_among-requires-clause-slots
-look_among-requires-clause-slots g c =
+  abbrev resident : ℕ → Bool
+  resident = is_key_at g.K.PartialEq.eq c.args.key.now c.self.inside.residents.entries
+
+  abbrev remembered : ℕ → Bool
+  remembered = is_key_at g.K.PartialEq.eq c.args.key.now c.self.inside.remembered.entries
+
+  first : IsFirst resident remembered c.handles.result.end c.handles.result.left found
+  first = rw c.look_among-found.ensures.found (first-known _ _ _ c.handles.result.left)
+
+  slots-left : slots_among c.handles.result.left ≡ candidates (slots c.self.inside.index) c.args.hash
+  slots-left = slots-read c.self.inside.index c.args.hash (rw c.charge_lookup.ensures.looked at c.handles.ensures.handles)
+
+  -- if the places have a table of their own, none was read
+  none-left : is_shared c.self.inside.index ≡ false → places_among c.handles.result.left ≡ []
+  none-left apart = c.handles.ensures.apart (ap is_shared c.charge_lookup.ensures.looked ∙ apart)
+
+  places-left : is_shared c.self.inside.index ≡ true → places_among c.handles.result.left ≡ candidates (places c.self.inside.index) c.args.hash
+  places-left shared = ap places_among (rw c.charge_lookup.ensures.looked at c.handles.ensures.handles) ∙ sym (candidates-places c.self.inside.index c.args.hash shared)
+
+  -- the place of the key, among the remembered ones
+  known-place : is_shared c.self.inside.index ≡ true → found_slot found ≡ None
+      → found_place found ≡ place_of (g.K.PartialEq.eq c.args.key.now) (map (λ e. e.1) (entries_of c.self.inside.remembered.entries c.self.inside.order.places)) c.self.inside.order.places
+  known-place shared none =
+      first.place none ∙ ap (λ z. find remembered z) (places-left shared)
+      ∙ sym (placed g.met.K.Eq.laws c.args.hash c.args.key.now c.self.invariant (rw (← c.self.view_is) at c.requires.hash))
+
+  known-slot : IfSome (found_slot found) (λ slot. find resident (candidates (slots c.self.inside.index) c.args.hash) ≡ Some slot)
+  known-slot = rw (← slots-left) first.slot
+
+  places-most : length (places_among c.handles.result.left) ≤ length (candidates (places c.self.inside.index) c.args.hash)
+  places-most = elim (cases_Bool (is_shared c.self.inside.index)) [
+    | inl shared ↦ omega (arith, ap length (places-left shared))
+    | inr apart ↦ omega (arith, ap length (none-left apart))
+  ]
+
+  known-absent : found_slot found ≡ None → found_place found ≡ None → find resident (candidates (slots c.self.inside.index) c.args.hash) ≡ None
+  known-absent none nowhere = ap (λ z. find resident z) (sym slots-left) ∙ first.absent none nowhere
+
+  known-gap : IsGapFor (found_gap found) c.args.hash c.self.inside.index
+  known-gap = some-same (found_gap found) (rw c.charge_lookup.ensures.looked at c.handles.ensures.end) first.gap
+
+  known-asked : Rises 0 (length (candidates (slots c.self.inside.index) c.args.hash)) c.self.inside.residents.comparisons c.look_among-found.new.residents.comparisons
+  known-asked = (c.look_among-found.ensures.asked.0, omega (arith, c.look_among-found.ensures.asked.1, ap length slots-left))
+
+  known-comparisons : Rises 0 (length (candidates (places c.self.inside.index) c.args.hash)) c.self.inside.remembered.comparisons c.look_among-found.new.remembered.comparisons
+  known-comparisons = (c.look_among-found.ensures.comparisons.0, omega (arith, c.look_among-found.ensures.comparisons.1, places-most))
+
+pub look_among-found-requires-clause-slots : goal.look_among-found-requires-clause-slots
+look_among-found-requires-clause-slots g c =
     let handles = rw c.charge_lookup.ensures.looked at c.handles.ensures.handles in
     rw (slots-read c.self.inside.index c.args.hash handles) (rw (← c.self.view_is) at c.requires.made)
 
-pub look_among-requires-clause-places : goal.look_among-requires-clause-places
-look_among-requires-clause-places g c =
-    let is = sym (shared g (goal.at.look_among-requires-clause-places g c).After-is_shared) ∙ c.if-not-is_shared.false in
-    rw (c.handles.ensures.handles, c.charge_lookup.ensures.looked) (shared-places c.self.invariant c.args.hash is)
+pub look_among-found-requires-clause-places : goal.look_among-found-requires-clause-places
+look_among-found-requires-clause-places g c =
+    elim (cases_Bool (is_shared c.self.inside.index)) [
+      | inl shared ↦ rw (c.handles.ensures.handles, c.charge_lookup.ensures.looked) (shared-places c.self.invariant c.args.hash shared)
+      | inr apart ↦ rw (c.handles.ensures.apart (ap is_shared c.charge_lookup.ensures.looked ∙ apart)) tt
+    ]
 
-pub returns : goal.returns
-returns g c =
-    let i = c.self.inside in
-    let is = sym (shared g (goal.at.returns g c).After-is_shared) ∙ c.if-not-is_shared.false in
-    let a = is_key_at g.K.PartialEq.eq c.args.key.now i.residents.entries in
-    let b = is_key_at g.K.PartialEq.eq c.args.key.now i.remembered.entries in
-    let f : IsFirst a b c.handles.result.end c.handles.result.left c.look_among.result = rw c.look_among.ensures.found (first-known _ _ _ c.handles.result.left) in
-    let hashed = rw (← c.self.view_is) at c.requires.hash in
-    let handles = rw c.charge_lookup.ensures.looked at c.handles.ensures.handles in
-    let end = rw c.charge_lookup.ensures.looked at c.handles.ensures.end in
-    let slots = slots-read i.index c.args.hash handles in
-    let places = ap places_among handles ∙ sym (candidates-places i.index c.args.hash is) in
-    rw (← c.self.view_is) (record {
-      slot = rw (← slots) f.slot;
-      place = λ none. f.place none ∙ ap (λ z. find b z) places ∙ sym (placed g.met.K.Eq.laws c.args.hash c.args.key.now c.self.invariant hashed);
-      absent = λ none nowhere. ap (λ z. find a z) (sym slots) ∙ f.absent none nowhere;
-      gap = shared-gap c.args.hash i.index (found_gap c.look_among.result) (some-same (found_gap c.look_among.result) end f.gap) is;
-      residents = c.look_among.ensures.residents;
-      kept = rw (c.look_among.ensures.remembered, c.charge_lookup.ensures.looked) refl;
-      asked = (omega (arith, c.look_among.ensures.asked.0), omega (arith, c.look_among.ensures.asked.1, ap length slots));
-      comparisons = (omega (arith, c.look_among.ensures.comparisons.0), omega (arith, c.look_among.ensures.comparisons.1, ap length places));
-    })
+pub returns-in-Absent-clause-absent : goal.returns-in-Absent-clause-absent
+returns-in-Absent-clause-absent g c _ _ =
+    let at = (goal.at.returns-in-Absent-clause-absent g c).After-look_among-found in
+    rw (← c.self.view_is) (known-absent g at (ap found_slot c.in-Absent.is) (ap found_place c.in-Absent.is))
 
-pub lookup_apart-requires-clause-made : goal.lookup_apart-requires-clause-made
-lookup_apart-requires-clause-made g c = rw c.charge_lookup.ensures.looked (rw (← c.self.view_is) at c.requires.made)
+pub returns-in-Absent-clause-gap : goal.returns-in-Absent-clause-gap
+returns-in-Absent-clause-gap g c =
+    let at = (goal.at.returns-in-Absent-clause-gap g c).After-look_among-found in
+    rw (← c.self.view_is) (further-gap c.args.hash c.self.inside.index c.in-Absent.gap c.lookup_apart.result (rw c.in-Absent.is at (known-gap g at)) c.lookup_apart.ensures.gap)
+
+pub returns-in-Absent-clause-asked : goal.returns-in-Absent-clause-asked
+returns-in-Absent-clause-asked g c =
+    let at = (goal.at.returns-in-Absent-clause-asked g c).After-look_among-found in
+    rw (← c.self.view_is) (rw c.lookup_apart.ensures.residents (known-asked g at))
+
+pub returns-in_default-clause-place : goal.returns-in_default-clause-place
+returns-in_default-clause-place g c _ =
+    let at = (goal.at.returns-in_default-clause-place g c).After-look_among-found in
+    let shared = sym (ap is_shared c.charge_lookup.ensures.looked) ∙ sym c.is_shared.ensures.shared ∙ c.if-not-is_shared.false in
+    rw (← c.self.view_is) (sym (ap found_place c.in-Absent.is) ∙ known-place g at shared (ap found_slot c.in-Absent.is))
+
+pub returns-in_default-clause-absent : goal.returns-in_default-clause-absent
+returns-in_default-clause-absent g c _ _ =
+    let at = (goal.at.returns-in_default-clause-absent g c).After-look_among-found in
+    rw (← c.self.view_is) (known-absent g at (ap found_slot c.in-Absent.is) (ap found_place c.in-Absent.is))
+
+pub returns-in_default-clause-gap : goal.returns-in_default-clause-gap
+returns-in_default-clause-gap g c =
+    let at = (goal.at.returns-in_default-clause-gap g c).After-look_among-found in
+    rw (← c.self.view_is) (rw c.in-Absent.is at (known-gap g at))
+
+pub returns-in_default-clause-asked : goal.returns-in_default-clause-asked
+returns-in_default-clause-asked g c =
+    let at = (goal.at.returns-in_default-clause-asked g c).After-look_among-found in
+    rw (← c.self.view_is) (known-asked g at)
+
+pub returns-in_default-clause-comparisons : goal.returns-in_default-clause-comparisons
+returns-in_default-clause-comparisons g c =
+    let at = (goal.at.returns-in_default-clause-comparisons g c).After-look_among-found in
+    rw (← c.self.view_is) (known-comparisons g at)
+
+pub returns-in_default-2-clause-slot : goal.returns-in_default-2-clause-slot
+returns-in_default-2-clause-slot g c =
+    let at = (goal.at.returns-in_default-2-clause-slot g c).After-look_among-found in
+    rw (← c.self.view_is) (known-slot g at)
+
+pub returns-in_default-2-clause-place : goal.returns-in_default-2-clause-place
+returns-in_default-2-clause-place g c none =
+    let at = (goal.at.returns-in_default-2-clause-place g c).After-look_among-found in
+    let not : (o : Option GapValue) → c.look_among-found.result ≡ Found.Absent o → ⊥ = λ o e. absurd (grind arith) in
+    rw (← c.self.view_is) (elim (cases_Bool (is_shared c.self.inside.index)) [
+      | inl shared ↦ known-place g at shared none
+      | inr apart ↦ absurd (no-place-found c.look_among-found.result (first g at) (none-left g at apart) not none)
+    ])
+
+pub returns-in_default-2-clause-absent : goal.returns-in_default-2-clause-absent
+returns-in_default-2-clause-absent g c none nowhere =
+    let at = (goal.at.returns-in_default-2-clause-absent g c).After-look_among-found in
+    rw (← c.self.view_is) (known-absent g at none nowhere)
+
+pub returns-in_default-2-clause-gap : goal.returns-in_default-2-clause-gap
+returns-in_default-2-clause-gap g c =
+    let at = (goal.at.returns-in_default-2-clause-gap g c).After-look_among-found in
+    rw (← c.self.view_is) (known-gap g at)
+
+pub returns-in_default-2-clause-asked : goal.returns-in_default-2-clause-asked
+returns-in_default-2-clause-asked g c =
+    let at = (goal.at.returns-in_default-2-clause-asked g c).After-look_among-found in
+    rw (← c.self.view_is) (known-asked g at)
+
+pub returns-in_default-2-clause-comparisons : goal.returns-in_default-2-clause-comparisons
+returns-in_default-2-clause-comparisons g c =
+    let at = (goal.at.returns-in_default-2-clause-comparisons g c).After-look_among-found in
+    rw (← c.self.view_is) (known-comparisons g at)
+
+-- What a search of the places' own table finds
+
+pub returns-in-Absent-clause-place : goal.returns-in-Absent-clause-place
+returns-in-Absent-clause-place g c _ = rw (← c.self.view_is) (rw c.look_among-found.ensures.remembered at c.lookup_apart.ensures.place)

@@ -1,7 +1,7 @@
 use Rattle.std.proofs.Common.{ap, arith}
 use Rattle.clock2q_handles.specs.Layout.{run}
 use Rattle.clock2q_directory.specs.Index.{index_of}
-use Rattle.clock2q_directory.proofs.Sorted.{only-gap, spare-there, sorted-entered}
+use Rattle.clock2q_directory.proofs.Sorted.{spare-there, sorted-entered}
 use Rattle.clock2q_directory.proofs.index.Index.add_slot.Goals as goal
 
 pub insert_at_gap-requires : goal.insert_at_gap-requires
@@ -9,7 +9,7 @@ insert_at_gap-requires g c =
     let v = index_of c.self.inside.shared c.self.inside.own c.self.inside.charged.total in
     let room = rw (← c.self.view_is) at c.requires.room in
     let gap = rw (← c.self.view_is) at c.requires.gap in
-    record { spare = spare-there v c.self.invariant.sorted room; gap = only-gap c.args.hash v c.args.gap gap }
+    record { spare = spare-there v c.self.invariant.sorted room; gap = gap }
 
 pub invariant_of-self : goal.invariant_of-self
 invariant_of-self g c =

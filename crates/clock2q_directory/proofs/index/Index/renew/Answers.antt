@@ -1,22 +1,30 @@
-use Rattle.std.proofs.Common.{ap, arith}
+use Rattle.std.proofs.Common.{ap, sym, subst, ◌∙◌, arith}
+use Rattle.std.specs.Prelude.{IsSome}
 use Rattle.clock2q_handles.specs.Layout.{run}
-use Rattle.clock2q_directory.specs.Index.{index_of}
+use Rattle.clock2q_directory.specs.Index.{index_of, is_shared}
 use Rattle.clock2q_directory.proofs.Views.{held_entry}
-use Rattle.clock2q_directory.proofs.Sorted.{gap-shared, only-gap, shared-few, spare-there, sorted-entered, sorted-left}
+use Rattle.clock2q_directory.proofs.Sorted.{shared-few, spare-there, sorted-entered, sorted-left}
+use Rattle.clock2q_directory.proofs.index.Index.renew.Goals.{then-is_shared, else-is_shared}
 use Rattle.clock2q_directory.proofs.index.Index.renew.Goals as goal
 
-pub exchange-requires : goal.exchange-requires
-exchange-requires g c =
+pub exchange-requires-clause-few : goal.exchange-requires-clause-few
+exchange-requires-clause-few g c =
     let v = index_of c.self.inside.shared c.self.inside.own c.self.inside.charged.total in
-    let held = rw (← c.self.view_is) at c.requires.held in
-    let gap = rw (← c.self.view_is) at c.requires.gap in
+    shared-few v c.self.invariant.sorted (rw (← c.self.view_is) at c.requires.room).few
+
+pub exchange-requires-clause-spare : goal.exchange-requires-clause-spare
+exchange-requires-clause-spare g c some =
+    let v = index_of c.self.inside.shared c.self.inside.own c.self.inside.charged.total in
     let room = rw (← c.self.view_is) at c.requires.room in
-    record {
-      few = shared-few v c.self.invariant.sorted room.few;
-      gap = only-gap c.args.hash v c.args.gap gap;
-      spare = λ some. spare-there v c.self.invariant.sorted (room.spare (gap-shared c.args.hash v c.args.gap gap some));
-      held = held_entry v c.args.old_hash c.args.slot held.there;
-    }
+    elim c.if-is_shared.branch [
+      | then-is_shared w ↦ spare-there v c.self.invariant.sorted (room.spare (ap is_shared c.self.view_is ∙ sym c.is_shared.ensures.shared ∙ w.if-is_shared.true))
+      | else-is_shared w ↦ let none = subst IsSome w.gap-is some in absurd (cc)
+    ]
+
+pub exchange-requires-clause-held : goal.exchange-requires-clause-held
+exchange-requires-clause-held g c =
+    let v = index_of c.self.inside.shared c.self.inside.own c.self.inside.charged.total in
+    held_entry v c.args.old_hash c.args.slot (rw (← c.self.view_is) at c.requires.held).there
 
 pub invariant_of-self : goal.invariant_of-self
 invariant_of-self g c =

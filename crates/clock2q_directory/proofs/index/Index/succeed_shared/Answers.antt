@@ -2,7 +2,7 @@ use Rattle.std.proofs.Common.{◌≡◌, true, Some, None, ap, ◌∙◌, arith}
 use Rattle.clock2q_handles.specs.Homes.{candidates}
 use Rattle.clock2q_queues.specs.Rings.{has}
 use Rattle.clock2q_directory.specs.Index.{IndexState, index_of, is_shared, slots}
-use Rattle.clock2q_directory.proofs.Sorted.{only-gap, spare-there, held_place}
+use Rattle.clock2q_directory.proofs.Sorted.{spare-there, held_place}
 use Rattle.clock2q_directory.proofs.Succession.{IsBeside, beside-free, beside-past, still-held, succeeded, succeeded-indexed}
 use Rattle.clock2q_directory.proofs.index.Index.succeed_shared.Given.{Over}
 use Rattle.clock2q_directory.proofs.index.Index.succeed_shared.Goals.{After-self, After-exchange, After-insert_at_gap}
@@ -39,7 +39,7 @@ exchange-requires g c =
     let spare = spare-there (before g at) c.self.invariant.sorted (rw (← c.self.view_is) at c.requires.room) in
     record {
       few = omega (arith, spare.few);
-      gap = only-gap c.args.hash (before g at) c.args.gap gap;
+      gap = gap;
       spare = λ _. spare;
       held = rw c.pack-handle.ensures.packed (held_place (before g at) c.in-Some.oldest c.args.place (shared g at) may.held_place);
     }
@@ -50,7 +50,7 @@ insert_at_gap-requires g c =
     let gap = rw (← c.self.view_is) at c.requires.gap in
     record {
       spare = spare-there (before g at) c.self.invariant.sorted (rw (← c.self.view_is) at c.requires.room);
-      gap = only-gap c.args.hash (before g at) c.args.gap gap;
+      gap = gap;
     }
 
 pub replace_handle-requires : goal.replace_handle-requires

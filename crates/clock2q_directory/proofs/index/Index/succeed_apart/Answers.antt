@@ -1,4 +1,4 @@
-use Rattle.std.proofs.Common.{◌≡◌, false, refl, sym, ap, ◌∙◌, arith}
+use Rattle.std.proofs.Common.{◌≡◌, false, refl, ap, ◌∙◌, arith}
 use Rattle.clock2q_handles.specs.Homes.{candidates}
 use Rattle.clock2q_handles.specs.Layout.{run}
 use Rattle.clock2q_queues.specs.Rings.{has}
@@ -7,9 +7,9 @@ use Rattle.clock2q_directory.specs.Index.{index_of, index_state, is_shared, slot
 use Rattle.clock2q_directory.proofs.Views.{held_entry}
 use Rattle.clock2q_directory.proofs.Sorted.{shared-few, sorted-entered, sorted-remembered}
 use Rattle.clock2q_directory.proofs.Succession.{same-index, slots-if, shared-if, apart-if, few-apart}
-use Rattle.clock2q_directory.proofs.index.Index.succeed_without_gap.Given.{Over}
-use Rattle.clock2q_directory.proofs.index.Index.succeed_without_gap.Goals.{After-self}
-use Rattle.clock2q_directory.proofs.index.Index.succeed_without_gap.Goals as goal
+use Rattle.clock2q_directory.proofs.index.Index.succeed_apart.Given.{Over}
+use Rattle.clock2q_directory.proofs.index.Index.succeed_apart.Goals.{After-self}
+use Rattle.clock2q_directory.proofs.index.Index.succeed_apart.Goals as goal
 
 module _ (g : Over) (c : After-self g) where
   now : index_of c.self.inside.shared c.self.inside.own c.self.inside.charged.total ≡ forgotten_if c.args.oldest c.args.place c.args.self.now
@@ -18,11 +18,8 @@ module _ (g : Over) (c : After-self g) where
   same : slots (index_of c.self.inside.shared c.self.inside.own c.self.inside.charged.total) ≡ slots c.args.self.now
   same = ap slots now ∙ slots-if c.args.place c.args.self.now c.args.oldest
 
-  was-apart : is_shared c.args.self.now ≡ false
-  was-apart = sym c.is_shared.ensures.shared ∙ c.if-is_shared.false
-
   apart : is_shared (index_state c.self.inside.shared.homes c.self.inside.own.homes) ≡ false
-  apart = ap is_shared now ∙ shared-if c.args.place c.args.self.now c.args.oldest ∙ was-apart
+  apart = ap is_shared now ∙ shared-if c.args.place c.args.self.now c.args.oldest ∙ c.requires.apart
 
 pub exchange-requires : goal.exchange-requires
 exchange-requires g c =
@@ -63,7 +60,7 @@ invariant_of-self g c =
 pub returns : goal.returns
 returns g c =
     let own = apart g (goal.at.returns g c).After-self in
-    let base = ap (λ z. most_changed z c.args.hash) (apart-if c.args.place c.args.self.now c.args.oldest (was-apart g (goal.at.returns g c).After-self)) in
+    let base = ap (λ z. most_changed z c.args.hash) (apart-if c.args.place c.args.self.now c.args.oldest c.requires.apart) in
     record {
       renewed = rw (c.exchange.ensures.exchanged, c.insert_at_gap.ensures.put, c.number.ensures.number, ← now g (goal.at.returns g c).After-self, own)
           (same-index refl refl (omega (arith, rw own at c.charge.ensures.charged, rw (← now g (goal.at.returns g c).After-self) at base)));

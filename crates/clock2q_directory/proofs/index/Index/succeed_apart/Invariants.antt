@@ -1,5 +1,5 @@
 use Rattle.clock2q_directory.specs.Index.{index_state, entered_from, remembered_at}
-use Rattle.clock2q_directory.proofs.index.Index.succeed_without_gap.Given as goal
+use Rattle.clock2q_directory.proofs.index.Index.succeed_apart.Given as goal
 
 abbrev pub ghost-charge : goal.ghost-charge
 ghost-charge g a =
