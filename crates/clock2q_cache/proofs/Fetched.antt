@@ -1,5 +1,5 @@
 -- A key that is hit, or inserted with a value that was made.
-use Rattle.std.proofs.Common.{◌≡◌, ℕ, Bool, Some, None, sym, ◌∙◌, arith}
+use Rattle.std.proofs.Common.{◌≡◌, ℕ, Bool, Some, None, arith}
 use Rattle.clock2q_cache.proofs.Names.{IsEquivalence, Machine, slot_of, hit, inserted, placement, put, fetched, IsWhole, Fetches, resident_made, stored_again, stored_same, get-within, slot_at_most, inserted_value}
 
 -- so a value that was fetched and is not written to stays as it was fetched
