@@ -59,19 +59,18 @@ pub record IsFirst (resident remembered_key : ℕ → Bool) (end : Option GapVal
   pub slot : IfSome (found_slot r) (λ s. find resident (slots_among hs) ≡ Some s)
   pub place : found_slot r ≡ None → found_place r ≡ find remembered_key (places_among hs)
   pub absent : found_slot r ≡ None → found_place r ≡ None → find resident (slots_among hs) ≡ None
-  pub gap : IfSome (found_gap r) (λ gap. end ≡ Some gap)
-
-some_itself : (end : Option GapValue) → IfSome end (λ gap. end ≡ Some gap)
-some_itself None = tt
-some_itself (Some gap) = refl
+  pub ended : found_slot r ≡ None → found_place r ≡ None → found_gap r ≡ end
 
 pub some-not : {X : Type 0} {x : X} → Some x ≡ None → ⊥
 some-not e = absurd (cc)
 
--- a gap that is the end is the one that the end is
-pub some-same : (o : Option GapValue) {end : Option GapValue} {gap : GapValue} → end ≡ Some gap → IfSome o (λ g. end ≡ Some g) → IfSome o (λ g. g ≡ gap)
-some-same None is same = tt
-some-same (Some g) is same = cc
+-- a gap that is found is the end
+pub end-found : (r : Found) {end : Option GapValue} {gap : GapValue} → end ≡ Some gap → (found_slot r ≡ None → found_place r ≡ None → found_gap r ≡ end)
+    → IfSome (found_gap r) (λ g. g ≡ gap)
+end-found (Found.Resident slot) is ended = tt
+end-found (Found.Remembered place) is ended = tt
+end-found (Found.Absent None) is ended = tt
+end-found (Found.Absent (Some g)) is ended = let same = ended refl refl in cc
 
 -- the gap of a lookup that found nothing is also that of one that looked further
 pub further-gap : (hash : ℕ) (v : IndexState) (o : Option GapValue) (r : Found) → IsGapFor o hash v → (found_place r ≡ None → found_gap r ≡ o) → IsGapFor (found_gap r) hash v
@@ -88,7 +87,7 @@ no-place-found (Found.Absent o) f none found n = found o refl
 
 module _ (a b : ℕ → Bool) (end : Option GapValue) where
   pub first-known : (hs : List ℕ) → IsFirst a b end hs (first_known a b end hs)
-  first-known [] = record { slot = tt; place = λ _. refl; absent = λ _ _. refl; gap = some_itself end }
+  first-known [] = record { slot = tt; place = λ _. refl; absent = λ _ _. refl; ended = λ _ _. refl }
   first-known (h ∷ hs) =
       let r = first-known hs in
       elim (cases_Bool (ltb h first_remembered)) [
@@ -99,11 +98,11 @@ module _ (a b : ℕ → Bool) (end : Option GapValue) where
             elim (cases_Bool (a h)) [
               | inl q ↦
                   let is : first_known a b end (h ∷ hs) ≡ Found.Resident h = rw (l, q) refl in
-                  rw is (record { slot = ap (λ z. find a z) slots_are ∙ rw q refl; place = λ n. absurd (cc); absent = λ n. absurd (cc); gap = tt })
+                  rw is (record { slot = ap (λ z. find a z) slots_are ∙ rw q refl; place = λ n. absurd (cc); absent = λ n. absurd (cc); ended = λ n. absurd (cc) })
               | inr q ↦
                   let is : first_known a b end (h ∷ hs) ≡ first_known a b end hs = rw (l, q) refl in
                   let same : find a (slots_among (h ∷ hs)) ≡ find a (slots_among hs) = ap (λ z. find a z) slots_are ∙ rw q refl in
-                  rw is (record { slot = rw same r.slot; place = λ n. r.place n ∙ ap (λ z. find b z) (sym places_are); absent = λ n m. same ∙ r.absent n m; gap = r.gap })
+                  rw is (record { slot = rw same r.slot; place = λ n. r.place n ∙ ap (λ z. find b z) (sym places_are); absent = λ n m. same ∙ r.absent n m; ended = r.ended })
             ]
         | inr l ↦
             let past = ltb-false h first_remembered l in
@@ -112,11 +111,11 @@ module _ (a b : ℕ → Bool) (end : Option GapValue) where
             elim (cases_Bool (b (h - first_remembered))) [
               | inl q ↦
                   let is : first_known a b end (h ∷ hs) ≡ Found.Remembered (h - first_remembered) = rw (l, q) refl in
-                  rw is (record { slot = tt; place = λ n. sym (ap (λ z. find b z) places_are ∙ rw q refl); absent = λ n m. absurd (cc); gap = tt })
+                  rw is (record { slot = tt; place = λ n. sym (ap (λ z. find b z) places_are ∙ rw q refl); absent = λ n m. absurd (cc); ended = λ n m. absurd (cc) })
               | inr q ↦
                   let is : first_known a b end (h ∷ hs) ≡ first_known a b end hs = rw (l, q) refl in
                   let same : find b (places_among (h ∷ hs)) ≡ find b (places_among hs) = ap (λ z. find b z) places_are ∙ rw q refl in
-                  rw is (record { slot = rw (ap (λ z. find a z) slots_are) r.slot; place = λ n. r.place n ∙ sym same; absent = λ n m. ap (λ z. find a z) slots_are ∙ r.absent n m; gap = r.gap })
+                  rw is (record { slot = rw (ap (λ z. find a z) slots_are) r.slot; place = λ n. r.place n ∙ sym same; absent = λ n m. ap (λ z. find a z) slots_are ∙ r.absent n m; ended = r.ended })
             ]
       ]
 

@@ -36,6 +36,8 @@ impl<K: Eq, V, A: Allocator> Directory<K, V, A> {
             find (is_key_at K.eq key.now self.old.residents.entries)
             (candidates (slots self.old.history.places.index) hash) ≡ None }
         ensures gap { IsGapFor (found_gap result) hash self.old.history.places.index }
+        ensures ended { found_slot result ≡ None → found_place result ≡ None →
+            IsSome (found_gap result) }
         ensures residents { self.new.residents ≡
             record self.old.residents { comparisons = self.new.residents.comparisons } }
         ensures kept { self.new.history ≡
@@ -58,6 +60,7 @@ impl<K: Eq, V, A: Allocator> Directory<K, V, A> {
             &mut self.remembered,
         );
         match found {
+            // asked only now: most keys are found in the slots' table, wherever the places are
             Found::Absent(gap) if !self.index.is_shared() => self.lookup_apart(gap, hash, key),
             found => found,
         }

@@ -1,5 +1,5 @@
-use Rattle.std.proofs.Common.{◌≡◌, ◌≤◌, ℕ, Bool, true, false, Option, Some, None, [], length, map, inl, inr, ap, sym, ◌∙◌, arith}
-use Rattle.std.specs.Prelude.{IfSome}
+use Rattle.std.proofs.Common.{◌≡◌, ◌≤◌, ℕ, Bool, true, false, Option, Some, None, [], length, map, inl, inr, refl, ap, sym, ◌∙◌, subst, arith}
+use Rattle.std.specs.Prelude.{IfSome, IsSome}
 use Rattle.std.specs.List.{find}
 use Rattle.std.proofs.lemmas.Bool.{cases_Bool}
 use Rattle.clock2q_handles.specs.Homes.{candidates}
@@ -9,7 +9,7 @@ use Rattle.clock2q_directory.specs.declared.found.Found.{Found}
 use Rattle.clock2q_directory.specs.Index.{IsGapFor, is_shared, slots, places, slots_among, places_among}
 use Rattle.clock2q_directory.specs.Keys.{is_key_at, entries_of}
 use Rattle.clock2q_directory.specs.History.{place_of, found_slot, found_place, found_gap}
-use Rattle.clock2q_directory.proofs.Looking.{IsFirst, some-same, first-known, further-gap, no-place-found, shared-places, slots-read}
+use Rattle.clock2q_directory.proofs.Looking.{IsFirst, end-found, first-known, further-gap, no-place-found, shared-places, slots-read}
 use Rattle.clock2q_directory.proofs.Forgetting.{placed}
 use Rattle.clock2q_directory.proofs.Views.{candidates-places}
 use Rattle.clock2q_directory.proofs.directory.Directory.lookup.Given.{Over}
@@ -59,7 +59,10 @@ module _ (g : Over) (c : After-look_among-found g) where
   known-absent none nowhere = ap (λ z. find resident z) (sym slots-left) ∙ first.absent none nowhere
 
   known-gap : IsGapFor (found_gap found) c.args.hash c.self.inside.index
-  known-gap = some-same (found_gap found) (rw c.charge_lookup.ensures.looked at c.handles.ensures.end) first.gap
+  known-gap = end-found found (rw c.charge_lookup.ensures.looked at c.handles.ensures.end) first.ended
+
+  known-ended : found_slot found ≡ None → found_place found ≡ None → IsSome (found_gap found)
+  known-ended none nowhere = subst IsSome (sym (first.ended none nowhere ∙ c.handles.ensures.end)) refl
 
   known-asked : Rises 0 (length (candidates (slots c.self.inside.index) c.args.hash)) c.self.inside.residents.comparisons c.look_among-found.new.residents.comparisons
   known-asked = (c.look_among-found.ensures.asked.0, omega (arith, c.look_among-found.ensures.asked.1, ap length slots-left))
@@ -89,6 +92,12 @@ returns-in-Absent-clause-gap g c =
     let at = (goal.at.returns-in-Absent-clause-gap g c).After-look_among-found in
     rw (← c.self.view_is) (further-gap c.args.hash c.self.inside.index c.in-Absent.gap c.lookup_apart.result (rw c.in-Absent.is at (known-gap g at)) c.lookup_apart.ensures.gap)
 
+pub returns-in-Absent-clause-ended : goal.returns-in-Absent-clause-ended
+returns-in-Absent-clause-ended g c _ nowhere =
+    let at = (goal.at.returns-in-Absent-clause-ended g c).After-look_among-found in
+    let ended = known-ended g at (ap found_slot c.in-Absent.is) (ap found_place c.in-Absent.is) in
+    rw (c.lookup_apart.ensures.gap nowhere) (rw c.in-Absent.is at ended)
+
 pub returns-in-Absent-clause-asked : goal.returns-in-Absent-clause-asked
 returns-in-Absent-clause-asked g c =
     let at = (goal.at.returns-in-Absent-clause-asked g c).After-look_among-found in
@@ -109,6 +118,11 @@ pub returns-in_default-clause-gap : goal.returns-in_default-clause-gap
 returns-in_default-clause-gap g c =
     let at = (goal.at.returns-in_default-clause-gap g c).After-look_among-found in
     rw (← c.self.view_is) (rw c.in-Absent.is at (known-gap g at))
+
+pub returns-in_default-clause-ended : goal.returns-in_default-clause-ended
+returns-in_default-clause-ended g c _ _ =
+    let at = (goal.at.returns-in_default-clause-ended g c).After-look_among-found in
+    rw c.in-Absent.is at (known-ended g at (ap found_slot c.in-Absent.is) (ap found_place c.in-Absent.is))
 
 pub returns-in_default-clause-asked : goal.returns-in_default-clause-asked
 returns-in_default-clause-asked g c =
@@ -143,6 +157,11 @@ pub returns-in_default-2-clause-gap : goal.returns-in_default-2-clause-gap
 returns-in_default-2-clause-gap g c =
     let at = (goal.at.returns-in_default-2-clause-gap g c).After-look_among-found in
     rw (← c.self.view_is) (known-gap g at)
+
+pub returns-in_default-2-clause-ended : goal.returns-in_default-2-clause-ended
+returns-in_default-2-clause-ended g c none nowhere =
+    let at = (goal.at.returns-in_default-2-clause-ended g c).After-look_among-found in
+    known-ended g at none nowhere
 
 pub returns-in_default-2-clause-asked : goal.returns-in_default-2-clause-asked
 returns-in_default-2-clause-asked g c =
