@@ -1,10 +1,11 @@
--- The records of all slots, of which the first are in memory.
+-- The records and the flags of all slots, of which the first are in memory.
 use Rattle.std.proofs.Common.{◌≡◌, ℕ, zero, suc, ◌+◌, ◌-◌, ◌<◌, ◌≤◌, true, List, [], ◌∷◌, ◌++◌, length, get_or, set, replicate, refl, sym, ap, ◌∙◌, arith}
 use Rattle.std.proofs.lemmas.List.{append_assoc, get_or_default, length-append, length-replicate, length-set, replicate-append-replicate}
+use Rattle.clock2q_queues.specs.declared.links.Flag.{Flag}
 use Rattle.clock2q_queues.specs.declared.links.Record.{Record}
 use Rattle.clock2q_queues.specs.Cells.{cells_state}
 use Rattle.clock2q_queues.specs.Flags.{is_linked}
-use Rattle.clock2q_queues.specs.Links.{RecordsState, Detaches, all_records, records_state, location_at, next_at, previous_at, record_at, vacant}
+use Rattle.clock2q_queues.specs.Links.{SlotRecords, Detaches, all_flags, all_records, slot_records, location_at, next_at, previous_at, record_at, vacant}
 use Rattle.clock2q_queues.proofs.Attaching.{detaches, next_is, previous_is, with_change}
 use Rattle.clock2q_queues.proofs.Records.{get_or-same}
 
@@ -13,18 +14,37 @@ padded-at [] n t = get_or-same n t vacant
 padded-at (r ∷ rs) n zero = refl
 padded-at (r ∷ rs) n (suc t) = padded-at rs n t
 
-padded-set : (rs : List Record) (n slot : ℕ) (r : Record) → slot < length rs → set (rs ++ replicate n vacant) slot r ≡ set rs slot r ++ replicate n vacant
-padded-set [] n slot r l = absurd (omega (arith, l))
-padded-set (x ∷ rs) n zero r l = refl
-padded-set (x ∷ rs) n (suc slot) r l = ap (λ z. x ∷ z) (padded-set rs n slot r (omega (arith, l)))
+module _ {X : Type 0} (d : X) where
+  padded-set : (xs : List X) (n slot : ℕ) (x : X) → slot < length xs → set (xs ++ replicate n d) slot x ≡ set xs slot x ++ replicate n d
+  padded-set [] n slot x l = absurd (omega (arith, l))
+  padded-set (y ∷ xs) n zero x l = refl
+  padded-set (y ∷ xs) n (suc slot) x l = ap (λ z. y ∷ z) (padded-set xs n slot x (omega (arith, l)))
 
-padded-push : (rs : List Record) (n slot : ℕ) (r : Record) → slot ≡ length rs → 0 < n
-    → set (rs ++ replicate n vacant) slot r ≡ (rs ++ r ∷ []) ++ replicate (n - 1) vacant
-padded-push [] zero slot r is some = absurd (omega (arith, some))
-padded-push [] (suc n) zero r is some = ap (λ m. r ∷ replicate m vacant) (omega arith)
-padded-push [] (suc n) (suc slot) r is some = absurd (omega (arith, is))
-padded-push (x ∷ rs) n zero r is some = absurd (omega (arith, is))
-padded-push (x ∷ rs) n (suc slot) r is some = ap (λ z. x ∷ z) (padded-push rs n slot r (omega (arith, is)) some)
+  padded-push : (xs : List X) (n slot : ℕ) (x : X) → slot ≡ length xs → 0 < n → set (xs ++ replicate n d) slot x ≡ (xs ++ x ∷ []) ++ replicate (n - 1) d
+  padded-push [] zero slot x is some = absurd (omega (arith, some))
+  padded-push [] (suc n) zero x is some = ap (λ m. x ∷ replicate m d) (omega arith)
+  padded-push [] (suc n) (suc slot) x is some = absurd (omega (arith, is))
+  padded-push (y ∷ xs) n zero x is some = absurd (omega (arith, is))
+  padded-push (y ∷ xs) n (suc slot) x is some = ap (λ z. y ∷ z) (padded-push xs n slot x (omega (arith, is)) some)
+
+  padded-get : (xs : List X) (n slot : ℕ) → get_or (xs ++ replicate n d) slot d ≡ get_or xs slot d
+  padded-get [] n slot = get_or-same n slot d
+  padded-get (y ∷ xs) n zero = refl
+  padded-get (y ∷ xs) n (suc slot) = padded-get xs n slot
+
+module _ (fs : List Flag) (slots : ℕ) where
+  pub flags-at : (t : ℕ) → get_or (all_flags fs slots) t Flag.Free ≡ get_or fs t Flag.Free
+  flags-at t = padded-get Flag.Free fs (slots - length fs) t
+
+  pub flags-set : (slot : ℕ) (f : Flag) → slot < length fs → set (all_flags fs slots) slot f ≡ all_flags (set fs slot f) slots
+  flags-set slot f within = padded-set Flag.Free fs (slots - length fs) slot f within ∙ ap (λ n. set fs slot f ++ replicate (slots - n) Flag.Free) (sym (length-set fs slot f))
+
+  pub flags-pushed : (slot : ℕ) (f : Flag) → slot ≡ length fs → slot < slots → set (all_flags fs slots) slot f ≡ all_flags (fs ++ f ∷ []) slots
+  flags-pushed slot f is within = padded-push Flag.Free fs (slots - length fs) slot f is (omega (arith, is, within))
+      ∙ ap (λ n. (fs ++ f ∷ []) ++ replicate n Flag.Free) (omega (arith, length-append fs (f ∷ [])))
+
+  pub flags-more : (k : ℕ) → length fs + k ≤ slots → all_flags (fs ++ replicate k Flag.Free) slots ≡ all_flags fs slots
+  flags-more k fit = grind (arith, append_assoc, replicate-append-replicate, length-append, length-replicate)
 
 linked_below : (rs : List Record) (slot : ℕ) → is_linked (location_at rs slot) ≡ true → slot < length rs
 linked_below [] slot linked = absurd (cc)
@@ -45,23 +65,23 @@ module _ (rs : List Record) (slots : ℕ) where
   linked-in slot linked = linked_below rs slot (ap (λ (r : Record). is_linked r.location) (sym (all-at slot)) ∙ linked)
 
   -- as the state shows it
-  pub linked-made : (n slot : ℕ) (shown : RecordsState) → records_state (cells_state (all_records rs slots) n) (length rs) ≡ shown
+  pub linked-made : (fs : List Flag) (n slot : ℕ) (shown : SlotRecords) → slot_records rs fs slots n ≡ shown
       → is_linked (location_at shown.cells.items slot) ≡ true → slot < shown.made
-  linked-made n slot shown e linked =
-      omega (arith, linked-in slot (ap (λ (z : RecordsState). is_linked (location_at z.cells.items slot)) e ∙ linked), ap (λ (z : RecordsState). z.made) e)
+  linked-made fs n slot shown e linked =
+      omega (arith, linked-in slot (ap (λ (z : SlotRecords). is_linked (location_at z.cells.items slot)) e ∙ linked), ap (λ (z : SlotRecords). z.made) e)
 
-  pub linked-value : (n slot : ℕ) (shown : RecordsState) → records_state (cells_state (all_records rs slots) n) (length rs) ≡ shown
+  pub linked-value : (fs : List Flag) (n slot : ℕ) (shown : SlotRecords) → slot_records rs fs slots n ≡ shown
       → is_linked (location_at shown.cells.items slot) ≡ true → (r : Record) → r ≡ get_or rs slot r → r ≡ record_at shown.cells.items slot
-  linked-value n slot shown e linked r is =
-      is ∙ sym (get_or_default rs slot vacant r (omega (arith, linked-made n slot shown e linked, ap (λ (z : RecordsState). z.made) e)))
-      ∙ sym (all-at slot) ∙ ap (λ (z : RecordsState). record_at z.cells.items slot) e
+  linked-value fs n slot shown e linked r is =
+      is ∙ sym (get_or_default rs slot vacant r (omega (arith, linked-made fs n slot shown e linked, ap (λ (z : SlotRecords). z.made) e)))
+      ∙ sym (all-at slot) ∙ ap (λ (z : SlotRecords). record_at z.cells.items slot) e
 
   pub length-all : length rs ≤ slots → length (all_records rs slots) ≡ slots
   length-all fit = omega (arith, fit, length-append rs (replicate (slots - length rs) vacant), length-replicate (slots - length rs) vacant)
 
   -- a record in memory is written
   pub all-set : (slot : ℕ) (r : Record) → slot < length rs → set (all_records rs slots) slot r ≡ all_records (set rs slot r) slots
-  all-set slot r within = padded-set rs (slots - length rs) slot r within ∙ ap (λ n. set rs slot r ++ replicate (slots - n) vacant) (sym (length-set rs slot r))
+  all-set slot r within = padded-set vacant rs (slots - length rs) slot r within ∙ ap (λ n. set rs slot r ++ replicate (slots - n) vacant) (sym (length-set rs slot r))
 
   -- a field of a record in memory is written
   pub all-changed : (slot : ℕ) (f : Record → Record) (r : Record) → r ≡ record_at rs slot → slot < length rs
@@ -76,7 +96,7 @@ module _ (rs : List Record) (slots : ℕ) where
 
   -- the first slot whose record isn't in memory gets one
   pub all-pushed : (slot : ℕ) (r : Record) → slot ≡ length rs → slot < slots → set (all_records rs slots) slot r ≡ all_records (rs ++ r ∷ []) slots
-  all-pushed slot r is within = padded-push rs (slots - length rs) slot r is (omega (arith, is, within))
+  all-pushed slot r is within = padded-push vacant rs (slots - length rs) slot r is (omega (arith, is, within))
       ∙ ap (λ n. (rs ++ r ∷ []) ++ replicate n vacant) (omega (arith, length-append rs (r ∷ [])))
 
   -- vacant records come into memory

@@ -9,7 +9,6 @@ use Rattle.clock2q_queues.specs.Rings.{around}
 use Rattle.clock2q_queues.specs.Flags.{is_linked}
 use Rattle.clock2q_queues.specs.Links.{LinkState, location_at, slots_from, next_at, bit_at}
 use Rattle.clock2q_queues.specs.MainRing.{IsMainRing, main_slots, main_entries, set_front, from_victim}
-use Rattle.clock2q_queues.proofs.AllRecords.{linked_within}
 use Rattle.clock2q_queues.proofs.InQueue.{AllLinked, all_linked, main_linked}
 use Rattle.clock2q_queues.proofs.Hand.{first_of, from_victim-chosen}
 
@@ -77,9 +76,6 @@ module _ (l : LinkState) (main : MainRing) (hand : ℕ) where
 
     pub slot_linked : is_linked (location_at l.records.items slot) ≡ true
     slot_linked = all_are.0
-
-    pub slot_in : slot < length l.records.items
-    slot_in = linked_within l.records.items slot slot_linked
 
     choice_from : (b : Bool) → bit_at l slot ≡ b → first_clear hand ((slot, b) ∷ map (λ s. (s, bit_at l s)) ahead) ≡ first_clear hand (main_entries l main)
     choice_from b is = grind (arith, left_after)

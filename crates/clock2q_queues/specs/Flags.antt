@@ -6,7 +6,7 @@ use Rattle.clock2q_queues.specs.declared.links.Location.{Location}
 use Rattle.clock2q_queues.specs.declared.links.Location.TheVariants.{Free, SmallYoung, SmallOld, Main}
 use Rattle.clock2q_queues.specs.declared.links.Flag.{Flag}
 use Rattle.clock2q_queues.specs.declared.links.Flag.TheVariants as flag
-use Rattle.clock2q_queues.specs.Links.{LinkState, RecordsState, location_at}
+use Rattle.clock2q_queues.specs.Links.{LinkState, SlotRecords, location_at}
 
 abbrev pub is_set : Flag → Bool
 is_set flag.Free = false
@@ -18,10 +18,10 @@ says_linked flag.Free = false
 says_linked flag.Clear = true
 says_linked flag.Hit = true
 
--- what the links hold, with the hit bits that these flags say
-abbrev pub links_shown : RecordsState → CellsState (Option ℕ) → List Flag → ℕ → LinkState
-links_shown records window flags inspections =
-    record { records = records.cells; made = records.made; window = window; bits = hit_bits (map is_set flags) inspections }
+-- what the links hold, with the hit bits that the flags say
+abbrev pub links_shown : SlotRecords → CellsState (Option ℕ) → ℕ → LinkState
+links_shown records window inspections =
+    record { records = records.cells; made = records.made; window = window; bits = hit_bits (map is_set records.flags) inspections }
 
 -- a slot with this location is in a queue
 abbrev pub is_linked : Location → Bool
@@ -30,8 +30,9 @@ is_linked (SmallYoung position) = true
 is_linked SmallOld = true
 is_linked Main = true
 
--- each slot has a flag, which says whether it is in a queue, as its record does
-pub record AreLinks (rs : List Record) (flags : List Flag) (window : List (Option ℕ)) : Type 0 where
-  pub as_many : length flags ≡ length rs
-  pub agree : (slot : ℕ) → slice_index_or (map says_linked flags) slot false ≡ is_linked (location_at rs slot)
+-- each slot has a flag, which says whether it is in a queue, as its record does, and a slot in a queue was made
+pub record AreLinks (records : SlotRecords) (window : List (Option ℕ)) : Type 0 where
+  pub as_many : length records.flags ≡ length records.cells.items
+  pub agree : (slot : ℕ) → slice_index_or (map says_linked records.flags) slot false ≡ is_linked (location_at records.cells.items slot)
+  pub made : (slot : ℕ) → is_linked (location_at records.cells.items slot) ≡ true → slot < records.made
   pub countable_positions : length window < 2 ^ 32

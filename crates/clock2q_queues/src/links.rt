@@ -64,7 +64,6 @@ enum Flag {
 pub(crate) struct Links<A: Allocator = Global> {
     records: Records<A>,
     window: Cells<Link, A>,
-    flags: Vec<Flag, A>,
     inspections: Count,
 }
 
@@ -74,9 +73,9 @@ impl<A: Allocator> Model for Links<A> {
 
     ghost Value = { LinkState };
 
-    ghost view = { λ a. links_shown a.records a.window a.flags.items a.inspections.total };
+    ghost view = { λ a. links_shown a.records a.window a.inspections.total };
 
-    ghost invariant = { λ a. AreLinks a.records.cells.items a.flags.items a.window.items };
+    ghost invariant = { λ a. AreLinks a.records a.window.items };
 }
 
 impl<A: Allocator> Links<A> {
@@ -87,12 +86,10 @@ impl<A: Allocator> Links<A> {
         ensures { IfOk result (λ l. l ≡ fresh slots window) }
     {
         let records = Records::new(alloc.clone()?, slots)?;
-        let positions = Vec::from_elem(alloc.clone()?, NOWHERE, window as usize)?;
-        let flags = Vec::from_elem(alloc, Flag::Free, slots as usize)?;
+        let positions = Vec::from_elem(alloc, NOWHERE, window as usize)?;
         Ok(Links {
             records,
             window: Cells::new(positions),
-            flags,
             inspections: Count::new(),
         })
     }
@@ -137,7 +134,6 @@ impl<A: Allocator> Links<A> {
         ensures cleared { SetsBit slot false self.old
             (record self.new { records = self.old.records; made = self.old.made }) }
     {
-        self.flags[slot as usize] = Flag::Clear;
         let alone = Record {
             previous: slot,
             next: slot,
@@ -183,7 +179,6 @@ impl<A: Allocator> Links<A> {
         ensures cleared { SetsBit slot false self.old
             (record self.new { records = self.old.records; made = self.old.made }) }
     {
-        self.flags[slot as usize] = Flag::Clear;
         self.records.attach(slot, before, location);
     }
 
@@ -199,7 +194,7 @@ impl<A: Allocator> Links<A> {
         ensures cleared { SetsBit slot false self.old
             (record self.new { records = self.old.records }) }
     {
-        self.flags[slot as usize] = Flag::Free;
+        self.records.set_flag(slot, Flag::Free);
         self.records.detach(slot)
     }
 
@@ -211,7 +206,7 @@ impl<A: Allocator> Links<A> {
         ensures cleared { SetsBit slot false self.old
             (record self.new { records = self.old.records }) }
     {
-        self.flags[slot as usize] = Flag::Clear;
+        self.records.set_flag(slot, Flag::Clear);
         self.records.set_location(slot, Location::SmallOld);
     }
 
@@ -254,10 +249,10 @@ impl<A: Allocator> Links<A> {
 
     /// Returns true if a slot is in a queue. It reads the byte with the slot's bit, and no record.
     pub(crate) fn is_linked(&self, slot: u32) -> bool
-        requires { slot < length self.now.records.items }
+        requires { slot < self.now.made }
         ensures { result ≡ is_linked (location_at self.now.records.items slot) }
     {
-        !matches!(self.flags[slot as usize], Flag::Free)
+        !matches!(self.records.flag(slot), Flag::Free)
     }
 
     /// Sets the hit bit of a slot that is in a queue.
@@ -265,7 +260,7 @@ impl<A: Allocator> Links<A> {
         requires { is_linked (location_at self.old.records.items slot) ≡ true }
         ensures { SetsBit slot true self.old self.new }
     {
-        self.flags[slot as usize] = Flag::Hit;
+        self.records.set_flag(slot, Flag::Hit);
     }
 
     /// Returns true if the bit of a slot in a queue was set, and clears it: the hand's inspection of a
@@ -279,8 +274,8 @@ impl<A: Allocator> Links<A> {
         ensures counted { self.new.bits.inspections ≡ self.old.bits.inspections + 1 }
     {
         self.inspections.tick();
-        let was = self.flags[slot as usize];
-        self.flags[slot as usize] = Flag::Clear;
+        let was = self.records.flag(slot);
+        self.records.set_flag(slot, Flag::Clear);
         matches!(was, Flag::Hit)
     }
 
@@ -293,7 +288,7 @@ impl<A: Allocator> Links<A> {
         ensures counted { self.new ≡ record self.old { records = accessed self.old.records } }
     {
         match self.records.read(slot).location {
-            Location::SmallOld => matches!(self.flags[slot as usize], Flag::Hit),
+            Location::SmallOld => matches!(self.records.flag(slot), Flag::Hit),
             _ => false,
         }
     }
@@ -306,12 +301,20 @@ impl<A: Allocator> Links<A> {
         self.records.peek(slot).next
     }
 
+    /// Tells a proof that each slot that is in a queue was made. It does nothing.
+    pub(crate) fn tell_made(&self)
+        ensures made { (slot : ℕ) → is_linked (location_at self.now.records.items slot) ≡ true
+            → slot < self.now.made }
+    {
+        let _ = &self.records;
+    }
+
     /// Returns true if a slot's bit is set. It counts no inspection.
     pub(crate) fn has_bit(&self, slot: u32) -> bool
-        requires { slot < length self.now.records.items }
+        requires { slot < self.now.made }
         ensures { result ≡ bit_at self.now slot }
     {
-        matches!(self.flags[slot as usize], Flag::Hit)
+        matches!(self.records.flag(slot), Flag::Hit)
     }
 
     /// Returns true if a slot that is in a queue is old and its bit is set. It counts no access.
@@ -321,7 +324,7 @@ impl<A: Allocator> Links<A> {
             ≡ (is_old (location_at self.now.records.items slot) && bit_at self.now slot) }
     {
         matches!(self.records.peek(slot).location, Location::SmallOld)
-            && matches!(self.flags[slot as usize], Flag::Hit)
+            && matches!(self.records.flag(slot), Flag::Hit)
     }
 
     /// Resets every record, every position and every bit to its initial state.
@@ -337,6 +340,5 @@ impl<A: Allocator> Links<A> {
     {
         self.records.clear();
         self.window.fill(NOWHERE);
-        self.flags.fill(Flag::Free);
     }
 }

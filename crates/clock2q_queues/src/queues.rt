@@ -174,7 +174,7 @@ impl<A: Allocator> Queues<A> {
 
     /// Returns true if a slot is in a queue. It accesses no link.
     pub fn is_resident(&self, slot: u32) -> bool
-        requires slot_in { slot < self.now.slots }
+        requires made { slot < self.now.made }
         ensures resident { result ≡ has slot (slots_of self.now.small ++ slots_of self.now.main) }
     {
         self.links.is_linked(slot)

@@ -1,46 +1,50 @@
-//! The records of the slots. A record is made when its slot is first in a queue.
-ghost use Rattle.std.specs.Prelude.{◌≡◌, ℕ, ◌+◌, ◌-◌, ◌<◌, ◌≤◌, true, IfOk, length, replicate, slice_set};
+//! The records and the flags of the slots. Both are made when a slot is first in a queue.
+ghost use Rattle.std.specs.Prelude.{◌≡◌, ℕ, ◌+◌, ◌-◌, ◌<◌, ◌≤◌, true, IfOk, length, replicate, slice_index_or, slice_set};
 ghost use Rattle.clock2q_queues.specs.Cells.{cells_state, accessed};
 ghost use Rattle.clock2q_queues.specs.Flags.{is_linked};
+ghost use Rattle.clock2q_queues.specs.declared.links.Flag.{Flag};
 ghost use Rattle.clock2q_queues.specs.Links.{Attaches, Detaches, location_at, made_below, next_at, previous_at, record_at, vacant, with_location};
 
-use crate::links::{Location, Record, VACANT};
+use crate::links::{Flag, Location, Record, VACANT};
 use clock2q_count::Count;
 use std::alloc::{AllocError, Allocator, Global};
 use std::marker::Model;
 
-/// The record of each slot, with the number of reads and writes. Only the first ones are made, which
-/// takes one write each: the record of any other slot is vacant.
+/// The record of each slot, with the number of reads and writes, and its flag. Only the first ones are
+/// made, which takes one write each: any other slot is vacant and free.
 #[derive(Drop)]
 pub(crate) struct Records<A: Allocator = Global> {
     items: Vec<Record, A>,
+    flags: Vec<Flag, A>,
     slots: u32,
     accesses: Count,
 }
 
 impl<A: Allocator> Model for Records<A> {
-    ghost use Rattle.std.specs.Prelude.{◌≤◌, length, vec_capacity};
-    ghost use Rattle.clock2q_queues.specs.Cells.{cells_state};
-    ghost use Rattle.clock2q_queues.specs.Links.{RecordsState, all_records, records_state};
+    ghost use Rattle.std.specs.Prelude.{length, vec_capacity};
+    ghost use Rattle.clock2q_queues.specs.Links.{SlotRecords, AreRecords, slot_records};
 
-    ghost Value = { RecordsState };
+    ghost Value = { SlotRecords };
 
-    ghost view = { λ r. records_state
-        (cells_state (all_records r.items.items r.slots) r.accesses.total)
-        (length r.items.items) };
+    ghost view = { λ r. slot_records r.items.items r.flags.items r.slots r.accesses.total };
 
-    ghost invariant = { λ r. (length r.items.items ≤ r.slots) × (r.slots ≤ vec_capacity r.items) };
+    ghost invariant = { λ r. AreRecords (length r.items.items) (length r.flags.items) r.slots
+        (vec_capacity r.items) (vec_capacity r.flags) };
 }
 
 impl<A: Allocator> Records<A> {
     /// Returns vacant records for `slots` slots, with no read or write counted yet. It takes all the
     /// memory that they will ever need.
     pub(super) fn new(alloc: A, slots: u32) -> Result<Self, AllocError>
+    where
+        A: Clone,
         ensures vacant { IfOk result (λ r. r.cells ≡ cells_state (replicate slots vacant) 0) }
         ensures made { IfOk result (λ r. r.made ≡ 0) }
+        ensures flags { IfOk result (λ r. r.flags ≡ replicate slots Flag.Free) }
     {
         Ok(Records {
-            items: Vec::with_capacity(alloc, slots as usize)?,
+            items: Vec::with_capacity(alloc.clone()?, slots as usize)?,
+            flags: Vec::with_capacity(alloc, slots as usize)?,
             slots,
             accesses: Count::new(),
         })
@@ -52,6 +56,7 @@ impl<A: Allocator> Records<A> {
         ensures value { result ≡ record_at self.old.cells.items slot }
         ensures counted { self.new.cells ≡ accessed self.old.cells }
         ensures made { self.new.made ≡ self.old.made }
+        ensures flags { self.new.flags ≡ self.old.flags }
     {
         self.accesses.tick();
         self.items[slot as usize]
@@ -62,6 +67,7 @@ impl<A: Allocator> Records<A> {
         ensures value { result ≡ record_at self.old.cells.items slot }
         ensures counted { self.new.cells ≡ accessed self.old.cells }
         ensures made { self.new.made ≡ self.old.made }
+        ensures flags { self.new.flags ≡ self.old.flags }
     {
         self.accesses.tick();
         match self.items.get(slot as usize) {
@@ -79,8 +85,24 @@ impl<A: Allocator> Records<A> {
         self.items[slot as usize]
     }
 
-    /// Writes the record of a slot. If the slot has none yet, its record is made, after those of the
-    /// slots below it.
+    /// Returns the flag of a slot that was made.
+    pub(super) fn flag(&self, slot: u32) -> Flag
+        requires { slot < self.now.made }
+        ensures { result ≡ slice_index_or self.now.flags slot Flag.Free }
+    {
+        self.flags[slot as usize]
+    }
+
+    /// Writes the flag of a slot that was made.
+    pub(super) fn set_flag(&mut self, slot: u32, flag: Flag)
+        requires { slot < self.old.made }
+        ensures { self.new ≡ record self.old { flags = slice_set self.old.flags slot flag } }
+    {
+        self.flags[slot as usize] = flag;
+    }
+
+    /// Writes the record of a slot, with a clear bit. If the slot has none yet, its record and its flag
+    /// are made, after those of the slots below it.
     #[inline(always)]
     pub(super) fn write(&mut self, slot: u32, content: Record)
         requires { slot < length self.old.cells.items }
@@ -88,10 +110,12 @@ impl<A: Allocator> Records<A> {
             ≡ cells_state (slice_set self.old.cells.items slot content)
             (self.old.cells.accesses + (slot - self.old.made) + 1) }
         ensures made { self.new.made ≡ made_below (slot + 1) self.old.made }
+        ensures flags { self.new.flags ≡ slice_set self.old.flags slot Flag.Clear }
     {
         if (slot as usize) < self.items.len() {
             self.accesses.tick();
             self.items[slot as usize] = content;
+            self.flags[slot as usize] = Flag::Clear;
             return;
         }
         if self.items.len() < slot as usize {
@@ -99,19 +123,22 @@ impl<A: Allocator> Records<A> {
         }
         self.accesses.tick();
         self.items.push_reserved(content);
+        self.flags.push_reserved(Flag::Clear);
     }
 
-    /// Makes the records of the slots below a bound that have none yet.
+    /// Makes the records and the flags of the slots below a bound that have none yet.
     #[inline(never)]
     pub(super) fn make_below(&mut self, bound: u32)
         requires { bound ≤ length self.old.cells.items }
         ensures counted { self.new.cells ≡ cells_state self.old.cells.items
             (self.old.cells.accesses + (bound - self.old.made)) }
         ensures made { self.new.made ≡ made_below bound self.old.made }
+        ensures flags { self.new.flags ≡ self.old.flags }
     {
         while self.items.len() < bound as usize {
             self.accesses.tick();
             self.items.push_reserved(VACANT);
+            self.flags.push_reserved(Flag::Free);
         }
     }
 
@@ -122,13 +149,14 @@ impl<A: Allocator> Records<A> {
         ensures written { self.new.cells
             ≡ accessed (with_location slot location self.old.cells) }
         ensures made { self.new.made ≡ self.old.made }
+        ensures flags { self.new.flags ≡ self.old.flags }
     {
         self.accesses.tick();
         self.accesses.tick();
         self.items[slot as usize].location = location;
     }
 
-    /// Puts a slot just before another.
+    /// Puts a slot, with a clear bit, just before another.
     #[inline(always)]
     pub(super) fn attach(&mut self, slot: u32, before: u32, location: Location)
         requires slot_in { slot < length self.old.cells.items }
@@ -138,6 +166,7 @@ impl<A: Allocator> Records<A> {
         ensures attached { Attaches slot before location (slot - self.old.made + 6)
             self.old.cells self.new.cells }
         ensures made { self.new.made ≡ made_below (slot + 1) self.old.made }
+        ensures flags { self.new.flags ≡ slice_set self.old.flags slot Flag.Clear }
     {
         self.accesses.tick();
         let previous = self.items[before as usize].previous;
@@ -165,6 +194,7 @@ impl<A: Allocator> Records<A> {
         ensures detached { Detaches slot self.old.cells self.new.cells }
         ensures value { result ≡ record_at self.old.cells.items slot }
         ensures made { self.new.made ≡ self.old.made }
+        ensures flags { self.new.flags ≡ self.old.flags }
     {
         self.accesses.tick();
         let was = self.items[slot as usize];
@@ -185,16 +215,19 @@ impl<A: Allocator> Records<A> {
         ensures charged { self.new.cells
             ≡ cells_state self.old.cells.items (self.old.cells.accesses + more) }
         ensures made { self.new.made ≡ self.old.made }
+        ensures flags { self.new.flags ≡ self.old.flags }
     {
         self.accesses.raise(&());
     }
 
-    /// Makes every record vacant. No record is read or written.
+    /// Makes every slot vacant and free. No record is read or written.
     pub(super) fn clear(&mut self)
         ensures cleared { self.new.cells
             ≡ cells_state (replicate (length self.old.cells.items) vacant) self.old.cells.accesses }
         ensures made { self.new.made ≡ 0 }
+        ensures flags { self.new.flags ≡ replicate (length self.old.cells.items) Flag.Free }
     {
         self.items.clear();
+        self.flags.clear();
     }
 }

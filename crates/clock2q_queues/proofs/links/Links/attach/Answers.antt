@@ -1,4 +1,5 @@
 use Rattle.std.proofs.Common.{◌<◌, false, length, refl, sym, ap}
+use Rattle.clock2q_queues.specs.declared.links.Flag.{Flag}
 use Rattle.clock2q_queues.specs.Links.{LinkState}
 use Rattle.clock2q_queues.proofs.Flagged.{bit_set, slot_attached}
 use Rattle.clock2q_queues.proofs.links.Links.attach.Goals as goal
@@ -6,12 +7,12 @@ use Rattle.clock2q_queues.proofs.links.Links.attach.Goals as goal
 pub invariant_of-self : goal.invariant_of-self
 invariant_of-self g c =
     let i = c.self.inside in
-    slot_attached i.records.cells.items i.flags.items i.window.items c.args.slot _ c.self.invariant
-    (rw (ap (λ (l : LinkState). l.records) c.self.view_is) c.requires.slot_in) c.attach.ensures.attached (sym c.requires.linked)
+    slot_attached i.records c.attach.new.self i.window.items c.args.slot Flag.Clear c.self.invariant c.attach.ensures.flags
+    (rw (ap (λ (l : LinkState). l.records) c.self.view_is) c.requires.slot_in) c.attach.ensures.attached (sym c.requires.linked) c.attach.ensures.made
 
 pub returns-clause-cleared : goal.returns-clause-cleared
 returns-clause-cleared g c =
     let i = c.self.inside in
-    let within : c.args.slot < length i.flags.items = rw (c.self.invariant.as_many, ap (λ (l : LinkState). l.records) c.self.view_is) c.requires.slot_in in
+    let within : c.args.slot < length i.records.flags = rw (c.self.invariant.as_many, ap (λ (l : LinkState). l.records) c.self.view_is) c.requires.slot_in in
     rw (← c.self.view_is)
-    (bit_set i.records i.window i.flags.items i.inspections.total c.args.slot _ false within refl)
+    (bit_set i.records c.attach.new.self i.window i.inspections.total c.args.slot Flag.Clear false within refl c.attach.ensures.flags)

@@ -1,4 +1,5 @@
-use Rattle.std.proofs.Common.{◌<◌, false, length, refl, sym, ap}
+use Rattle.std.proofs.Common.{◌<◌, false, length, refl, sym, ap, arith}
+use Rattle.clock2q_queues.specs.declared.links.Flag.{Flag}
 use Rattle.clock2q_queues.specs.declared.links.Record.{Record}
 use Rattle.clock2q_queues.specs.Cells.{CellsState}
 use Rattle.clock2q_queues.specs.Links.{LinkState}
@@ -8,13 +9,13 @@ use Rattle.clock2q_queues.proofs.links.Links.attach_alone.Goals as goal
 pub invariant_of-self : goal.invariant_of-self
 invariant_of-self g c =
     let i = c.self.inside in
-    rw (ap (λ (z : CellsState Record). z.items) c.write.ensures.written)
-    (record_written i.records.cells.items i.flags.items i.window.items c.args.slot _ c.self.invariant
-    (rw (ap (λ (l : LinkState). l.records) c.self.view_is) c.requires.slot_in) _ (sym c.requires.linked))
+    record_written i.records c.write.new.self i.window.items c.args.slot Flag.Clear c.self.invariant c.write.ensures.flags _
+    (rw (ap (λ (l : LinkState). l.records) c.self.view_is) c.requires.slot_in) (sym c.requires.linked)
+    (ap (λ (z : CellsState Record). z.items) c.write.ensures.written) (omega (arith, c.write.ensures.made)) (omega (arith, c.write.ensures.made))
 
 pub returns-clause-cleared : goal.returns-clause-cleared
 returns-clause-cleared g c =
     let i = c.self.inside in
-    let within : c.args.slot < length i.flags.items = rw (c.self.invariant.as_many, ap (λ (l : LinkState). l.records) c.self.view_is) c.requires.slot_in in
+    let within : c.args.slot < length i.records.flags = rw (c.self.invariant.as_many, ap (λ (l : LinkState). l.records) c.self.view_is) c.requires.slot_in in
     rw (← c.self.view_is)
-    (bit_set i.records i.window i.flags.items i.inspections.total c.args.slot _ false within refl)
+    (bit_set i.records c.write.new.self i.window i.inspections.total c.args.slot Flag.Clear false within refl c.write.ensures.flags)

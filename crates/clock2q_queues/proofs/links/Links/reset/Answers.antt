@@ -1,7 +1,12 @@
-use Rattle.std.proofs.Common.{arith}
+use Rattle.std.proofs.Common.{◌<◌, ◌^◌, length, ap, ◌∙◌, rules}
 use Rattle.std.proofs.lemmas.List.{length-replicate}
+use Rattle.clock2q_queues.specs.declared.links.Record.{Record}
+use Rattle.clock2q_queues.specs.Cells.{CellsState}
 use Rattle.clock2q_queues.proofs.Flagged.{are_fresh}
 use Rattle.clock2q_queues.proofs.links.Links.reset.Goals as goal
 
 pub invariant_of-self : goal.invariant_of-self
-invariant_of-self g c = grind (arith, are_fresh, length-replicate, c.clear.ensures.cleared, c.fill-2.ensures.items, c.self.invariant.as_many, c.fill.ensures.items, c.self.invariant.countable_positions)
+invariant_of-self g c =
+    let i = c.self.inside in
+    let countable : length c.fill.new.self.items < 2 ^ 32 = rw (c.fill.ensures.items, length-replicate) c.self.invariant.countable_positions in
+    are_fresh (length i.records.cells.items) c.clear.new.self c.fill.new.self.items (ap (λ (z : CellsState Record). z.items) c.clear.ensures.cleared) c.clear.ensures.flags countable

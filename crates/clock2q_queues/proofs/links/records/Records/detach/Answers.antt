@@ -1,6 +1,6 @@
 use Rattle.std.proofs.Common.{◌≡◌, ap, arith}
 use Rattle.clock2q_queues.specs.declared.links.Record.{Record}
-use Rattle.clock2q_queues.specs.Links.{RecordsState, record_at, previous_at}
+use Rattle.clock2q_queues.specs.Links.{SlotRecords, record_at, previous_at}
 use Rattle.clock2q_queues.proofs.AllRecords.{all-detached, linked-made, linked-value}
 use Rattle.clock2q_queues.proofs.links.records.Records.detach.Given.{Over}
 use Rattle.clock2q_queues.proofs.links.records.Records.detach.Goals.{After-index-was}
@@ -8,13 +8,13 @@ use Rattle.clock2q_queues.proofs.links.records.Records.detach.Goals as goal
 
 -- the record of the slot that is taken out
 was : (g : Over) (c : After-index-was g) → c.index-was.result.now ≡ record_at c.args.self.now.cells.items c.args.slot
-was g c = linked-value c.self.inside.items.items c.self.inside.slots c.self.inside.accesses.total c.args.slot c.args.self.now c.self.view_is c.requires.slot_in c.index-was.result.now c.index-was.ensures
+was g c = linked-value c.self.inside.items.items c.self.inside.slots c.self.inside.flags.items c.self.inside.accesses.total c.args.slot c.args.self.now c.self.view_is c.requires.slot_in c.index-was.result.now c.index-was.ensures
 
 pub index_mut-requires : goal.index_mut-requires
 index_mut-requires g c =
     let i = c.self.inside in
-    let there = linked-made i.items.items i.slots i.accesses.total (previous_at c.args.self.now.cells.items c.args.slot) c.args.self.now c.self.view_is c.requires.previous_in in
-    rw (ap (λ (r : Record). r.previous) (was g (goal.at.index_mut-requires g c).After-index-was)) (omega (arith, there, ap (λ (z : RecordsState). z.made) c.self.view_is))
+    let there = linked-made i.items.items i.slots i.flags.items i.accesses.total (previous_at c.args.self.now.cells.items c.args.slot) c.args.self.now c.self.view_is c.requires.previous_in in
+    rw (ap (λ (r : Record). r.previous) (was g (goal.at.index_mut-requires g c).After-index-was)) (omega (arith, there, ap (λ (z : SlotRecords). z.made) c.self.view_is))
 
 pub returns-clause-value : goal.returns-clause-value
 returns-clause-value g c = was g (goal.at.returns-clause-value g c).After-index-was
