@@ -1,7 +1,6 @@
 -- What the flag of a slot says: its hit bit, and whether the slot is in a queue.
 use Rattle.std.specs.Prelude.{◌≡◌, ℕ, ◌^◌, ◌<◌, Bool, true, false, List, Option, map, length, slice_index_or}
 use Rattle.clock2q_queues.specs.Cells.{CellsState, hit_bits}
-use Rattle.clock2q_queues.specs.declared.links.Record.{Record}
 use Rattle.clock2q_queues.specs.declared.links.Location.{Location}
 use Rattle.clock2q_queues.specs.declared.links.Location.TheVariants.{Free, SmallYoung, SmallOld, Main}
 use Rattle.clock2q_queues.specs.declared.links.Flag.{Flag}
