@@ -142,7 +142,7 @@ impl<A: Allocator> Links<A> {
         self.records.write(slot, alone);
     }
 
-    /// Makes the records of the slots below a bound that have none yet.
+    /// Makes the records and the flags of the slots below a bound that have none yet.
     pub(crate) fn make_below(&mut self, bound: u32)
         requires { bound ≤ length self.old.records.items }
         ensures made { self.new ≡ record self.old {
