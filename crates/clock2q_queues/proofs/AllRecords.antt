@@ -9,11 +9,7 @@ use Rattle.clock2q_queues.specs.Links.{SlotRecords, Detaches, all_flags, all_rec
 use Rattle.clock2q_queues.proofs.Attaching.{detaches, next_is, previous_is, with_change}
 use Rattle.clock2q_queues.proofs.Records.{get_or-same}
 
-padded-at : (rs : List Record) (n t : ℕ) → record_at (rs ++ replicate n vacant) t ≡ record_at rs t
-padded-at [] n t = get_or-same n t vacant
-padded-at (r ∷ rs) n zero = refl
-padded-at (r ∷ rs) n (suc t) = padded-at rs n t
-
+-- a list with the same item over and over at its end
 module _ {X : Type 0} (d : X) where
   padded-set : (xs : List X) (n slot : ℕ) (x : X) → slot < length xs → set (xs ++ replicate n d) slot x ≡ set xs slot x ++ replicate n d
   padded-set [] n slot x l = absurd (omega (arith, l))
@@ -33,16 +29,16 @@ module _ {X : Type 0} (d : X) where
   padded-get (y ∷ xs) n (suc slot) = padded-get xs n slot
 
 module _ (fs : List Flag) (slots : ℕ) where
-  pub flags-at : (t : ℕ) → get_or (all_flags fs slots) t Flag.Free ≡ get_or fs t Flag.Free
-  flags-at t = padded-get Flag.Free fs (slots - length fs) t
-
+  -- a flag in memory is written
   pub flags-set : (slot : ℕ) (f : Flag) → slot < length fs → set (all_flags fs slots) slot f ≡ all_flags (set fs slot f) slots
   flags-set slot f within = padded-set Flag.Free fs (slots - length fs) slot f within ∙ ap (λ n. set fs slot f ++ replicate (slots - n) Flag.Free) (sym (length-set fs slot f))
 
+  -- the first slot whose flag isn't in memory gets one
   pub flags-pushed : (slot : ℕ) (f : Flag) → slot ≡ length fs → slot < slots → set (all_flags fs slots) slot f ≡ all_flags (fs ++ f ∷ []) slots
   flags-pushed slot f is within = padded-push Flag.Free fs (slots - length fs) slot f is (omega (arith, is, within))
       ∙ ap (λ n. (fs ++ f ∷ []) ++ replicate n Flag.Free) (omega (arith, length-append fs (f ∷ [])))
 
+  -- flags of free slots come into memory
   pub flags-more : (k : ℕ) → length fs + k ≤ slots → all_flags (fs ++ replicate k Flag.Free) slots ≡ all_flags fs slots
   flags-more k fit = grind (arith, append_assoc, replicate-append-replicate, length-append, length-replicate)
 
@@ -58,7 +54,7 @@ linked_within rs slot linked = linked_below rs slot linked
 module _ (rs : List Record) (slots : ℕ) where
   -- the record of a slot that isn't in memory is vacant
   pub all-at : (t : ℕ) → record_at (all_records rs slots) t ≡ record_at rs t
-  all-at t = padded-at rs (slots - length rs) t
+  all-at t = padded-get vacant rs (slots - length rs) t
 
   -- so that of a slot which is in a queue is in memory
   pub linked-in : (slot : ℕ) → is_linked (location_at (all_records rs slots) slot) ≡ true → slot < length rs
