@@ -186,6 +186,10 @@ def refusing(log, crate):
                 # one goal may have several clauses, which a note lists
                 clauses = records.get((found[1], goal)) or [clause_of(goal, "")]
                 refused_at += [(found[1].replace("/", "::"), it) for it in clauses]
+        elif found := re.match(r"\./proofs/(\S+)/\w+\.antt:.* error: \d+ declarations? that depends? on .* not checked: (.*)", line):
+            # goals that rest on a lemma which was refused
+            goals = re.findall(r"(?:returns|invariant_of)[\w-]*", found[2])
+            refused_at += [(found[1].replace("/", "::"), clause_of(it, "")) for it in goals]
     return list(dict.fromkeys(refused_at)), list(dict.fromkeys(gone))
 
 

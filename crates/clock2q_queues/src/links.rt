@@ -301,17 +301,9 @@ impl<A: Allocator> Links<A> {
         self.records.peek(slot).next
     }
 
-    /// Tells a proof that each slot that is in a queue was made. It does nothing.
-    pub(crate) fn tell_made(&self)
-        ensures made { (slot : ℕ) → is_linked (location_at self.now.records.items slot) ≡ true
-            → slot < self.now.made }
-    {
-        let _ = &self.records;
-    }
-
-    /// Returns true if a slot's bit is set. It counts no inspection.
+    /// Returns true if the bit of a slot that is in a queue is set. It counts no inspection.
     pub(crate) fn has_bit(&self, slot: u32) -> bool
-        requires { slot < self.now.made }
+        requires { is_linked (location_at self.now.records.items slot) ≡ true }
         ensures { result ≡ bit_at self.now slot }
     {
         matches!(self.records.flag(slot), Flag::Hit)

@@ -109,7 +109,6 @@ impl MainRing {
             ≡ option_map (λ slot. (slot, false)) result }
     {
         let hand = self.hand?;
-        links.tell_made();
         let mut slot = hand;
         for _ in 0..self.len {
             if !links.has_bit(slot) {

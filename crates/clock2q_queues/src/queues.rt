@@ -39,8 +39,8 @@ use std::marker::Model;
 #[derive(Drop)]
 pub struct Queues<A: Allocator = Global> {
     links: Links<A>,
-    small: Small,
     main: MainRing,
+    small: Small,
 }
 
 impl<A: Allocator> Model for Queues<A> {
@@ -62,7 +62,7 @@ impl<A: Allocator> Queues<A> {
     ///
     /// # Cost
     ///
-    /// Linear in `slots` and `window`.
+    /// Linear in `window`.
     pub fn new(alloc: A, slots: u32, window: u32) -> Result<Self, AllocError>
     where
         A: Clone,
@@ -358,7 +358,7 @@ impl<A: Allocator> Queues<A> {
     ///
     /// # Cost
     ///
-    /// Linear in the number of slots, of which it writes a byte each, and in the length of the window.
+    /// Linear in the length of the window.
     pub fn clear(&mut self)
         ensures queues { self.new
             ≡ record self.old {

@@ -114,8 +114,8 @@ impl<A: Allocator> Records<A> {
     {
         if (slot as usize) < self.items.len() {
             self.accesses.tick();
-            self.items[slot as usize] = content;
             self.flags[slot as usize] = Flag::Clear;
+            self.items[slot as usize] = content;
             return;
         }
         if self.items.len() < slot as usize {

@@ -6,7 +6,7 @@ pub loop-init : goal.loop-init
 loop-init g c = Walks-start c.args.links.now c.args.self.now c.in_ok-hand.hand c.requires c.in_ok-hand.was
 
 pub has_bit-requires : goal.has_bit-requires
-has_bit-requires g c = c.tell_made.ensures.made c.loop.slot (slot_linked c.args.links.now c.args.self.now c.in_ok-hand.hand c.loop.invariant c.loop-test.true)
+has_bit-requires g c = slot_linked c.args.links.now c.args.self.now c.in_ok-hand.hand c.loop.invariant c.loop-test.true
 
 pub returns-then-not-has_bit : goal.returns-then-not-has_bit
 returns-then-not-has_bit g c =
