@@ -310,6 +310,8 @@ impl<K: Hash + Eq, V, S: BuildHasher, A: Allocator> Cache<K, V, S, A> {
             found_place result ≡
             place_of (K.eq key.now) self.old.machine.history self.old.known.taken }
         ensures gap { IsGapFor (found_gap result) hash self.old.known.index }
+        ensures ended { found_slot result ≡ None → found_place result ≡ None →
+            IsSome (found_gap result) }
         ensures machine { self.new.machine ≡ self.old.machine }
         ensures whole { IsWhole K.eq self.old.machine }
         ensures hasher { self.new.hasher ≡ self.old.hasher }

@@ -61,15 +61,6 @@ abbrev pub slots_from : List Record → Option ℕ → ℕ → List ℕ
 slots_from rs None count = []
 slots_from rs (Some first) count = around (next_at rs) first count
 
--- the records by place, and the number of places, from 0 on, whose records were made: a place gets its record when it is
--- first used
-pub record RecordsState : Type 0 where
-  pub cells : CellsState Record
-  pub made : ℕ
-
-abbrev pub records_state : CellsState Record → ℕ → RecordsState
-records_state cells made = record { cells = cells; made = made }
-
 -- the records by slot, the number of slots, from 0 on, that were made, and the flags by slot: a slot gets its record and its
 -- flag when it is first in a queue
 pub record SlotRecords : Type 0 where

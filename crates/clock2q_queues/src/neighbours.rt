@@ -2,7 +2,8 @@
 //! place is first used.
 ghost use Rattle.std.specs.Prelude.{◌≡◌, ◌+◌, ◌<◌, ◌≤◌, IfOk, length, replicate};
 ghost use Rattle.clock2q_queues.specs.Cells.{accessed, cells_state, written};
-ghost use Rattle.clock2q_queues.specs.Links.{Attaches, Detaches, made_below, next_at, previous_at, record_at, records_state, vacant};
+ghost use Rattle.clock2q_queues.specs.Links.{Attaches, Detaches, made_below, next_at, previous_at, record_at, vacant};
+ghost use Rattle.clock2q_queues.specs.Neighbours.{place_records};
 
 use crate::links::{Location, Record};
 use clock2q_count::Count;
@@ -48,11 +49,12 @@ pub(crate) struct Neighbourhoods<A: Allocator = Global> {
 impl<A: Allocator> Model for Neighbourhoods<A> {
     ghost use Rattle.std.specs.Prelude.{◌≤◌, length, vec_capacity};
     ghost use Rattle.clock2q_queues.specs.Cells.{cells_state};
-    ghost use Rattle.clock2q_queues.specs.Links.{RecordsState, all_records, records_state};
+    ghost use Rattle.clock2q_queues.specs.Links.{all_records};
+    ghost use Rattle.clock2q_queues.specs.Neighbours.{PlaceRecords, place_records};
 
-    ghost Value = { RecordsState };
+    ghost Value = { PlaceRecords };
 
-    ghost view = { λ n. records_state
+    ghost view = { λ n. place_records
         (cells_state (all_records n.items.items n.places) n.accesses.total)
         (length n.items.items) };
 
@@ -63,7 +65,7 @@ impl<A: Allocator> Neighbourhoods<A> {
     /// Returns those of `places` places, none of them made. It takes all the memory that they will
     /// ever need.
     pub(crate) fn new(alloc: A, places: u32) -> Result<Self, AllocError>
-        ensures { IfOk result (λ n. n ≡ records_state (cells_state (replicate places vacant) 0) 0) }
+        ensures { IfOk result (λ n. n ≡ place_records (cells_state (replicate places vacant) 0) 0) }
     {
         Ok(Neighbourhoods {
             items: Vec::with_capacity(alloc, places as usize)?,
@@ -83,7 +85,7 @@ impl<A: Allocator> Neighbourhoods<A> {
     pub(crate) fn read(&mut self, place: u32) -> Neighbours
         requires { place < self.old.made }
         ensures value { result ≡ record_at self.old.cells.items place }
-        ensures counted { self.new ≡ records_state (accessed self.old.cells) self.old.made }
+        ensures counted { self.new ≡ place_records (accessed self.old.cells) self.old.made }
         ensures within { self.old.made ≤ length self.old.cells.items }
     {
         self.accesses.tick();
@@ -174,7 +176,7 @@ impl<A: Allocator> Neighbourhoods<A> {
 
     /// Makes those of every place [`EMPTY`], with none made. None is read or written.
     pub(crate) fn clear(&mut self)
-        ensures { self.new ≡ records_state
+        ensures { self.new ≡ place_records
             (cells_state (replicate (length self.old.cells.items) vacant) self.old.cells.accesses) 0 }
     {
         self.items.clear();

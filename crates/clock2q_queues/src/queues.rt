@@ -172,10 +172,8 @@ impl<A: Allocator> Queues<A> {
         self.links.location(slot)
     }
 
-    /// Returns true if a slot is in a queue. The slot's link record must have been made. It accesses no
-    /// link.
+    /// Returns true if a slot is in a queue. It accesses no link.
     pub fn is_resident(&self, slot: u32) -> bool
-        requires made { slot < self.now.made }
         ensures resident { result ≡ has slot (slots_of self.now.small ++ slots_of self.now.main) }
     {
         self.links.is_linked(slot)

@@ -1,28 +1,12 @@
 //! The two queues on runs worked out by hand.
-ghost use Rattle.std.specs.Prelude.{◌≡◌, ◌+◌, ◌<◌, ◌≤◌, ◌++◌, true, false, [], ◌∷◌, map, IfOk};
+ghost use Rattle.std.specs.Prelude.{◌≡◌, ◌+◌, ◌<◌, ◌≤◌, true, false, [], ◌∷◌, map};
 ghost use Rattle.std.specs.List.{range_with_len};
 ghost use Rattle.clock2q_machine.specs.Ages.{Young, Old};
-ghost use Rattle.clock2q_queues.specs.Queues.{slots_of};
-ghost use Rattle.clock2q_queues.specs.Rings.{has};
 
 use clock2q_queues::queues::Queues;
 use std::alloc::Allocator;
 use std::test::Fail;
 use testing::same;
-
-/// Returns true if a slot is in a queue. Its link record is made first, if there is none yet.
-pub(crate) fn is_resident(queues: &mut Queues, slot: u32) -> Result<bool, Fail>
-    requires slot_in { slot < queues.old.slots }
-    ensures resident { IfOk result
-        (λ is. is ≡ has slot (slots_of queues.old.small ++ slots_of queues.old.main)) }
-    ensures small { queues.new.small ≡ queues.old.small }
-    ensures main { queues.new.main ≡ queues.old.main }
-    ensures slots { queues.new.slots ≡ queues.old.slots }
-    ensures window { queues.new.window ≡ queues.old.window }
-{
-    queues.make_below(slot.checked_add(1).ok_or("no such slot")?);
-    Ok(queues.is_resident(slot))
-}
 
 /// Admits a slot that is in no queue.
 pub(crate) fn admit(queues: &mut Queues, slot: u32) -> Result<(), Fail>
@@ -31,7 +15,7 @@ pub(crate) fn admit(queues: &mut Queues, slot: u32) -> Result<(), Fail>
     ensures slots { queues.new.slots ≡ queues.old.slots }
     ensures window { queues.new.window ≡ queues.old.window }
 {
-    if is_resident(queues, slot)? {
+    if queues.is_resident(slot) {
         return Err(Fail::from("the slot is in a queue"));
     }
     queues.admit(slot);
@@ -44,7 +28,7 @@ pub(crate) fn append(queues: &mut Queues, slot: u32) -> Result<(), Fail>
     ensures slots { queues.new.slots ≡ queues.old.slots }
     ensures window { queues.new.window ≡ queues.old.window }
 {
-    if is_resident(queues, slot)? {
+    if queues.is_resident(slot) {
         return Err(Fail::from("the slot is in a queue"));
     }
     queues.append(slot);
@@ -57,7 +41,7 @@ pub(crate) fn hit(queues: &mut Queues, slot: u32) -> Result<(), Fail>
     ensures slots { queues.new.slots ≡ queues.old.slots }
     ensures window { queues.new.window ≡ queues.old.window }
 {
-    if is_resident(queues, slot)? {
+    if queues.is_resident(slot) {
         queues.hit(slot);
         Ok(())
     } else {
@@ -107,7 +91,7 @@ fn second_admission_counts(queues: &mut Queues) -> Result<(), Fail>
     requires main { queues.old.main ≡ [] }
 {
     admit_again(queues);
-    same(is_resident(queues, 3)?, true)?;
+    same(queues.is_resident(3), true)?;
     hit(queues, 2)?;
     same(queues.small_len(), 4)?;
     same(is_tail_promoted(queues), false)?;
@@ -259,7 +243,7 @@ fn comes_back(queues: &mut Queues) -> Result<(), Fail>
     same(queues.main_len(), 1)?;
     queues.clear();
     same(queues.main_len(), 0)?;
-    same(is_resident(queues, 0)?, false)
+    same(queues.is_resident(0), false)
 }
 
 #[test]

@@ -2,7 +2,7 @@
 ghost use Rattle.std.specs.Prelude.{◌≡◌, ◌<◌, length};
 
 use crate::lists::Lists;
-use crate::queues::{admit, append, hit, is_resident, is_tail_promoted};
+use crate::queues::{admit, append, hit, is_tail_promoted};
 use clock2q_queues::queues::Queues;
 use std::alloc::Global;
 use std::test::Fail;
@@ -17,7 +17,7 @@ fn compare(queues: &mut Queues, lists: &Lists) -> Result<(), Fail>
     ensures window { queues.new.window ≡ queues.old.window }
 {
     for slot in 0..SLOTS {
-        same_at(is_resident(queues, slot)?, lists.is_resident(slot), slot)?;
+        same_at(queues.is_resident(slot), lists.is_resident(slot), slot)?;
     }
     same(queues.small_len(), lists.small.len())?;
     same(queues.main_len(), lists.main.len())?;
@@ -101,7 +101,7 @@ fn step(queues: &mut Queues, lists: &mut Lists, small: usize, random: u32) -> Re
     ensures window { queues.new.window ≡ queues.old.window }
 {
     let slot = random / 9 % SLOTS;
-    let free = !is_resident(queues, slot)?;
+    let free = !queues.is_resident(slot);
     match random % 9 {
         0..4 if free => {
             if queues.small_len() >= small {

@@ -93,6 +93,16 @@ impl<A: Allocator> Records<A> {
         self.flags[slot as usize]
     }
 
+    /// Returns the flag of any slot.
+    pub(super) fn flag_of_any(&self, slot: u32) -> Flag
+        ensures { result ≡ slice_index_or self.now.flags slot Flag.Free }
+    {
+        match self.flags.get(slot as usize) {
+            Some(flag) => *flag,
+            None => Flag::Free,
+        }
+    }
+
     /// Writes the flag of a slot that was made.
     pub(super) fn set_flag(&mut self, slot: u32, flag: Flag)
         requires { slot < self.old.made }

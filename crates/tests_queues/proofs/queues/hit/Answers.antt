@@ -6,4 +6,4 @@ use Rattle.tests_queues.proofs.queues.hit.Goals as goal
 pub hit-requires : goal.hit-requires
 hit-requires c =
     let q = c.args.queues.now in
-    record { resident = rw (c.is_resident.ensures.small, c.is_resident.ensures.main) (in_either c.args.slot (slots_of q.small) (slots_of q.main) (sym c.in_ok-is_resident.ensures.resident ∙ c.if-branch.true)) }
+    record { resident = in_either c.args.slot (slots_of q.small) (slots_of q.main) (sym c.is_resident.ensures.resident ∙ c.if-is_resident.true) }

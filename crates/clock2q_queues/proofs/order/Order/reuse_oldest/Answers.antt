@@ -1,6 +1,7 @@
 use Rattle.std.proofs.Common.{◌∷◌, ◌-◌, ◌<◌, None, length, take, refl, ap, sym, subst, ◌∙◌}
 use Rattle.std.specs.List.{last_or}
-use Rattle.clock2q_queues.specs.Links.{RecordsState, end_of}
+use Rattle.clock2q_queues.specs.Links.{end_of}
+use Rattle.clock2q_queues.specs.Neighbours.{PlaceRecords}
 use Rattle.clock2q_queues.specs.declared.links.Record.{Record}
 use Rattle.clock2q_queues.specs.Order.{PlaceOrder, order_shown}
 use Rattle.clock2q_queues.proofs.Orders.{IsOrder-from, IsWholeOrder-from, order_shown-is, reuses}
@@ -24,6 +25,6 @@ returns g c =
       whole = IsWholeOrder-from _ _ _ _ (IsOrder-from r.order);
       oldest = ap (λ (z : PlaceOrder). last_or None z.places) (sym c.self.view_is) ∙ r.oldest_was;
       order = rw (← c.self.view_is) (order_shown-is _ r.order
-          ∙ ap (λ (z : RecordsState). record { places = oldest ∷ take (length q.places - 1) q.places; free = q.free; limit = length z.cells.items; accesses = z.cells.accesses })
+          ∙ ap (λ (z : PlaceRecords). record { places = oldest ∷ take (length q.places - 1) q.places; free = q.free; limit = length z.cells.items; accesses = z.cells.accesses })
           c.read.ensures.counted);
     }
