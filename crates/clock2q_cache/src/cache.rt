@@ -253,13 +253,10 @@ impl<K: Hash + Eq, V, S: BuildHasher, A: Allocator> Cache<K, V, S, A> {
         ensures kept { self.new ≡ record self.old { counts = self.new.counts } }
         ensures counts { Spends 0 0 1 self.old.counts self.new.counts }
     {
-        if slot >= self.directory.made() {
-            return None;
-        }
-        let slot = slot as u32;
         if !self.queues.is_resident(slot) {
             return None;
         }
+        let slot = slot as u32;
         self.directory.key_equals(slot, key).then_some(slot)
     }
 

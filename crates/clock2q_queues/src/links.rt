@@ -248,7 +248,7 @@ impl<A: Allocator> Links<A> {
     }
 
     /// Returns true if a slot is in a queue. It reads the byte with the slot's bit, and no record.
-    pub(crate) fn is_linked(&self, slot: u32) -> bool
+    pub(crate) fn is_linked(&self, slot: usize) -> bool
         ensures { result ≡ is_linked (location_at self.now.records.items slot) }
     {
         !matches!(self.records.flag_of_any(slot), Flag::Free)

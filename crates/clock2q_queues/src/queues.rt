@@ -173,7 +173,7 @@ impl<A: Allocator> Queues<A> {
     }
 
     /// Returns true if a slot is in a queue. It accesses no link.
-    pub fn is_resident(&self, slot: u32) -> bool
+    pub fn is_resident(&self, slot: usize) -> bool
         ensures resident { result ≡ has slot (slots_of self.now.small ++ slots_of self.now.main) }
     {
         self.links.is_linked(slot)

@@ -15,7 +15,7 @@ pub(crate) fn admit(queues: &mut Queues, slot: u32) -> Result<(), Fail>
     ensures slots { queues.new.slots ≡ queues.old.slots }
     ensures window { queues.new.window ≡ queues.old.window }
 {
-    if queues.is_resident(slot) {
+    if queues.is_resident(slot as usize) {
         return Err(Fail::from("the slot is in a queue"));
     }
     queues.admit(slot);
@@ -28,7 +28,7 @@ pub(crate) fn append(queues: &mut Queues, slot: u32) -> Result<(), Fail>
     ensures slots { queues.new.slots ≡ queues.old.slots }
     ensures window { queues.new.window ≡ queues.old.window }
 {
-    if queues.is_resident(slot) {
+    if queues.is_resident(slot as usize) {
         return Err(Fail::from("the slot is in a queue"));
     }
     queues.append(slot);
@@ -41,7 +41,7 @@ pub(crate) fn hit(queues: &mut Queues, slot: u32) -> Result<(), Fail>
     ensures slots { queues.new.slots ≡ queues.old.slots }
     ensures window { queues.new.window ≡ queues.old.window }
 {
-    if queues.is_resident(slot) {
+    if queues.is_resident(slot as usize) {
         queues.hit(slot);
         Ok(())
     } else {

@@ -17,7 +17,11 @@ fn compare(queues: &mut Queues, lists: &Lists) -> Result<(), Fail>
     ensures window { queues.new.window ≡ queues.old.window }
 {
     for slot in 0..SLOTS {
-        same_at(queues.is_resident(slot), lists.is_resident(slot), slot)?;
+        same_at(
+            queues.is_resident(slot as usize),
+            lists.is_resident(slot),
+            slot,
+        )?;
     }
     same(queues.small_len(), lists.small.len())?;
     same(queues.main_len(), lists.main.len())?;
@@ -101,7 +105,7 @@ fn step(queues: &mut Queues, lists: &mut Lists, small: usize, random: u32) -> Re
     ensures window { queues.new.window ≡ queues.old.window }
 {
     let slot = random / 9 % SLOTS;
-    let free = !queues.is_resident(slot);
+    let free = !queues.is_resident(slot as usize);
     match random % 9 {
         0..4 if free => {
             if queues.small_len() >= small {

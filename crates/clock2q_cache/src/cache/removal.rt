@@ -83,7 +83,7 @@ impl<K: Hash + Eq, V, S: BuildHasher, A: Allocator> Cache<K, V, S, A> {
         requires { slot < length self.now.machine.values }
         ensures { result ≡ is_some (resident_at self.now.machine slot) }
     {
-        self.queues.is_resident(slot)
+        self.queues.is_resident(slot as usize)
     }
 
     /// Returns the key of the resident at a slot.

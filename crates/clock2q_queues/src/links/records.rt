@@ -94,10 +94,10 @@ impl<A: Allocator> Records<A> {
     }
 
     /// Returns the flag of any slot.
-    pub(super) fn flag_of_any(&self, slot: u32) -> Flag
+    pub(super) fn flag_of_any(&self, slot: usize) -> Flag
         ensures { result ≡ slice_index_or self.now.flags slot Flag.Free }
     {
-        match self.flags.get(slot as usize) {
+        match self.flags.get(slot) {
             Some(flag) => *flag,
             None => Flag::Free,
         }
