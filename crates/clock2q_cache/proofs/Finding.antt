@@ -150,9 +150,6 @@ module _ {K V : Type 0} {eq : K → K → Bool} {hash : K → ℕ} {shares : Sha
     pub not-at : (slot : ℕ) → has slot (places_of q) ≡ false → None ≡ then_some (is_at slot (slot_of (eq key) m)) slot
     not-at slot absent = grind (arith, at-slot slot)
 
-    pub past-all : (slot : ℕ) → length keys.entries ≤ slot → has slot (places_of q) ≡ false
-    past-all slot past = grind (arith, below_of, kept.stored.made)
-
     pub slot-at : (slot : ℕ) → is_at slot (slot_of (eq key) m) ≡ true → slot_of (eq key) m ≡ Some slot
     slot-at slot h = grind (arith, eqb-true, slot_of)
 

@@ -172,7 +172,8 @@ impl<A: Allocator> Queues<A> {
         self.links.location(slot)
     }
 
-    /// Returns true if a slot is in a queue. It accesses no link.
+    /// Returns true if a slot is in a queue. Any number may be asked for: one that is no slot's is in
+    /// none. It accesses no link.
     pub fn is_resident(&self, slot: usize) -> bool
         ensures resident { result ≡ has slot (slots_of self.now.small ++ slots_of self.now.main) }
     {
