@@ -1,6 +1,6 @@
 -- A cache's fields keep their invariant after each change of the layers, and the machine becomes what it should.
 use Rattle.std.proofs.Common.{◌≡◌, ℕ, suc, ◌+◌, ◌^◌, ◌<◌, ◌≤◌, Bool, true, false, Option, Some, None, List, [], ◌∷◌, ◌++◌, map, length, drop, reverse, refl, sym, ap, ◌∙◌, arith, length-append, eqb}
-use Rattle.clock2q_cache.proofs.Names.{Entry, length-written, made_below, key_at-own, key_at-others, values-written, length-values, IfNone, IsEquivalence, last_or, AllByRecursion, total, capacity, with_handle, has, KeyPlaces, entry, written, key_at, admitted, QueueState, slots_of, IndexState, is_shared, slots, Remembered, most_beside, has-append, length-put, or_parts, Shares, main_share, Machine, Placement, vacancy, vacant_slot, into_main, into_small, into_small_at, joining_main, placed, stored, known_count, Fills, Writes, machine_of, places_of, with_keys_small, with_keys_main, IsStored, IsSized, IsKept, IsPlaced, whole-stored, placed-admitted, placed-joining, slots-entered, slots-left, removed, left}
+use Rattle.clock2q_cache.proofs.Names.{Entry, length-written, made_below, key_at-own, key_at-others, values-written, length-values, IfNone, IsEquivalence, last_or, AllByRecursion, total, capacity, with_handle, KeyPlaces, entry, written, key_at, admitted, QueueState, slots_of, IndexState, is_shared, slots, Remembered, most_beside, list_any-append, length-put, or_parts, Shares, main_share, Machine, Placement, vacancy, vacant_slot, into_main, into_small, into_small_at, joining_main, placed, stored, known_count, Fills, Writes, machine_of, places_of, with_keys_small, with_keys_main, IsStored, IsSized, IsKept, IsPlaced, whole-stored, placed-admitted, placed-joining, slots-entered, slots-left, removed, left, list_any}
 use Rattle.clock2q_directory.specs.Index as known
 use Rattle.clock2q_machine.specs.Entries as machine
 use Rattle.clock2q_cache.proofs.WithKeys.{small-admitted, main-behind, small_with, main_with, keys-agree, length-small, length-main}
@@ -56,9 +56,9 @@ module _ {K V : Type 0} {eq : K → K → Bool} {hash : K → ℕ} {shares : Sha
   -- a slot that a key that joins a queue may take
   pub record IsFree (slot : ℕ) : Type 0 where
     pub taken : vacancy m ≡ Some slot
-    pub absent : has slot (places_of q) ≡ false
-    pub not_in_small : has slot (slots_of q.small) ≡ false
-    pub not_in_main : has slot (slots_of q.main) ≡ false
+    pub absent : list_any (eqb slot) (places_of q) ≡ false
+    pub not_in_small : list_any (eqb slot) (slots_of q.small) ≡ false
+    pub not_in_main : list_any (eqb slot) (slots_of q.main) ≡ false
     pub next : slot ≤ length keys.entries
     pub made : length keys.entries < 2 ^ 32
     pub below : slot < q.slots
@@ -72,7 +72,7 @@ module _ {K V : Type 0} {eq : K → K → Bool} {hash : K → ℕ} {shares : Sha
   is-free {slot} is picked few =
       let taken = vacancy-taken laws kept slot (vacancy-there laws kept few) (rw (← is) picked) in
       let v = vacant laws kept slot taken in
-      grind (arith, taken, v, or_parts, has-append slot (slots_of q.small) (slots_of q.main), kept.whole.made_within, length-values keys.entries, kept.sized, kept.stored.indexed.counted, length-places q)
+      grind (arith, taken, v, or_parts, list_any-append (eqb slot) (slots_of q.small) (slots_of q.main), kept.whole.made_within, length-values keys.entries, kept.sized, kept.stored.indexed.counted, length-places q)
 
   pub free-to-join : {slot made : ℕ} (main : Bool) → made ≡ length keys.entries → vacant_slot (reverse free) made (made + 1) ≡ Some slot
       → (main ≡ true → length m.main < main_share shares) → (main ≡ false → length m.small < shares.small) → IsFree slot

@@ -1,6 +1,6 @@
 -- A lookup through the index finds the machine's slot of the key, and a hit there does what the machine's does.
 use Rattle.std.proofs.Common.{◌≡◌, ℕ, ◌+◌, ◌<◌, ◌≤◌, ◌⊎◌, Bool, true, false, ◌&&◌, cond, eqb, Option, Some, None, slice_get, List, [], ◌∷◌, map, length, refl, sym, ap, ◌∙◌, arith, eqb-true}
-use Rattle.clock2q_cache.proofs.Names.{IfSome, IsEquivalence, option_map, count_by, find, list_any, cons_option, AllByRecursion, sum_by-cons, candidates, or_true, touched, slots_of-hit, Entry, has, KeyPlaces, key_at, entries_of, is_key_at, AllDistinct, HasHash, small_hit_at, main_hit_at, then_some, QueueState, slots_of, Remembered, place_of, found_slot, found_place, has-append, has_first, below_of, same_place, key_there, any_entry, length-values, lookup, found_there, not_found, Shares, Machine, slot_of, hit, is_at, machine_of, places_of, IsKept, whole-hit, candidates_there}
+use Rattle.clock2q_cache.proofs.Names.{IfSome, IsEquivalence, option_map, count_by, find, list_any, cons_option, AllByRecursion, sum_by-cons, candidates, or_true, touched, slots_of-hit, Entry, KeyPlaces, key_at, entries_of, is_key_at, HasHash, small_hit_at, main_hit_at, then_some, QueueState, slots_of, Remembered, place_of, found_slot, found_place, list_any-append, among_first, below_of, same_place, key_there, any_entry, length-values, lookup, found_there, not_found, Shares, Machine, slot_of, hit, is_at, machine_of, places_of, IsKept, whole-hit, candidates_there, distinct_none, distinct_more, IsDistinct}
 use Rattle.clock2q_directory.specs.declared.found.Found.{Found}
 use Rattle.clock2q_cache.proofs.WithKeys.{HaveKeys, have_later, paired, paired-cons, small-hit, main-hit}
 use Rattle.clock2q_cache.proofs.Indexed.{residents-paired}
@@ -22,7 +22,7 @@ counted-map is f (x ∷ xs) = omega (arith, sum_by-cons (λ y. cond (is y) 1 0) 
 paired-found : {K : Type 0} (key : ℕ → Option K) (is : K → Bool) (passes : ℕ → Bool) → ((t : ℕ) (k : K) → key t ≡ Some k → passes t ≡ is k) → (ps : List ℕ) → HaveKeys key ps
     → option_map (λ (r : K × ℕ). r.1) (find (λ r. is r.0) (paired key ps)) ≡ find passes ps
 paired-found key is passes agrees [] h = refl
-paired-found {K} key is passes agrees (p ∷ ps) h = grind (arith, has_first p ps, paired-cons, paired-found key is passes agrees ps (have_later key p ps h))
+paired-found {K} key is passes agrees (p ∷ ps) h = grind (arith, among_first p ps, paired-cons, paired-found key is passes agrees ps (have_later key p ps h))
 
 module _ {K V : Type 0} (entries : List (Entry K V)) where
   -- whether a key is the one at a place
@@ -44,12 +44,12 @@ module _ {K V : Type 0} (entries : List (Entry K V)) where
           omega (arith, r, a, b)
 
 -- if each key occurs at most once, no two are equal
-distinct-once : {K : Type 0} (eq : K → K → Bool) → IsEquivalence eq → (es : List (ℕ × K)) → ((k : K) → count_by (λ (e : ℕ × K). eq k e.1) es ≤ 1) → AllDistinct eq es
-distinct-once eq laws [] h = tt
-distinct-once {K} eq laws (e ∷ es) h = (
-  grind (arith, none-has (λ (x : ℕ × K). eq e.1 x.1) es, h e.1, sum_by-cons (λ (x : ℕ × K). cond (eq e.1 x.1) 1 0) e es, laws.refl),
-  distinct-once eq laws es (λ k. omega (arith, h k, sum_by-cons (λ (x : ℕ × K). cond (eq k x.1) 1 0) e es)),
-)
+distinct-once : {K : Type 0} (eq : K → K → Bool) → IsEquivalence eq → (es : List (ℕ × K)) → ((k : K) → count_by (λ (e : ℕ × K). eq k e.1) es ≤ 1) → IsDistinct (λ d e. eq d.1 e.1) es
+distinct-once eq laws [] h = distinct_none (λ d e. eq d.1 e.1)
+distinct-once {K} eq laws (e ∷ es) h =
+    distinct_more (λ d e. eq d.1 e.1) e es
+    (grind (arith, none-has (λ (x : ℕ × K). eq e.1 x.1) es, h e.1, sum_by-cons (λ (x : ℕ × K). cond (eq e.1 x.1) 1 0) e es, laws.refl))
+    (distinct-once eq laws es (λ k. omega (arith, h k, sum_by-cons (λ (x : ℕ × K). cond (eq k x.1) 1 0) e es)))
 
 -- each key has its hash, so equal keys have the same one
 hashes-same : {K V : Type 0} (eq : K → K → Bool) (hash : K → ℕ) (key : K) (entries : List (Entry K V)) (ps : List ℕ)
@@ -73,8 +73,8 @@ any-counted is [] e = absurd (cc)
 any-counted is (k ∷ ks) e = grind (arith, sum_by-cons (λ x. cond (is x) 1 0) k ks, any-counted is ks)
 
 -- a resident's slot is in one of the queues
-pub either-queue : (q : QueueState) (slot : ℕ) → has slot (places_of q) ≡ true → (has slot (slots_of q.small) ≡ true) ⊎ (has slot (slots_of q.main) ≡ true)
-either-queue q slot there = grind (arith, has-append)
+pub either-queue : (q : QueueState) (slot : ℕ) → list_any (eqb slot) (places_of q) ≡ true → (list_any (eqb slot) (slots_of q.small) ≡ true) ⊎ (list_any (eqb slot) (slots_of q.main) ≡ true)
+either-queue q slot there = grind (arith, list_any-append)
 
 module _ {K V : Type 0} {eq : K → K → Bool} {hash : K → ℕ} {shares : Shares} {q : QueueState} {h : Remembered K} {index : List (List (ℕ × ℕ))} {keys : KeyPlaces K V} {free : List ℕ} {room : ℕ}
     (laws : IsEquivalence eq) (kept : IsKept eq hash shares q h index keys free room) where
@@ -93,7 +93,7 @@ module _ {K V : Type 0} {eq : K → K → Bool} {hash : K → ℕ} {shares : Sha
     counted_residents (λ k s. is k) m,
   )
 
-  pub distinct : AllDistinct eq (entries_of keys.entries (places_of q))
+  pub distinct : IsDistinct (λ d e. eq d.1 e.1) (entries_of keys.entries (places_of q))
   distinct = distinct-once eq laws (entries_of keys.entries (places_of q)) (λ k. omega (arith, known_residents (eq k), kept.whole.keys_once k))
 
   module _ (key : K) where
@@ -109,7 +109,7 @@ module _ {K V : Type 0} {eq : K → K → Bool} {hash : K → ℕ} {shares : Sha
         grind (arith, lookup eq (hash key) key index keys.entries (places_of q) kept.stored.indexed same laws distinct, slot-among)
 
     -- a slot that is found is a resident's
-    pub found-there : (slot : ℕ) → slot_of (eq key) m ≡ Some slot → (has slot (places_of q) ≡ true) × (is_key_at eq key keys.entries slot ≡ true)
+    pub found-there : (slot : ℕ) → slot_of (eq key) m ≡ Some slot → (list_any (eqb slot) (places_of q) ≡ true) × (is_key_at eq key keys.entries slot ≡ true)
     found-there slot is = found_there (is_key_at eq key keys.entries) (places_of q) slot (sym is ∙ slot-among)
 
     -- a key in the history is not a resident
@@ -134,20 +134,20 @@ module _ {K V : Type 0} {eq : K → K → Bool} {hash : K → ℕ} {shares : Sha
 
     pub found-made : (o : Option ℕ) → o ≡ slot_of (eq key) m → IfSome o (λ slot. slot < length m.values)
     found-made None is = tt
-    found-made (Some slot) is = grind (arith, below_of, kept.stored.made, found-there slot, length-values)
+    found-made (Some slot) is = grind (arith, below_of (length keys.entries) (places_of q) kept.stored.made, found-there slot, length-values)
 
     -- whether a slot is the key's
-    pub at-slot : (slot : ℕ) → is_at slot (slot_of (eq key) m) ≡ (has slot (places_of q) && is_key_at eq key keys.entries slot)
+    pub at-slot : (slot : ℕ) → is_at slot (slot_of (eq key) m) ≡ (list_any (eqb slot) (places_of q) && is_key_at eq key keys.entries slot)
     at-slot slot = of (slot_of (eq key) m) refl
       where
-        of : (o : Option ℕ) → slot_of (eq key) m ≡ o → is_at slot o ≡ (has slot (places_of q) && is_key_at eq key keys.entries slot)
+        of : (o : Option ℕ) → slot_of (eq key) m ≡ o → is_at slot o ≡ (list_any (eqb slot) (places_of q) && is_key_at eq key keys.entries slot)
         of None none = grind (arith, not_found, slot-among)
         of (Some p) some = grind (arith, found-there p some, same_place, distinct)
 
-    pub at-places : (slot : ℕ) → has slot (places_of q) ≡ true → is_key_at eq key keys.entries slot ≡ is_at slot (slot_of (eq key) m)
+    pub at-places : (slot : ℕ) → list_any (eqb slot) (places_of q) ≡ true → is_key_at eq key keys.entries slot ≡ is_at slot (slot_of (eq key) m)
     at-places slot there = grind (arith, at-slot slot)
 
-    pub not-at : (slot : ℕ) → has slot (places_of q) ≡ false → None ≡ then_some (is_at slot (slot_of (eq key) m)) slot
+    pub not-at : (slot : ℕ) → list_any (eqb slot) (places_of q) ≡ false → None ≡ then_some (is_at slot (slot_of (eq key) m)) slot
     not-at slot absent = grind (arith, at-slot slot)
 
     pub slot-at : (slot : ℕ) → is_at slot (slot_of (eq key) m) ≡ true → slot_of (eq key) m ≡ Some slot
@@ -159,12 +159,12 @@ module _ {K V : Type 0} {eq : K → K → Bool} {hash : K → ℕ} {shares : Sha
 
     -- a hit
     module _ (slot : ℕ) (is : slot_of (eq key) m ≡ Some slot) where
-      key-there : (k : K) (t : ℕ) → has t (places_of q) ≡ true → key_at keys.entries t ≡ Some k → eq key k ≡ eqb t slot
+      key-there : (k : K) (t : ℕ) → list_any (eqb t) (places_of q) ≡ true → key_at keys.entries t ≡ Some k → eq key k ≡ eqb t slot
       key-there k t g at = grind (arith, key-compares, eqb-true, same_place eq laws key keys.entries (places_of q) distinct t slot, found-there slot is)
 
       module _ {q' : QueueState} (queues : q' ≡ record q { small = small_hit_at slot q.small; main = main_hit_at slot q.main }) where
         pub hit-machine : machine_of shares q' keys.entries h.entries free ≡ hit (eq key) m
-        hit-machine = grind (arith, small-hit, main-hit, key-there, has-append, or_true, small_have laws kept, main_have laws kept)
+        hit-machine = grind (arith, small-hit, main-hit, key-there, list_any-append, or_true, small_have laws kept, main_have laws kept)
 
         pub kept-hit : IsKept eq hash shares q' h index keys free room
         kept-hit =

@@ -1,6 +1,6 @@
 -- What is in the index, in terms of the machine.
-use Rattle.std.proofs.Common.{◌≡◌, ℕ, ◌≤◌, ◌==◌, Bool, ◌||◌, ◌&&◌, Option, Some, None, slice_get, List, [], ◌∷◌, map, length, refl, arith, eqb-true}
-use Rattle.clock2q_cache.proofs.Names.{slice_get_some, list_any, zip, AllByRecursion, length-map, IsEquivalence, Entry, has, AllBelow, KeyPlaces, key_at, hash_at, hashed_at, entries_of, IsIndex, is_named, is_alike, QueueState, Remembered, IsWholeHistory, has_first, Shares, residents, machine_of, places_of, IsKept, HasPlaces}
+use Rattle.std.proofs.Common.{◌≡◌, ℕ, ◌<◌, ◌≤◌, ◌==◌, Bool, ◌||◌, ◌&&◌, Option, Some, None, slice_get, List, [], ◌∷◌, map, length, refl, arith, eqb-true, eqb}
+use Rattle.clock2q_cache.proofs.Names.{slice_get_some, list_any, zip, AllByRecursion, length-map, IsEquivalence, Entry, KeyPlaces, key_at, hash_at, hashed_at, entries_of, IsIndex, is_named, is_alike, QueueState, Remembered, IsWholeHistory, among_first, Shares, residents, machine_of, places_of, IsKept, HasPlaces}
 use Rattle.clock2q_directory.specs.Index as known
 use Rattle.clock2q_cache.proofs.WithKeys.{HaveKeys, have_later, paired, paired-cons, residents-keyed}
 use Rattle.clock2q_cache.proofs.Stored.{all-at}
@@ -11,7 +11,7 @@ absorb n a = grind arith
 
 length-paired : {K : Type 0} (key : ℕ → Option K) (places : List ℕ) → HaveKeys key places → length (paired key places) ≡ length places
 length-paired key [] h = refl
-length-paired key (s ∷ ss) h = grind (arith, has_first s ss, paired-cons, length-paired key ss (have_later key s ss h))
+length-paired key (s ∷ ss) h = grind (arith, among_first s ss, paired-cons, length-paired key ss (have_later key s ss h))
 
 module _ {K V : Type 0} (hash : K → ℕ) (entries : List (Entry K V)) where
   -- a place has a key, with the key's hash
@@ -34,7 +34,7 @@ module _ {K V : Type 0} (hash : K → ℕ) (entries : List (Entry K V)) where
   hashed_have (s ∷ ss) a t g = grind (arith, a.0, key-of, hashed_have ss a.1 t, eqb-true)
 
   -- if every key has its hash, each place that was used has one
-  stored_hashed : (places : List ℕ) → AllBelow (length entries) places → AllByRecursion (λ e. e.hash ≡ hash e.key) entries → AllByRecursion IsHashed places
+  stored_hashed : (places : List ℕ) → AllByRecursion (λ s. s < length entries) places → AllByRecursion (λ e. e.hash ≡ hash e.key) entries → AllByRecursion IsHashed places
   stored_hashed [] below all = tt
   stored_hashed (s ∷ ss) below all =
       let e = slice_get_some entries s below.0 in
@@ -42,7 +42,7 @@ module _ {K V : Type 0} (hash : K → ℕ) (entries : List (Entry K V)) where
 
   module _ (index : List (List (ℕ × ℕ))) where
     named : (x place : ℕ) (places : List ℕ) → AllByRecursion IsHashed places
-        → (has place places && is_named index entries x place) ≡ list_any (λ e. (place == e.1) && is_alike index x (hash e.0)) (paired (key_at entries) places)
+        → (list_any (eqb place) places && is_named index entries x place) ≡ list_any (λ e. (place == e.1) && is_alike index x (hash e.0)) (paired (key_at entries) places)
     named x place [] a = refl
     named x place (s ∷ ss) a = grind (arith, a.0.0, paired-cons, key-of, a.0.1, named x place ss a.1, a.1, hash-of, absorb)
 

@@ -69,12 +69,8 @@ module _ {K : Type 0} where
   all_standing n [] below = sum_by-none (standing []) (λ slot. refl) (range_with_len 0 n)
   all_standing n (r ∷ rs) below =
       let here : r.1 < n = below r.1 (omega (arith, standing-cons r rs r.1, ap one_if (eq-eqb r.1 r.1 refl))) in
-      omega (
-        arith,
-        each (range_with_len 0 n),
-        once_within r.1 0 n (omega arith) (omega (arith, here)),
-        all_standing n rs (λ slot some. below slot (omega (arith, some, standing-cons r rs slot))),
-      )
+      let rest = all_standing n rs (λ slot some. below slot (omega (arith, some, standing-cons r rs slot))) in
+      omega (arith, each (range_with_len 0 n), once_within r.1 0 n (omega arith) (omega (arith, here)), rest)
     where
       each : (slots : List ℕ) → sum_by (standing (r ∷ rs)) slots ≡ sum_by (λ slot. one_if (r.1 == slot)) slots + sum_by (standing rs) slots
       each [] = refl

@@ -1,6 +1,6 @@
 -- Which resident leaves next, and what a cache's fields become when it leaves though no key comes.
 use Rattle.std.proofs.Common.{◌≡◌, ℕ, suc, ◌+◌, ◌-◌, ◌<◌, ◌==◌, Bool, true, false, not, ◌&&◌, cond, eqb, Option, Some, None, List, [], ◌∷◌, ◌++◌, map, length, take, reverse, inl, inr, refl, sym, ap, ◌∙◌, subst, arith, eq-eqb, eqb-true, length-append}
-use Rattle.clock2q_cache.proofs.Names.{if◌then◌else◌, nat_lt, none_is, slice_get, slice_get_some, IfSome, IsEquivalence, last_or, option_map, AllByRecursion, cases_Bool, lt-ltb, ltb-true, Age, take-map, All-from_recursion, recursion_from_All, All-take, has, without, has-without_test, and_true, and_false, eqb_swap, KeyPlaces, hash_at, key_at, removed, length-taken, QueueState, slots_of, from_victim, Remembered, most_beside, Shares, history_share, SmallEntry, Machine, is_promoted, IsWhole, machine_of, places_of, with_keys_small, with_keys_main, IsStored, IsKept}
+use Rattle.clock2q_cache.proofs.Names.{if◌then◌else◌, nat_lt, none_is, slice_get, slice_get_some, IfSome, IsEquivalence, last_or, option_map, AllByRecursion, cases_Bool, lt-ltb, ltb-true, Age, take-map, All-from_recursion, recursion_from_All, All-take, without, among-without_test, and_true, and_false, eqb_swap, KeyPlaces, hash_at, key_at, removed, length-taken, QueueState, slots_of, from_victim, Remembered, most_beside, Shares, history_share, SmallEntry, Machine, is_promoted, IsWhole, machine_of, places_of, with_keys_small, with_keys_main, IsStored, IsKept, list_any}
 use Rattle.std.proofs.lemmas.List.{length-reverse}
 use Rattle.clock2q_queues.proofs.Joining.{length-without}
 use Rattle.clock2q_machine.specs.Entries as machine
@@ -13,7 +13,7 @@ use Rattle.clock2q_machine.specs.Calls.{Evict}
 use Rattle.clock2q_machine.proofs.MachineInvariant.{lasting-after}
 use Rattle.clock2q_cache.proofs.WithKeys.{main-behind}
 use Rattle.clock2q_cache.proofs.Stored.{stored-left, stored-same, hash-of-key}
-use Rattle.clock2q_cache.proofs.Slots.{apart, times, times-none, times-both, times-pushed, has-times, at_most_once, length-places, length-swept}
+use Rattle.clock2q_cache.proofs.Slots.{apart, times, times-none, times-both, times-pushed, among-times, at_most_once, length-places, length-swept}
 use Rattle.clock2q_cache.proofs.CacheInvariant.{length_in_small, length_in_main, index_some, sized-same}
 use Rattle.clock2q_cache.proofs.Renewed.{front_times, length-front, front_entries, front, tail_at, tail_key, tail_entry, last_entry, tail_is, tail-in, no-tail, rest, rest_times, length-rest, victim_entry, others, choice, victim-in, victim-leaves}
 
@@ -69,7 +69,7 @@ module _ {K V : Type 0} {eq : K → K → Bool} {hash : K → ℕ} {shares : Sha
       kept-unmoved = rw (is, taken) (record { whole = kept.whole; stored = kept.stored; hashed = kept.hashed; linked = kept.linked; sized = sized-same kept.sized refl refl refl refl refl refl refl })
 
   -- a slot left the queues, which may have the others in another order
-  stored-gone : (slot old : ℕ) (q' : QueueState) → hash_at keys.entries slot ≡ Some old → has slot (places_of q) ≡ true
+  stored-gone : (slot old : ℕ) (q' : QueueState) → hash_at keys.entries slot ≡ Some old → list_any (eqb slot) (places_of q) ≡ true
       → ((t : ℕ) → times t (places_of q) ≡ times t (places_of q') + cond (slot == t) 1 0) → suc (length q'.small + length q'.main) ≡ length q.small + length q.main
       → IsStored hash (removed eqb index old slot) keys.entries (places_of q')
   stored-gone slot old q' at there as_often as_many =
@@ -77,14 +77,14 @@ module _ {K V : Type 0} {eq : K → K → Bool} {hash : K → ℕ} {shares : Sha
       (stored-left hash index keys.entries (places_of q) slot old kept.stored (index_some laws kept) (apart laws kept) at) others
       (omega (arith, length-places q', length-places q, as_many, length-without slot (places_of q) (apart laws kept) there))
     where
-      others : (t : ℕ) → has t (places_of q') ≡ has t (without slot (places_of q))
+      others : (t : ℕ) → list_any (eqb t) (places_of q') ≡ list_any (eqb t) (without slot (places_of q))
       others t = elim (cases_Bool (eqb t slot)) [
         | inl same ↦
             times-none t (places_of q') (omega (arith, as_often t, ap {B = ℕ} (λ b. cond b 1 0) (eq-eqb slot t (sym (eqb-true t slot same))), at_most_once laws kept t))
-            ∙ sym (has-without_test t slot (places_of q) ∙ ap (λ b. has t (places_of q) && not b) same ∙ and_false (has t (places_of q)))
+            ∙ sym (among-without_test t slot (places_of q) ∙ ap (λ b. list_any (eqb t) (places_of q) && not b) same ∙ and_false (list_any (eqb t) (places_of q)))
         | inr other ↦
-            has-times t (places_of q') (places_of q) (omega (arith, as_often t, ap {B = ℕ} (λ b. cond b 1 0) (eqb_swap t slot other)))
-            ∙ sym (has-without_test t slot (places_of q) ∙ ap (λ b. has t (places_of q) && not b) other ∙ and_true (has t (places_of q)))
+            among-times t (places_of q') (places_of q) (omega (arith, as_often t, ap {B = ℕ} (λ b. cond b 1 0) (eqb_swap t slot other)))
+            ∙ sym (among-without_test t slot (places_of q) ∙ ap (λ b. list_any (eqb t) (places_of q) && not b) other ∙ and_true (list_any (eqb t) (places_of q)))
       ]
 
   abbrev gone : Option (SmallEntry K) → Machine K V
@@ -226,9 +226,9 @@ module _ {K V : Type 0} {eq : K → K → Bool} {hash : K → ℕ} {shares : Sha
 
   module _ (slot : ℕ) (next : IsNext (Some slot)) where
     -- a resident's slot
-    pub next-in : has slot (places_of q) ≡ true
+    pub next-in : list_any (eqb slot) (places_of q) ≡ true
     next-in = by (queues.victim_leaves q) refl where
-      by : (b : Bool) → queues.victim_leaves q ≡ b → has slot (places_of q) ≡ true
+      by : (b : Bool) → queues.victim_leaves q ≡ b → list_any (eqb slot) (places_of q) ≡ true
       by true stays = victim-in laws kept slot (next.victim stays)
       by false leaves = tail-in laws kept slot (sym (next.tail leaves))
 

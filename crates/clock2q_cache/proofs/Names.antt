@@ -2,13 +2,14 @@
 pub use Rattle.std.proofs.lemmas.Bool.{cases_Bool, both_ways, or_cases, cases_lt, lt-ltb, le-ltb, eqb-false, ltb-true, ltb-false}
 pub use Rattle.std.proofs.lemmas.List.{append-nil, append_assoc, map-append, reverse-append, reverse-reverse, length-map, take-map, take-append-drop}
 pub use Rattle.std.proofs.lemmas.List.Elements.{filter_map-append, filter-append, All-from_recursion, recursion_from_All, All-filter, All-take}
+pub use Rattle.std.proofs.lemmas.List.Folds.{list_any-append}
 pub use Rattle.std.proofs.lemmas.List.Sums.{sum_by-cons, sum_by-append, fold-append}
 pub use Rattle.std.proofs.lemmas.Option.{slice_get_within, slice_get_past}
 pub use Rattle.std.specs.Bool.{then_some}
 pub use Rattle.std.specs.Cmp.{IsEquivalence}
 pub use Rattle.std.specs.Fn.{Mut, Called}
 pub use Rattle.std.specs.HashMap.Lent.{HashMembers}
-pub use Rattle.std.specs.List.{last_or, AllByRecursion, filter, list_any, FoldsTo, range_with_len, count_by, find, cons_option, zip, filter_map}
+pub use Rattle.std.specs.List.{last_or, AllByRecursion, filter, list_any, FoldsTo, range_with_len, count_by, find, cons_option, zip, filter_map, IsDistinct}
 pub use Rattle.std.specs.Option.{UnwrapsOrElse, option_and_then, option_map}
 pub use Rattle.std.specs.Prelude.{if◌then◌else◌, IfNone, nat_le, is_some, slice_set, IfSome, slice_get, nat_lt, IsSome, ◌-◌, ◌≡◌, ◌*◌}
 pub use denote.Param.Always.{always_mut, mut_next}
@@ -16,12 +17,12 @@ pub use Rattle.clock2q_handles.specs.Homes.{total, capacity, candidates, with_ha
 pub use Rattle.clock2q_directory.specs.Directory.{Known}
 pub use Rattle.clock2q_directory.specs.History.{Remembered, most_beside, place_of, found_slot, found_place, IsWholeHistory, Places, oldest_hash, pushed_places, is_remembered}
 pub use Rattle.clock2q_directory.specs.Index.{IndexState, is_shared, slots, left}
-pub use Rattle.clock2q_directory.specs.Indexes.{IsIndex, HasHash, AllDistinct, is_named, is_alike}
+pub use Rattle.clock2q_directory.specs.Indexes.{IsIndex, HasHash, is_named, is_alike}
 pub use Rattle.clock2q_directory.specs.Keys.{KeyPlaces, entry, written, hash_at, key_at, with_value, hashed_at, entries_of, is_key_at, comparisons_of, with_key, IsValueFor, Writes}
 pub use Rattle.clock2q_queues.specs.Links.{made_below}
 pub use Rattle.clock2q_queues.specs.MainRing.{main_hit_at, inspections, set_front, from_victim}
 pub use Rattle.clock2q_queues.specs.Queues.{QueueState, slots_of, tail_promoted, without_slot}
-pub use Rattle.clock2q_queues.specs.Rings.{has, AllBelow, AllApart, without}
+pub use Rattle.clock2q_queues.specs.Rings.{without}
 pub use Rattle.clock2q_queues.specs.Small.{admitted, small_hit_at}
 pub use Rattle.clock2q_directory.specs.declared.keys.store.Entry.{Entry}
 pub use Rattle.clock2q_queues.proofs.Booleans.{or_parts, or_true, and_true, and_false}
@@ -30,7 +31,7 @@ pub use Rattle.clock2q_directory.proofs.Entries.{key_at-own, key_at-others, valu
 pub use Rattle.clock2q_directory.proofs.Indexes.{length-put, named-own, IsIndex-cleared, length-cleared, IsIndex-kept, candidate_there, length-taken, IsIndex-put, IsIndex-taken, candidates_there}
 pub use Rattle.clock2q_directory.proofs.Lookups.{lookup, found_there, not_found, comparisons-most}
 pub use Rattle.clock2q_directory.proofs.Remembering.{slots-pushed, shared-pushed, slots-freed, shared-freed}
-pub use Rattle.clock2q_queues.proofs.Rings.{has-append, has_first, has_later, below-more, below_of, below-has, eqb_swap, eqb_self, has-without, has-without_test}
+pub use Rattle.clock2q_queues.proofs.Rings.{distinct_none, distinct_first, distinct_rest, distinct_more, among_first, among_later, below-more, below_of, below-among, eqb_swap, eqb_self, among-without, among-without_test}
 pub use Rattle.clock2q_queues.proofs.SlotLists.{slots_of-hit, slots_of-append, slots_of-mapped, slots_of-filter}
 pub use Rattle.clock2q_directory.proofs.Views.{slots-entered, slots-left}
 pub use Rattle.clock2q_machine.specs.Ages.{Age, is_promoted, touched, grown}

@@ -1,6 +1,6 @@
 -- A key that takes the slot of another: of Main's victim, or of Small's tail.
 use Rattle.std.proofs.Common.{◌≡◌, ℕ, suc, ◌+◌, ◌-◌, ◌^◌, ◌<◌, ◌≤◌, ◌==◌, Bool, true, false, cond, eqb, Option, Some, None, List, [], ◌∷◌, ◌++◌, map, length, take, drop, refl, sym, ap, ◌∙◌, subst, arith, eq-eqb, length-append}
-use Rattle.clock2q_cache.proofs.Names.{length-written, Entry, Known, slots, key_at-own, key_at-others, values-written, length-values, if◌then◌else◌, slice_get, IfSome, IsEquivalence, last_or, AllByRecursion, take-map, length-map, take-append-drop, slots_of-append, slots_of-mapped, sum_by-append, total, with_handle, removed, Age, is_promoted, has, KeyPlaces, entry, hash_at, key_at, admitted, set_front, from_victim, QueueState, slots_of, Remembered, is_remembered, most_beside, has-append, eqb_self, has_first, below_of, length-put, length-taken, Shares, main_share, history_share, SmallEntry, MainEntry, Machine, Placement, vacancy, into_main, into_small, into_small_at, joining_main, replacing_victim, evicting_tail, promoting_tail, stored, known_count, machine_of, places_of, with_keys_small, with_keys_main, IsStored, IsKept, Writes, IsPlaced, some_is, placed-replacing, placed-evicting, placed-promoting, weight-last, All-from_recursion, recursion_from_All, All-take, tail_promoted}
+use Rattle.clock2q_cache.proofs.Names.{length-written, Entry, Known, slots, key_at-own, key_at-others, values-written, length-values, if◌then◌else◌, slice_get, IfSome, IsEquivalence, last_or, AllByRecursion, take-map, length-map, take-append-drop, slots_of-append, slots_of-mapped, sum_by-append, total, with_handle, removed, Age, is_promoted, KeyPlaces, entry, hash_at, key_at, admitted, set_front, from_victim, QueueState, slots_of, Remembered, is_remembered, most_beside, list_any-append, eqb_self, among_first, below_of, length-put, length-taken, Shares, main_share, history_share, SmallEntry, MainEntry, Machine, Placement, vacancy, into_main, into_small, into_small_at, joining_main, replacing_victim, evicting_tail, promoting_tail, stored, known_count, machine_of, places_of, with_keys_small, with_keys_main, IsStored, IsKept, Writes, IsPlaced, some_is, placed-replacing, placed-evicting, placed-promoting, weight-last, All-from_recursion, recursion_from_All, All-take, tail_promoted, list_any}
 use Rattle.clock2q_directory.specs.Directory.{IsResident, IsWithinRoom}
 use Rattle.clock2q_cache.proofs.Changed.{known-any}
 use Rattle.clock2q_cache.proofs.Finding.{none-has, counted-map}
@@ -10,7 +10,7 @@ use Rattle.clock2q_machine.specs.Entries.{first_of}
 use Rattle.clock2q_cache.specs.Insertions.{leaves_placed}
 use Rattle.clock2q_cache.proofs.WithKeys.{keys-cons, small-admitted, main-behind, small_with, main_with, keys-agree, small-take, small-last, main-from_victim}
 use Rattle.clock2q_cache.proofs.Stored.{stored-renewed, hash-of-key}
-use Rattle.clock2q_cache.proofs.Slots.{small_have, main_have, apart, times, times-cons, times-none, has-times, times-both, times-pushed, times-admitted, length-admitted, stored-moved, at_most_once, length-places, length-swept}
+use Rattle.clock2q_cache.proofs.Slots.{small_have, main_have, apart, times, times-cons, times-none, among-times, times-both, times-pushed, times-admitted, length-admitted, stored-moved, at_most_once, length-places, length-swept}
 use Rattle.clock2q_cache.proofs.CacheInvariant.{length_in_small, length_in_main, index_some, IsDone, placed-done, sized-same}
 
 -- Lists
@@ -53,8 +53,8 @@ module _ {K V : Type 0} {eq : K → K → Bool} {hash : K → ℕ} {shares : Sha
   once_at t = omega (arith, at_most_once laws kept t, times-both t q)
 
   -- a resident's slot was made, and is below the capacity
-  pub slot-below : (slot : ℕ) → has slot (places_of q) ≡ true → (slot < length keys.entries) × (slot < shares.capacity) × (slot < 2 ^ 24)
-  slot-below slot there = grind (arith, below_of, kept.stored.made, kept.whole.made_within, length-values, kept.sized.short)
+  pub slot-below : (slot : ℕ) → list_any (eqb slot) (places_of q) ≡ true → (slot < length keys.entries) × (slot < shares.capacity) × (slot < 2 ^ 24)
+  slot-below slot there = grind (arith, below_of (length keys.entries) (places_of q) kept.stored.made, kept.whole.made_within, length-values, kept.sized.short)
 
   -- Main's victim
   module _ (victim : ℕ) (first : slice_get (from_victim q.main) 0 ≡ Some (victim, false)) where
@@ -70,17 +70,17 @@ module _ {K V : Type 0} {eq : K → K → Bool} {hash : K → ℕ} {shares : Sha
     victim_times : times victim (slots_of q.main) ≡ 1 + times victim (slots_of rest)
     victim_times = omega (arith, rest_times victim, ap {B = ℕ} (λ b. cond b 1 0) (eqb_self victim))
 
-    pub victim-there : has victim (slots_of q.main) ≡ true
-    victim-there = has-times victim (slots_of q.main) (victim ∷ slots_of rest) (rest_times victim ∙ sym (times-cons victim victim (slots_of rest))) ∙ has_first victim (slots_of rest)
+    pub victim-there : list_any (eqb victim) (slots_of q.main) ≡ true
+    victim-there = among-times victim (slots_of q.main) (victim ∷ slots_of rest) (rest_times victim ∙ sym (times-cons victim victim (slots_of rest))) ∙ among_first victim (slots_of rest)
 
-    pub victim-not_in_rest : has victim (slots_of rest) ≡ false
+    pub victim-not_in_rest : list_any (eqb victim) (slots_of rest) ≡ false
     victim-not_in_rest = times-none victim (slots_of rest) (omega (arith, victim_times, once_at victim))
 
-    pub victim-not_in_small : has victim (slots_of q.small) ≡ false
+    pub victim-not_in_small : list_any (eqb victim) (slots_of q.small) ≡ false
     victim-not_in_small = times-none victim (slots_of q.small) (omega (arith, victim_times, once_at victim))
 
-    pub victim-in : has victim (places_of q) ≡ true
-    victim-in = has-append victim (slots_of q.small) (slots_of q.main) ∙ rw (victim-not_in_small, victim-there) refl
+    pub victim-in : list_any (eqb victim) (places_of q) ≡ true
+    victim-in = list_any-append (eqb victim) (slots_of q.small) (slots_of q.main) ∙ rw (victim-not_in_small, victim-there) refl
 
     pub length-rest : suc (length rest) ≡ length q.main
     length-rest = sym (ap (λ (z : List (ℕ × Bool)). length z) swept) ∙ length-swept q.main
@@ -116,27 +116,27 @@ module _ {K V : Type 0} {eq : K → K → Bool} {hash : K → ℕ} {shares : Sha
     tail_times : times tail (slots_of q.small) ≡ times tail (slots_of front) + 1
     tail_times = omega (arith, front_times tail, ap {B = ℕ} (λ b. cond b 1 0) (eqb_self tail))
 
-    tail-there_in_small : has tail (slots_of q.small) ≡ true
-    tail-there_in_small = has-times tail (slots_of q.small) (tail ∷ slots_of front) (omega (arith, front_times tail, times-cons tail tail (slots_of front))) ∙ has_first tail (slots_of front)
+    tail-there_in_small : list_any (eqb tail) (slots_of q.small) ≡ true
+    tail-there_in_small = among-times tail (slots_of q.small) (tail ∷ slots_of front) (omega (arith, front_times tail, times-cons tail tail (slots_of front))) ∙ among_first tail (slots_of front)
 
-    pub tail-in : has tail (places_of q) ≡ true
-    tail-in = has-append tail (slots_of q.small) (slots_of q.main) ∙ rw tail-there_in_small refl
+    pub tail-in : list_any (eqb tail) (places_of q) ≡ true
+    tail-in = list_any-append (eqb tail) (slots_of q.small) (slots_of q.main) ∙ rw tail-there_in_small refl
 
-    pub tail-not_in_front : has tail (slots_of front) ≡ false
+    pub tail-not_in_front : list_any (eqb tail) (slots_of front) ≡ false
     tail-not_in_front = times-none tail (slots_of front) (omega (arith, tail_times, once_at tail))
 
-    pub tail-not_in_main : has tail (slots_of q.main) ≡ false
+    pub tail-not_in_main : list_any (eqb tail) (slots_of q.main) ≡ false
     tail-not_in_main = times-none tail (slots_of q.main) (omega (arith, tail_times, once_at tail))
 
     -- beside Main's victim
     module _ (victim : ℕ) (first : slice_get (from_victim q.main) 0 ≡ Some (victim, false)) where
-      pub victim-not_in_front : has victim (slots_of front) ≡ false
+      pub victim-not_in_front : list_any (eqb victim) (slots_of front) ≡ false
       victim-not_in_front = times-none victim (slots_of front) (omega (arith, front_times victim, victim_times victim first, once_at victim))
 
-      pub tail-not_in_rest : has tail (slots_of (rest victim first)) ≡ false
+      pub tail-not_in_rest : list_any (eqb tail) (slots_of (rest victim first)) ≡ false
       tail-not_in_rest = times-none tail (slots_of (rest victim first)) (omega (arith, rest_times victim first tail, tail_times, once_at tail))
 
-      pub victim-not_behind : has victim (slots_of (rest victim first ++ (tail, false) ∷ [])) ≡ false
+      pub victim-not_behind : list_any (eqb victim) (slots_of (rest victim first ++ (tail, false) ∷ [])) ≡ false
       victim-not_behind = times-none victim (slots_of (rest victim first ++ (tail, false) ∷ []))
           (omega (arith, times-pushed victim (rest victim first) (tail, false), front_times victim, victim_times victim first, once_at victim))
 
@@ -193,7 +193,7 @@ module _ {K V : Type 0} {eq : K → K → Bool} {hash : K → ℕ} {shares : Sha
 
   -- a key takes a resident's slot
   module _ {key : K} {value : Option V} {hsh slot old n : ℕ} {index' : List (List (ℕ × ℕ))} {keys' : KeyPlaces K V} (is : hsh ≡ hash key) (absent : known_count (eq key) m ≡ 0)
-      (there : has slot (places_of q) ≡ true) (at : hash_at keys.entries slot ≡ Some old) (indexed : index' ≡ with_handle (removed eqb index old slot) hsh slot)
+      (there : list_any (eqb slot) (places_of q) ≡ true) (at : hash_at keys.entries slot ≡ Some old) (indexed : index' ≡ with_handle (removed eqb index old slot) hsh slot)
       (w : Writes hsh key value slot keys.entries keys'.entries) (renewed : keys' ≡ record keys { entries = keys'.entries; writes = n }) where
     next : slot ≤ length keys.entries
     next = omega (arith, (slot-below slot there).0)
@@ -204,13 +204,13 @@ module _ {K V : Type 0} {eq : K → K → Bool} {hash : K → ℕ} {shares : Sha
     own : key_at keys'.entries slot ≡ Some key
     own = rw w.becomes (key_at-own slot hsh key w.held keys.entries next)
 
-    others_keep : (places : List ℕ) → has slot places ≡ false → (t : ℕ) → has t places ≡ true → key_at keys'.entries t ≡ key_at keys.entries t
+    others_keep : (places : List ℕ) → list_any (eqb slot) places ≡ false → (t : ℕ) → list_any (eqb t) places ≡ true → key_at keys'.entries t ≡ key_at keys.entries t
     others_keep = rw w.becomes (key_at-others slot hsh key w.held keys.entries next)
 
-    small_other : (es : List (ℕ × Age)) → has slot (slots_of es) ≡ false → with_keys_small (key_at keys'.entries) es ≡ with_keys_small (key_at keys.entries) es
+    small_other : (es : List (ℕ × Age)) → list_any (eqb slot) (slots_of es) ≡ false → with_keys_small (key_at keys'.entries) es ≡ with_keys_small (key_at keys.entries) es
     small_other es none = keys-agree small_with (key_at keys.entries) (key_at keys'.entries) es (others_keep (slots_of es) none)
 
-    main_other : (es : List (ℕ × Bool)) → has slot (slots_of es) ≡ false → with_keys_main (key_at keys'.entries) es ≡ with_keys_main (key_at keys.entries) es
+    main_other : (es : List (ℕ × Bool)) → list_any (eqb slot) (slots_of es) ≡ false → with_keys_main (key_at keys'.entries) es ≡ with_keys_main (key_at keys.entries) es
     main_other es none = keys-agree main_with (key_at keys.entries) (key_at keys'.entries) es (others_keep (slots_of es) none)
 
     values : map (λ e. e.value) keys'.entries ≡ (stored slot w.held m).values
@@ -228,7 +228,7 @@ module _ {K V : Type 0} {eq : K → K → Bool} {hash : K → ℕ} {shares : Sha
         (ap (λ (z : KeyPlaces K V). z.room) renewed) refl)
 
     -- Small without its tail, and with the key
-    small_joined : (tail : ℕ) (last : last_or None (slots_of q.small) ≡ Some tail) → has slot (slots_of (front tail last)) ≡ false
+    small_joined : (tail : ℕ) (last : last_or None (slots_of q.small) ≡ Some tail) → list_any (eqb slot) (slots_of (front tail last)) ≡ false
         → with_keys_small (key_at keys'.entries) (admitted q.window slot (front tail last)) ≡ machine.small_admitted shares.window key slot (take (length m.small - 1) m.small)
     small_joined tail last none = small-admitted (key_at keys'.entries) q.window slot key (front tail last) own
         ∙ ap (λ z. machine.small_admitted q.window key slot z) (small_other (front tail last) none ∙ front_entries tail last)
@@ -309,7 +309,7 @@ module _ {K V : Type 0} {eq : K → K → Bool} {hash : K → ℕ} {shares : Sha
 -- what the directory requires of a resident's slot
 module _ {K V : Type 0} {eq : K → K → Bool} {hash : K → ℕ} {shares : Shares} {q : QueueState} (d : Known K V) {free : List ℕ} {room : ℕ}
     (laws : IsEquivalence eq) (kept : IsKept eq hash shares q d.history (slots d.history.places.index) d.residents free room) where
-  pub is-resident : (slot : ℕ) → has slot (places_of q) ≡ true → IsResident slot d
+  pub is-resident : (slot : ℕ) → list_any (eqb slot) (places_of q) ≡ true → IsResident slot d
   is-resident slot there =
       let below = slot-below laws kept slot there in
       record { taken = places_of q; indexed = kept.stored.indexed; apart = apart laws kept; there = there; made = below.0; below = below.2 }

@@ -1,6 +1,6 @@
 -- How often a slot occurs in a cache's queues, and which slots are distinct.
-use Rattle.std.proofs.Common.{◌≡◌, ℕ, zero, suc, ◌+◌, ◌<◌, ◌≤◌, ◌==◌, Bool, true, false, cond, Some, List, [], ◌∷◌, ◌++◌, map, length, take, drop, reverse, refl, ap, ◌∙◌, arith, length-append}
-use Rattle.clock2q_cache.proofs.Names.{length-values, is_some, count_by, both_ways, length-map, sum_by-cons, sum_by-append, slots_of-mapped, or_true, Entry, has, AllApart, KeyPlaces, key_at, Remembered, IsEquivalence, Age, grown, admitted, from_victim, QueueState, slots_of, has-append, eqb_self, eqb_swap, Shares, Machine, vacancy, vacant_slot, standings, machine_of, places_of, IsStored, IsKept}
+use Rattle.std.proofs.Common.{◌≡◌, ℕ, zero, suc, ◌+◌, ◌<◌, ◌≤◌, ◌==◌, Bool, true, false, cond, Some, List, [], ◌∷◌, ◌++◌, map, length, take, drop, reverse, refl, ap, ◌∙◌, subst, arith, length-append, eqb}
+use Rattle.clock2q_cache.proofs.Names.{length-values, is_some, count_by, both_ways, length-map, sum_by-cons, sum_by-append, slots_of-mapped, or_true, Entry, KeyPlaces, key_at, Remembered, IsEquivalence, Age, grown, admitted, from_victim, QueueState, slots_of, list_any-append, eqb_self, eqb_swap, Shares, Machine, vacancy, vacant_slot, standings, machine_of, places_of, IsStored, IsKept, distinct_none, distinct_more, list_any, IsDistinct}
 use Rattle.clock2q_cache.proofs.WithKeys.{HaveKeys, standing-keyed, length-small, length-main}
 use Rattle.clock2q_cache.proofs.Stored.{have_keys, stored-same}
 
@@ -11,25 +11,25 @@ times t xs = count_by (λ s. s == t) xs
 pub times-cons : (t x : ℕ) (xs : List ℕ) → times t (x ∷ xs) ≡ cond (x == t) 1 0 + times t xs
 times-cons t x xs = grind (arith, sum_by-cons (λ s. cond (s == t) 1 0) x xs)
 
-pub times-none : (t : ℕ) (xs : List ℕ) → times t xs ≡ 0 → has t xs ≡ false
+pub times-none : (t : ℕ) (xs : List ℕ) → times t xs ≡ 0 → list_any (eqb t) xs ≡ false
 times-none t [] h = refl
 times-none t (x ∷ xs) h = grind (arith, times-cons t x xs, times-none t xs (omega (arith, h, times-cons t x xs)))
 
-pub times-some : (t : ℕ) (xs : List ℕ) → has t xs ≡ true → 0 < times t xs
+pub times-some : (t : ℕ) (xs : List ℕ) → list_any (eqb t) xs ≡ true → 0 < times t xs
 times-some t [] h = absurd (both_ways false refl h)
 times-some t (x ∷ xs) h = grind (arith, times-cons t x xs, eqb_swap, times-some t xs)
 
-pub times-apart : (xs : List ℕ) → ((t : ℕ) → times t xs ≤ 1) → AllApart xs
-times-apart [] h = tt
-times-apart (x ∷ xs) h = (grind (arith, times-none x xs, h x, times-cons x x xs, eqb_self x), times-apart xs (λ t. omega (arith, h t, times-cons t x xs)))
+pub times-apart : (xs : List ℕ) → ((t : ℕ) → times t xs ≤ 1) → IsDistinct eqb xs
+times-apart [] h = distinct_none eqb
+times-apart (x ∷ xs) h = distinct_more eqb x xs (grind (arith, times-none x xs, h x, times-cons x x xs, eqb_self x)) (times-apart xs (λ t. omega (arith, h t, times-cons t x xs)))
 
 -- a slot that occurs as often in two lists is in both or in neither
-pub times-absent : (t : ℕ) (xs : List ℕ) → has t xs ≡ false → times t xs ≡ 0
+pub times-absent : (t : ℕ) (xs : List ℕ) → list_any (eqb t) xs ≡ false → times t xs ≡ 0
 times-absent t [] h = refl
 times-absent t (x ∷ xs) h = grind (arith, times-cons t x xs, times-absent t xs, eqb_swap t x)
 
-pub has-times : (t : ℕ) (xs ys : List ℕ) → times t xs ≡ times t ys → has t xs ≡ has t ys
-has-times t xs ys e = grind (arith, times-some, times-absent, times-none)
+pub among-times : (t : ℕ) (xs ys : List ℕ) → times t xs ≡ times t ys → list_any (eqb t) xs ≡ list_any (eqb t) ys
+among-times t xs ys e = grind (arith, times-some, times-absent, times-none)
 
 -- how often a slot occurs in both queues, and after one entered at the end or at the front
 pub times-both : (t : ℕ) (q : QueueState) → times t (places_of q) ≡ times t (slots_of q.small) + times t (slots_of q.main)
@@ -67,10 +67,10 @@ module _ {K V : Type 0} {eq : K → K → Bool} {hash : K → ℕ} {shares : Sha
   m = machine_of shares q keys.entries h.entries free
 
   pub small_have : HaveKeys (key_at keys.entries) (slots_of q.small)
-  small_have = λ t g. have_keys keys.entries (places_of q) kept.stored.made t (has-append t (slots_of q.small) (slots_of q.main) ∙ rw g refl)
+  small_have = λ t g. have_keys keys.entries (places_of q) kept.stored.made t (list_any-append (eqb t) (slots_of q.small) (slots_of q.main) ∙ rw g refl)
 
   pub main_have : HaveKeys (key_at keys.entries) (slots_of q.main)
-  main_have = λ t g. have_keys keys.entries (places_of q) kept.stored.made t (has-append t (slots_of q.small) (slots_of q.main) ∙ rw g (or_true (has t (slots_of q.small))))
+  main_have = λ t g. have_keys keys.entries (places_of q) kept.stored.made t (list_any-append (eqb t) (slots_of q.small) (slots_of q.main) ∙ rw g (or_true (list_any (eqb t) (slots_of q.small))))
 
   pub standing-times : (t : ℕ) → standings t m ≡ times t (places_of q) + times t (reverse free)
   standing-times t = omega (arith, standing-keyed (key_at keys.entries) t q.small q.main small_have main_have, times-both t q)
@@ -79,20 +79,20 @@ module _ {K V : Type 0} {eq : K → K → Bool} {hash : K → ℕ} {shares : Sha
   at_most_once t = grind (arith, standing-times t, kept.whole.slots_once t)
 
   -- no two residents have the same slot
-  pub apart : AllApart (places_of q)
+  pub apart : IsDistinct eqb (places_of q)
   apart = times-apart (places_of q) (λ t. omega (arith, at_most_once t))
 
   -- a slot that is free has no resident, and was made
-  free_slot : (slot : ℕ) → 0 < times slot (reverse free) → (has slot (places_of q) ≡ false) × (slot < length keys.entries)
+  free_slot : (slot : ℕ) → 0 < times slot (reverse free) → (list_any (eqb slot) (places_of q) ≡ false) × (slot < length keys.entries)
   free_slot slot some = grind (arith, times-none slot, at_most_once slot, length-values keys.entries, standing-times slot, kept.whole.slots_once slot)
 
   -- neither has the next slot
-  next_slot : has (length m.values) (places_of q) ≡ false
+  next_slot : list_any (eqb (length m.values)) (places_of q) ≡ false
   next_slot = grind (arith, times-none, standing-times (length m.values), kept.whole.slots_once (length m.values))
 
   -- a vacancy has no resident, and was made or is the next slot
   pub record IsVacant (slot : ℕ) : Type 0 where
-    pub absent : has slot (places_of q) ≡ false
+    pub absent : list_any (eqb slot) (places_of q) ≡ false
     pub next : slot ≤ length keys.entries
     pub below : slot < shares.capacity
 
@@ -101,7 +101,7 @@ module _ {K V : Type 0} {eq : K → K → Bool} {hash : K → ℕ} {shares : Sha
     where
       of : (fs : List ℕ) → reverse free ≡ fs → vacant_slot fs (length m.values) shares.capacity ≡ Some slot → IsVacant slot
       of (s ∷ fs) at e = grind (arith, free_slot slot, times-cons slot s fs, kept.whole.made_within, length-values keys.entries)
-      of [] at e = grind (arith, next_slot, length-values)
+      of [] at e = let same : length m.values ≡ slot = grind arith in grind (arith, subst (λ z. list_any (eqb z) (places_of q) ≡ false) same next_slot, length-values keys.entries)
 
   -- the slot that is taken is the vacancy, if there is one
   pub vacancy-taken : (slot : ℕ) → is_some (vacancy m) ≡ true → vacant_slot (reverse free) (length keys.entries) (length keys.entries + 1) ≡ Some slot → vacancy m ≡ Some slot
@@ -116,4 +116,4 @@ module _ {K V : Type 0} {eq : K → K → Bool} {hash : K → ℕ} {shares : Sha
 pub stored-moved : {K V : Type 0} {hash : K → ℕ} {index : List (List (ℕ × ℕ))} {entries : List (Entry K V)} {places : List ℕ} (q : QueueState) → IsStored hash index entries places
     → ((t : ℕ) → times t (places_of q) ≡ times t places) → length q.small + length q.main ≡ length places → IsStored hash index entries (places_of q)
 stored-moved {hash = hash} {index = index} {entries = entries} {places = places} q stored same as_many =
-    stored-same hash index entries places (places_of q) stored (λ t. has-times t (places_of q) places (same t)) (length-places q ∙ as_many)
+    stored-same hash index entries places (places_of q) stored (λ t. among-times t (places_of q) places (same t)) (length-places q ∙ as_many)

@@ -1,6 +1,6 @@
 -- The keys by slot and their index, after a key enters or replaces another.
-use Rattle.std.proofs.Common.{◌≡◌, ℕ, zero, suc, ◌<◌, ◌≤◌, true, false, eqb, Some, None, List, [], ◌∷◌, length, ap, arith, subst, slice_get}
-use Rattle.clock2q_cache.proofs.Names.{AllByRecursion, with_handle, removed, Entry, has, without, AllApart, AllBelow, entry, written, hash_at, key_at, eqb_self, below_of, has-without, has-without_test, below-has, below-more, and_true, and_false, some_is, length-written, slice_get_some, all-written, hash_at-own, hash_at-others, IsIndex-put, IsIndex-taken, length-taken, IsStored}
+use Rattle.std.proofs.Common.{◌≡◌, ℕ, zero, suc, ◌<◌, ◌≤◌, true, false, eqb, Some, None, List, [], ◌∷◌, length, ap, sym, ◌∙◌, arith, subst, slice_get}
+use Rattle.clock2q_cache.proofs.Names.{AllByRecursion, with_handle, removed, Entry, without, entry, written, hash_at, key_at, eqb_self, below_of, among-without, among-without_test, below-among, below-more, and_true, and_false, some_is, length-written, slice_get_some, all-written, hash_at-own, hash_at-others, IsIndex-put, IsIndex-taken, length-taken, IsStored, list_any, IsDistinct}
 use Rattle.clock2q_queues.proofs.Joining.{length-without}
 use Rattle.clock2q_cache.proofs.WithKeys.{HaveKeys}
 
@@ -11,7 +11,7 @@ all-at P (x ∷ xs) zero e a h = subst P (some_is x e h) a.0
 all-at P (x ∷ xs) (suc slot) e a h = all-at P xs slot e a.1 h
 
 module _ {K V : Type 0} where
-  pub have_keys : (entries : List (Entry K V)) (places : List ℕ) → AllBelow (length entries) places → HaveKeys (key_at entries) places
+  pub have_keys : (entries : List (Entry K V)) (places : List ℕ) → AllByRecursion (λ s. s < length entries) places → HaveKeys (key_at entries) places
   have_keys entries places b t h =
       let e = slice_get_some entries t (below_of (length entries) places b t h) in
       (e.0.key, ap (λ z. elim z [ None ↦ None | Some e ↦ Some e.key ]) e.1)
@@ -19,12 +19,12 @@ module _ {K V : Type 0} where
 module _ {K V : Type 0} (hash : K → ℕ) where
   -- the same places in another order
   pub stored-same : (index : List (List (ℕ × ℕ))) (entries : List (Entry K V)) (places places' : List ℕ) → IsStored hash index entries places
-      → ((t : ℕ) → has t places' ≡ has t places) → length places' ≡ length places → IsStored hash index entries places'
-  stored-same index entries places places' i same as_many = grind (arith, below-has, below_of, i.made, i.indexed.counted, i.hashed)
+      → ((t : ℕ) → list_any (eqb t) places' ≡ list_any (eqb t) places) → length places' ≡ length places → IsStored hash index entries places'
+  stored-same index entries places places' i same as_many = grind (arith, below-among (length entries) places' (λ t g. below_of (length entries) places i.made t (sym (same t) ∙ g)), i.indexed.once, i.indexed.counted, i.hashed)
 
   -- a key enters at a slot
   pub stored-entered : (index : List (List (ℕ × ℕ))) (entries : List (Entry K V)) (places : List ℕ) (slot : ℕ) (key : K) (value : V)
-      → IsStored hash index entries places → 0 < length index → has slot places ≡ false → slot ≤ length entries
+      → IsStored hash index entries places → 0 < length index → list_any (eqb slot) places ≡ false → slot ≤ length entries
       → IsStored hash (with_handle index (hash key) slot) (written slot (entry (hash key) key value) entries) (slot ∷ places)
   stored-entered index entries places slot key value i some absent next =
       grind (
@@ -41,21 +41,22 @@ module _ {K V : Type 0} (hash : K → ℕ) where
 
   -- a resident's slot leaves the index
   pub stored-left : (index : List (List (ℕ × ℕ))) (entries : List (Entry K V)) (places : List ℕ) (slot old : ℕ)
-      → IsStored hash index entries places → 0 < length index → AllApart places → hash_at entries slot ≡ Some old
+      → IsStored hash index entries places → 0 < length index → IsDistinct eqb places → hash_at entries slot ≡ Some old
       → IsStored hash (removed eqb index old slot) entries (without slot places)
   stored-left index entries places slot old i some apart at =
-      grind (arith, below-has, below_of, i.made, has-without, IsIndex-taken index entries places slot old i.indexed some apart, i.hashed)
+      let made = below-among (length entries) (without slot places) (λ t g. below_of (length entries) places i.made t (among-without t slot places g).0) in
+      record { made = made; indexed = IsIndex-taken index entries places slot old i.indexed some apart at; hashed = i.hashed }
 
   -- a key takes the place of a resident
   pub stored-renewed : (index : List (List (ℕ × ℕ))) (entries : List (Entry K V)) (places : List ℕ) (slot old : ℕ) (key : K) (value : V)
-      → IsStored hash index entries places → 0 < length index → AllApart places → has slot places ≡ true → hash_at entries slot ≡ Some old
+      → IsStored hash index entries places → 0 < length index → IsDistinct eqb places → list_any (eqb slot) places ≡ true → hash_at entries slot ≡ Some old
       → IsStored hash (with_handle (removed eqb index old slot) (hash key) slot) (written slot (entry (hash key) key value) entries) places
   stored-renewed index entries places slot old key value i some apart there at =
       let l = stored-left index entries places slot old i some apart at in
-      let gone : has slot (without slot places) ≡ false = grind (arith, has-without_test, eqb_self, and_false) in
+      let gone : list_any (eqb slot) (without slot places) ≡ false = grind (arith, among-without_test, eqb_self, and_false) in
       let below : slot < length entries = below_of (length entries) places i.made slot there in
       let e = stored-entered (removed eqb index old slot) entries (without slot places) slot key value l (grind (arith, length-taken index old slot)) gone (omega (arith, below)) in
-      stored-same _ _ _ places e (λ t. grind (arith, has-without_test, and_true)) (grind (arith, length-without slot places apart there))
+      stored-same _ _ _ places e (λ t. grind (arith, among-without_test, and_true)) (grind (arith, length-without slot places apart there))
 
 -- a key at a place has its hash there
 pub hash-of-key : {K V : Type 0} (hash : K → ℕ) (entries : List (Entry K V)) (t old : ℕ) (key : K)

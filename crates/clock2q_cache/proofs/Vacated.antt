@@ -1,7 +1,7 @@
 -- Which slots have a resident, and what a cache's fields become when one of them leaves.
 use Rattle.std.proofs.Common.{◌≡◌, ℕ, ◌+◌, ◌<◌, ◌≤◌, ◌==◌, Bool, true, false, not, eqb, Option, Some, None, List, [], ◌∷◌, ◌++◌, map, length, reverse, inl, inr, refl, sym, ap, ◌∙◌, subst, arith, eq-eqb}
 use Rattle.std.proofs.lemmas.List.Sums.{length-filter, count_by-le-length}
-use Rattle.clock2q_cache.proofs.Names.{length-values, is_some, IsSome, IfSome, IsEquivalence, option_map, filter, find, count_by, cases_Bool, both_ways, slots_of-filter, some_is, filter-append, removed, has, without, KeyPlaces, hash_at, key_at, QueueState, slots_of, without_slot, Remembered, below_of, length-taken, Shares, Machine, residents, resident_at, resident_count, slot_of, vacated, SmallEntry, MainEntry, append-nil, IsWhole, machine_of, places_of, with_keys_small, with_keys_main, IsStored, IsKept, whole-vacated}
+use Rattle.clock2q_cache.proofs.Names.{length-values, is_some, IsSome, IfSome, IsEquivalence, option_map, filter, find, count_by, cases_Bool, both_ways, slots_of-filter, some_is, filter-append, removed, without, KeyPlaces, hash_at, key_at, QueueState, slots_of, without_slot, Remembered, below_of, length-taken, Shares, Machine, residents, resident_at, resident_count, slot_of, vacated, SmallEntry, MainEntry, append-nil, IsWhole, machine_of, places_of, with_keys_small, with_keys_main, IsStored, IsKept, whole-vacated, list_any}
 use Rattle.clock2q_cache.proofs.WithKeys.{standing-keyed, small-without, main-without}
 use Rattle.clock2q_cache.proofs.Stored.{stored-left, have_keys}
 use Rattle.clock2q_cache.proofs.Slots.{small_have, main_have, apart, times-some, times-both}
@@ -49,8 +49,8 @@ module _ {K V : Type 0} {eq : K → K → Bool} {hash : K → ℕ} {shares : Sha
   m = machine_of shares q keys.entries h.entries free
 
   -- a slot has a resident if it is in a queue
-  pub resident-some : (t : ℕ) → is_some (resident_at m t) ≡ has t (places_of q)
-  resident-some t = elim (cases_Bool (has t (places_of q))) [
+  pub resident-some : (t : ℕ) → is_some (resident_at m t) ≡ list_any (eqb t) (places_of q)
+  resident-some t = elim (cases_Bool (list_any (eqb t) (places_of q))) [
     | inl g ↦ let k = have_keys keys.entries (places_of q) kept.stored.made t g in ap (λ (z : Option (K × ℕ)). is_some z) (resident-there laws kept t k.0 g k.1) ∙ sym g
     | inr g ↦ ap (λ (z : Option (K × ℕ)). is_some z) (resident-none laws kept t g) ∙ sym g
   ]
@@ -58,11 +58,11 @@ module _ {K V : Type 0} {eq : K → K → Bool} {hash : K → ℕ} {shares : Sha
   -- past the slots that were made there is no resident
   pub past-none : (slot : ℕ) → length keys.entries ≤ slot → false ≡ is_some (resident_at m slot)
   past-none slot past =
-      let absent : has slot (places_of q) ≡ false = grind (arith, below_of, kept.stored.made) in
+      let absent : list_any (eqb slot) (places_of q) ≡ false = grind (arith, below_of (length keys.entries) (places_of q) kept.stored.made slot) in
       sym (resident-some slot ∙ absent)
 
   module _ (slot : ℕ) (there : IsSome (resident_at m slot)) where
-    pub slot-used : has slot (places_of q) ≡ true
+    pub slot-used : list_any (eqb slot) (places_of q) ≡ true
     slot-used = sym (resident-some slot) ∙ there
 
     pub slot-made : slot < length keys.entries

@@ -1,8 +1,8 @@
 -- The slots whose keys have one hash are those of the residents whose keys have it, each once.
-use Rattle.std.proofs.Common.{◌≡◌, ℕ, ◌<◌, Bool, true, ◌&&◌, eqb-true, Option, Some, None, slice_get, List, [], ◌∷◌, length, inl, inr, refl, sym, ◌∙◌, arith, ◌-◌}
-use Rattle.clock2q_cache.proofs.Names.{and_false, IfNone, IfSome, length-values, IsEquivalence, AllApart, AllByRecursion, eqb_self, find, is_key_at, slot_of, filter, cases_Bool, candidates, Entry, KeyPlaces, has, has_first, below_of, candidate_there, slice_get_some, QueueState, Remembered, Shares, Machine, machine_of, places_of, IsKept}
+use Rattle.std.proofs.Common.{◌≡◌, ℕ, ◌<◌, Bool, true, ◌&&◌, eqb-true, Option, Some, None, slice_get, List, [], ◌∷◌, length, inl, inr, refl, sym, ◌∙◌, arith, ◌-◌, eqb}
+use Rattle.clock2q_cache.proofs.Names.{and_false, IfNone, IfSome, length-values, IsEquivalence, AllByRecursion, eqb_self, find, is_key_at, slot_of, filter, cases_Bool, candidates, Entry, KeyPlaces, among_first, below_of, candidate_there, slice_get_some, QueueState, Remembered, Shares, Machine, machine_of, places_of, IsKept, distinct_none, distinct_first, distinct_rest, distinct_more, list_any, IsDistinct}
 use Rattle.std.proofs.lemmas.Bool.{eq-eqb}
-use Rattle.clock2q_queues.proofs.Rings.{has_later}
+use Rattle.clock2q_queues.proofs.Rings.{among_later}
 use Rattle.clock2q_directory.specs.Hashed.{has_hash}
 use Rattle.clock2q_cache.specs.SlotsByHash.{has_hash_at}
 use Rattle.clock2q_cache.proofs.Stored.{all-at}
@@ -10,24 +10,24 @@ use Rattle.clock2q_cache.proofs.Places.{resident-there, resident-none}
 use Rattle.clock2q_cache.proofs.Finding.{found, candidates-there}
 
 -- two tests that agree on a list keep the same of it
-filter-like : (p q : ℕ → Bool) (cs : List ℕ) → ((t : ℕ) → has t cs ≡ true → p t ≡ q t) → filter p cs ≡ filter q cs
+filter-like : (p q : ℕ → Bool) (cs : List ℕ) → ((t : ℕ) → list_any (eqb t) cs ≡ true → p t ≡ q t) → filter p cs ≡ filter q cs
 filter-like p q [] same = refl
-filter-like p q (c ∷ cs) same = grind (arith, has_first, has_later, filter-like p q cs)
+filter-like p q (c ∷ cs) same = grind (arith, among_first, among_later, filter-like p q cs)
 
 -- if a filter keeps nothing, a search for what it would keep finds nothing
-none-kept : (p q : ℕ → Bool) (cs : List ℕ) → None ≡ slice_get (filter p cs) 0 → ((t : ℕ) → has t cs ≡ true → q t ≡ true → p t ≡ true) → find q cs ≡ None
+none-kept : (p q : ℕ → Bool) (cs : List ℕ) → None ≡ slice_get (filter p cs) 0 → ((t : ℕ) → list_any (eqb t) cs ≡ true → q t ≡ true → p t ≡ true) → find q cs ≡ None
 none-kept p q [] none kept = refl
-none-kept p q (c ∷ cs) none kept = grind (arith, has_first c cs, has_later, none-kept p q cs)
+none-kept p q (c ∷ cs) none kept = grind (arith, among_first c cs, among_later, none-kept p q cs)
 
 -- what is in a list and passes is what is kept of it
-has-kept : (p : ℕ → Bool) (cs : List ℕ) (t : ℕ) → has t (filter p cs) ≡ (has t cs && p t)
-has-kept p [] t = refl
-has-kept p (c ∷ cs) t = grind (arith, has-kept p cs t, and_false (has t cs))
+among-kept : (p : ℕ → Bool) (cs : List ℕ) (t : ℕ) → list_any (eqb t) (filter p cs) ≡ (list_any (eqb t) cs && p t)
+among-kept p [] t = refl
+among-kept p (c ∷ cs) t = grind (arith, among-kept p cs t, and_false (list_any (eqb t) cs))
 
 -- no slot is kept twice
-apart-kept : (p : ℕ → Bool) (cs : List ℕ) → AllApart cs → AllApart (filter p cs)
-apart-kept p [] apart = tt
-apart-kept p (c ∷ cs) apart = grind (arith, has-kept p cs c, apart.0, apart-kept p cs apart.1, apart.1)
+apart-kept : (p : ℕ → Bool) (cs : List ℕ) → IsDistinct eqb cs → IsDistinct eqb (filter p cs)
+apart-kept p [] apart = distinct_none eqb
+apart-kept p (c ∷ cs) apart = let rest = distinct_rest eqb c cs apart in grind (arith, among-kept p cs c, distinct_first eqb c cs apart, apart-kept p cs rest, distinct_more eqb c (filter p cs))
 
 -- what is kept of a list is below what all of it is
 kept-below : (p : ℕ → Bool) (bound : ℕ) (cs : List ℕ) (n : ℕ) (o : Option ℕ) → AllByRecursion (λ t. t < bound) cs → o ≡ slice_get (filter p cs) n → IfSome o (λ t. t < bound)
@@ -50,7 +50,7 @@ module _ {K V : Type 0} {eq : K → K → Bool} {hash : K → ℕ} {shares : Sha
   hash-there : (t : ℕ) (e : Entry K V) → slice_get keys.entries t ≡ Some e → e.hash ≡ hash e.key
   hash-there t e at = all-at (λ (e : Entry K V). e.hash ≡ hash e.key) keys.entries t e kept.stored.hashed at
 
-  same-hash : (x t : ℕ) → has t (candidates index x) ≡ true → has_hash keys.entries x t ≡ has_hash_at hash x m t
+  same-hash : (x t : ℕ) → list_any (eqb t) (candidates index x) ≡ true → has_hash keys.entries x t ≡ has_hash_at hash x m t
   same-hash x t there =
       let in-use = (candidate_there index keys.entries (places_of q) x t kept.stored.indexed there).0 in
       let e = slice_get_some keys.entries t (below_of (length keys.entries) (places_of q) kept.stored.made t in-use) in
@@ -66,7 +66,7 @@ module _ {K V : Type 0} {eq : K → K → Bool} {hash : K → ℕ} {shares : Sha
       sym (found laws kept key respects x is)
       ∙ none-kept (has_hash keys.entries x) (is_key_at eq key keys.entries) (candidates index x) none alike
     where
-      alike : (t : ℕ) → has t (candidates index x) ≡ true → is_key_at eq key keys.entries t ≡ true → has_hash keys.entries x t ≡ true
+      alike : (t : ℕ) → list_any (eqb t) (candidates index x) ≡ true → is_key_at eq key keys.entries t ≡ true → has_hash keys.entries x t ≡ true
       alike t there it = grind (arith, candidate_there, kept.stored.indexed, slice_get_some, below_of, kept.stored.made, eq-eqb, hash-there)
 
   -- of what the walk finds
@@ -75,8 +75,8 @@ module _ {K V : Type 0} {eq : K → K → Bool} {hash : K → ℕ} {shares : Sha
   absent-unless respects x nth o found = grind (arith, none-with-hash)
 
   -- a resident with the hash is among the candidates
-  is-candidate : (x t : ℕ) → has_hash_at hash x m t ≡ true → has t (candidates index x) ≡ true
-  is-candidate x t it = elim (cases_Bool (has t (places_of q))) [
+  is-candidate : (x t : ℕ) → has_hash_at hash x m t ≡ true → list_any (eqb t) (candidates index x) ≡ true
+  is-candidate x t it = elim (cases_Bool (list_any (eqb t) (places_of q))) [
     | inl in-use ↦
         let e = slice_get_some keys.entries t (below_of (length keys.entries) (places_of q) kept.stored.made t in-use) in
         grind (arith, e.1, resident-there laws kept t e.0.key in-use, hash-there t e.0 e.1, eqb-true, eqb_self, kept.stored.indexed.listed x t)
@@ -84,11 +84,11 @@ module _ {K V : Type 0} {eq : K → K → Bool} {hash : K → ℕ} {shares : Sha
   ]
 
   -- each resident with the hash is listed, and nothing else
-  pub lists-each : (x t : ℕ) → has t (filter (has_hash_at hash x m) (candidates index x)) ≡ has_hash_at hash x m t
-  lists-each x t = grind (arith, has-kept, is-candidate, and_false)
+  pub lists-each : (x t : ℕ) → list_any (eqb t) (filter (has_hash_at hash x m) (candidates index x)) ≡ has_hash_at hash x m t
+  lists-each x t = grind (arith, among-kept, is-candidate, and_false)
 
   -- and none twice
-  pub lists-once : (x : ℕ) → AllApart (filter (has_hash_at hash x m) (candidates index x))
+  pub lists-once : (x : ℕ) → IsDistinct eqb (filter (has_hash_at hash x m) (candidates index x))
   lists-once x = apart-kept (has_hash_at hash x m) (candidates index x) (kept.stored.indexed.once x)
 
   -- the slot that is found is below the capacity

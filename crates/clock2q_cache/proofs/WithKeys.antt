@@ -1,6 +1,6 @@
 -- The queues' lists of slots, with the keys at the slots, change as the machine's lists do.
 use Rattle.std.proofs.Common.{◌≡◌, ℕ, zero, suc, ◌+◌, ◌==◌, Bool, true, false, not, cond, eqb, Option, Some, None, List, [], ◌∷◌, ◌++◌, map, length, take, drop, inl, inr, refl, ap, ◌∙◌, arith}
-use Rattle.clock2q_cache.proofs.Names.{if◌then◌else◌, last_or, count_by, filter, filter_map, option_map, cases_Bool, filter_map-append, sum_by-cons, Age, grown, touched, has, admitted, small_hit_at, set_front, inspections, from_victim, main_hit_at, slots_of, without_slot, has_first, has_later, SmallEntry, MainEntry, with_keys_small, with_keys_main}
+use Rattle.clock2q_cache.proofs.Names.{if◌then◌else◌, last_or, count_by, filter, filter_map, option_map, cases_Bool, filter_map-append, sum_by-cons, Age, grown, touched, admitted, small_hit_at, set_front, inspections, from_victim, main_hit_at, slots_of, without_slot, among_first, among_later, SmallEntry, MainEntry, with_keys_small, with_keys_main, list_any}
 use Rattle.clock2q_machine.specs.Entries as machine
 
 -- an entry of Small or of Main, and its key
@@ -13,10 +13,10 @@ main_with e k = record { key = k; slot = e.0; bit = e.1 }
 module _ {K : Type 0} (key : ℕ → Option K) where
   -- each of these slots has a key
   abbrev pub HaveKeys : List ℕ → Type 0
-  HaveKeys slots = (t : ℕ) → has t slots ≡ true → (k : K) × (key t ≡ Some k)
+  HaveKeys slots = (t : ℕ) → list_any (eqb t) slots ≡ true → (k : K) × (key t ≡ Some k)
 
   pub have_later : (s : ℕ) (ss : List ℕ) → HaveKeys (s ∷ ss) → HaveKeys ss
-  have_later s ss h t g = h t (has_later t s ss g)
+  have_later s ss h t g = h t (among_later t s ss g)
 
   -- the keys at these places, each with its place
   abbrev pub paired : List ℕ → List (K × ℕ)
@@ -39,17 +39,17 @@ module _ {K X R : Type 0} (make : ℕ × X → K → R) (key : ℕ → Option K)
 
   pub have-keyed : (es : List (ℕ × X)) → HaveKeys key (slots_of es) → Keyed make key es (with_keys es)
   have-keyed [] h = unkeyed
-  have-keyed (e ∷ es) h = grind (arith, h e.0, has_first e.0 (slots_of es), keyed, have-keyed es (have_later key e.0 (slots_of es) h))
+  have-keyed (e ∷ es) h = grind (arith, h e.0, among_first e.0 (slots_of es), keyed, have-keyed es (have_later key e.0 (slots_of es) h))
 
   pub keyed-is : {es : List (ℕ × X)} {rs : List R} → Keyed make key es rs → with_keys es ≡ rs
   keyed-is unkeyed = refl
   keyed-is (keyed k at r) = grind (arith, keyed-is r)
 
   -- the same keys at these slots
-  pub keys-agree : (key' : ℕ → Option K) (es : List (ℕ × X)) → ((t : ℕ) → has t (slots_of es) ≡ true → key' t ≡ key t)
+  pub keys-agree : (key' : ℕ → Option K) (es : List (ℕ × X)) → ((t : ℕ) → list_any (eqb t) (slots_of es) ≡ true → key' t ≡ key t)
       → filter_map (λ e. option_map (λ k. make e k) (key' e.0)) es ≡ with_keys es
   keys-agree key' [] h = refl
-  keys-agree key' (e ∷ es) h = grind (arith, h e.0 (has_first e.0 (slots_of es)), keys-agree key' es (λ t g. h t (has_later t e.0 (slots_of es) g)))
+  keys-agree key' (e ∷ es) h = grind (arith, h e.0 (among_first e.0 (slots_of es)), keys-agree key' es (λ t g. h t (among_later t e.0 (slots_of es) g)))
 
 module _ {K X R : Type 0} {make : ℕ × X → K → R} {key : ℕ → Option K} where
   -- there are as many as slots
@@ -96,12 +96,12 @@ module _ {K X R : Type 0} {make : ℕ × X → K → R} {key : ℕ → Option K}
 
   -- a hit, if the key passes the test only at this slot
   keyed-hit : (of : R → K) (h : X → X) (g : R → R) → ((e : ℕ × X) (k : K) → of (make e k) ≡ k) → ((e : ℕ × X) (k : K) → g (make e k) ≡ make (e.0, h e.1) k)
-      → (is : K → Bool) (slot : ℕ) {es : List (ℕ × X)} {rs : List R} → ((t : ℕ) (k : K) → has t (slots_of es) ≡ true → key t ≡ Some k → is k ≡ eqb t slot) → Keyed make key es rs
+      → (is : K → Bool) (slot : ℕ) {es : List (ℕ × X)} {rs : List R} → ((t : ℕ) (k : K) → list_any (eqb t) (slots_of es) ≡ true → key t ≡ Some k → is k ≡ eqb t slot) → Keyed make key es rs
       → Keyed make key (map {B = ℕ × X} (λ e. if e.0 == slot then (e.0, h e.1) else e) es) (map (λ r. if is (of r) then g r else r) rs)
   keyed-hit of h g own hits is slot agrees unkeyed = unkeyed
   keyed-hit of h g own hits is slot agrees (keyed {e} {es} k at r) =
-      let here : is k ≡ eqb e.0 slot = agrees e.0 k (has_first e.0 (slots_of es)) at in
-      let rest = keyed-hit of h g own hits is slot (λ t k g. agrees t k (has_later t e.0 (slots_of es) g)) r in
+      let here : is k ≡ eqb e.0 slot = agrees e.0 k (among_first e.0 (slots_of es)) at in
+      let rest = keyed-hit of h g own hits is slot (λ t k g. agrees t k (among_later t e.0 (slots_of es) g)) r in
       elim (cases_Bool (eqb e.0 slot)) [ inl q ↦ rw (own e k, here, q, hits e k) (keyed k at rest) | inr q ↦ rw (own e k, here, q) (keyed k at rest) ]
 
 module _ {K : Type 0} (key : ℕ → Option K) where
@@ -163,12 +163,12 @@ module _ {K : Type 0} (key : ℕ → Option K) where
 
   -- a hit, if the key passes the test only at this slot
   module _ (is : K → Bool) (slot : ℕ) where
-    pub small-hit : (es : List (ℕ × Age)) → ((t : ℕ) (k : K) → has t (slots_of es) ≡ true → key t ≡ Some k → is k ≡ eqb t slot) → HaveKeys key (slots_of es)
+    pub small-hit : (es : List (ℕ × Age)) → ((t : ℕ) (k : K) → list_any (eqb t) (slots_of es) ≡ true → key t ≡ Some k → is k ≡ eqb t slot) → HaveKeys key (slots_of es)
         → with_keys_small key (small_hit_at slot es) ≡ machine.small_hit is (with_keys_small key es)
     small-hit es agrees h =
         keyed-is small_with key (keyed-hit (λ (e : SmallEntry K). e.key) touched (λ e. record e { age = touched e.age }) (λ e k. refl) (λ e k. refl) is slot agrees (have-keyed small_with key es h))
 
-    pub main-hit : (es : List (ℕ × Bool)) → ((t : ℕ) (k : K) → has t (slots_of es) ≡ true → key t ≡ Some k → is k ≡ eqb t slot) → HaveKeys key (slots_of es)
+    pub main-hit : (es : List (ℕ × Bool)) → ((t : ℕ) (k : K) → list_any (eqb t) (slots_of es) ≡ true → key t ≡ Some k → is k ≡ eqb t slot) → HaveKeys key (slots_of es)
         → with_keys_main key (main_hit_at slot es) ≡ machine.main_hit is (with_keys_main key es)
     main-hit es agrees h =
         keyed-is main_with key (keyed-hit (λ (e : MainEntry K). e.key) (λ b. true) (λ e. record e { bit = true }) (λ e k. refl) (λ e k. refl) is slot agrees (have-keyed main_with key es h))

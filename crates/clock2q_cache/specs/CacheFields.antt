@@ -6,7 +6,6 @@ use Rattle.clock2q_machine.specs.Ages.{Age}
 use Rattle.clock2q_directory.specs.declared.keys.store.Entry.{Entry}
 use Rattle.clock2q_directory.specs.Keys.{KeyPlaces, key_at}
 use Rattle.clock2q_directory.specs.Indexes.{IsIndex}
-use Rattle.clock2q_queues.specs.Rings.{AllBelow}
 use Rattle.clock2q_queues.specs.Queues.{QueueState, slots_of}
 use Rattle.clock2q_handles.specs.Homes.{capacity}
 use Rattle.clock2q_directory.specs.History.{Remembered, most_beside}
@@ -44,7 +43,7 @@ module _ {K V : Type 0} where
 
   -- each of these slots has a key, with its hash, and the index has exactly these
   pub record IsStored (hash : K → ℕ) (index : List (List (ℕ × ℕ))) (entries : List (Entry K V)) (places : List ℕ) : Type 0 where
-    pub made : AllBelow (length entries) places
+    pub made : AllByRecursion (λ s. s < length entries) places
     pub indexed : IsIndex index entries places
     pub hashed : AllByRecursion (λ e. e.hash ≡ hash e.key) entries
 

@@ -1,11 +1,10 @@
 -- What is in the index of a cache: the slot or place of each key under the key's hash, and nothing else.
-use Rattle.std.specs.Prelude.{◌≡◌, ℕ, ◌+◌, ◌≤◌, ◌==◌, ◌&&◌, false, if◌then◌else◌, List, length}
-use Rattle.std.specs.List.{list_any, zip}
+use Rattle.std.specs.Prelude.{◌≡◌, ℕ, ◌+◌, ◌≤◌, ◌==◌, ◌&&◌, false, if◌then◌else◌, List, length, nat_eq}
+use Rattle.std.specs.List.{list_any, zip, IsDistinct}
 use Rattle.std.specs.declared.hash.Hasher as hasher
 use Rattle.std.specs.declared.hash.BuildHasher as builder
 use Rattle.std.specs.HashMap.Lent.{HashMembers}
 use Rattle.clock2q_handles.specs.Homes.{candidates, capacity, total}
-use Rattle.clock2q_queues.specs.Rings.{has, AllApart}
 use Rattle.clock2q_directory.specs.Indexes.{is_alike}
 use Rattle.clock2q_directory.specs.Index.{is_shared}
 use Rattle.clock2q_machine.specs.Machine.{residents}
@@ -15,8 +14,8 @@ use Rattle.clock2q_cache.specs.Hashes.{hash_of}
 
 -- a lookup of a hash finds the places of the keys with a hash like it, each once, and there are as many entries as keys
 pub record HasPlaces {K : Type 0} (hash : K → ℕ) (index : List (List (ℕ × ℕ))) (keys : List (K × ℕ)) : Type 0 where
-  pub found : (x place : ℕ) → has place (candidates index x) ≡ list_any (λ e. (place == e.1) && is_alike index x (hash e.0)) keys
-  pub once : (x : ℕ) → AllApart (candidates index x)
+  pub found : (x place : ℕ) → list_any (nat_eq place) (candidates index x) ≡ list_any (λ e. (place == e.1) && is_alike index x (hash e.0)) keys
+  pub once : (x : ℕ) → IsDistinct nat_eq (candidates index x)
   pub counted : total index ≡ length keys
 
 module _ {K V S H : Type 0} (key : HashMembers K) (build : builder.Ghosts S H) (hash : hasher.Ghosts H) where

@@ -1,11 +1,10 @@
 -- The slots of the residents whose keys have one hash.
-use Rattle.std.specs.Prelude.{◌≡◌, ℕ, Bool, false, ◌==◌, List, Some, None}
-use Rattle.std.specs.List.{filter}
+use Rattle.std.specs.Prelude.{◌≡◌, ℕ, Bool, false, ◌==◌, List, Some, None, nat_eq}
+use Rattle.std.specs.List.{filter, list_any, IsDistinct}
 use Rattle.std.specs.declared.hash.Hasher as hasher
 use Rattle.std.specs.declared.hash.BuildHasher as builder
 use Rattle.std.specs.HashMap.Lent.{HashMembers}
 use Rattle.clock2q_handles.specs.Homes.{candidates}
-use Rattle.clock2q_queues.specs.Rings.{has, AllApart}
 use Rattle.clock2q_machine.specs.Machine.{Machine, resident_at}
 use Rattle.clock2q_cache.specs.CacheState.{CacheState, residents_in}
 use Rattle.clock2q_cache.specs.Hashes.{hash_of}
@@ -25,5 +24,5 @@ module _ {K V S H : Type 0} (key : HashMembers K) (build : builder.Ghosts S H) (
 
   -- these are the slots of all residents whose keys have it, each once, and no others
   pub record ListsOnce (h : ℕ) (c : CacheState K V S) : Type 0 where
-    pub each : (slot : ℕ) → has slot (slots_with_hash h c) ≡ has_hash_at (hash_in c) h c.machine slot
-    pub once : AllApart (slots_with_hash h c)
+    pub each : (slot : ℕ) → list_any (nat_eq slot) (slots_with_hash h c) ≡ has_hash_at (hash_in c) h c.machine slot
+    pub once : IsDistinct nat_eq (slots_with_hash h c)

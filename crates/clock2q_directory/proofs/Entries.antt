@@ -1,16 +1,15 @@
 -- How the keys by place change.
 use Rattle.std.proofs.Common.{◌≡◌, ℕ, zero, suc, ◌+◌, ◌<◌, ◌≤◌, max, Bool, true, false, Option, Some, None, slice_get, slice_set, List, [], ◌∷◌, ◌++◌, length, take, inl, inr, refl, sym, ap, ◌∙◌, subst, eqb, arith, map}
 use Rattle.std.specs.Prelude.{if◌then◌else◌, nat_lt}
-use Rattle.std.specs.List.{cons_option, AllByRecursion}
+use Rattle.std.specs.List.{cons_option, AllByRecursion, list_any, IsDistinct}
 use Rattle.std.specs.Cmp.{IsEquivalence}
 use Rattle.std.proofs.lemmas.Option.{slice_get_within}
 use Rattle.std.proofs.lemmas.Bool.{both_ways, or_cases, eq-eqb, eqb-true, cases_lt, lt-ltb, le-ltb}
 use Rattle.std.proofs.lemmas.List.{map-append}
 use Rattle.clock2q_directory.specs.declared.keys.store.Entry.{Entry}
-use Rattle.clock2q_queues.specs.Rings.{has, AllBelow}
 use Rattle.clock2q_directory.specs.Keys.{entry, written, hash_at, hashed_at, entries_of, is_key_at, key_at, value_at}
-use Rattle.clock2q_directory.specs.Indexes.{has_key, AllDistinct}
-use Rattle.clock2q_queues.proofs.Rings.{has_first, has_later}
+use Rattle.clock2q_directory.specs.Indexes.{has_key}
+use Rattle.clock2q_queues.proofs.Rings.{among_first, among_later, distinct_first, distinct_rest}
 use Rattle.clock2q_queues.proofs.Booleans.{or_left, or_right}
 
 -- Entries written
@@ -68,9 +67,13 @@ module _ {K : Type 0} where
   any_tail eq key None es a = a
   any_tail eq key (Some e) es a = or_right (eq key e.1) (has_key eq key es) a
 
-  distinct_tail : (eq : K → K → Bool) (o : Option (ℕ × K)) (es : List (ℕ × K)) → AllDistinct eq (cons_option o es) → AllDistinct eq es
+  distinct_tail : (eq : K → K → Bool) (o : Option (ℕ × K)) (es : List (ℕ × K)) → IsDistinct (λ d e. eq d.1 e.1) (cons_option o es) → IsDistinct (λ d e. eq d.1 e.1) es
   distinct_tail eq None es d = d
-  distinct_tail eq (Some e) es d = d.1
+  distinct_tail eq (Some e) es d = distinct_rest (λ d e. eq d.1 e.1) e es d
+
+  head_absent : (eq : K → K → Bool) (o : Option (ℕ × K)) (es : List (ℕ × K)) → IsDistinct (λ d e. eq d.1 e.1) (cons_option o es) → (e : ℕ × K) → o ≡ Some e → has_key eq e.1 es ≡ false
+  head_absent eq None es d e q = absurd (cc)
+  head_absent eq (Some f) es d e q = let r : f ≡ e = cc in subst (λ (z : ℕ × K). has_key eq z.1 es ≡ false) r (distinct_first (λ d e. eq d.1 e.1) f es d)
 
 module _ {K V : Type 0} where
   -- an entry that is written
@@ -81,13 +84,13 @@ module _ {K V : Type 0} where
     pub hash_at-own : hash_at (written s (entry h k v) es) s ≡ Some h
     hash_at-own = ap (λ z. elim z [ None ↦ None | Some e ↦ Some e.hash ]) (slice_get-written s (entry h k v) es next)
 
-    apart_places : (t : ℕ) (places : List ℕ) → has s places ≡ false → has t places ≡ true → t ≡ s → ⊥
-    apart_places t places absent g e = both_ways (has s places) absent (subst (λ z. has z places ≡ true) e g)
+    apart_places : (t : ℕ) (places : List ℕ) → list_any (eqb s) places ≡ false → list_any (eqb t) places ≡ true → t ≡ s → ⊥
+    apart_places t places absent g e = both_ways (list_any (eqb s) places) absent (subst (λ z. list_any (eqb z) places ≡ true) e g)
 
-    pub key_at-others : (places : List ℕ) → has s places ≡ false → (t : ℕ) → has t places ≡ true → key_at (written s (entry h k v) es) t ≡ key_at es t
+    pub key_at-others : (places : List ℕ) → list_any (eqb s) places ≡ false → (t : ℕ) → list_any (eqb t) places ≡ true → key_at (written s (entry h k v) es) t ≡ key_at es t
     key_at-others places absent t g = ap (λ z. elim z [ None ↦ None | Some e ↦ Some e.key ]) (slice_get-written_other s t (entry h k v) es next (apart_places t places absent g))
 
-    pub hash_at-others : (places : List ℕ) → has s places ≡ false → (t : ℕ) → has t places ≡ true → hash_at (written s (entry h k v) es) t ≡ hash_at es t
+    pub hash_at-others : (places : List ℕ) → list_any (eqb s) places ≡ false → (t : ℕ) → list_any (eqb t) places ≡ true → hash_at (written s (entry h k v) es) t ≡ hash_at es t
     hash_at-others places absent t g = ap (λ z. elim z [ None ↦ None | Some e ↦ Some e.hash ]) (slice_get-written_other s t (entry h k v) es next (apart_places t places absent g))
 
   -- Values at places
@@ -141,41 +144,56 @@ module _ {K V : Type 0} where
 
   -- Keys in the order of places
 
-  pub entries-agree : (keys keys' : List (Entry K V)) (ps : List ℕ) → ((t : ℕ) → has t ps ≡ true → slice_get keys' t ≡ slice_get keys t) → entries_of keys' ps ≡ entries_of keys ps
+  pub entries-agree : (keys keys' : List (Entry K V)) (ps : List ℕ) → ((t : ℕ) → list_any (eqb t) ps ≡ true → slice_get keys' t ≡ slice_get keys t) → entries_of keys' ps ≡ entries_of keys ps
   entries-agree keys keys' [] h = refl
-  entries-agree keys keys' (p ∷ ps) h = grind (arith, entries-agree keys keys' ps, has_first, has_later)
+  entries-agree keys keys' (p ∷ ps) h = grind (arith, entries-agree keys keys' ps, among_first, among_later)
 
   pub entries-cons : (keys : List (Entry K V)) (p : ℕ) (e : ℕ × K) (ps : List ℕ) → hashed_at keys p ≡ Some e → entries_of keys (p ∷ ps) ≡ e ∷ entries_of keys ps
   entries-cons keys p e ps h = ap (λ z. cons_option z (entries_of keys ps)) h
 
-  pub length-entries : (keys : List (Entry K V)) (n : ℕ) (ps : List ℕ) → n ≤ length keys → AllBelow n ps → length (entries_of keys ps) ≡ length ps
+  pub length-entries : (keys : List (Entry K V)) (n : ℕ) (ps : List ℕ) → n ≤ length keys → AllByRecursion (λ s. s < n) ps → length (entries_of keys ps) ≡ length ps
   length-entries keys n [] h b = refl
   length-entries keys n (p ∷ ps) h b =
       let e = hashed_there keys p (omega (arith, b.0)) in
       ap (λ (z : List (ℕ × K)). length z) (entries-cons keys p e.0 ps e.1) ∙ ap (λ z. suc z) (length-entries keys n ps h b.1)
 
-  pub entries-take : (keys : List (Entry K V)) (n k : ℕ) (ps : List ℕ) → n ≤ length keys → AllBelow n ps → entries_of keys (take k ps) ≡ take k (entries_of keys ps)
+  pub entries-take : (keys : List (Entry K V)) (n k : ℕ) (ps : List ℕ) → n ≤ length keys → AllByRecursion (λ s. s < n) ps → entries_of keys (take k ps) ≡ take k (entries_of keys ps)
   entries-take keys n zero ps h b = refl
   entries-take keys n (suc k) [] h b = refl
   entries-take keys n (suc k) (p ∷ ps) h b =
       let e = hashed_there keys p (omega (arith, b.0)) in
       entries-cons keys p e.0 (take k ps) e.1 ∙ ap (λ zs. e.0 ∷ zs) (entries-take keys n k ps h b.1) ∙ sym (ap (λ zs. take (suc k) zs) (entries-cons keys p e.0 ps e.1))
 
-  pub all_entry : (P : ℕ × K → Type 0) (keys : List (Entry K V)) (ps : List ℕ) (t : ℕ) (e : ℕ × K) → AllByRecursion P (entries_of keys ps) → has t ps ≡ true → hashed_at keys t ≡ Some e → P e
+  pub all_entry : (P : ℕ × K → Type 0) (keys : List (Entry K V)) (ps : List ℕ) (t : ℕ) (e : ℕ × K) → AllByRecursion P (entries_of keys ps) → list_any (eqb t) ps ≡ true → hashed_at keys t ≡ Some e → P e
   all_entry P keys [] t e a h s = absurd (both_ways false refl h)
   all_entry P keys (p ∷ ps) t e a h s = grind (arith, all_entry P keys ps t e, or_cases, eqb-true, all_tail)
 
   module _ (eq : K → K → Bool) where
-    pub any_entry : (key : K) (keys : List (Entry K V)) (ps : List ℕ) (t : ℕ) (e : ℕ × K) → has t ps ≡ true → hashed_at keys t ≡ Some e → eq key e.1 ≡ true → has_key eq key (entries_of keys ps) ≡ true
+    pub any_entry : (key : K) (keys : List (Entry K V)) (ps : List ℕ) (t : ℕ) (e : ℕ × K) → list_any (eqb t) ps ≡ true → hashed_at keys t ≡ Some e → eq key e.1 ≡ true → has_key eq key (entries_of keys ps) ≡ true
     any_entry key keys [] t e h s k = absurd (both_ways false refl h)
-    any_entry key keys (p ∷ ps) t e h s k = elim (or_cases (eqb t p) (has t ps) h) [
+    any_entry key keys (p ∷ ps) t e h s k = elim (or_cases (eqb t p) (list_any (eqb t) ps) h) [
       | inl q ↦ subst (λ z. has_key eq key (cons_option z (entries_of keys ps)) ≡ true)
           (sym (subst (λ z. hashed_at keys z ≡ Some e) (eqb-true t p q) s)) (or_left (eq key e.1) (has_key eq key (entries_of keys ps)) k)
       | inr q ↦ any_tail eq key (hashed_at keys p) (entries_of keys ps) (any_entry key keys ps t e q s k)
     ]
 
     -- two places don't have the same key
-    pub same_place : IsEquivalence eq → (key : K) (keys : List (Entry K V)) (ps : List ℕ) → AllDistinct eq (entries_of keys ps) → (t u : ℕ) → has t ps ≡ true → has u ps ≡ true
+    pub same_place : IsEquivalence eq → (key : K) (keys : List (Entry K V)) (ps : List ℕ) → IsDistinct (λ d e. eq d.1 e.1) (entries_of keys ps) → (t u : ℕ) → list_any (eqb t) ps ≡ true → list_any (eqb u) ps ≡ true
         → is_key_at eq key keys t ≡ true → is_key_at eq key keys u ≡ true → eqb t u ≡ true
     same_place laws key keys [] d t u ht hu kt ku = absurd (both_ways false refl ht)
-    same_place laws key keys (p ∷ ps) d t u ht hu kt ku = grind (arith, same_place laws key keys ps, key_there, or_cases, eq-eqb, eqb-true, any_entry, distinct_tail)
+    same_place laws key keys (p ∷ ps) d t u ht hu kt ku =
+        let alone : (v : ℕ) → list_any (eqb v) ps ≡ true → is_key_at eq key keys p ≡ true → is_key_at eq key keys v ≡ true → ⊥ = λ v hv kp kv.
+        let e = key_there eq key keys p kp in
+        let f = key_there eq key keys v kv in
+        both_ways (has_key eq e.0.1 (entries_of keys ps)) (head_absent eq (hashed_at keys p) (entries_of keys ps) d e.0 e.1)
+        (any_entry e.0.1 keys ps v f.0 hv f.1 (sym (laws.congr key e.0.1 f.0.1 e.2) ∙ f.2)) in
+        elim (or_cases (eqb t p) (list_any (eqb t) ps) ht) [
+          | inl q ↦ elim (or_cases (eqb u p) (list_any (eqb u) ps) hu) [
+            | inl r ↦ eq-eqb t u (eqb-true t p q ∙ sym (eqb-true u p r))
+            | inr r ↦ absurd (alone u r (subst (λ z. is_key_at eq key keys z ≡ true) (eqb-true t p q) kt) ku)
+          ]
+          | inr q ↦ elim (or_cases (eqb u p) (list_any (eqb u) ps) hu) [
+            | inl r ↦ absurd (alone t q (subst (λ z. is_key_at eq key keys z ≡ true) (eqb-true u p r) ku) kt)
+            | inr r ↦ same_place laws key keys ps (distinct_tail eq (hashed_at keys p) (entries_of keys ps) d) t u q r kt ku
+          ]
+        ]

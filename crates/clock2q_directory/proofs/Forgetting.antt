@@ -1,20 +1,20 @@
 -- A key forgotten by the history.
 use Rattle.std.proofs.Common.{◌≡◌, ℕ, ◌+◌, ◌^◌, ◌<◌, ◌≤◌, Bool, true, false, eqb, Option, Some, None, slice_get, List, [], ◌∷◌, map, length, inl, inr, refl, sym, ap, ◌∙◌, subst, arith}
-use Rattle.std.specs.List.{cons_option, find}
+use Rattle.std.specs.List.{cons_option, find, list_any, AllByRecursion, IsDistinct}
 use Rattle.std.specs.Cmp.{IsEquivalence}
 use Rattle.std.proofs.lemmas.Bool.{both_ways, cases_Bool, eqb-true}
 use Rattle.clock2q_handles.specs.Homes.{candidates}
 use Rattle.clock2q_directory.specs.Index as known
 use Rattle.clock2q_directory.specs.Index.{IndexState, forgotten_at}
 use Rattle.clock2q_directory.specs.declared.keys.store.Entry.{Entry}
-use Rattle.clock2q_queues.specs.Rings.{has, without, AllBelow}
+use Rattle.clock2q_queues.specs.Rings.{without}
 use Rattle.clock2q_queues.specs.Order.{PlaceOrder, IsWholeOrder, used}
 use Rattle.clock2q_directory.specs.Keys.{KeyPlaces, hash_at, hashed_at, entries_of, is_key_at}
-use Rattle.clock2q_directory.specs.Indexes.{IsIndex, AllDistinct, HasHash, has_key}
+use Rattle.clock2q_directory.specs.Indexes.{IsIndex, HasHash, has_key}
 use Rattle.clock2q_directory.specs.declared.found.Found.{Found}
 use Rattle.clock2q_directory.specs.History.{Remembered, IsHistory, forgotten, remembered_from, accesses_of, places_with, places_from, place_of, found_place, freed_place}
 use Rattle.clock2q_queues.specs.Cells.{Rises}
-use Rattle.clock2q_queues.proofs.Rings.{has_first, has_later, below_of, AllApart-left, AllBelow-left}
+use Rattle.clock2q_queues.proofs.Rings.{among_first, among_later, below_of, IsDistinct-left, AllByRecursion-left, distinct_none, distinct_first, distinct_rest, distinct_more}
 use Rattle.clock2q_queues.proofs.Joining.{length-without}
 use Rattle.clock2q_directory.proofs.Entries.{key_there, any_entry, same_place, hashed_there, entries-cons}
 use Rattle.clock2q_directory.proofs.Histories.{shown-as}
@@ -62,28 +62,32 @@ module _ {K : Type 0} (eq : K → K → Bool) where
         | inr k ↦ rw k (or_neither (eq x e.1) (has_key eq x (forgotten eq key es)) p.0 (key_absent-forgotten x key es p.1))
       ]
 
-  distinct-forgotten : (key : K) (es : List (ℕ × K)) → AllDistinct eq es → AllDistinct eq (forgotten eq key es)
-  distinct-forgotten key [] d = tt
-  distinct-forgotten key (e ∷ es) d = elim (cases_Bool (eq key e.1)) [
-    | inl k ↦ rw k (distinct-forgotten key es d.1)
-    | inr k ↦ rw k ((key_absent-forgotten e.1 key es d.0, distinct-forgotten key es d.1))
-  ]
+  distinct-forgotten : (key : K) (es : List (ℕ × K)) → IsDistinct (λ d e. eq d.1 e.1) es → IsDistinct (λ d e. eq d.1 e.1) (forgotten eq key es)
+  distinct-forgotten key [] d = distinct_none (λ d e. eq d.1 e.1)
+  distinct-forgotten key (e ∷ es) d =
+      let by_key : ℕ × K → ℕ × K → Bool = λ d e. eq d.1 e.1 in
+      elim (cases_Bool (eq key e.1)) [
+        | inl k ↦ rw k (distinct-forgotten key es (distinct_rest by_key e es d))
+        | inr k ↦
+            rw k (distinct_more by_key e (forgotten eq key es) (key_absent-forgotten e.1 key es (distinct_first by_key e es d))
+            (distinct-forgotten key es (distinct_rest by_key e es d)))
+      ]
 
 module _ {K V : Type 0} (eq : K → K → Bool) where
   -- the one place that has the key is removed
-  forgets_one : (key : K) (keys : List (Entry K V)) (p : ℕ) (ps : List ℕ) → is_key_at eq key keys p ≡ true → ((t : ℕ) → has t ps ≡ true → eqb t p ≡ false → is_key_at eq key keys t ≡ false)
+  forgets_one : (key : K) (keys : List (Entry K V)) (p : ℕ) (ps : List ℕ) → is_key_at eq key keys p ≡ true → ((t : ℕ) → list_any (eqb t) ps ≡ true → eqb t p ≡ false → is_key_at eq key keys t ≡ false)
       → entries_of keys (without p ps) ≡ forgotten eq key (entries_of keys ps)
   forgets_one key keys p [] k h = refl
-  forgets_one key keys p (q ∷ ps) k h = grind (arith, forgets_one key keys p ps k, has_later, forgotten_gone, is_of-at, eqb-true, forgotten_kept, has_first)
+  forgets_one key keys p (q ∷ ps) k h = grind (arith, forgets_one key keys p ps k, among_later, forgotten_gone, is_of-at, eqb-true, forgotten_kept, among_first)
 
   -- no place has the key
-  forgets_none : (key : K) (keys : List (Entry K V)) (ps : List ℕ) → ((t : ℕ) → has t ps ≡ true → is_key_at eq key keys t ≡ false)
+  forgets_none : (key : K) (keys : List (Entry K V)) (ps : List ℕ) → ((t : ℕ) → list_any (eqb t) ps ≡ true → is_key_at eq key keys t ≡ false)
       → (has_key eq key (entries_of keys ps) ≡ false) × (forgotten eq key (entries_of keys ps) ≡ entries_of keys ps)
   forgets_none key keys [] h = (refl, refl)
-  forgets_none key keys (p ∷ ps) h = grind (arith, forgets_none key keys ps, has_later, is_of-at, has_first, any_none, forgotten_kept)
+  forgets_none key keys (p ∷ ps) h = grind (arith, forgets_none key keys ps, among_later, is_of-at, among_first, any_none, forgotten_kept)
 
   -- the place beside a key is the first that has it
-  place_beside : (key : K) (keys : List (Entry K V)) (n : ℕ) (ps : List ℕ) → n ≤ length keys → AllBelow n ps
+  place_beside : (key : K) (keys : List (Entry K V)) (n : ℕ) (ps : List ℕ) → n ≤ length keys → AllByRecursion (λ s. s < n) ps
       → place_of (eq key) (map (λ (e : ℕ × K). e.1) (entries_of keys ps)) ps ≡ find (is_key_at eq key keys) ps
   place_beside key keys n [] h b = refl
   place_beside key keys n (p ∷ ps) h b =
@@ -111,7 +115,7 @@ module _ {K V : Type 0} {eq : K → K → Bool} (laws : IsEquivalence eq) (hash 
   place_shown = place_of (eq key) (map (λ (e : ℕ × K). e.1) (entries_of keys.entries order.places)) order.places
 
   beside : place_shown ≡ find (is_key_at eq key keys.entries) order.places
-  beside = place_beside eq key keys.entries (used order) order.places (omega (arith, h.as_many)) (AllBelow-left (used order) order.places order.free h.whole.below)
+  beside = place_beside eq key keys.entries (used order) order.places (omega (arith, h.as_many)) (AllByRecursion-left (used order) order.places order.free h.whole.below)
 
   pub placed : place_shown ≡ find (is_key_at eq key keys.entries) (candidates (known.places index) hash)
   placed = beside ∙ sym (lookup eq hash key (known.places index) keys.entries order.places h.indexed hashed laws h.distinct)
@@ -121,28 +125,28 @@ module _ {K V : Type 0} {eq : K → K → Bool} (laws : IsEquivalence eq) (hash 
   missed none = forgets_none eq key keys.entries order.places (not_found (is_key_at eq key keys.entries) order.places (none ∙ beside))
 
   module _ {place : ℕ} (found : Some place ≡ place_shown) where
-    there : (has place order.places ≡ true) × (is_key_at eq key keys.entries place ≡ true)
+    there : (list_any (eqb place) order.places ≡ true) × (is_key_at eq key keys.entries place ≡ true)
     there = found_there (is_key_at eq key keys.entries) order.places place (found ∙ beside)
 
-    pub place_there : has place order.places ≡ true
+    pub place_there : list_any (eqb place) order.places ≡ true
     place_there = there.0
 
     pub place_short : place < 2 ^ 24
-    place_short = omega (arith, below_of (used order) order.places (AllBelow-left (used order) order.places order.free h.whole.below) place there.0, h.whole.within, h.short)
+    place_short = omega (arith, below_of (used order) order.places (AllByRecursion-left (used order) order.places order.free h.whole.below) place there.0, h.whole.within, h.short)
 
     hash_there_now : hash_at keys.entries place ≡ Some hash
     hash_there_now = hash_there eq hash key (known.places index) keys.entries order.places h.indexed hashed place there.0 there.1
 
-    pub place_held : has place (candidates (known.places index) hash) ≡ true
+    pub place_held : list_any (eqb place) (candidates (known.places index) hash) ≡ true
     place_held = h.indexed.listed hash place ∙ rw (there.0, named-own (known.places index) keys.entries hash place hash_there_now) refl
 
-    others_differ : (t : ℕ) → has t order.places ≡ true → eqb t place ≡ false → is_key_at eq key keys.entries t ≡ false
+    others_differ : (t : ℕ) → list_any (eqb t) order.places ≡ true → eqb t place ≡ false → is_key_at eq key keys.entries t ≡ false
     others_differ t g d = grind (arith, same_place, there)
 
     pub forgets : {order' : PlaceOrder} → IsWholeOrder order' → order' ≡ record order { places = without place order.places; free = place ∷ order.free; accesses = order.accesses + 7 }
         → Forgets eq hash key (remembered_from index order keys) (forgotten_at hash place index) order' keys
     forgets {order'} w ordered =
-        let apart = AllApart-left order.places order.free h.whole.apart in
+        let apart = IsDistinct-left order.places order.free h.whole.apart in
         let taken = IsIndex-removed (known.places index) keys.entries order.places place hash h.indexed apart hash_there_now in
         let places = ap (λ (z : PlaceOrder). z.places) ordered in
         let limit = ap (λ (z : PlaceOrder). z.limit) ordered in
@@ -159,7 +163,7 @@ module _ {K V : Type 0} {eq : K → K → Bool} (laws : IsEquivalence eq) (hash 
             indexed =
                 subst (λ z. IsIndex (known.places (forgotten_at hash place index)) keys.entries z) (sym places)
                 (subst (λ z. IsIndex z keys.entries (without place order.places)) (sym (places-forgotten index hash place)) taken);
-            distinct = subst (λ z. AllDistinct eq z) (sym entries) (distinct-forgotten eq key (entries_of keys.entries order.places) h.distinct);
+            distinct = subst (λ z. IsDistinct (λ d e. eq d.1 e.1) z) (sym entries) (distinct-forgotten eq key (entries_of keys.entries order.places) h.distinct);
             as_many = h.as_many ∙ sym count;
             room = rw limit h.room;
             some = rw (limit, like.places) h.some;

@@ -1,13 +1,14 @@
 -- A new history, one that was cleared, and what callers see of one.
 use Rattle.std.proofs.Common.{◌≡◌, ℕ, ◌^◌, ◌<◌, ◌≤◌, Bool, List, [], length, refl, sym, ap, ◌∙◌, subst, arith}
+use Rattle.std.specs.List.{IsDistinct}
 use Rattle.clock2q_directory.specs.declared.keys.store.Entry.{Entry}
 use Rattle.clock2q_queues.specs.Order.{PlaceOrder, IsWholeOrder, unused, used}
 use Rattle.clock2q_directory.specs.Keys.{KeyPlaces, entries_of}
-use Rattle.clock2q_directory.specs.Indexes.{IsIndex, AllDistinct}
+use Rattle.clock2q_directory.specs.Indexes.{IsIndex}
 use Rattle.clock2q_directory.specs.Index as known
 use Rattle.clock2q_directory.specs.Index.{IndexState, emptied, index_for, is_shared, HasSlotRoom, HasRoomBeside}
 use Rattle.clock2q_directory.specs.History.{Places, IsHistory, IsWholeHistory, remembered, remembered_from}
-use Rattle.clock2q_queues.proofs.Rings.{AllBelow-left}
+use Rattle.clock2q_queues.proofs.Rings.{AllByRecursion-left, distinct_none}
 use Rattle.clock2q_directory.proofs.Entries.{length-entries}
 use Rattle.clock2q_directory.proofs.Emptied.{for-new, new-none, emptied-places, cleared_like}
 
@@ -20,7 +21,7 @@ module _ {K V : Type 0} (eq : K → K → Bool) where
       record {
         whole = w;
         indexed = rw e.2 (emptied-places e.0 e.1 keys.entries);
-        distinct = tt;
+        distinct = distinct_none (λ d e. eq d.1 e.1);
         as_many = ap (λ (z : List (Entry K V)). length z) none;
         room = room;
         some = n.some;
@@ -30,7 +31,7 @@ module _ {K V : Type 0} (eq : K → K → Bool) where
 
 module _ {K V : Type 0} {eq : K → K → Bool} {index : IndexState} {order : PlaceOrder} {keys : KeyPlaces K V} (h : IsHistory eq index order keys) where
   pub entries_counted : length (entries_of keys.entries order.places) ≡ length order.places
-  entries_counted = length-entries keys.entries (used order) order.places (omega (arith, h.as_many)) (AllBelow-left (used order) order.places order.free h.whole.below)
+  entries_counted = length-entries keys.entries (used order) order.places (omega (arith, h.as_many)) (AllByRecursion-left (used order) order.places order.free h.whole.below)
 
   -- an index in which the places are the same
   pub IsHistory-index : {index' : IndexState} → known.places index' ≡ known.places index → is_shared index' ≡ is_shared index → IsHistory eq index' order keys
@@ -55,7 +56,7 @@ module _ {K V : Type 0} {eq : K → K → Bool} {index : IndexState} {order : Pl
         whole = w;
         indexed = subst (λ z. IsIndex (known.places (emptied index)) keys'.entries z) (sym places)
             (emptied-places (length index.shared) (length index.own) keys'.entries);
-        distinct = subst (λ z. AllDistinct eq (entries_of keys'.entries z)) (sym places) tt;
+        distinct = subst (λ z. IsDistinct (λ d e. eq d.1 e.1) (entries_of keys'.entries z)) (sym places) (distinct_none (λ d e. eq d.1 e.1));
         as_many = omega (arith, ap (λ (z : KeyPlaces K V). length z.entries) cleared, ap (λ (z : List ℕ). length z) places, ap (λ (z : PlaceOrder). length z.free) ordered);
         room = rw (limit, ap (λ (z : KeyPlaces K V). z.room) cleared) h.room;
         some = rw (limit, l.places) h.some;

@@ -1,10 +1,11 @@
 -- How putting a place into the index, and taking one out, changes it.
 use Rattle.std.proofs.Common.{◌≡◌, ℕ, zero, suc, ◌+◌, ◌*◌, ◌%◌, ◌<◌, ◌≤◌, Bool, true, false, not, ◌||◌, ◌&&◌, ◌==◌, eqb, Option, Some, None, get_or, List, [], ◌∷◌, ◌++◌, length, map, filter, inl, inr, refl, sym, ap, ◌∙◌, subst, arith, eqb-true}
-use Rattle.std.specs.List.{list_any, AllByRecursion}
+use Rattle.std.specs.List.{list_any, AllByRecursion, IsDistinct}
 use Rattle.std.proofs.lemmas.Bool.{both_ways, cases_Bool}
 use Rattle.std.proofs.lemmas.Bool.Decides.{leb_tells}
 use Rattle.std.proofs.lemmas.List.{length-append, length-replicate}
-use Rattle.clock2q_queues.specs.Rings.{has, without, AllApart}
+use Rattle.std.proofs.lemmas.List.Folds.{list_any-append}
+use Rattle.clock2q_queues.specs.Rings.{without}
 use Rattle.clock2q_handles.specs.Homes.{top, home, no_entries, capacity, listed, total, candidates, with_handle, removed, is_entry_of, without_first}
 use Rattle.clock2q_directory.specs.Keys.{hash_at}
 use Rattle.clock2q_handles.specs.TableStep.{fit, doubled_until, made_for}
@@ -12,7 +13,7 @@ use Rattle.clock2q_directory.specs.Indexes.{IsIndex, is_alike, is_named}
 use Rattle.clock2q_directory.specs.declared.keys.store.Entry.{Entry}
 use Rattle.clock2q_queues.proofs.Booleans.{and_parts, and_true, and_false, and_swap, or_true, or_false, or_neither}
 use Rattle.clock2q_directory.proofs.Entries.{hash_in}
-use Rattle.clock2q_queues.proofs.Rings.{eqb_self, has_first, has_later, has-append, differs, AllApart-append, without_absent, has-without_test}
+use Rattle.clock2q_queues.proofs.Rings.{eqb_self, among_first, among_later, differs, IsDistinct-append, without_absent, among-without_test, distinct_none, distinct_first, distinct_rest, distinct_more, distinct_alone}
 use Rattle.clock2q_queues.proofs.Joining.{length-without}
 use Rattle.clock2q_handles.proofs.FewerEntries.{total-no_entries}
 use Rattle.clock2q_handles.proofs.Changes.{length-with_list, total-with_list}
@@ -20,31 +21,33 @@ use Rattle.clock2q_handles.proofs.Lookups.{candidates-inserted, candidates-inser
 
 -- Lists
 
-has-without_first : (t p : ℕ) (cs : List ℕ) → AllApart cs → has t (without_first (λ w. eqb w p) cs) ≡ (has t cs && not (eqb t p))
-has-without_first t p [] a = refl
-has-without_first t p (c ∷ cs) a = elim (cases_Bool (eqb c p)) [
+among-without_first : (t p : ℕ) (cs : List ℕ) → IsDistinct eqb cs → list_any (eqb t) (without_first (λ w. eqb w p) cs) ≡ (list_any (eqb t) cs && not (eqb t p))
+among-without_first t p [] a = refl
+among-without_first t p (c ∷ cs) a = elim (cases_Bool (eqb c p)) [
   | inl e ↦ elim (cases_Bool (eqb t c)) [
     | inl f ↦
         let g : eqb t p ≡ true = subst (λ z. eqb z p ≡ true) (sym (eqb-true t c f)) e in
-        let h : has t cs ≡ false = subst (λ z. has z cs ≡ false) (sym (eqb-true t c f)) a.0 in
+        let h : list_any (eqb t) cs ≡ false = subst (λ z. list_any (eqb z) cs ≡ false) (sym (eqb-true t c f)) (distinct_first eqb c cs a) in
         rw (e, f, g, h) refl
     | inr f ↦
         let g : eqb t p ≡ false = subst (λ z. eqb t z ≡ false) (eqb-true c p e) f in
-        rw (e, f, g) (sym (and_true (has t cs)))
+        rw (e, f, g) (sym (and_true (list_any (eqb t) cs)))
   ]
   | inr e ↦ elim (cases_Bool (eqb t c)) [
     | inl f ↦
         let g : eqb t p ≡ false = subst (λ z. eqb z p ≡ false) (sym (eqb-true t c f)) e in
         rw (e, f, g) refl
-    | inr f ↦ rw (e, f) (has-without_first t p cs a.1)
+    | inr f ↦ rw (e, f) (among-without_first t p cs (distinct_rest eqb c cs a))
   ]
 ]
 
-AllApart-without_first : (p : ℕ) (cs : List ℕ) → AllApart cs → AllApart (without_first (λ w. eqb w p) cs)
-AllApart-without_first p [] a = tt
-AllApart-without_first p (c ∷ cs) a = elim (cases_Bool (eqb c p)) [
-  | inl e ↦ rw e a.1
-  | inr e ↦ rw e ((has-without_first c p cs a.1 ∙ rw a.0 refl, AllApart-without_first p cs a.1))
+IsDistinct-without_first : (p : ℕ) (cs : List ℕ) → IsDistinct eqb cs → IsDistinct eqb (without_first (λ w. eqb w p) cs)
+IsDistinct-without_first p [] a = distinct_none eqb
+IsDistinct-without_first p (c ∷ cs) a = elim (cases_Bool (eqb c p)) [
+  | inl e ↦ rw e (distinct_rest eqb c cs a)
+  | inr e ↦
+      let rest = distinct_rest eqb c cs a in
+      rw e (distinct_more eqb c (without_first (λ w. eqb w p) cs) (among-without_first c p cs rest ∙ rw (distinct_first eqb c cs a) refl) (IsDistinct-without_first p cs rest))
 ]
 
 -- the number of entries that the removal takes: one if the place is a candidate of the hash, or else none
@@ -57,7 +60,7 @@ length-without_first test [] = refl
 length-without_first test (e ∷ es) = grind (arith, length-without_first test es)
 
 -- an entry of the hash is a candidate
-pub any-candidate : (x p : ℕ) (es : List (ℕ × ℕ)) → list_any (is_entry_of eqb x p) es ≡ has p (map (λ e. e.1) (filter (λ e. e.0 == top x) es))
+pub any-candidate : (x p : ℕ) (es : List (ℕ × ℕ)) → list_any (is_entry_of eqb x p) es ≡ list_any (eqb p) (map (λ e. e.1) (filter (λ e. e.0 == top x) es))
 any-candidate x p [] = refl
 any-candidate x p (e ∷ es) = elim (cases_Bool (eqb e.0 (top x))) [
   | inl h ↦ rw (h, swapped e.1 p) (ap (λ z. eqb p e.1 || z) (any-candidate x p es))
@@ -105,12 +108,12 @@ module _ {K V : Type 0} where
 
   -- a place that wasn't there is put in under the hash of the key that is there now
   module _ (index : List (List (ℕ × ℕ))) (keys keys' : List (Entry K V)) (places : List ℕ) (place hash : ℕ) (i : IsIndex index keys places) (some : 0 < length index)
-      (absent : has place places ≡ false) (same : (q : ℕ) → has q places ≡ true → hash_at keys' q ≡ hash_at keys q) (at : hash_at keys' place ≡ Some hash) where
-    still_named : (x q : ℕ) → (has q places && is_named index keys x q) ≡ (has q places && is_named (with_handle index hash place) keys' x q)
+      (absent : list_any (eqb place) places ≡ false) (same : (q : ℕ) → list_any (eqb q) places ≡ true → hash_at keys' q ≡ hash_at keys q) (at : hash_at keys' place ≡ Some hash) where
+    still_named : (x q : ℕ) → (list_any (eqb q) places && is_named index keys x q) ≡ (list_any (eqb q) places && is_named (with_handle index hash place) keys' x q)
     still_named x q = grind (arith, named-length, length-put, named-kept)
 
-    listed-put : (x q : ℕ) → has q (candidates (with_handle index hash place) x) ≡ (has q (place ∷ places) && is_named (with_handle index hash place) keys' x q)
-    listed-put x q = grind (arith, alike_parts, candidates-inserted, has-append, eqb-true, named-length, length-put, named-as, or_true, or_false, still_named, candidates-inserted_other, not_alike)
+    listed-put : (x q : ℕ) → list_any (eqb q) (candidates (with_handle index hash place) x) ≡ (list_any (eqb q) (place ∷ places) && is_named (with_handle index hash place) keys' x q)
+    listed-put x q = grind (arith, alike_parts, candidates-inserted, list_any-append, eqb-true, named-length, length-put, named-as, or_true, or_false, still_named, candidates-inserted_other, not_alike)
 
     pub IsIndex-put : IsIndex (with_handle index hash place) keys' (place ∷ places)
     IsIndex-put = record {
@@ -118,43 +121,43 @@ module _ {K V : Type 0} where
       once = λ x. elim (cases_Bool (is_alike index x hash)) [
         | inl a ↦
             let p = alike_parts index x hash a in
-            let none : has place (candidates index x) ≡ false = i.listed x place ∙ rw absent refl in
-            subst (λ z. AllApart z) (sym (candidates-inserted index hash x place some p.0 p.1))
-            (AllApart-append (candidates index x) (place ∷ []) (i.once x) (refl, tt) (λ t h. or_neither (eqb t place) false (differs t place (candidates index x) h none) refl))
-        | inr a ↦ subst (λ z. AllApart z) (sym (candidates-inserted_other index hash x place some (not_alike index x hash a))) (i.once x)
+            let none : list_any (eqb place) (candidates index x) ≡ false = i.listed x place ∙ rw absent refl in
+            subst (λ z. IsDistinct eqb z) (sym (candidates-inserted index hash x place some p.0 p.1))
+            (IsDistinct-append (candidates index x) (place ∷ []) (i.once x) (distinct_alone eqb place) (λ t h. or_neither (eqb t place) false (differs t place (candidates index x) h none) refl))
+        | inr a ↦ subst (λ z. IsDistinct eqb z) (sym (candidates-inserted_other index hash x place some (not_alike index x hash a))) (i.once x)
       ];
       counted = omega (arith, total-with_list index hash (listed index hash ++ (top hash, place) ∷ []) some, length-append (listed index hash) ((top hash, place) ∷ []), i.counted);
     }
 
   -- a place is taken out, if it was there
   module _ (index : List (List (ℕ × ℕ))) (keys : List (Entry K V)) (places : List ℕ) (place hash : ℕ) (i : IsIndex index keys places) (some : 0 < length index)
-      (apart : AllApart places) (at : hash_at keys place ≡ Some hash) where
+      (apart : IsDistinct eqb places) (at : hash_at keys place ≡ Some hash) where
     named-taken : (x q : ℕ) → is_named (removed eqb index hash place) keys x q ≡ is_named index keys x q
     named-taken x q = named-length index (removed eqb index hash place) keys x q (length-taken index hash place)
 
-    listed-taken : (x q : ℕ) → has q (candidates (removed eqb index hash place) x) ≡ (has q (without place places) && is_named (removed eqb index hash place) keys x q)
+    listed-taken : (x q : ℕ) → list_any (eqb q) (candidates (removed eqb index hash place) x) ≡ (list_any (eqb q) (without place places) && is_named (removed eqb index hash place) keys x q)
     listed-taken x q =
-        let right : (has q (without place places) && is_named (removed eqb index hash place) keys x q) ≡ ((has q places && not (eqb q place)) && is_named index keys x q) =
-        ap (λ z. z && is_named (removed eqb index hash place) keys x q) (has-without_test q place places) ∙ ap (λ z. (has q places && not (eqb q place)) && z) (named-taken x q) in
+        let right : (list_any (eqb q) (without place places) && is_named (removed eqb index hash place) keys x q) ≡ ((list_any (eqb q) places && not (eqb q place)) && is_named index keys x q) =
+        ap (λ z. z && is_named (removed eqb index hash place) keys x q) (among-without_test q place places) ∙ ap (λ z. (list_any (eqb q) places && not (eqb q place)) && z) (named-taken x q) in
         elim (cases_Bool (is_alike index x hash)) [
           | inl a ↦
               let p = alike_parts index x hash a in
-              ap (λ z. has q z) (candidates-removed eqb index hash x place some p.0 p.1) ∙ has-without_first q place (candidates index x) (i.once x)
-              ∙ ap (λ z. z && not (eqb q place)) (i.listed x q) ∙ and_swap (has q places) (is_named index keys x q) (not (eqb q place)) ∙ sym right
+              ap (λ z. list_any (eqb q) z) (candidates-removed eqb index hash x place some p.0 p.1) ∙ among-without_first q place (candidates index x) (i.once x)
+              ∙ ap (λ z. z && not (eqb q place)) (i.listed x q) ∙ and_swap (list_any (eqb q) places) (is_named index keys x q) (not (eqb q place)) ∙ sym right
           | inr a ↦
-              ap (λ z. has q z) (candidates-removed_other eqb index hash x place some (not_alike index x hash a)) ∙ i.listed x q ∙ elim (cases_Bool (eqb q place)) [
+              ap (λ z. list_any (eqb q) z) (candidates-removed_other eqb index hash x place some (not_alike index x hash a)) ∙ i.listed x q ∙ elim (cases_Bool (eqb q place)) [
                 | inl e ↦
                     let n : is_named index keys x q ≡ false = ap (λ z. is_named index keys x z) (eqb-true q place e) ∙ named-as index keys x place hash at ∙ a in
-                    rw (e, n) (and_false (has q places) ∙ sym (and_false (has q places && false))) ∙ sym right
-                | inr e ↦ rw e (ap (λ z. z && is_named index keys x q) (sym (and_true (has q places)))) ∙ sym right
+                    rw (e, n) (and_false (list_any (eqb q) places) ∙ sym (and_false (list_any (eqb q) places && false))) ∙ sym right
+                | inr e ↦ rw e (ap (λ z. z && is_named index keys x q) (sym (and_true (list_any (eqb q) places)))) ∙ sym right
               ]
         ]
 
-    pub taken-counted : total (removed eqb index hash place) + one_if (has place places) ≡ length places
+    pub taken-counted : total (removed eqb index hash place) + one_if (list_any (eqb place) places) ≡ length places
     taken-counted = grind (arith, named-as, eqb_self, any-candidate, and_true, length-without_first, total-with_list)
 
-    length-left : length (without place places) + one_if (has place places) ≡ length places
-    length-left = elim (cases_Bool (has place places)) [
+    length-left : length (without place places) + one_if (list_any (eqb place) places) ≡ length places
+    length-left = elim (cases_Bool (list_any (eqb place) places)) [
       | inl h ↦ rw h (length-without place places apart h)
       | inr h ↦ rw h (let e = ap (λ (z : List ℕ). length z) (without_absent place places h) in omega (arith, e))
     ]
@@ -165,14 +168,14 @@ module _ {K V : Type 0} where
       once = λ x. elim (cases_Bool (is_alike index x hash)) [
         | inl a ↦
             let p = alike_parts index x hash a in
-            subst (λ z. AllApart z) (sym (candidates-removed eqb index hash x place some p.0 p.1)) (AllApart-without_first place (candidates index x) (i.once x))
-        | inr a ↦ subst (λ z. AllApart z) (sym (candidates-removed_other eqb index hash x place some (not_alike index x hash a))) (i.once x)
+            subst (λ z. IsDistinct eqb z) (sym (candidates-removed eqb index hash x place some p.0 p.1)) (IsDistinct-without_first place (candidates index x) (i.once x))
+        | inr a ↦ subst (λ z. IsDistinct eqb z) (sym (candidates-removed_other eqb index hash x place some (not_alike index x hash a))) (i.once x)
       ];
       counted = omega (arith, taken-counted, length-left);
     }
 
   -- the same for an index that may have no slots
-  pub IsIndex-removed : (index : List (List (ℕ × ℕ))) (keys : List (Entry K V)) (places : List ℕ) (place hash : ℕ) → IsIndex index keys places → AllApart places → hash_at keys place ≡ Some hash
+  pub IsIndex-removed : (index : List (List (ℕ × ℕ))) (keys : List (Entry K V)) (places : List ℕ) (place hash : ℕ) → IsIndex index keys places → IsDistinct eqb places → hash_at keys place ≡ Some hash
       → IsIndex (removed eqb index hash place) keys (without place places)
   IsIndex-removed [] keys places place hash i apart at =
       let none = empty places (sym i.counted) in
@@ -185,9 +188,9 @@ module _ {K V : Type 0} where
 
   -- other keys at other places
   pub IsIndex-kept : (index : List (List (ℕ × ℕ))) (keys keys' : List (Entry K V)) (places : List ℕ)
-      → ((t : ℕ) → has t places ≡ true → hash_at keys' t ≡ hash_at keys t) → IsIndex index keys places → IsIndex index keys' places
+      → ((t : ℕ) → list_any (eqb t) places ≡ true → hash_at keys' t ≡ hash_at keys t) → IsIndex index keys places → IsIndex index keys' places
   IsIndex-kept index keys keys' places same i = record {
-    listed = λ x t. i.listed x t ∙ elim (cases_Bool (has t places)) [
+    listed = λ x t. i.listed x t ∙ elim (cases_Bool (list_any (eqb t) places)) [
       | inl h ↦ rw h (sym (named-kept index keys keys' x t (same t h)))
       | inr h ↦ rw h refl
     ];
@@ -197,9 +200,9 @@ module _ {K V : Type 0} where
 
   -- a candidate of a lookup is a place of the list that has a key
   pub candidate_there : (index : List (List (ℕ × ℕ))) (keys : List (Entry K V)) (places : List ℕ) (x t : ℕ)
-      → IsIndex index keys places → has t (candidates index x) ≡ true → (has t places ≡ true) × (t < length keys)
+      → IsIndex index keys places → list_any (eqb t) (candidates index x) ≡ true → (list_any (eqb t) places ≡ true) × (t < length keys)
   candidate_there index keys places x t i h =
-      let p = and_parts (has t places) (is_named index keys x t) (sym (i.listed x t) ∙ h) in
+      let p = and_parts (list_any (eqb t) places) (is_named index keys x t) (sym (i.listed x t) ∙ h) in
       (p.0, named_in (hash_at keys t) refl p.1)
     where
       named_in : (o : Option ℕ) → hash_at keys t ≡ o → elim o [ None ↦ false | Some y ↦ is_alike index x y ] ≡ true → t < length keys
@@ -209,9 +212,9 @@ module _ {K V : Type 0} where
   pub candidates_there : (index : List (List (ℕ × ℕ))) (keys : List (Entry K V)) (places : List ℕ) (x : ℕ) → IsIndex index keys places → AllByRecursion (λ t. t < length keys) (candidates index x)
   candidates_there index keys places x i = all_from (candidates index x) (λ t h. (candidate_there index keys places x t i h).1)
     where
-      all_from : (cs : List ℕ) → ((t : ℕ) → has t cs ≡ true → t < length keys) → AllByRecursion (λ t. t < length keys) cs
+      all_from : (cs : List ℕ) → ((t : ℕ) → list_any (eqb t) cs ≡ true → t < length keys) → AllByRecursion (λ t. t < length keys) cs
       all_from [] h = tt
-      all_from (c ∷ cs) h = (h c (has_first c cs), all_from cs (λ t g. h t (has_later t c cs g)))
+      all_from (c ∷ cs) h = (h c (among_first c cs), all_from cs (λ t g. h t (among_later t c cs g)))
 
 -- Room in an index
 
@@ -242,16 +245,16 @@ total_new (suc k) = total-no_entries (λ (h : ℕ). h) (fit (suc k))
 
 pub IsIndex-new : {K V : Type 0} (n : ℕ) (keys : List (Entry K V)) → IsIndex (made_for n) keys []
 IsIndex-new n keys = record {
-  listed = λ x p. ap (λ z. has p z) (none_new n x);
-  once = λ x. subst (λ z. AllApart z) (sym (none_new n x)) tt;
+  listed = λ x p. ap (λ z. list_any (eqb p) z) (none_new n x);
+  once = λ x. subst (λ z. IsDistinct eqb z) (sym (none_new n x)) (distinct_none eqb);
   counted = total_new n;
 }
 
 -- an index that was cleared is empty
 pub IsIndex-cleared : {K V : Type 0} (index : List (List (ℕ × ℕ))) (m : ℕ) (keys : List (Entry K V)) → index ≡ no_entries m → IsIndex index keys []
 IsIndex-cleared index m keys is = subst (λ z. IsIndex z keys []) (sym is) (record {
-  listed = λ x p. ap (λ z. has p z) (none x);
-  once = λ x. subst (λ z. AllApart z) (sym (none x)) tt;
+  listed = λ x p. ap (λ z. list_any (eqb p) z) (none x);
+  once = λ x. subst (λ z. IsDistinct eqb z) (sym (none x)) (distinct_none eqb);
   counted = total-no_entries (λ (h : ℕ). h) m;
 })
   where

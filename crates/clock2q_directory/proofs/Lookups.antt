@@ -1,36 +1,35 @@
 -- What a lookup of a key through an index finds, and how many comparisons it makes.
 use Rattle.std.proofs.Common.{◌≡◌, ℕ, ◌+◌, ◌<◌, ◌≤◌, Bool, true, false, eqb, Option, Some, None, slice_get, List, [], ◌∷◌, drop, length, inl, inr, refl, sym, ap, ◌∙◌, subst, arith}
-use Rattle.std.specs.List.{find, AllByRecursion}
+use Rattle.std.specs.List.{find, AllByRecursion, list_any, IsDistinct}
 use Rattle.std.specs.Cmp.{IsEquivalence}
 use Rattle.std.proofs.lemmas.Bool.{both_ways, cases_Bool, or_cases, eqb-true}
 use Rattle.clock2q_handles.specs.Homes.{candidates}
 use Rattle.clock2q_directory.specs.declared.keys.store.Entry.{Entry}
-use Rattle.clock2q_queues.specs.Rings.{has}
 use Rattle.clock2q_directory.specs.Keys.{hash_at, entries_of, is_key_at, comparisons_of}
-use Rattle.clock2q_directory.specs.Indexes.{IsIndex, AllDistinct, HasHash}
-use Rattle.clock2q_queues.proofs.Rings.{has_first, has_later}
+use Rattle.clock2q_directory.specs.Indexes.{IsIndex, HasHash}
+use Rattle.clock2q_queues.proofs.Rings.{among_first, among_later}
 use Rattle.clock2q_directory.proofs.Entries.{key_there, hash_of_hashed, all_entry, same_place}
 use Rattle.clock2q_directory.proofs.Indexes.{named-own, candidate_there}
 
 -- The first that passes a test
 
-pub found_there : (test : ℕ → Bool) (cs : List ℕ) (p : ℕ) → Some p ≡ find test cs → (has p cs ≡ true) × (test p ≡ true)
+pub found_there : (test : ℕ → Bool) (cs : List ℕ) (p : ℕ) → Some p ≡ find test cs → (list_any (eqb p) cs ≡ true) × (test p ≡ true)
 found_there test [] p e = absurd (cc)
 found_there test (c ∷ cs) p e = elim (cases_Bool (test c)) [
   | inl h ↦
       let q : p ≡ c = some_same p c (e ∙ rw h refl) in
-      (subst (λ z. has z (c ∷ cs) ≡ true) (sym q) (has_first c cs), subst (λ z. test z ≡ true) (sym q) h)
-  | inr h ↦ let r = found_there test cs p (e ∙ rw h refl) in (has_later p c cs r.0, r.1)
+      (subst (λ z. list_any (eqb z) (c ∷ cs) ≡ true) (sym q) (among_first c cs), subst (λ z. test z ≡ true) (sym q) h)
+  | inr h ↦ let r = found_there test cs p (e ∙ rw h refl) in (among_later p c cs r.0, r.1)
 ]
   where
     some_same : (x y : ℕ) → Some x ≡ Some y → x ≡ y
     some_same x y e = cc
 
-pub not_found : (test : ℕ → Bool) (cs : List ℕ) → None ≡ find test cs → (t : ℕ) → has t cs ≡ true → test t ≡ false
+pub not_found : (test : ℕ → Bool) (cs : List ℕ) → None ≡ find test cs → (t : ℕ) → list_any (eqb t) cs ≡ true → test t ≡ false
 not_found test [] e t g = absurd (both_ways false refl g)
 not_found test (c ∷ cs) e t g = elim (cases_Bool (test c)) [
   | inl h ↦ absurd (none_some c (e ∙ rw h refl))
-  | inr h ↦ elim (or_cases (eqb t c) (has t cs) g) [
+  | inr h ↦ elim (or_cases (eqb t c) (list_any (eqb t) cs) g) [
     | inl q ↦ subst (λ z. test z ≡ false) (sym (eqb-true t c q)) h
     | inr q ↦ not_found test cs (e ∙ rw h refl) t q
   ]
@@ -40,8 +39,8 @@ not_found test (c ∷ cs) e t g = elim (cases_Bool (test c)) [
     none_some x e = cc
 
 -- if no two pass the test, and the same ones that pass are in both lists, the first is the same
-pub find-same : (test : ℕ → Bool) (cs ps : List ℕ) → ((t : ℕ) → has t cs ≡ true → has t ps ≡ true) → ((t : ℕ) → has t ps ≡ true → test t ≡ true → has t cs ≡ true)
-    → ((t u : ℕ) → has t ps ≡ true → has u ps ≡ true → test t ≡ true → test u ≡ true → eqb t u ≡ true) → find test cs ≡ find test ps
+pub find-same : (test : ℕ → Bool) (cs ps : List ℕ) → ((t : ℕ) → list_any (eqb t) cs ≡ true → list_any (eqb t) ps ≡ true) → ((t : ℕ) → list_any (eqb t) ps ≡ true → test t ≡ true → list_any (eqb t) cs ≡ true)
+    → ((t u : ℕ) → list_any (eqb t) ps ≡ true → list_any (eqb u) ps ≡ true → test t ≡ true → test u ≡ true → eqb t u ≡ true) → find test cs ≡ find test ps
 find-same test cs ps into back one = of (find test cs) (find test ps) refl refl
   where
     of : (o q : Option ℕ) → o ≡ find test cs → q ≡ find test ps → find test cs ≡ find test ps
@@ -60,16 +59,16 @@ find-same test cs ps into back one = of (find test cs) (find test ps) refl refl
 module _ {K V : Type 0} (eq : K → K → Bool) (hash : ℕ) (key : K) (index : List (List (ℕ × ℕ))) (keys : List (Entry K V)) (places : List ℕ)
     (i : IsIndex index keys places) (hashed : HasHash eq hash key (entries_of keys places)) where
   -- a place of the list that has the key has the key's hash
-  pub hash_there : (t : ℕ) → has t places ≡ true → is_key_at eq key keys t ≡ true → hash_at keys t ≡ Some hash
+  pub hash_there : (t : ℕ) → list_any (eqb t) places ≡ true → is_key_at eq key keys t ≡ true → hash_at keys t ≡ Some hash
   hash_there t g k =
       let e = key_there eq key keys t k in
       hash_of_hashed keys t e.0 e.1 ∙ ap (λ z. Some z) (all_entry (λ e. eq key e.1 ≡ true → e.0 ≡ hash) keys places t e.0 hashed g e.1 e.2)
 
-  pub candidate : (t : ℕ) → has t places ≡ true → is_key_at eq key keys t ≡ true → has t (candidates index hash) ≡ true
+  pub candidate : (t : ℕ) → list_any (eqb t) places ≡ true → is_key_at eq key keys t ≡ true → list_any (eqb t) (candidates index hash) ≡ true
   candidate t g k = grind (arith, named-own, hash_there)
 
   -- the first candidate that has the key is the place of the list that has it, or there is none
-  pub lookup : IsEquivalence eq → AllDistinct eq (entries_of keys places) → find (is_key_at eq key keys) (candidates index hash) ≡ find (is_key_at eq key keys) places
+  pub lookup : IsEquivalence eq → IsDistinct (λ d e. eq d.1 e.1) (entries_of keys places) → find (is_key_at eq key keys) (candidates index hash) ≡ find (is_key_at eq key keys) places
   lookup laws distinct = grind (arith, find-same, candidate_there, candidate, same_place)
 
 -- Comparisons

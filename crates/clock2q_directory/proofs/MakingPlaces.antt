@@ -1,11 +1,12 @@
 -- A place for a new key in the history.
 use Rattle.std.proofs.Common.{◌≡◌, ℕ, suc, ◌+◌, ◌-◌, ◌<◌, ◌≤◌, max, true, false, eqb, Option, Some, None, List, [], ◌∷◌, ◌++◌, length, take, drop, take_all, refl, sym, ap, ◌∙◌, subst, arith}
 use Rattle.std.specs.Prelude.{if◌then◌else◌}
-use Rattle.std.specs.List.{last_or, cons_option}
+use Rattle.std.specs.List.{last_or, cons_option, list_any, IsDistinct}
 use Rattle.std.proofs.lemmas.Bool.{lt-ltb, le-ltb}
 use Rattle.std.proofs.lemmas.List.{append-nil}
+use Rattle.std.proofs.lemmas.List.Folds.{list_any-append}
 use Rattle.clock2q_directory.specs.declared.keys.store.Entry.{Entry}
-use Rattle.clock2q_queues.specs.Rings.{has, without, AllApart}
+use Rattle.clock2q_queues.specs.Rings.{without}
 use Rattle.clock2q_queues.specs.Cells.{Rises}
 use Rattle.clock2q_handles.specs.Homes.{candidates, removed}
 use Rattle.clock2q_directory.specs.Index as known
@@ -15,25 +16,25 @@ use Rattle.clock2q_directory.specs.Keys.{hash_at, hashed_at, entries_of}
 use Rattle.clock2q_directory.specs.Indexes.{IsIndex}
 use Rattle.clock2q_directory.specs.History.{MakesPlace, places_with, places_from, oldest_hash, taking_free, taking_oldest}
 use Rattle.clock2q_queues.proofs.Booleans.{or_true, and_false}
-use Rattle.clock2q_queues.proofs.Rings.{eqb_self, AllApart-left, AllBelow-left, below_of, without-parted, has-append, has-without_test}
+use Rattle.clock2q_queues.proofs.Rings.{eqb_self, IsDistinct-left, AllByRecursion-left, below_of, without-parted, among-without_test}
 use Rattle.clock2q_queues.proofs.Joining.{split_last, length-without}
 use Rattle.clock2q_directory.proofs.Entries.{hashed_there, hash_of_hashed}
 use Rattle.clock2q_queues.proofs.Orders.{FitsNext, FitsNext-from, take_front}
 use Rattle.clock2q_directory.proofs.Indexes.{IsIndex-removed, named-own}
 use Rattle.clock2q_directory.proofs.Views.{places-forgotten, slots-forgotten, forgotten-like}
 
-last_taken : (ps : List ℕ) (p : ℕ) → last_or None ps ≡ Some p → AllApart ps → (without p ps ≡ take (length ps - 1) ps) × (has p ps ≡ true)
+last_taken : (ps : List ℕ) (p : ℕ) → last_or None ps ≡ Some p → IsDistinct eqb ps → (without p ps ≡ take (length ps - 1) ps) × (list_any (eqb p) ps ≡ true)
 last_taken [] p e a = absurd (cc)
 last_taken (s ∷ ss) p e a =
     let q = split_last ss s p e in
     let xs = q.0 in
-    let w : without p (s ∷ ss) ≡ xs = ap (λ z. without p z) q.1 ∙ without-parted xs p [] (subst (λ z. AllApart z) q.1 a) ∙ append-nil xs in
+    let w : without p (s ∷ ss) ≡ xs = ap (λ z. without p z) q.1 ∙ without-parted xs p [] (subst (λ z. IsDistinct eqb z) q.1 a) ∙ append-nil xs in
     let front : take (length (s ∷ ss) - 1) (s ∷ ss) ≡ xs = ap (λ (z : List ℕ). take (length z - 1) z) q.1 ∙ take_front xs p in
-    let there : has p (xs ++ p ∷ []) ≡ true = has-append p xs (p ∷ []) ∙ rw (eqb_self p) (or_true (has p xs)) in
-    (w ∙ sym front, subst (λ z. has p z ≡ true) (sym q.1) there)
+    let there : list_any (eqb p) (xs ++ p ∷ []) ≡ true = list_any-append (eqb p) xs (p ∷ []) ∙ rw (eqb_self p) (or_true (list_any (eqb p) xs)) in
+    (w ∙ sym front, subst (λ z. list_any (eqb p) z ≡ true) (sym q.1) there)
 
-gone : (p : ℕ) (ps : List ℕ) → has p (without p ps) ≡ false
-gone p ps = has-without_test p p ps ∙ rw (eqb_self p) (and_false (has p ps))
+gone : (p : ℕ) (ps : List ℕ) → list_any (eqb p) (without p ps) ≡ false
+gone p ps = among-without_test p p ps ∙ rw (eqb_self p) (and_false (list_any (eqb p) ps))
 
 used_next : (ps fs : List ℕ) → place_for (length ps) fs < suc (length ps) + length (drop 1 fs)
     → (place_for (length ps) fs ≤ length ps + length fs) × (suc (length ps) + length (drop 1 fs) ≡ max (length ps + length fs) (place_for (length ps) fs + 1))
@@ -61,9 +62,9 @@ module _ {K V : Type 0} (keys : List (Entry K V)) where
 
 module _ {K V : Type 0} {order : PlaceOrder} {keys : List (Entry K V)} {place : ℕ} (w : IsWholeOrder order) where
   -- the index has the oldest place under the hash of its key
-  pub oldest_held : {homes : List (List (ℕ × ℕ))} {hash : ℕ} → IsIndex homes keys order.places → last_or None order.places ≡ Some place → hash_at keys place ≡ Some hash → has place (candidates homes hash) ≡ true
+  pub oldest_held : {homes : List (List (ℕ × ℕ))} {hash : ℕ} → IsIndex homes keys order.places → last_or None order.places ≡ Some place → hash_at keys place ≡ Some hash → list_any (eqb place) (candidates homes hash) ≡ true
   oldest_held {homes} {hash} i last at =
-      let there = (last_taken order.places place last (AllApart-left order.places order.free w.apart)).1 in
+      let there = (last_taken order.places place last (IsDistinct-left order.places order.free w.apart)).1 in
       i.listed hash place ∙ rw (there, named-own homes keys hash place at) refl
 
 module _ {K V : Type 0} {index : IndexState} {order order' : PlaceOrder} {keys : List (Entry K V)} {place : ℕ}
@@ -82,7 +83,7 @@ module _ {K V : Type 0} {index : IndexState} {order order' : PlaceOrder} {keys :
       ap (λ (z : List ℕ). length z + length order'.free) places ∙ ap (λ (z : List ℕ). suc (length order.places) + length z) free in
       record {
         places = places ∙ ap (λ zs. place ∷ zs) (sym all);
-        absent = ap (λ zs. has place zs) all ∙ n.absent;
+        absent = ap (λ zs. list_any (eqb place) zs) all ∙ n.absent;
         indexed = subst (λ zs. IsIndex (known.places index) keys zs) (sym all) i;
         slots = refl;
         shared = refl;
@@ -108,9 +109,9 @@ module _ {K V : Type 0} {index : IndexState} {order order' : PlaceOrder} {keys :
       let places = ap (λ (z : PlaceOrder). z.places) ordered in
       let free = ap (λ (z : PlaceOrder). z.free) ordered in
       let spent = ap (λ (z : PlaceOrder). z.accesses) ordered in
-      let apart = AllApart-left order.places order.free w.apart in
+      let apart = IsDistinct-left order.places order.free w.apart in
       let l = last_taken order.places place last apart in
-      let there : place < length keys = rw as_many (below_of (used order) order.places (AllBelow-left (used order) order.places order.free w.below) place l.1) in
+      let there : place < length keys = rw as_many (below_of (used order) order.places (AllByRecursion-left (used order) order.places order.free w.below) place l.1) in
       let n : order.limit ≡ length order.places = omega (arith, full, w.within) in
       let front : without place order.places ≡ take (order.limit - 1) order.places = l.0 ∙ ap (λ z. take (z - 1) order.places) (sym n) in
       let counts : used order' ≡ suc (length (take (order.limit - 1) order.places)) + length order.free = ap (λ (z : List ℕ). length z + length order'.free) places
@@ -119,7 +120,7 @@ module _ {K V : Type 0} {index : IndexState} {order order' : PlaceOrder} {keys :
       let left : length (take (order.limit - 1) order.places) + 1 ≡ length order.places = ap (λ (z : List ℕ). length z + 1) (sym front) ∙ length-without place order.places apart l.1 in
       record {
         places = places ∙ ap (λ z. place ∷ take (z - 1) order.places) (sym n);
-        absent = ap (λ zs. has place zs) (sym front) ∙ gone place order.places;
+        absent = ap (λ zs. list_any (eqb place) zs) (sym front) ∙ gone place order.places;
         indexed =
             subst (λ z. IsIndex z keys (take (order.limit - 1) order.places)) (sym (places-forgotten index hash place))
             (subst (λ zs. IsIndex (removed eqb (known.places index) hash place) keys zs) front (IsIndex-removed (known.places index) keys order.places place hash i apart at));

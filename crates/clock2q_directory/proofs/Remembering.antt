@@ -1,19 +1,18 @@
 -- A key put at the front of the history.
 use Rattle.std.proofs.Common.{◌≡◌, ℕ, zero, suc, ◌+◌, ◌-◌, ◌<◌, ◌≤◌, Bool, true, false, eqb, ltb, Option, Some, None, slice_get, List, [], ◌∷◌, length, take, inl, inr, refl, sym, ap, ◌∙◌, subst, arith}
 use Rattle.std.specs.Prelude.{if◌then◌else◌}
-use Rattle.std.specs.List.{last_or}
+use Rattle.std.specs.List.{last_or, list_any, IsDistinct}
 use Rattle.std.proofs.lemmas.Bool.{cases_Bool, eq-eqb, le-ltb}
 use Rattle.clock2q_handles.specs.Homes.{removed}
 use Rattle.clock2q_directory.specs.Index as known
 use Rattle.clock2q_directory.specs.Index.{IndexState, first_remembered, left, remembered_at, forgotten_at, HasPlaceRoom, IsHeld}
 use Rattle.clock2q_directory.specs.declared.keys.store.Entry.{Entry}
-use Rattle.clock2q_queues.specs.Rings.{has}
 use Rattle.clock2q_queues.specs.Order.{PlaceOrder, IsWholeOrder, used, place_for}
 use Rattle.clock2q_directory.specs.Keys.{KeyPlaces, entry, written, hash_at, hashed_at, entries_of}
-use Rattle.clock2q_directory.specs.Indexes.{IsIndex, AllDistinct, has_key}
+use Rattle.clock2q_directory.specs.Indexes.{IsIndex, has_key}
 use Rattle.clock2q_directory.specs.History.{Places, Remembered, IsHistory, MakesPlace, MayRetire, remembered_from, accesses_of, places_from, pushed_places, freed_place, oldest_hash, taking_free, taking_oldest}
 use Rattle.clock2q_queues.specs.Cells.{Rises}
-use Rattle.clock2q_queues.proofs.Rings.{differs, AllBelow-left}
+use Rattle.clock2q_queues.proofs.Rings.{differs, AllByRecursion-left, distinct_none, distinct_first, distinct_rest, distinct_more}
 use Rattle.clock2q_directory.proofs.Entries.{slice_get-written, slice_get-written_other, length-written, entries-agree, entries-cons, entries-take}
 use Rattle.clock2q_directory.proofs.Histories.{shown-as}
 use Rattle.clock2q_directory.proofs.Views.{IsIndex-remembered, remembered-like, forgotten-like, slots-remembered, slots-left, slots-forgotten}
@@ -27,10 +26,12 @@ module _ {K : Type 0} (eq : K → K → Bool) where
       let p = or_parts (eq key e.1) (has_key eq key es) h in
       rw p.0 (key_absent-take key k es p.1)
 
-  distinct-take : (k : ℕ) (es : List (ℕ × K)) → AllDistinct eq es → AllDistinct eq (take k es)
-  distinct-take zero es d = tt
-  distinct-take (suc k) [] d = tt
-  distinct-take (suc k) (e ∷ es) d = (key_absent-take e.1 k es d.0, distinct-take k es d.1)
+  distinct-take : (k : ℕ) (es : List (ℕ × K)) → IsDistinct (λ d e. eq d.1 e.1) es → IsDistinct (λ d e. eq d.1 e.1) (take k es)
+  distinct-take zero es d = distinct_none (λ d e. eq d.1 e.1)
+  distinct-take (suc k) [] d = distinct_none (λ d e. eq d.1 e.1)
+  distinct-take (suc k) (e ∷ es) d =
+      let by_key : ℕ × K → ℕ × K → Bool = λ d e. eq d.1 e.1 in
+      distinct_more by_key e (take k es) (key_absent-take e.1 k es (distinct_first by_key e es d)) (distinct-take k es (distinct_rest by_key e es d))
 
 no-place : (ps : List ℕ) → length ps ≡ 0 → ps ≡ []
 no-place [] e = refl
@@ -106,13 +107,13 @@ module _ {K : Type 0} {eq : K → K → Bool} {index index1 : IndexState} {order
     at_place : slice_get keys'.entries place ≡ Some (entry hash key tt)
     at_place = ap (λ z. slice_get z place) wrote ∙ slice_get-written place (entry hash key tt) keys.entries m.next
 
-    others_kept : (t : ℕ) → has t fewer ≡ true → slice_get keys'.entries t ≡ slice_get keys.entries t
+    others_kept : (t : ℕ) → list_any (eqb t) fewer ≡ true → slice_get keys'.entries t ≡ slice_get keys.entries t
     others_kept t g = grind (arith, differs, slice_get, wrote, slice_get-written_other, eq-eqb)
 
     entries_now : entries_of keys'.entries order'.places ≡ take order.limit ((hash, key) ∷ entries_of keys.entries order.places)
     entries_now =
         let n : order.limit ≡ suc (order.limit - 1) = omega (arith, m.below) in
-        let below = AllBelow-left (used order) order.places order.free h.whole.below in
+        let below = AllByRecursion-left (used order) order.places order.free h.whole.below in
         let at : hashed_at keys'.entries place ≡ Some (hash, key) = ap (λ z. elim z [ None ↦ None | Some e ↦ Some (e.hash, e.key) ]) at_place in
         ap (λ z. entries_of keys'.entries z) m.places
         ∙ entries-cons keys'.entries place (hash, key) fewer at
@@ -126,7 +127,7 @@ module _ {K : Type 0} {eq : K → K → Bool} {index index1 : IndexState} {order
     pub remembers : Remembers eq hash slot key (remembered_from index order keys) (remembered_at hash slot place index1) order' keys'
     remembers =
         let some_slots : 0 < length (known.places index1) = rw m.as_many (elim h.some [ inl s ↦ s | inr none ↦ absurd (omega (arith, none, m.below)) ]) in
-        let hashes = (λ (t : ℕ) (g : has t fewer ≡ true). ap (λ z. elim z [ None ↦ None | Some e ↦ Some e.hash ]) (others_kept t g)) in
+        let hashes = (λ (t : ℕ) (g : list_any (eqb t) fewer ≡ true). ap (λ z. elim z [ None ↦ None | Some e ↦ Some e.hash ]) (others_kept t g)) in
         let at : hash_at keys'.entries place ≡ Some hash = ap (λ z. elim z [ None ↦ None | Some e ↦ Some e.hash ]) at_place in
         let held = still_held may.held in
         let like = remembered-like index1 hash slot place in
@@ -136,7 +137,7 @@ module _ {K : Type 0} {eq : K → K → Bool} {index index1 : IndexState} {order
             whole = w;
             indexed = subst (λ z. IsIndex (known.places (remembered_at hash slot place index1)) keys'.entries z) (sym m.places)
                 (IsIndex-remembered index1 keys.entries keys'.entries fewer hash slot place held.below m.indexed some_slots held.there m.absent hashes at);
-            distinct = subst (λ z. AllDistinct eq z) (sym entries_now) (distinct-take eq order.limit ((hash, key) ∷ entries_of keys.entries order.places) (may.absent, h.distinct));
+            distinct = subst (λ z. IsDistinct (λ d e. eq d.1 e.1) z) (sym entries_now) (distinct-take eq order.limit ((hash, key) ∷ entries_of keys.entries order.places) (distinct_more (λ d e. eq d.1 e.1) (hash, key) (entries_of keys.entries order.places) may.absent h.distinct));
             as_many = ap (λ (z : List (Entry K Unit)). length z) wrote ∙ length-written place (entry hash key tt) keys.entries m.next ∙ sym m.used_now;
             room = rw (m.limit, ap (λ (z : KeyPlaces K Unit). z.room) write) h.room;
             some = rw (m.limit, slot_count) h.some;

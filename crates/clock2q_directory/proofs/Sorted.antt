@@ -7,7 +7,6 @@ use Rattle.std.proofs.lemmas.List.Sums.{sum_by-cons}
 use Rattle.clock2q_handles.specs.Homes.{top, listed, no_entries, capacity, total, candidates, with_handle, removed, is_entry_of}
 use Rattle.clock2q_handles.specs.TableStep.{made_for, HasSpare}
 use Rattle.clock2q_handles.proofs.FewerEntries.{total-no_entries}
-use Rattle.clock2q_queues.specs.Rings.{has}
 use Rattle.clock2q_directory.specs.Index.{IndexState, index_state, IsSorted, HasSlotRoom, first_remembered, index_room, is_shared, slots, places, beside, slot_entries, place_entries, slots_in, places_in}
 use Rattle.clock2q_directory.proofs.Indexes.{any-candidate, length-put, length-taken, fits_new, total_new}
 use Rattle.clock2q_directory.proofs.Views.{place_of, listed-view, others-entered, others-left}
@@ -58,10 +57,10 @@ any-place x p (e ∷ es) h = elim (cases_Bool (is_entry_of eqb x (first_remember
 ]
 
 -- the table that a place is in has an entry of it
-pub held_place : (v : IndexState) (x p : ℕ) → is_shared v ≡ true → has p (candidates (places v) x) ≡ true → list_any (is_entry_of eqb x (first_remembered + p)) (listed v.shared x) ≡ true
+pub held_place : (v : IndexState) (x p : ℕ) → is_shared v ≡ true → list_any (eqb p) (candidates (places v) x) ≡ true → list_any (is_entry_of eqb x (first_remembered + p)) (listed v.shared x) ≡ true
 held_place v x p h held = grind (arith, any-place, listed-view, any-candidate)
 
-pub held_own : (v : IndexState) (x p : ℕ) → is_shared v ≡ false → has p (candidates (places v) x) ≡ true → list_any (is_entry_of eqb x p) (listed v.own x) ≡ true
+pub held_own : (v : IndexState) (x p : ℕ) → is_shared v ≡ false → list_any (eqb p) (candidates (places v) x) ≡ true → list_any (is_entry_of eqb x p) (listed v.own x) ≡ true
 held_own v x p h held = grind (arith, any-candidate)
 
 -- What holds of every index

@@ -9,7 +9,6 @@ use Rattle.clock2q_handles.specs.TableStep.{TableValue}
 use Rattle.clock2q_handles.proofs.Changes.{length-with_list}
 use Rattle.clock2q_handles.proofs.MoreEntries.{walk-more}
 use Rattle.clock2q_handles.proofs.Removals.{held-still, replaced-homes}
-use Rattle.clock2q_queues.specs.Rings.{has}
 use Rattle.clock2q_directory.specs.Accesses.{most_changed}
 use Rattle.clock2q_directory.specs.Index.{IndexState, IsIndexed, index_of, is_shared, slots, places, beside, entered_from, remembered_at, first_remembered, forgotten_if}
 use Rattle.clock2q_directory.proofs.Indexes.{length-put, length-taken}
@@ -43,8 +42,8 @@ module _ (p : ℕ) (v : IndexState) where
   length-if (Some x) shared = rw shared (length-taken v.shared x (first_remembered + p))
 
   -- a slot is held once the place is gone
-  pub held-if : (o : Option ℕ) (x s : ℕ) → has s (candidates (slots v) x) ≡ true → list_any (is_entry_of eqb x s) (listed (forgotten_if o p v).shared x) ≡ true
-  held-if o x s held = held_entry (forgotten_if o p v) x s (ap (λ z. has s (candidates z x)) (slots-if o) ∙ held)
+  pub held-if : (o : Option ℕ) (x s : ℕ) → list_any (eqb s) (candidates (slots v) x) ≡ true → list_any (is_entry_of eqb x s) (listed (forgotten_if o p v).shared x) ≡ true
+  held-if o x s held = held_entry (forgotten_if o p v) x s (ap (λ z. list_any (eqb s) (candidates z x)) (slots-if o) ∙ held)
 
 pub few-apart : (v w : IndexState) → slots w ≡ slots v → is_shared w ≡ false → total (slots v) + beside v < 2 ^ 24 → total (slots w) + beside w < 2 ^ 24
 few-apart v w same apart few = omega (arith, few, ap (λ (z : List (List (ℕ × ℕ))). total z) same, ap (λ b. if b then total (places w) else 0) apart)
@@ -75,7 +74,7 @@ module _ (p x s : ℕ) (t own : TableValue ℕ) (n : ℕ) (i : IsIndexed t own n
   }
 
 module _ (o : Option ℕ) (p x s y : ℕ) (t own : TableValue ℕ) (n : ℕ) (i : IsIndexed t own n) (shared : is_shared (before o p x s t own n) ≡ true)
-    (held : has s (candidates (slots (before o p x s t own n)) y) ≡ true) {t' : TableValue ℕ} (b : IsBeside o p x s t own n t') where
+    (held : list_any (eqb s) (candidates (slots (before o p x s t own n)) y) ≡ true) {t' : TableValue ℕ} (b : IsBeside o p x s t own n t') where
   abbrev w : IndexState
   w = fewer o p x s t own n
 

@@ -1,22 +1,22 @@
 -- The slots and the places of an index, and how each of its calls changes them.
 use Rattle.std.proofs.Common.{◌≡◌, ℕ, zero, suc, ◌+◌, ◌-◌, ◌%◌, ◌<◌, Bool, true, false, not, ◌&&◌, ◌||◌, if◌then◌else◌, eqb, ltb, Some, List, [], ◌∷◌, ◌++◌, length, map, set, get_or, inl, inr, refl, sym, ap, ◌∙◌, subst, arith, append-nil, eqb-true, eq-eqb, ne_eqb, lt-ltb, le-ltb, ltb-false}
-use Rattle.std.specs.List.{filter, list_any}
+use Rattle.std.specs.List.{filter, list_any, IsDistinct}
 use Rattle.std.proofs.lemmas.Bool.{both_ways, cases_Bool, cases_eq, eqb-false}
 use Rattle.std.proofs.lemmas.List.{append_assoc, length-append, length-map, map-set, nil_from_length, set-get_or}
 use Rattle.std.proofs.lemmas.List.Elements.{filter-append}
 use Rattle.std.proofs.lemmas.List.Sums.{sum_by-cons}
+use Rattle.std.proofs.lemmas.List.Folds.{list_any-append}
 use Rattle.clock2q_handles.specs.Homes.{top, home, listed, total, candidates, with_list, with_handle, removed, without_first, is_entry_of}
 use Rattle.clock2q_handles.specs.Positions.{with_first, handle_replaced}
 use Rattle.clock2q_handles.proofs.Lookups.{with_top}
 use Rattle.clock2q_handles.proofs.Changes.{length-with_list, listed-with_same, listed-with_other, total-with_list}
 use Rattle.clock2q_directory.specs.declared.keys.store.Entry.{Entry}
-use Rattle.clock2q_queues.specs.Rings.{has, AllApart}
 use Rattle.clock2q_directory.specs.Keys.{hash_at}
 use Rattle.clock2q_directory.specs.Indexes.{IsIndex}
 use Rattle.clock2q_directory.specs.Accesses.{most_changed}
 use Rattle.clock2q_directory.specs.Index.{IndexState, first_remembered, is_shared, slots, places, entered, left, remembered_at, forgotten_at, slots_among, places_among, slot_entries, place_entries, slots_in, places_in}
 use Rattle.clock2q_queues.proofs.Booleans.{and_parts}
-use Rattle.clock2q_queues.proofs.Rings.{has-append, AllApart-append, AllApart-left, AllApart-right, AllApart-turned, apart_from}
+use Rattle.clock2q_queues.proofs.Rings.{IsDistinct-append, IsDistinct-left, IsDistinct-right, IsDistinct-turned, apart_from}
 use Rattle.clock2q_directory.proofs.Indexes.{any-candidate, named-length, length-put, length-taken, total-put, IsIndex-put}
 
 -- Lists of which some elements are kept
@@ -210,14 +210,14 @@ top-append : (y : ℕ) (es fs : List (ℕ × ℕ)) → with_top y (es ++ fs) ≡
 top-append y [] fs = refl
 top-append y (e ∷ es) fs = grind (arith, top-append y es fs)
 
-has-turned : (q : ℕ) (ks ms ns : List ℕ) → has q (ks ++ (ms ++ ns)) ≡ has q ((ks ++ ns) ++ ms)
-has-turned q ks ms ns = grind (arith, has-append, or_turned)
+among-turned : (q : ℕ) (ks ms ns : List ℕ) → list_any (eqb q) (ks ++ (ms ++ ns)) ≡ list_any (eqb q) ((ks ++ ns) ++ ms)
+among-turned q ks ms ns = grind (arith, list_any-append, or_turned)
 
-AllApart-moved : (ks ms ns : List ℕ) → AllApart ((ks ++ ns) ++ ms) → AllApart (ks ++ (ms ++ ns))
-AllApart-moved ks ms ns a =
-    let b : AllApart (ks ++ (ns ++ ms)) = subst (λ z. AllApart z) (append_assoc ks ns ms) a in
-    AllApart-append ks (ms ++ ns) (AllApart-left ks (ns ++ ms) b) (AllApart-turned ns ms (AllApart-right ks (ns ++ ms) b))
-    (λ t h. has-turned t [] ms ns ∙ apart_from ks (ns ++ ms) b t h)
+IsDistinct-moved : (ks ms ns : List ℕ) → IsDistinct eqb ((ks ++ ns) ++ ms) → IsDistinct eqb (ks ++ (ms ++ ns))
+IsDistinct-moved ks ms ns a =
+    let b : IsDistinct eqb (ks ++ (ns ++ ms)) = subst (λ z. IsDistinct eqb z) (append_assoc ks ns ms) a in
+    IsDistinct-append ks (ms ++ ns) (IsDistinct-left ks (ns ++ ms) b) (IsDistinct-turned ns ms (IsDistinct-right ks (ns ++ ms) b))
+    (λ t h. among-turned t [] ms ns ∙ apart_from ks (ns ++ ms) b t h)
 
 module _ (homes : List (List (ℕ × ℕ))) (x p : ℕ) (ms ns : List (ℕ × ℕ)) (some : 0 < length homes) (parts : listed homes x ≡ ms ++ ns) where
   here_between : (y : ℕ) → home homes y ≡ home homes x → candidates (with_list homes x (ms ++ (top x, p) ∷ ns)) y ≡ with_top y ms ++ (with_top y ((top x, p) ∷ []) ++ with_top y ns)
@@ -230,19 +230,19 @@ module _ (homes : List (List (ℕ × ℕ))) (x p : ℕ) (ms ns : List (ℕ × �
   elsewhere y far =
       ap (λ es. with_top y es) (listed-with_other homes x y (ms ++ (top x, p) ∷ ns) far ∙ sym (listed-with_other homes x y (listed homes x ++ (top x, p) ∷ []) far))
 
-  has-between : (y q : ℕ) → has q (candidates (with_list homes x (ms ++ (top x, p) ∷ ns)) y) ≡ has q (candidates (with_handle homes x p) y)
-  has-between y q = elim (cases_eq (home homes y) (home homes x)) [
+  among-between : (y q : ℕ) → list_any (eqb q) (candidates (with_list homes x (ms ++ (top x, p) ∷ ns)) y) ≡ list_any (eqb q) (candidates (with_handle homes x p) y)
+  among-between y q = elim (cases_eq (home homes y) (home homes x)) [
     | inl same ↦
-        ap (λ z. has q z) (here_between y same) ∙ has-turned q (with_top y ms) (with_top y ((top x, p) ∷ [])) (with_top y ns) ∙ ap (λ z. has q z) (sym (here_last y same))
-    | inr far ↦ ap (λ z. has q z) (elsewhere y far)
+        ap (λ z. list_any (eqb q) z) (here_between y same) ∙ among-turned q (with_top y ms) (with_top y ((top x, p) ∷ [])) (with_top y ns) ∙ ap (λ z. list_any (eqb q) z) (sym (here_last y same))
+    | inr far ↦ ap (λ z. list_any (eqb q) z) (elsewhere y far)
   ]
 
-  AllApart-between : (y : ℕ) → AllApart (candidates (with_handle homes x p) y) → AllApart (candidates (with_list homes x (ms ++ (top x, p) ∷ ns)) y)
-  AllApart-between y a = elim (cases_eq (home homes y) (home homes x)) [
+  IsDistinct-between : (y : ℕ) → IsDistinct eqb (candidates (with_handle homes x p) y) → IsDistinct eqb (candidates (with_list homes x (ms ++ (top x, p) ∷ ns)) y)
+  IsDistinct-between y a = elim (cases_eq (home homes y) (home homes x)) [
     | inl same ↦
-        subst (λ z. AllApart z) (sym (here_between y same))
-        (AllApart-moved (with_top y ms) (with_top y ((top x, p) ∷ [])) (with_top y ns) (subst (λ z. AllApart z) (here_last y same) a))
-    | inr far ↦ subst (λ z. AllApart z) (sym (elsewhere y far)) a
+        subst (λ z. IsDistinct eqb z) (sym (here_between y same))
+        (IsDistinct-moved (with_top y ms) (with_top y ((top x, p) ∷ [])) (with_top y ns) (subst (λ z. IsDistinct eqb z) (here_last y same) a))
+    | inr far ↦ subst (λ z. IsDistinct eqb z) (sym (elsewhere y far)) a
   ]
 
   total-between : total (with_list homes x (ms ++ (top x, p) ∷ ns)) ≡ total (with_handle homes x p)
@@ -254,14 +254,14 @@ module _ (homes : List (List (ℕ × ℕ))) (x p : ℕ) (ms ns : List (ℕ × �
   -- an index has an entry anywhere in its home's list just as it has one at the end
   IsIndex-between : {K V : Type 0} (keys : List (Entry K V)) (ps : List ℕ) → IsIndex (with_handle homes x p) keys ps → IsIndex (with_list homes x (ms ++ (top x, p) ∷ ns)) keys ps
   IsIndex-between keys ps i = record {
-    listed = λ y q. has-between y q ∙ i.listed y q
-        ∙ ap (λ b. has q ps && b) (sym (named-length (with_handle homes x p) (with_list homes x (ms ++ (top x, p) ∷ ns)) keys y q length-between));
-    once = λ y. AllApart-between y (i.once y);
+    listed = λ y q. among-between y q ∙ i.listed y q
+        ∙ ap (λ b. list_any (eqb q) ps && b) (sym (named-length (with_handle homes x p) (with_list homes x (ms ++ (top x, p) ∷ ns)) keys y q length-between));
+    once = λ y. IsDistinct-between y (i.once y);
     counted = total-between ∙ i.counted;
   }
 
 -- the table has an entry of a slot that is held
-pub held_entry : (v : IndexState) (x s : ℕ) → has s (candidates (slots v) x) ≡ true → list_any (is_entry_of eqb x s) (listed v.shared x) ≡ true
+pub held_entry : (v : IndexState) (x s : ℕ) → list_any (eqb s) (candidates (slots v) x) ≡ true → list_any (is_entry_of eqb x s) (listed v.shared x) ≡ true
 held_entry v x s held =
     any-kept (λ (e : ℕ × ℕ). ltb e.1 first_remembered) (is_entry_of eqb x s) (listed v.shared x)
     (ap (λ es. list_any (is_entry_of eqb x s) es) (sym (listed-view slot_entries refl v.shared x)) ∙ any-candidate x s (listed (slots v) x) ∙ held)
@@ -284,7 +284,7 @@ places-remembered_own : (v : IndexState) (x s p : ℕ) → is_shared v ≡ false
 places-remembered_own v x s p h = grind (arith, length-put)
 
 pub IsIndex-remembered : {K V : Type 0} (v : IndexState) (keys keys' : List (Entry K V)) (ps : List ℕ) (x s p : ℕ) → s < first_remembered → IsIndex (places v) keys ps → 0 < length (places v)
-    → has s (candidates (slots v) x) ≡ true → has p ps ≡ false → ((q : ℕ) → has q ps ≡ true → hash_at keys' q ≡ hash_at keys q) → hash_at keys' p ≡ Some x
+    → list_any (eqb s) (candidates (slots v) x) ≡ true → list_any (eqb p) ps ≡ false → ((q : ℕ) → list_any (eqb q) ps ≡ true → hash_at keys' q ≡ hash_at keys q) → hash_at keys' p ≡ Some x
     → IsIndex (places (remembered_at x s p v)) keys' (p ∷ ps)
 IsIndex-remembered v keys keys' ps x s p below i some held absent same at =
     let put = IsIndex-put (places v) keys keys' ps p x i some absent same at in

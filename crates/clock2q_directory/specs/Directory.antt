@@ -1,10 +1,10 @@
 -- The known keys: the remembered ones with the index, and the residents' by slot; and how a key that takes a slot
 -- changes them.
-use Rattle.std.specs.Prelude.{◌≡◌, ℕ, ◌+◌, ◌^◌, ◌<◌, ◌≤◌, true, List, [], ◌∷◌, take, length, Option, Some, IfNone}
+use Rattle.std.specs.Prelude.{◌≡◌, ℕ, ◌+◌, ◌^◌, ◌<◌, ◌≤◌, true, List, [], ◌∷◌, take, length, Option, Some, IfNone, nat_eq}
 use Rattle.std.specs.Coded.{Coded, code_by, coded×}
+use Rattle.std.specs.List.{list_any, IsDistinct}
 use Rattle.clock2q_handles.specs.Homes.{total, capacity}
 use Rattle.clock2q_queues.specs.Cells.{Rises}
-use Rattle.clock2q_queues.specs.Rings.{has, AllApart}
 use Rattle.clock2q_directory.specs.Keys.{KeyPlaces, keys_code, key_places, hash_at, key_at}
 use Rattle.clock2q_directory.specs.Indexes.{IsIndex}
 use Rattle.clock2q_directory.specs.Index.{index_for, slots, entered_from, left}
@@ -45,8 +45,8 @@ module _ {K V : Type 0} where
   pub record IsResident (slot : ℕ) (d : Known K V) : Type 0 where
     pub taken : List ℕ
     pub indexed : IsIndex (slots d.history.places.index) d.residents.entries taken
-    pub apart : AllApart taken
-    pub there : has slot taken ≡ true
+    pub apart : IsDistinct nat_eq taken
+    pub there : list_any (nat_eq slot) taken ≡ true
     pub made : slot < length d.residents.entries
     pub below : slot < 2 ^ 24
 

@@ -1,18 +1,18 @@
 -- The history as a list of keys, newest first, and the index that has each key's place under its hash.
-use Rattle.std.specs.Prelude.{◌≡◌, ℕ, ◌+◌, ◌-◌, ◌^◌, ◌⊎◌, max, ◌<◌, ◌≤◌, Bool, false, not, nat_lt, if◌then◌else◌, List, [], ◌∷◌, length, take, drop, Option, Some, None}
-use Rattle.std.specs.List.{filter, find, zip, last_or}
+use Rattle.std.specs.Prelude.{◌≡◌, ℕ, ◌+◌, ◌-◌, ◌^◌, ◌⊎◌, max, ◌<◌, ◌≤◌, Bool, false, not, nat_lt, if◌then◌else◌, List, [], ◌∷◌, length, take, drop, Option, Some, None, nat_eq}
+use Rattle.std.specs.List.{filter, find, zip, last_or, list_any, IsDistinct}
 use Rattle.std.specs.Option.{option_map}
 use Rattle.std.specs.Coded.{Coded, code_by, coded×, coded_ℕ, coded_list}
 use Rattle.clock2q_handles.specs.Homes.{total, capacity}
 use Rattle.clock2q_handles.specs.Positions.{GapValue}
-use Rattle.clock2q_queues.specs.Rings.{has, without}
+use Rattle.clock2q_queues.specs.Rings.{without}
 use Rattle.clock2q_directory.specs.Index as known
 use Rattle.clock2q_directory.specs.Index.{IndexState, index_code, first_remembered, is_shared, entered_from, left, looked_up, remembered_at, forgotten_at, IsHeld}
 use Rattle.clock2q_directory.specs.declared.found.Found.{Found}
 use Rattle.clock2q_queues.specs.Cells.{Rises}
 use Rattle.clock2q_directory.specs.declared.keys.store.Entry.{Entry}
 use Rattle.clock2q_directory.specs.Keys.{KeyPlaces, entries_of}
-use Rattle.clock2q_directory.specs.Indexes.{IsIndex, AllDistinct, has_key}
+use Rattle.clock2q_directory.specs.Indexes.{IsIndex, has_key}
 use Rattle.clock2q_queues.specs.Order.{PlaceOrder, IsWholeOrder, used, place_for}
 use mathlib.Core.Path.{refl}
 
@@ -132,7 +132,7 @@ module _ {K : Type 0} (eq : K → K → Bool) where
 pub record IsHistory {K V : Type 0} (eq : K → K → Bool) (index : IndexState) (order : PlaceOrder) (keys : KeyPlaces K V) : Type 0 where
   pub whole : IsWholeOrder order
   pub indexed : IsIndex (known.places index) keys.entries order.places
-  pub distinct : AllDistinct eq (entries_of keys.entries order.places)
+  pub distinct : IsDistinct (λ d e. eq d.1 e.1) (entries_of keys.entries order.places)
   pub as_many : length keys.entries ≡ used order
   pub room : order.limit ≤ keys.room
   pub some : 0 < length (known.places index) ⊎ (order.limit ≡ 0)
@@ -142,7 +142,7 @@ pub record IsHistory {K V : Type 0} (eq : K → K → Bool) (index : IndexState)
 -- what callers may rely on: the keys are distinct and within the limit, each of them is at its place, which the index
 -- has under the key's hash, with nothing else, and a table of the places' own has room for as many as the limit allows
 pub record IsWholeHistory {K : Type 0} (eq : K → K → Bool) (h : Remembered K) : Type 0 where
-  pub distinct : AllDistinct eq h.entries
+  pub distinct : IsDistinct (λ d e. eq d.1 e.1) h.entries
   pub within : length h.entries ≤ h.limit
   pub own_room : is_shared h.places.index ≡ false → h.limit ≤ capacity (length (known.places h.places.index))
   pub indexed : (keys : List (Entry K Unit)) × (h.entries ≡ entries_of keys h.places.taken) × (length h.entries ≡ length h.places.taken) × IsIndex (known.places h.places.index) keys h.places.taken
@@ -151,7 +151,7 @@ pub record IsWholeHistory {K : Type 0} (eq : K → K → Bool) (h : Remembered K
 -- place's key
 pub record MakesPlace {K V : Type 0} (index index' : IndexState) (order order' : PlaceOrder) (keys : List (Entry K V)) (place : ℕ) : Type 0 where
   pub places : order'.places ≡ place ∷ take (order.limit - 1) order.places
-  pub absent : has place (take (order.limit - 1) order.places) ≡ false
+  pub absent : list_any (nat_eq place) (take (order.limit - 1) order.places) ≡ false
   pub indexed : IsIndex (known.places index') keys (take (order.limit - 1) order.places)
   pub slots : known.slots index' ≡ known.slots index
   pub shared : is_shared index' ≡ is_shared index

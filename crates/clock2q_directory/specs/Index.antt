@@ -1,12 +1,11 @@
 -- The index of a cache: where each known key is, under the key's hash.
 use Rattle.std.specs.Prelude.{◌≡◌, ℕ, ◌+◌, ◌-◌, ◌*◌, ◌^◌, ◌<◌, ◌≤◌, max, nat_eq, nat_lt, nat_le, Bool, true, false, not, ◌==◌, if◌then◌else◌, List, [], map, length, Option, Some, None, IfSome}
-use Rattle.std.specs.List.{filter}
+use Rattle.std.specs.List.{filter, list_any}
 use Rattle.std.specs.Coded.{Coded, code_by, coded×, coded_ℕ, coded_list}
 use Rattle.clock2q_handles.specs.Homes.{candidates, total, capacity, no_entries, with_handle, removed}
 use Rattle.clock2q_handles.specs.Layout.{layout, walk}
 use Rattle.clock2q_handles.specs.Positions.{GapValue, gap_of, handle_replaced}
 use Rattle.clock2q_handles.specs.TableStep.{TableValue, made_for}
-use Rattle.clock2q_queues.specs.Rings.{has}
 use Rattle.clock2q_directory.specs.declared.handle.Handle.{Handle}
 use Rattle.clock2q_directory.specs.Accesses.{most_changed}
 use mathlib.Core.Path.{refl}
@@ -206,7 +205,7 @@ pub record HasRoomBeside (v : IndexState) : Type 0 where
 -- the index has a resident's slot under the hash of its key
 pub record IsHeld (hash slot : ℕ) (v : IndexState) : Type 0 where
   pub below : slot < 2 ^ 31
-  pub there : has slot (candidates (slots v) hash) ≡ true
+  pub there : list_any (nat_eq slot) (candidates (slots v) hash) ≡ true
 
 -- if a lookup of the hash found a gap in the table of the slots, it is this one
 abbrev pub IsGapFor : Option GapValue → ℕ → IndexState → Type 0
@@ -217,4 +216,4 @@ IsGapFor gap hash v = IfSome gap (λ g. g ≡ gap_of v.shared hash)
 pub record MaySucceed (slot old_hash place : ℕ) (oldest : Option ℕ) (v : IndexState) : Type 0 where
   pub held : IsHeld old_hash slot v
   pub short : place < 2 ^ 31
-  pub held_place : IfSome oldest (λ o. has place (candidates (places v) o) ≡ true)
+  pub held_place : IfSome oldest (λ o. list_any (nat_eq place) (candidates (places v) o) ≡ true)

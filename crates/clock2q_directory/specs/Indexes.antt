@@ -1,7 +1,6 @@
 -- An index of places: a table that has the place of each key under the key's hash.
-use Rattle.std.specs.Prelude.{◌≡◌, ℕ, Bool, true, false, ◌&&◌, ◌==◌, List, [], ◌∷◌, length, Some, None}
-use Rattle.std.specs.List.{list_any, AllByRecursion}
-use Rattle.clock2q_queues.specs.Rings.{has, AllApart}
+use Rattle.std.specs.Prelude.{◌≡◌, ℕ, Bool, true, false, ◌&&◌, ◌==◌, List, length, Some, None, nat_eq}
+use Rattle.std.specs.List.{list_any, AllByRecursion, IsDistinct}
 use Rattle.clock2q_handles.specs.Homes.{top, home, candidates, total}
 use Rattle.clock2q_directory.specs.declared.keys.store.Entry.{Entry}
 use Rattle.clock2q_directory.specs.Keys.{hash_at}
@@ -16,19 +15,14 @@ is_named index keys x place = elim (hash_at keys place) [ None ↦ false | Some 
 
 -- the index has each of these places under the hash of its key, once, and nothing else
 pub record IsIndex {K V : Type 0} (index : List (List (ℕ × ℕ))) (keys : List (Entry K V)) (places : List ℕ) : Type 0 where
-  pub listed : (x place : ℕ) → has place (candidates index x) ≡ (has place places && is_named index keys x place)
-  pub once : (x : ℕ) → AllApart (candidates index x)
+  pub listed : (x place : ℕ) → list_any (nat_eq place) (candidates index x) ≡ (list_any (nat_eq place) places && is_named index keys x place)
+  pub once : (x : ℕ) → IsDistinct nat_eq (candidates index x)
   pub counted : total index ≡ length places
 
 module _ {K : Type 0} (eq : K → K → Bool) where
   -- whether a key is among these
   abbrev pub has_key : K → List (ℕ × K) → Bool
   has_key key entries = list_any (λ e. eq key e.1) entries
-
-  -- no key occurs twice
-  abbrev pub AllDistinct : List (ℕ × K) → Type 0
-  AllDistinct [] = Unit {0}
-  AllDistinct (e ∷ entries) = (has_key e.1 entries ≡ false) × AllDistinct entries
 
   -- if this key is among them, it has this hash
   abbrev pub HasHash : ℕ → K → List (ℕ × K) → Type 0

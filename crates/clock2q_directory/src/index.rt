@@ -1,7 +1,7 @@
 //! The index of a cache: where each known key is, under the key's hash.
-ghost use Rattle.std.specs.Prelude.{◌≡◌, ◌+◌, ◌^◌, ◌<◌, ℕ, true, false, [], Some, IfOk, IfSome, IfNone};
+ghost use Rattle.std.specs.Prelude.{◌≡◌, ◌+◌, ◌^◌, ◌<◌, ℕ, true, false, [], Some, IfOk, IfSome, IfNone, nat_eq};
+ghost use Rattle.std.specs.List.{list_any};
 ghost use Rattle.clock2q_handles.specs.Homes.{candidates};
-ghost use Rattle.clock2q_queues.specs.Rings.{has};
 ghost use Rattle.clock2q_handles.specs.Layout.{walk};
 ghost use Rattle.clock2q_handles.specs.Positions.{gap_of};
 ghost use Rattle.clock2q_directory.specs.Index.{emptied, index_for, index_room, is_shared, places, places_among, entered, entered_from, left, looked_up, remembered_at, HasSlotRoom, HasPlaceRoom, HasRoomBeside, IsGapFor, IsHeld, IsWithinCapacity, forgotten_if};
@@ -213,7 +213,7 @@ impl<A: Allocator> Index<A> {
     #[inline(always)]
     pub fn forget(&mut self, hash: Option<u64>, place: Place)
         requires short { place < 2 ^ 31 }
-        requires held { IfSome hash (λ hash. has place (candidates (places self.old) hash) ≡ true) }
+        requires held { IfSome hash (λ hash. list_any (nat_eq place) (candidates (places self.old) hash) ≡ true) }
         ensures forgotten { self.new ≡ forgotten_if hash place self.old }
     {
         let Some(hash) = hash else {

@@ -3,14 +3,16 @@ use Rattle.std.proofs.Common.{◌≡◌, ℕ, ◌+◌, ◌<◌, Bool, true, fals
 use Rattle.std.proofs.lemmas.Bool.{both_ways, or_cases}
 use Rattle.std.proofs.lemmas.List.{append-nil, append_assoc, map-append, take-append-le, drop-append-le, length_push}
 use Rattle.std.proofs.lemmas.List.Sums.{prefix_len-le-length}
+use Rattle.std.specs.List.{list_any}
+use Rattle.std.proofs.lemmas.List.Folds.{list_any-append}
 use Rattle.clock2q_queues.specs.declared.links.Record.{Record}
 use Rattle.clock2q_queues.specs.declared.main_ring.MainRing.{MainRing}
-use Rattle.clock2q_queues.specs.Rings.{has, IsRing}
+use Rattle.clock2q_queues.specs.Rings.{IsRing}
 use Rattle.clock2q_queues.specs.Cells.{accessed}
 use Rattle.clock2q_queues.specs.Flags.{is_linked}
 use Rattle.clock2q_queues.specs.Links.{LinkState, IsLinked, IsSameBut, slot_at, record_at, location_at, next_at, previous_at, bit_at}
 use Rattle.clock2q_queues.specs.MainRing.{IsMain, IsMainRing, main_slots, main_entries, set_front, inspections, from_victim}
-use Rattle.clock2q_queues.proofs.Rings.{eqb_self, has-append, has_first, has_later, differs}
+use Rattle.clock2q_queues.proofs.Rings.{eqb_self, among_first, among_later, differs, distinct_first}
 use Rattle.clock2q_queues.proofs.Joining.{map-agree, IsLinked-turned}
 use Rattle.clock2q_queues.proofs.Booleans.{or_left, or_parts, or_neither}
 use Rattle.clock2q_queues.proofs.Main.{main_slots-is, IsMainRing-from}
@@ -49,8 +51,8 @@ starts_next : (next previous : ℕ → ℕ) (hand : ℕ) (rest : List ℕ) → I
 starts_next next previous hand [] r = ap (λ z. Some z) r.0
 starts_next next previous hand (t ∷ rest) r = ap (λ z. Some z) r.0
 
-has-behind : (t hand : ℕ) (rest : List ℕ) → has t (rest ++ hand ∷ []) ≡ true → has t (hand ∷ rest) ≡ true
-has-behind t hand rest h = grind (arith, or_cases, has-append, has_later, or_left, both_ways)
+among-behind : (t hand : ℕ) (rest : List ℕ) → list_any (eqb t) (rest ++ hand ∷ []) ≡ true → list_any (eqb t) (hand ∷ rest) ≡ true
+among-behind t hand rest h = grind (arith, or_cases, list_any-append, among_later, or_left, both_ways)
 
 -- if no record changed, the hand may stay at a slot or move on from it
 module _ (now l : LinkState) (main : MainRing) (hand : ℕ) (rest : List ℕ) (items : l.records.items ≡ now.records.items) (m : IsMain now (with_hand hand main) (hand ∷ rest)) where
@@ -68,7 +70,7 @@ module _ (now l : LinkState) (main : MainRing) (hand : ℕ) (rest : List ℕ) (i
       counted = m.queue.counted ∙ (let e = length_push rest hand in omega arith);
       countable = rw as_many m.queue.countable;
     };
-    location = λ t h. ap (λ (z : List Record). (record_at z t).location) items ∙ m.location t (has-behind t hand rest h);
+    location = λ t h. ap (λ (z : List Record). (record_at z t).location) items ∙ m.location t (among-behind t hand rest h);
   }
 
   stayed : IsMain l (with_hand hand main) (hand ∷ rest)
@@ -77,7 +79,7 @@ module _ (now l : LinkState) (main : MainRing) (hand : ℕ) (rest : List ℕ) (i
 -- an inspection of the hand's slot doesn't change the other bits
 module _ (now l : LinkState) (main : MainRing) (hand : ℕ) (rest : List ℕ) (k : Looks hand now l) (m : IsMain now (with_hand hand main) (hand ∷ rest)) where
   others_kept : map {B = ℕ × Bool} (λ s. (s, bit_at l s)) rest ≡ map {B = ℕ × Bool} (λ s. (s, bit_at now s)) rest
-  others_kept = map-agree {X = ℕ × Bool} (λ s. (s, bit_at l s)) (λ s. (s, bit_at now s)) rest (λ t h. ap (λ z. (t, z)) (k.bits t ∙ rw (differs t hand rest h m.queue.linked.apart.0) refl))
+  others_kept = map-agree {X = ℕ × Bool} (λ s. (s, bit_at l s)) (λ s. (s, bit_at now s)) rest (λ t h. ap (λ z. (t, z)) (k.bits t ∙ rw (differs t hand rest h (distinct_first eqb hand rest m.queue.linked.apart)) refl))
 
   hand_cleared : bit_at l hand ≡ false
   hand_cleared = k.bits hand ∙ rw (eqb_self hand) refl
@@ -90,10 +92,10 @@ module _ (now l : LinkState) (main : MainRing) (hand : ℕ) (rest : List ℕ) (k
       ap (λ z. (hand, z) ∷ map {B = ℕ × Bool} (λ s. (s, bit_at l s)) rest) hand_cleared
       ∙ ap (λ (z : List (ℕ × Bool)). (hand, false) ∷ z) others_kept
 
-  same_elsewhere : (t : ℕ) → has t (hand ∷ rest) ≡ false → slot_at l t ≡ slot_at now t
+  same_elsewhere : (t : ℕ) → list_any (eqb t) (hand ∷ rest) ≡ false → slot_at l t ≡ slot_at now t
   same_elsewhere t h =
       ap (λ (z : List Record). (record_at z t, bit_at l t)) k.items
-      ∙ ap (λ z. (record_at now.records.items t, z)) (k.bits t ∙ rw ((or_parts (eqb t hand) (has t rest) h).0) refl)
+      ∙ ap (λ z. (record_at now.records.items t, z)) (k.bits t ∙ rw ((or_parts (eqb t hand) (list_any (eqb t) rest) h).0) refl)
 
 first_entry : (bits : ℕ → Bool) (ss : List ℕ) (slot : ℕ) → slice_get (map {B = ℕ × Bool} (λ s. (s, bits s)) ss) 0 ≡ Some (slot, false)
     → (rest : List ℕ) × ((ss ≡ slot ∷ rest) × (bits slot ≡ false))
@@ -118,7 +120,7 @@ module _ (now l : LinkState) (main : MainRing) (slot : ℕ) (m : IsMainRing now 
       (subst (λ z. IsMain now main z) at_front.1.0 m)
 
   pub front_linked : is_linked (location_at now.records.items slot) ≡ true
-  front_linked = ap is_linked (front.location slot (has_first slot behind))
+  front_linked = ap is_linked (front.location slot (among_first slot behind))
 
   passed : IsMain l (with_hand (next_at now.records.items slot) main) (behind ++ slot ∷ [])
   passed = turned now l main slot behind (ap (λ (z : LinkState). z.records.items) read) front
@@ -140,7 +142,7 @@ pub record Swept (old : LinkState) (main : MainRing) (now : LinkState) (hand : �
   pub choice : from_victim (main_entries now (with_hand hand main)) ≡ from_victim (main_entries old main)
   pub looks : inspections (main_entries now (with_hand hand main)) + now.bits.inspections ≡ inspections (main_entries old main) + old.bits.inspections
   pub accesses : now.records.accesses + old.bits.inspections ≡ now.bits.inspections + old.records.accesses
-  pub members : (t : ℕ) → has t (main_slots old main) ≡ false → has t (main_slots now (with_hand hand main)) ≡ false
+  pub members : (t : ℕ) → list_any (eqb t) (main_slots old main) ≡ false → list_any (eqb t) (main_slots now (with_hand hand main)) ≡ false
   pub same : IsSameBut (main_slots old main) old now
   pub window : now.window ≡ old.window
   pub made : now.made ≡ old.made
@@ -159,7 +161,7 @@ module _ (old : LinkState) (main : MainRing) (now : LinkState) (hand : ℕ) (s :
   at_hand = subst (λ z. IsMain now (with_hand hand main) z) rest_of.1 s.whole
 
   pub hand_linked : is_linked (location_at now.records.items hand) ≡ true
-  hand_linked = ap is_linked (at_hand.location hand (has_first hand rest))
+  hand_linked = ap is_linked (at_hand.location hand (among_first hand rest))
 
   abbrev es : List (ℕ × Bool)
   es = map {B = ℕ × Bool} (λ t. (t, bit_at now t)) rest
@@ -167,8 +169,8 @@ module _ (old : LinkState) (main : MainRing) (now : LinkState) (hand : ℕ) (s :
   before : (b : Bool) → bit_at now hand ≡ b → main_entries now (with_hand hand main) ≡ (hand, b) ∷ es
   before b e = ap (λ z. map {B = ℕ × Bool} (λ t. (t, bit_at now t)) z) rest_of.1 ∙ ap (λ z. (hand, z) ∷ es) e
 
-  absent_there : (t : ℕ) → has t (main_slots old main) ≡ false → has t (hand ∷ rest) ≡ false
-  absent_there t h = subst (λ z. has t z ≡ false) rest_of.1 (s.members t h)
+  absent_there : (t : ℕ) → list_any (eqb t) (main_slots old main) ≡ false → list_any (eqb t) (hand ∷ rest) ≡ false
+  absent_there t h = subst (λ z. list_any (eqb t) z ≡ false) rest_of.1 (s.members t h)
 
   module _ (l : LinkState) (k : Looks hand now l) where
     -- the hand passed an entry whose bit was set
@@ -189,9 +191,9 @@ module _ (old : LinkState) (main : MainRing) (now : LinkState) (hand : ℕ) (s :
         looks = let e = s.looks in let f = looks_left in let n = k.inspections in omega arith;
         accesses = let e = s.accesses in let n = k.inspections in omega arith;
         members = λ t h.
-            let q = or_parts (eqb t hand) (has t rest) (absent_there t h) in
-            ap (λ z. has t z) (main_slots-is l (with_hand (next_at now.records.items hand) main) (rest ++ hand ∷ []) (turned now l main hand rest k.items at_hand))
-            ∙ has-append t rest (hand ∷ []) ∙ or_neither (has t rest) (eqb t hand || false) q.1 (or_neither (eqb t hand) false q.0 refl);
+            let q = or_parts (eqb t hand) (list_any (eqb t) rest) (absent_there t h) in
+            ap (λ z. list_any (eqb t) z) (main_slots-is l (with_hand (next_at now.records.items hand) main) (rest ++ hand ∷ []) (turned now l main hand rest k.items at_hand))
+            ∙ list_any-append (eqb t) rest (hand ∷ []) ∙ or_neither (list_any (eqb t) rest) (eqb t hand || false) q.1 (or_neither (eqb t hand) false q.0 refl);
         same = record {
           others = λ t h. same_elsewhere now l main hand rest k at_hand t (absent_there t h) ∙ s.same.others t h;
           as_many = as_many now l main hand rest k.items at_hand ∙ s.same.as_many;

@@ -1,6 +1,7 @@
 -- A hit on a slot sets its bit. A young slot's bit isn't in the view, so the one write is a hit in either queue.
 use Rattle.std.proofs.Common.{◌≡◌, ◌⊎◌, ℕ, Bool, true, cond, eqb, List, [], ◌∷◌, length, map, inl, inr, refl, sym, ap, ◌∙◌, subst}
 use Rattle.std.proofs.lemmas.Bool.{cases_Bool}
+use Rattle.std.specs.List.{list_any}
 use Rattle.clock2q_machine.specs.Ages.{touched}
 use Rattle.clock2q_queues.specs.Cells.{CellsState, HitBits, bit_in}
 use Rattle.clock2q_queues.specs.declared.links.Record.{Record}
@@ -8,7 +9,6 @@ use Rattle.clock2q_queues.specs.declared.links.Location.{Location}
 use Rattle.clock2q_queues.specs.declared.links.Location.TheVariants.{Free, SmallYoung, SmallOld, Main}
 use Rattle.clock2q_queues.specs.declared.main_ring.MainRing.{MainRing}
 use Rattle.clock2q_queues.specs.declared.small.Small.{Small}
-use Rattle.clock2q_queues.specs.Rings.{has}
 use Rattle.clock2q_queues.specs.Links.{LinkState, SetsBit, location_at, bit_at}
 use Rattle.clock2q_queues.specs.MainRing.{main_slots, main_entries, main_hit_at}
 use Rattle.clock2q_queues.specs.Small.{small_slots, small_entries, small_hit_at, age_of, age_at}
@@ -74,6 +74,6 @@ module _ (l : LinkState) (small : Small) (main : MainRing) (q : AreQueues l smal
       (hit_bits new.bits s.bits s.inspections)
 
   -- its location says so
-  pub resident_linked : (shown : QueueState) → queues_shown l small main ≡ shown → (has slot (slots_of shown.small) ≡ true) ⊎ (has slot (slots_of shown.main) ≡ true) → is_linked (location_at l.records.items slot) ≡ true
+  pub resident_linked : (shown : QueueState) → queues_shown l small main ≡ shown → (list_any (eqb slot) (slots_of shown.small) ≡ true) ⊎ (list_any (eqb slot) (slots_of shown.main) ≡ true) → is_linked (location_at l.records.items slot) ≡ true
   resident_linked shown e (inl h) = (small_linked l small q.small slot (in_small l small main shown slot true e h)).own
   resident_linked shown e (inr h) = (main_linked l main q.main slot (in_main l small main shown slot true e h)).own

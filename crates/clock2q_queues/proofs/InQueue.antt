@@ -1,17 +1,17 @@
 -- The locations of a queue's slots say that they are in a queue.
-use Rattle.std.proofs.Common.{◌≡◌, ℕ, true, List, [], ◌∷◌, refl, ap}
+use Rattle.std.proofs.Common.{◌≡◌, ℕ, true, List, [], ◌∷◌, refl, ap, eqb}
+use Rattle.std.specs.List.{list_any}
 use Rattle.clock2q_queues.specs.declared.links.Record.{Record}
 use Rattle.clock2q_queues.specs.declared.links.Location.{Location}
 use Rattle.clock2q_queues.specs.declared.links.Location.TheVariants.{Free, SmallYoung, SmallOld, Main}
 use Rattle.clock2q_queues.specs.declared.main_ring.MainRing.{MainRing}
 use Rattle.clock2q_queues.specs.declared.small.Small.{Small}
-use Rattle.clock2q_queues.specs.Rings.{has}
 use Rattle.clock2q_queues.specs.Flags.{is_linked}
 use Rattle.clock2q_queues.specs.Links.{LinkState, location_at, next_at, previous_at}
 use Rattle.clock2q_queues.specs.MainRing.{IsMainRing, main_slots}
 use Rattle.clock2q_queues.specs.Small.{IsInSmall, IsSmallQueue, small_slots}
 use Rattle.clock2q_queues.proofs.Joining.{next_in, previous_in}
-use Rattle.clock2q_queues.proofs.Rings.{has_first, has_later}
+use Rattle.clock2q_queues.proofs.Rings.{among_first, among_later}
 
 pub in_small_linked : (location : Location) → IsInSmall location → is_linked location ≡ true
 in_small_linked (SmallYoung position) i = refl
@@ -25,17 +25,17 @@ pub record AreInQueue (l : LinkState) (slot : ℕ) : Type 0 where
   pub next : is_linked (location_at l.records.items (next_at l.records.items slot)) ≡ true
   pub previous : is_linked (location_at l.records.items (previous_at l.records.items slot)) ≡ true
 
-pub small_linked : (l : LinkState) (small : Small) → IsSmallQueue l small → (slot : ℕ) → has slot (small_slots l small) ≡ true → AreInQueue l slot
+pub small_linked : (l : LinkState) (small : Small) → IsSmallQueue l small → (slot : ℕ) → list_any (eqb slot) (small_slots l small) ≡ true → AreInQueue l slot
 small_linked l small m slot there =
     let rs = l.records.items in
-    let each : (t : ℕ) → has t (small_slots l small) ≡ true → is_linked (location_at rs t) ≡ true = λ t h. in_small_linked (location_at rs t) (m.location t h) in
+    let each : (t : ℕ) → list_any (eqb t) (small_slots l small) ≡ true → is_linked (location_at rs t) ≡ true = λ t h. in_small_linked (location_at rs t) (m.location t h) in
     record {
       own = each slot there;
       next = each (next_at rs slot) (next_in rs (small_slots l small) slot m.queue.linked there);
       previous = each (previous_at rs slot) (previous_in rs (small_slots l small) slot m.queue.linked there);
     }
 
-pub main_linked : (l : LinkState) (main : MainRing) → IsMainRing l main → (slot : ℕ) → has slot (main_slots l main) ≡ true → AreInQueue l slot
+pub main_linked : (l : LinkState) (main : MainRing) → IsMainRing l main → (slot : ℕ) → list_any (eqb slot) (main_slots l main) ≡ true → AreInQueue l slot
 main_linked l main m slot there =
     let rs = l.records.items in
     record {
@@ -49,6 +49,6 @@ abbrev pub AllLinked : List Record → List ℕ → Type 0
 AllLinked rs [] = Unit {0}
 AllLinked rs (s ∷ ss) = (is_linked (location_at rs s) ≡ true) × AllLinked rs ss
 
-pub all_linked : (rs : List Record) (ss : List ℕ) → ((t : ℕ) → has t ss ≡ true → is_linked (location_at rs t) ≡ true) → AllLinked rs ss
+pub all_linked : (rs : List Record) (ss : List ℕ) → ((t : ℕ) → list_any (eqb t) ss ≡ true → is_linked (location_at rs t) ≡ true) → AllLinked rs ss
 all_linked rs [] each = tt
-all_linked rs (s ∷ ss) each = (each s (has_first s ss), all_linked rs ss (λ t h. each t (has_later t s ss h)))
+all_linked rs (s ∷ ss) each = (each s (among_first s ss), all_linked rs ss (λ t h. each t (among_later t s ss h)))

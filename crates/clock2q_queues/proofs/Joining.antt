@@ -1,5 +1,5 @@
 -- How putting a slot into the links, and taking one out, changes the queue that it joins or leaves, and the rest.
-use Rattle.std.proofs.Common.{◌≡◌, ℕ, ◌+◌, ◌-◌, ◌^◌, ◌<◌, ◌≤◌, ◌≢◌, ltb, true, false, not, cond, ◌||◌, eqb, Option, Some}
+use Rattle.std.proofs.Common.{◌≡◌, ℕ, ◌+◌, ◌-◌, ◌^◌, ◌<◌, ◌≤◌, ◌≢◌, ltb, true, false, not, cond, eqb, Option, Some}
 use Rattle.std.proofs.Common.{None, slice_get, List, [], ◌∷◌, ◌++◌, length, map, set, inl, inr, refl, sym, ap, ◌∙◌, subst, arith}
 use Rattle.std.specs.Bool.{then_some}
 use Rattle.std.specs.Option.{option_eq}
@@ -8,14 +8,15 @@ use Rattle.std.proofs.lemmas.Bool.{eqb-true, eq-eqb, lt-ltb, both_ways, cases_Bo
 use Rattle.std.proofs.lemmas.List.{append-nil, length-append, length-set}
 use Rattle.std.proofs.lemmas.List.Elements.{filter-append}
 use Rattle.std.proofs.lemmas.Map.Steps.{length-le_from_distinct_below}
+use Rattle.std.proofs.lemmas.List.Folds.{list_any-append}
 use Rattle.clock2q_machine.proofs.Whole.{last_some}
 use Rattle.clock2q_queues.specs.declared.links.Record.{Record}
 use Rattle.clock2q_queues.specs.declared.links.Location.{Location}
-use Rattle.clock2q_queues.specs.Rings.{has, without, AllApart, AllBelow, Joins, IsRing}
+use Rattle.clock2q_queues.specs.Rings.{without, Joins, IsRing}
 use Rattle.clock2q_queues.specs.Cells.{CellsState}
 use Rattle.clock2q_queues.specs.Links.{IsLinked, IsQueue, Attaches, Detaches, end_of, slots_from, record_at, next_at, previous_at, location_at, vacant}
-use Rattle.clock2q_queues.proofs.Rings.{eqb_self, eqb_swap, has-append, has_first, has_later, differs, AllApart-append, AllApart-left, AllApart-right, apart_from, AllApart-turned, AllBelow-append}
-use Rattle.clock2q_queues.proofs.Rings.{AllBelow-left, AllBelow-right, below_of, parted, IsRing-kept, IsRing-put, IsRing-taken, IsRing-turned, before_end, Joins_parts, around-ring, without-parted}
+use Rattle.clock2q_queues.proofs.Rings.{eqb_self, eqb_swap, among_first, among_later, differs, IsDistinct-append, IsDistinct-left, IsDistinct-right, apart_from, IsDistinct-turned, AllByRecursion-append, distinct_more, distinct_alone, distinct_first, distinct_rest}
+use Rattle.clock2q_queues.proofs.Rings.{AllByRecursion-left, AllByRecursion-right, below_of, parted, IsRing-kept, IsRing-put, IsRing-taken, IsRing-turned, before_end, Joins_parts, around-ring, without-parted}
 use Rattle.clock2q_queues.proofs.Booleans.{or_left, or_right, or_parts, or_neither}
 use Rattle.clock2q_queues.proofs.Records.{changed}
 
@@ -25,39 +26,26 @@ use Rattle.clock2q_queues.proofs.Records.{changed}
 pub same_record : (x y : Record) → x.previous ≡ y.previous → x.next ≡ y.next → x.location ≡ y.location → x ≡ y
 same_record x y p n s = grind (arith)
 
-pub map-agree : {X : Type 0} (f g : ℕ → X) (ss : List ℕ) → ((t : ℕ) → has t ss ≡ true → f t ≡ g t) → map f ss ≡ map g ss
+pub map-agree : {X : Type 0} (f g : ℕ → X) (ss : List ℕ) → ((t : ℕ) → list_any (eqb t) ss ≡ true → f t ≡ g t) → map f ss ≡ map g ss
 map-agree f g [] h = refl
-map-agree f g (s ∷ ss) h = ap (λ z. z ∷ map f ss) (h s (has_first s ss)) ∙ ap (λ zs. g s ∷ zs) (map-agree f g ss (λ t k. h t (has_later t s ss k)))
-
-has-any : (t : ℕ) (ss : List ℕ) → list_any (eqb t) ss ≡ has t ss
-has-any t [] = refl
-has-any t (s ∷ ss) = ap (λ z. eqb t s || z) (has-any t ss)
-
-none_equal : (s : ℕ) (ss : List ℕ) → has s ss ≡ false → AllByRecursion (λ y. eqb s y ≡ false) ss
-none_equal s [] h = tt
-none_equal s (x ∷ ss) h = let p = or_parts (eqb s x) (has s ss) h in (p.0, none_equal s ss p.1)
-
-distinct : (ss : List ℕ) → AllApart ss → IsDistinct eqb ss
-unfolding IsDistinct
-distinct [] a = tt
-distinct (s ∷ ss) a = (none_equal s ss a.0, distinct ss a.1)
+map-agree f g (s ∷ ss) h = ap (λ z. z ∷ map f ss) (h s (among_first s ss)) ∙ ap (λ zs. g s ∷ zs) (map-agree f g ss (λ t k. h t (among_later t s ss k)))
 
 -- there are no more distinct slots than numbers below their bound
-pub length-le_bound : (n : ℕ) (ss : List ℕ) → AllApart ss → AllBelow n ss → length ss ≤ n
-length-le_bound n ss a b = length-le_from_distinct_below ss n (distinct ss a) (λ q e. below_of n ss b q (sym (has-any q ss) ∙ e))
+pub length-le_bound : (n : ℕ) (ss : List ℕ) → IsDistinct eqb ss → AllByRecursion (λ s. s < n) ss → length ss ≤ n
+length-le_bound n ss a b = length-le_from_distinct_below ss n a (below_of n ss b)
 
 -- there is room for one more slot
-pub room : (rs : List Record) (ss : List ℕ) (slot : ℕ) → IsLinked rs ss → has slot ss ≡ false → slot < length rs → length ss < length rs
-room rs ss slot k h b = length-le_bound (length rs) (slot ∷ ss) (h, k.apart) (b, k.below)
+pub room : (rs : List Record) (ss : List ℕ) (slot : ℕ) → IsLinked rs ss → list_any (eqb slot) ss ≡ false → slot < length rs → length ss < length rs
+room rs ss slot k h b = length-le_bound (length rs) (slot ∷ ss) (distinct_more eqb slot ss h k.apart) (b, k.below)
 
 -- Queues
 
 pub IsLinked-kept : (old new : List Record) (ss : List ℕ) → IsLinked old ss → length new ≡ length old
-    → ((t : ℕ) → has t ss ≡ true → record_at new t ≡ record_at old t) → IsLinked new ss
-IsLinked-kept old new ss k n h = grind (arith, IsRing-kept)
+    → ((t : ℕ) → list_any (eqb t) ss ≡ true → record_at new t ≡ record_at old t) → IsLinked new ss
+IsLinked-kept old new ss k n h = grind (arith, IsRing-kept, subst (λ z. AllByRecursion (λ s. s < z) ss) (sym n) k.below)
 
 pub IsLinked-turned : (rs : List Record) (xs ys : List ℕ) → IsLinked rs (xs ++ ys) → IsLinked rs (ys ++ xs)
-IsLinked-turned rs xs ys k = grind (arith, IsRing-turned, AllApart-turned, AllBelow-append, AllBelow-right, AllBelow-left)
+IsLinked-turned rs xs ys k = grind (arith, IsRing-turned, IsDistinct-turned, AllByRecursion-append, AllByRecursion-right, AllByRecursion-left)
 
 -- a queue's slots are those read from its first one on
 pub slots_from-is : (rs : List Record) (first : Option ℕ) (count : ℕ) (ss : List ℕ) → IsQueue rs first count ss → slots_from rs first count ≡ ss
@@ -68,38 +56,38 @@ slots_from-is rs (Some f) count (s ∷ ss) q =
     let e : f ≡ s = cc in
     rw (q.counted, e) (around-ring (next_at rs) (previous_at rs) s ss q.linked.ring)
 
-has-turned : (t : ℕ) (xs ys : List ℕ) → has t (ys ++ xs) ≡ true → has t (xs ++ ys) ≡ true
-has-turned t xs ys h = grind (arith, or_cases, has-append, or_right, or_left)
+among-turned : (t : ℕ) (xs ys : List ℕ) → list_any (eqb t) (ys ++ xs) ≡ true → list_any (eqb t) (xs ++ ys) ≡ true
+among-turned t xs ys h = grind (arith, or_cases, list_any-append, or_right, or_left)
 
-next_in_ring : (next previous : ℕ → ℕ) (s : ℕ) (ss : List ℕ) → IsRing next previous (s ∷ ss) → has (next s) (s ∷ ss) ≡ true
+next_in_ring : (next previous : ℕ → ℕ) (s : ℕ) (ss : List ℕ) → IsRing next previous (s ∷ ss) → list_any (eqb (next s)) (s ∷ ss) ≡ true
 next_in_ring next previous s [] r = or_left _ _ (eq-eqb _ _ r.0)
-next_in_ring next previous s (x ∷ ss) r = has_later (next s) s (x ∷ ss) (or_left (eqb (next s) x) (has (next s) ss) (eq-eqb _ _ r.0))
+next_in_ring next previous s (x ∷ ss) r = among_later (next s) s (x ∷ ss) (or_left (eqb (next s) x) (list_any (eqb (next s)) ss) (eq-eqb _ _ r.0))
 
 -- the neighbours of a slot in a queue are in it
-pub previous_in : (rs : List Record) (ss : List ℕ) (s : ℕ) → IsLinked rs ss → has s ss ≡ true → has (previous_at rs s) ss ≡ true
+pub previous_in : (rs : List Record) (ss : List ℕ) (s : ℕ) → IsLinked rs ss → list_any (eqb s) ss ≡ true → list_any (eqb (previous_at rs s)) ss ≡ true
 previous_in rs ss s k h =
     let p = parted s ss h in
     let r = IsLinked-turned rs p.0 (s ∷ p.1.0) (subst (λ z. IsLinked rs z) p.1.1 k) in
     let e = before_end (next_at rs) (previous_at rs) s (p.1.0 ++ p.0) s r.ring in
-    subst (λ z. has (previous_at rs s) z ≡ true) (sym p.1.1) (has-turned (previous_at rs s) p.0 (s ∷ p.1.0) e)
+    subst (λ z. list_any (eqb (previous_at rs s)) z ≡ true) (sym p.1.1) (among-turned (previous_at rs s) p.0 (s ∷ p.1.0) e)
 
-pub next_in : (rs : List Record) (ss : List ℕ) (s : ℕ) → IsLinked rs ss → has s ss ≡ true → has (next_at rs s) ss ≡ true
+pub next_in : (rs : List Record) (ss : List ℕ) (s : ℕ) → IsLinked rs ss → list_any (eqb s) ss ≡ true → list_any (eqb (next_at rs s)) ss ≡ true
 next_in rs ss s k h =
     let p = parted s ss h in
     let r = IsLinked-turned rs p.0 (s ∷ p.1.0) (subst (λ z. IsLinked rs z) p.1.1 k) in
     let e = next_in_ring (next_at rs) (previous_at rs) s (p.1.0 ++ p.0) r.ring in
-    subst (λ z. has (next_at rs s) z ≡ true) (sym p.1.1) (has-turned (next_at rs s) p.0 (s ∷ p.1.0) e)
+    subst (λ z. list_any (eqb (next_at rs s)) z ≡ true) (sym p.1.1) (among-turned (next_at rs s) p.0 (s ∷ p.1.0) e)
 
-pub in_bounds : (rs : List Record) (ss : List ℕ) (s : ℕ) → IsLinked rs ss → has s ss ≡ true → s < length rs
+pub in_bounds : (rs : List Record) (ss : List ℕ) (s : ℕ) → IsLinked rs ss → list_any (eqb s) ss ≡ true → s < length rs
 in_bounds rs ss s k h = below_of (length rs) ss k.below s h
 
 -- the first slot is among them
-pub first_in : (ss : List ℕ) (first : ℕ) → Some first ≡ slice_get ss 0 → has first ss ≡ true
+pub first_in : (ss : List ℕ) (first : ℕ) → Some first ≡ slice_get ss 0 → list_any (eqb first) ss ≡ true
 first_in [] first e = absurd (cc)
-first_in (s ∷ ss) first e = let q : first ≡ s = cc in or_left (eqb first s) (has first ss) (eq-eqb first s q)
+first_in (s ∷ ss) first e = let q : first ≡ s = cc in or_left (eqb first s) (list_any (eqb first) ss) (eq-eqb first s q)
 
 -- the next count of slots fits
-pub count_fits : (rs : List Record) (first : Option ℕ) (count : ℕ) (ss : List ℕ) (slot : ℕ) → IsQueue rs first count ss → has slot ss ≡ false → slot < length rs → count + 1 < 2 ^ 32
+pub count_fits : (rs : List Record) (first : Option ℕ) (count : ℕ) (ss : List ℕ) (slot : ℕ) → IsQueue rs first count ss → list_any (eqb slot) ss ≡ false → slot < length rs → count + 1 < 2 ^ 32
 count_fits rs first count ss slot q absent b = grind (arith, room)
 
 -- Putting a slot in
@@ -108,12 +96,12 @@ count_fits rs first count ss slot q absent b = grind (arith, room)
 pub record Inserts (slot : ℕ) (location : Location) (ss : List ℕ) (old new : List Record) : Type 0 where
   pub linked : IsLinked new (ss ++ slot ∷ [])
   pub locations : (t : ℕ) → location_at new t ≡ cond (eqb t slot) location (location_at old t)
-  pub others : (t : ℕ) → has t (slot ∷ ss) ≡ false → record_at new t ≡ record_at old t
+  pub others : (t : ℕ) → list_any (eqb t) (slot ∷ ss) ≡ false → record_at new t ≡ record_at old t
   pub as_many : length new ≡ length old
 
 -- into a queue with slots, just before its first one
 Inserts-attached : {cost : ℕ} (old new : CellsState Record) (first : ℕ) (ss : List ℕ) (slot : ℕ) (location : Location)
-    → IsLinked old.items (first ∷ ss) → has slot (first ∷ ss) ≡ false → slot < length old.items → Attaches slot first location cost old new
+    → IsLinked old.items (first ∷ ss) → list_any (eqb slot) (first ∷ ss) ≡ false → slot < length old.items → Attaches slot first location cost old new
     → Inserts slot location (first ∷ ss) old.items new.items
 Inserts-attached old new first ss slot location k absent b a =
     let rs = old.items in
@@ -121,14 +109,14 @@ Inserts-attached old new first ss slot location k absent b a =
     record {
       linked = record {
         ring = IsRing-put (next_at rs) (previous_at rs) (next_at new.items) (previous_at new.items) first ss slot k.ring k.apart absent a.nexts a.previouses;
-        apart = AllApart-append (first ∷ ss) (slot ∷ []) k.apart (refl, tt) (λ t h. or_neither (eqb t slot) false (differs t slot (first ∷ ss) h absent) refl);
-        below = subst (λ z. AllBelow z (first ∷ ss ++ slot ∷ [])) (sym a.as_many) (AllBelow-append (length rs) (first ∷ ss) (slot ∷ []) k.below (b, tt));
+        apart = IsDistinct-append (first ∷ ss) (slot ∷ []) k.apart (distinct_alone eqb slot) (λ t h. or_neither (eqb t slot) false (differs t slot (first ∷ ss) h absent) refl);
+        below = subst (λ z. AllByRecursion (λ s. s < z) (first ∷ ss ++ slot ∷ [])) (sym a.as_many) (AllByRecursion-append (length rs) (first ∷ ss) (slot ∷ []) k.below (b, tt));
       };
       locations = a.locations;
       others = λ t h.
-          let p : eqb t slot ≡ false = (or_parts (eqb t slot) (has t (first ∷ ss)) h).0 in
-          let q : has t (first ∷ ss) ≡ false = (or_parts (eqb t slot) (has t (first ∷ ss)) h).1 in
-          let f : eqb t first ≡ false = (or_parts (eqb t first) (has t ss) q).0 in
+          let p : eqb t slot ≡ false = (or_parts (eqb t slot) (list_any (eqb t) (first ∷ ss)) h).0 in
+          let q : list_any (eqb t) (first ∷ ss) ≡ false = (or_parts (eqb t slot) (list_any (eqb t) (first ∷ ss)) h).1 in
+          let f : eqb t first ≡ false = (or_parts (eqb t first) (list_any (eqb t) ss) q).0 in
           let l : eqb t (previous_at rs first) ≡ false = eqb_swap (previous_at rs first) t (differs (previous_at rs first) t (first ∷ ss) last_in q) in
           same_record (record_at new.items t) (record_at rs t)
           (a.previouses t ∙ rw (f, p) refl) (a.nexts t ∙ rw (l, p) refl) (a.locations t ∙ rw p refl);
@@ -144,7 +132,7 @@ Inserts-alone rs slot location b =
     record {
       linked = record {
         ring = (changed (λ p. p.next) rs slot r vacant slot b ∙ rw (eqb_self slot) refl, changed (λ p. p.previous) rs slot r vacant slot b ∙ rw (eqb_self slot) refl);
-        apart = (refl, tt);
+        apart = distinct_alone eqb slot;
         below = (omega arith, tt);
       };
       locations = λ t. changed (λ p. p.location) rs slot r vacant t b;
@@ -154,7 +142,7 @@ Inserts-alone rs slot location b =
 
 -- a slot is put in before the first slot of a queue, as its owner holds it
 pub Inserts-before : {cost : ℕ} (old new : CellsState Record) (ss : List ℕ) (slot : ℕ) (location : Location) (first : ℕ)
-    → IsLinked old.items ss → Some first ≡ slice_get ss 0 → has slot ss ≡ false → slot < length old.items → Attaches slot first location cost old new
+    → IsLinked old.items ss → Some first ≡ slice_get ss 0 → list_any (eqb slot) ss ≡ false → slot < length old.items → Attaches slot first location cost old new
     → Inserts slot location ss old.items new.items
 Inserts-before old new [] slot location first k e absent b a = absurd (cc)
 Inserts-before {cost} old new (s ∷ ss) slot location first k e absent b a =
@@ -173,12 +161,12 @@ Inserts-first old new (s ∷ ss) slot location e b n = absurd (cc)
 pub record Removes (slot : ℕ) (ss : List ℕ) (old new : List Record) : Type 0 where
   pub linked : IsLinked new (without slot ss)
   pub locations : (t : ℕ) → eqb t slot ≡ false → location_at new t ≡ location_at old t
-  pub others : (t : ℕ) → has t ss ≡ false → record_at new t ≡ record_at old t
+  pub others : (t : ℕ) → list_any (eqb t) ss ≡ false → record_at new t ≡ record_at old t
   pub freed : record_at new slot ≡ vacant
   pub as_many : length new ≡ length old
 
 pub Removes-detached : (old new : CellsState Record) (ss : List ℕ) (slot : ℕ)
-    → IsLinked old.items ss → has slot ss ≡ true → Detaches slot old new → Removes slot ss old.items new.items
+    → IsLinked old.items ss → list_any (eqb slot) ss ≡ true → Detaches slot old new → Removes slot ss old.items new.items
 Removes-detached old new ss slot k h d =
     let rs = old.items in
     let p = parted slot ss h in
@@ -190,11 +178,11 @@ Removes-detached old new ss slot k h d =
       linked = subst (λ z. IsLinked new.items z) (sym e) (record {
         ring = IsRing-taken (next_at rs) (previous_at rs) (next_at new.items) (previous_at new.items) xs slot ys k'.ring k'.apart d.nexts d.previouses;
         apart =
-            AllApart-append xs ys (AllApart-left xs (slot ∷ ys) k'.apart) (AllApart-right xs (slot ∷ ys) k'.apart).1
-            (λ t g. (or_parts (eqb t slot) (has t ys) (apart_from xs (slot ∷ ys) k'.apart t g)).1);
+            IsDistinct-append xs ys (IsDistinct-left xs (slot ∷ ys) k'.apart) (distinct_rest eqb slot ys (IsDistinct-right xs (slot ∷ ys) k'.apart))
+            (λ t g. (or_parts (eqb t slot) (list_any (eqb t) ys) (apart_from xs (slot ∷ ys) k'.apart t g)).1);
         below =
-            subst (λ z. AllBelow z (xs ++ ys)) (sym d.as_many)
-            (AllBelow-append (length rs) xs ys (AllBelow-left (length rs) xs (slot ∷ ys) k'.below) (AllBelow-right (length rs) xs (slot ∷ ys) k'.below).1);
+            subst (λ z. AllByRecursion (λ s. s < z) (xs ++ ys)) (sym d.as_many)
+            (AllByRecursion-append (length rs) xs ys (AllByRecursion-left (length rs) xs (slot ∷ ys) k'.below) (AllByRecursion-right (length rs) xs (slot ∷ ys) k'.below).1);
       });
       locations = d.locations;
       others = λ t g.
@@ -218,7 +206,7 @@ filter-entries slot f (s ∷ ss) = elim (cases_Bool (eqb s slot)) [
 
 -- Counts and ends after a slot was taken out
 
-pub length-without : (slot : ℕ) (ss : List ℕ) → AllApart ss → has slot ss ≡ true → length (without slot ss) + 1 ≡ length ss
+pub length-without : (slot : ℕ) (ss : List ℕ) → IsDistinct eqb ss → list_any (eqb slot) ss ≡ true → length (without slot ss) + 1 ≡ length ss
 length-without slot ss a h = grind (arith, parted, without-parted, length-append)
 
 -- if the first slot left, the next one is first, if there is one
@@ -228,7 +216,7 @@ first_after rs count [] slot q = absurd (let e = q.starts in cc)
 first_after rs count (s ∷ []) slot q =
     let e : slot ≡ s = let h = q.starts in cc in
     rw (q.counted, e, eqb_self s) refl
-first_after rs count (s ∷ t ∷ ss) slot q = grind (arith, eqb_swap, or_parts, lt-ltb, eqb_self)
+first_after rs count (s ∷ t ∷ ss) slot q = grind (arith, eqb_swap, or_parts, lt-ltb, eqb_self, distinct_first eqb s (t ∷ ss) q.linked.apart)
 
 -- if another one left, the first stays the first
 pub first_stays : (rs : List Record) (first : Option ℕ) (count : ℕ) (ss : List ℕ) (slot : ℕ) → IsQueue rs first count ss → first ≢ Some slot
@@ -255,7 +243,7 @@ pub end_some : (len slot : ℕ) → 0 < len → end_of len slot ≡ Some slot
 end_some len slot some = rw (lt-ltb 0 len some) refl
 
 -- the first slot after one left: the next one if that was first
-pub first_left : (rs : List Record) (len newest newest' : ℕ) (ss : List ℕ) (slot : ℕ) → IsQueue rs (end_of len newest) len ss → has slot ss ≡ true
+pub first_left : (rs : List Record) (len newest newest' : ℕ) (ss : List ℕ) (slot : ℕ) → IsQueue rs (end_of len newest) len ss → list_any (eqb slot) ss ≡ true
     → newest' ≡ cond (eqb newest slot) (next_at rs slot) newest → end_of (len - 1) newest' ≡ slice_get (without slot ss) 0
 first_left rs len newest newest' ss slot q there is =
     let count = length-without slot ss q.linked.apart there in
@@ -318,7 +306,7 @@ last_stays (s ∷ ss) slot d =
     ∙ ap (λ z. last_or None (without slot p.0 ++ z)) w ∙ last_or-push None (without slot p.0) x.0)
 
 -- the last slot after one left: the one before it if that was last
-pub last_left : (rs : List Record) (len oldest oldest' : ℕ) (ss : List ℕ) (slot : ℕ) → IsLinked rs ss → len ≡ length ss → end_of len oldest ≡ last_or None ss → has slot ss ≡ true
+pub last_left : (rs : List Record) (len oldest oldest' : ℕ) (ss : List ℕ) (slot : ℕ) → IsLinked rs ss → len ≡ length ss → end_of len oldest ≡ last_or None ss → list_any (eqb slot) ss ≡ true
     → oldest' ≡ cond (eqb oldest slot) (previous_at rs slot) oldest → end_of (len - 1) oldest' ≡ last_or None (without slot ss)
 last_left rs len oldest oldest' ss slot k counted ends there is =
     let count = length-without slot ss k.apart there in

@@ -1,6 +1,6 @@
 -- Small after a slot left it.
 use Rattle.std.proofs.Common.{◌≡◌, ℕ, ◌-◌, ◌<◌, ◌≢◌, true, false, not, cond, eqb, Option, Some, None, List, length, map, get_or, inl, inr, refl, sym, ap, ◌∙◌, subst, arith}
-use Rattle.std.specs.List.{filter}
+use Rattle.std.specs.List.{filter, list_any}
 use Rattle.std.proofs.lemmas.Bool.{eqb-true, eq-eqb, ne_eqb, both_ways, cases_Bool, cases_lt}
 use Rattle.std.proofs.lemmas.List.{length-set, get_or_past, set_past}
 use Rattle.clock2q_machine.specs.Ages.{Age}
@@ -9,12 +9,12 @@ use Rattle.clock2q_queues.specs.declared.links.Location.{Location}
 use Rattle.clock2q_queues.specs.declared.links.Location.TheVariants.{Free, SmallYoung, SmallOld, Main}
 use Rattle.clock2q_queues.specs.declared.small.Small.{Small}
 use Rattle.clock2q_queues.specs.Cells.{CellsState, HitBits, bit_in}
-use Rattle.clock2q_queues.specs.Rings.{has, without}
+use Rattle.clock2q_queues.specs.Rings.{without}
 use Rattle.clock2q_queues.specs.Links.{LinkState, IsLinked, IsSameBut, Detaches, SetsBit, record_at, next_at, previous_at, location_at, bit_at, young_at}
 use Rattle.clock2q_queues.specs.Ends.{position_freed}
 use Rattle.clock2q_queues.specs.Small.{IsSmall, IsSmallQueue, small_slots, small_entries, age_at}
 use Rattle.clock2q_queues.proofs.Records.{changed}
-use Rattle.clock2q_queues.proofs.Rings.{differs, eqb_swap, has-without, has-without-back}
+use Rattle.clock2q_queues.proofs.Rings.{differs, eqb_swap, among-without, among-without-back}
 use Rattle.clock2q_queues.proofs.Joining.{Removes, Removes-detached, map-agree, first_left, last_left, filter-entries, length-without}
 use Rattle.clock2q_queues.proofs.Window.{AreStaying, aged_slots, small_slots-is, IsSmallQueue-from}
 
@@ -70,7 +70,7 @@ young_at_was Main l p t h = (h, λ position e. absurd (cc))
 
 -- The slots that stay
 
-module _ (slot : ℕ) {old : LinkState} {small : Small} (mid : LinkState) {new : LinkState} (m : IsSmallQueue old small) (h : has slot (small_slots old small) ≡ true)
+module _ (slot : ℕ) {old : LinkState} {small : Small} (mid : LinkState) {new : LinkState} (m : IsSmallQueue old small) (h : list_any (eqb slot) (small_slots old small) ≡ true)
     (kept : (t : ℕ) → eqb t slot ≡ false → location_at mid.records.items t ≡ location_at old.records.items t)
     (as_many : length mid.records.items ≡ length old.records.items) (positions : mid.window.items ≡ old.window.items)
     {location : Location} (was : location ≡ location_at old.records.items slot) (e : new ≡ position_freed location mid) where
@@ -83,10 +83,10 @@ module _ (slot : ℕ) {old : LinkState} {small : Small} (mid : LinkState) {new :
   pub location_now : (t : ℕ) → eqb t slot ≡ false → location_at new.records.items t ≡ location_at old.records.items t
   location_now t g = ap (λ (z : List Record). location_at z t) records_now ∙ kept t g
 
-  placed_now : (t position : ℕ) → has t (without slot (small_slots old small)) ≡ true → location_at new.records.items t ≡ SmallYoung position
+  placed_now : (t position : ℕ) → list_any (eqb t) (without slot (small_slots old small)) ≡ true → location_at new.records.items t ≡ SmallYoung position
       → (position < length new.window.items) × (young_at new position ≡ Some t)
   placed_now t position g y =
-      let w = has-without t slot (small_slots old small) g in
+      let w = among-without t slot (small_slots old small) g in
       let z : location_at old.records.items t ≡ SmallYoung position = sym (location_now t w.1) ∙ y in
       let p = m.placed t position w.0 z in
       let k : young_at mid position ≡ Some t = ap (λ q. get_or q position None) positions ∙ p.1 in (
@@ -98,13 +98,13 @@ module _ (slot : ℕ) {old : LinkState} {small : Small} (mid : LinkState) {new :
             both_ways (eqb t slot) w.1 (eq-eqb t slot x)),
       )
 
-  occupied_now : (position t : ℕ) → young_at new position ≡ Some t → (has t (without slot (small_slots old small)) ≡ true) × (location_at new.records.items t ≡ SmallYoung position)
-  occupied_now position t g = grind (arith, young_at_was, cases_Bool, eqb-true, has-without-back, location_now)
+  occupied_now : (position t : ℕ) → young_at new position ≡ Some t → (list_any (eqb t) (without slot (small_slots old small)) ≡ true) × (location_at new.records.items t ≡ SmallYoung position)
+  occupied_now position t g = grind (arith, young_at_was, cases_Bool, eqb-true, among-without-back, location_now)
 
   -- all but the slot whose position was emptied
   pub others_stay : AreStaying new small.cursor (without slot (small_slots old small))
   others_stay = record {
-    location = λ t g. let w = has-without t slot (small_slots old small) g in rw (location_now t w.1) (m.location t w.0);
+    location = λ t g. let w = among-without t slot (small_slots old small) g in rw (location_now t w.1) (m.location t w.0);
     placed = placed_now;
     occupied = occupied_now;
     cursor_in = λ p. rw window_now (m.cursor_in (rw window_now at p));
@@ -117,7 +117,7 @@ module _ (slot : ℕ) {old : LinkState} {small : Small} (mid : LinkState) {new :
   ages_kept bits =
       map-agree {X = ℕ × Age} (λ s. (s, age_at new small.cursor s)) (λ s. (s, age_at old small.cursor s)) (without slot (small_slots old small))
       (λ t g.
-      let w = has-without t slot (small_slots old small) g in
+      let w = among-without t slot (small_slots old small) g in
       let b : bit_at new t ≡ bit_at old t = ap (λ (l : LinkState). bit_at l t) e ∙ ap (λ (b : HitBits). bit_in b.items t) (bits-freed location mid) ∙ bits t w.1 in
       ap (λ z. (t, z)) (rw (window_now, location_now t w.1, b) refl))
       ∙ sym (filter-entries slot (λ s. age_at old small.cursor s) (small_slots old small))
@@ -130,7 +130,7 @@ pub record UnlinksSmall (slot : ℕ) (old : LinkState) (small : Small) (new : Li
   pub others : IsSameBut (small_slots old small) old new
   pub window : length new.window.items ≡ length old.window.items
 
-module _ (slot : ℕ) (old : LinkState) (small : Small) (mid new : LinkState) (m : IsSmallQueue old small) (h : has slot (small_slots old small) ≡ true)
+module _ (slot : ℕ) (old : LinkState) (small : Small) (mid new : LinkState) (m : IsSmallQueue old small) (h : list_any (eqb slot) (small_slots old small) ≡ true)
     (d : Detaches slot old.records mid.records) (cleared : SetsBit slot false old (record mid { records = old.records }))
     (location : Location) (was : location ≡ location_at old.records.items slot) (e : new ≡ position_freed location mid) where
   removed : Removes slot (small_slots old small) old.records.items mid.records.items

@@ -1,20 +1,19 @@
 -- What a slot's record says of the queue that it is in, and of the slots at the queues' ends.
-use Rattle.std.proofs.Common.{◌≡◌, ◌⊎◌, ℕ, ◌-◌, ◌≢◌, Bool, true, false, ◌||◌, ◌&&◌, ◌++◌, Some, None, length, take, drop, slice_get, inl, inr, refl, sym, ap, ◌∙◌, subst}
-use Rattle.std.specs.List.{last_or}
+use Rattle.std.proofs.Common.{◌≡◌, ◌⊎◌, ℕ, ◌-◌, ◌≢◌, Bool, true, false, ◌||◌, ◌&&◌, ◌++◌, Some, None, length, take, drop, slice_get, inl, inr, refl, sym, ap, ◌∙◌, subst, eqb}
+use Rattle.std.specs.List.{last_or, list_any}
 use Rattle.std.proofs.lemmas.Bool.{cases_Bool}
+use Rattle.std.proofs.lemmas.List.Folds.{list_any-append}
 use Rattle.clock2q_machine.specs.Ages.{is_promoted}
 use Rattle.clock2q_queues.specs.declared.links.Location.{Location}
 use Rattle.clock2q_queues.specs.declared.links.Location.TheVariants.{Free, SmallYoung, SmallOld, Main}
 use Rattle.clock2q_queues.specs.declared.main_ring.MainRing.{MainRing}
 use Rattle.clock2q_queues.specs.declared.small.Small.{Small}
-use Rattle.clock2q_queues.specs.Rings.{has}
 use Rattle.clock2q_queues.specs.Flags.{is_linked}
 use Rattle.clock2q_queues.specs.Links.{LinkState, location_at, bit_at, is_old}
 use Rattle.clock2q_queues.specs.MainRing.{main_slots, main_entries}
 use Rattle.clock2q_queues.specs.Small.{IsInSmall, small_slots, small_entries, age_of, age_at}
 use Rattle.clock2q_queues.specs.Queues.{QueueState, AreQueues, IsAt, queues_shown, slots_of, without_slot, tail_promoted, keeps_tail}
 use Rattle.clock2q_queues.proofs.InQueue.{small_linked}
-use Rattle.clock2q_queues.proofs.Rings.{has-append}
 use Rattle.clock2q_queues.proofs.Sharing.{small_slots-of, main_slots-of}
 use Rattle.clock2q_queues.proofs.SlotLists.{tail_among, tail_entry, no_entry, first_out, last_out, none_last}
 
@@ -25,23 +24,23 @@ module _ (l : LinkState) (small : Small) (main : MainRing) (q : AreQueues l smal
   abbrev location : Location
   location = location_at l.records.items slot
 
-  not_in_small : (IsInSmall location → ⊥) → has slot (small_slots l small) ≡ false
-  not_in_small n = elim (cases_Bool (has slot (small_slots l small))) [ inl h ↦ absurd (n (q.small.location slot h)) | inr h ↦ h ]
+  not_in_small : (IsInSmall location → ⊥) → list_any (eqb slot) (small_slots l small) ≡ false
+  not_in_small n = elim (cases_Bool (list_any (eqb slot) (small_slots l small))) [ inl h ↦ absurd (n (q.small.location slot h)) | inr h ↦ h ]
 
-  not_in_main : location ≢ Main → has slot (main_slots l main) ≡ false
-  not_in_main n = elim (cases_Bool (has slot (main_slots l main))) [ inl h ↦ absurd (n (q.main.location slot h)) | inr h ↦ h ]
+  not_in_main : location ≢ Main → list_any (eqb slot) (main_slots l main) ≡ false
+  not_in_main n = elim (cases_Bool (list_any (eqb slot) (main_slots l main))) [ inl h ↦ absurd (n (q.main.location slot h)) | inr h ↦ h ]
 
-  is_in_small : location ≢ Main → location ≢ Free → has slot (small_slots l small) ≡ true
-  is_in_small n f = elim (cases_Bool (has slot (small_slots l small))) [ inl h ↦ h | inr h ↦ absurd (f (q.elsewhere slot h (not_in_main n))) ]
+  is_in_small : location ≢ Main → location ≢ Free → list_any (eqb slot) (small_slots l small) ≡ true
+  is_in_small n f = elim (cases_Bool (list_any (eqb slot) (small_slots l small))) [ inl h ↦ h | inr h ↦ absurd (f (q.elsewhere slot h (not_in_main n))) ]
 
-  is_in_main : (IsInSmall location → ⊥) → location ≢ Free → has slot (main_slots l main) ≡ true
-  is_in_main n f = elim (cases_Bool (has slot (main_slots l main))) [ inl h ↦ h | inr h ↦ absurd (f (q.elsewhere slot (not_in_small n) h)) ]
+  is_in_main : (IsInSmall location → ⊥) → location ≢ Free → list_any (eqb slot) (main_slots l main) ≡ true
+  is_in_main n f = elim (cases_Bool (list_any (eqb slot) (main_slots l main))) [ inl h ↦ h | inr h ↦ absurd (f (q.elsewhere slot (not_in_small n) h)) ]
 
-  of_small : {b : Bool} → has slot (small_slots l small) ≡ b → has slot (slots_of (small_entries l small)) ≡ b
-  of_small h = ap (λ z. has slot z) (small_slots-of l small) ∙ h
+  of_small : {b : Bool} → list_any (eqb slot) (small_slots l small) ≡ b → list_any (eqb slot) (slots_of (small_entries l small)) ≡ b
+  of_small h = ap (λ z. list_any (eqb slot) z) (small_slots-of l small) ∙ h
 
-  of_main : {b : Bool} → has slot (main_slots l main) ≡ b → has slot (slots_of (main_entries l main)) ≡ b
-  of_main h = ap (λ z. has slot z) (main_slots-of l main) ∙ h
+  of_main : {b : Bool} → list_any (eqb slot) (main_slots l main) ≡ b → list_any (eqb slot) (slots_of (main_entries l main)) ≡ b
+  of_main h = ap (λ z. list_any (eqb slot) z) (main_slots-of l main) ∙ h
 
   at_free : Free ≡ location → IsAt Free slot (queues_shown l small main)
   at_free e = (of_small (not_in_small (λ i. subst (λ z. IsInSmall z) (sym e) i)), of_main (not_in_main (λ m. Free≢Main (e ∙ m))))
@@ -62,10 +61,10 @@ module _ (l : LinkState) (small : Small) (main : MainRing) (q : AreQueues l smal
   is_at Main e = at_main e
 
   -- a slot is in one of the queues if its record says so, and only then
-  pub linked_anywhere : is_linked location ≡ has slot (slots_of (small_entries l small) ++ slots_of (main_entries l main))
-  linked_anywhere = of location refl ∙ sym (has-append slot (slots_of (small_entries l small)) (slots_of (main_entries l main)))
+  pub linked_anywhere : is_linked location ≡ list_any (eqb slot) (slots_of (small_entries l small) ++ slots_of (main_entries l main))
+  linked_anywhere = of location refl ∙ sym (list_any-append (eqb slot) (slots_of (small_entries l small)) (slots_of (main_entries l main)))
     where
-      of : (m : Location) → m ≡ location → is_linked m ≡ (has slot (slots_of (small_entries l small)) || has slot (slots_of (main_entries l main)))
+      of : (m : Location) → m ≡ location → is_linked m ≡ (list_any (eqb slot) (slots_of (small_entries l small)) || list_any (eqb slot) (slots_of (main_entries l main)))
       of Free e = let at = is_at Free e in rw (at.0, at.1) refl
       of (SmallYoung position) e = let at = is_at (SmallYoung position) e in rw at.0 refl
       of SmallOld e = let at = is_at SmallOld e in rw at.0 refl
@@ -87,7 +86,7 @@ promoted-is window cursor Main bit s = absurd s
 module _ (l : LinkState) (small : Small) (main : MainRing) (q : AreQueues l small main) where
   -- Small's oldest slot is in Small
   module _ (tail : ℕ) (is : last_or None (small_slots l small) ≡ Some tail) where
-    pub tail_there : has tail (small_slots l small) ≡ true
+    pub tail_there : list_any (eqb tail) (small_slots l small) ≡ true
     tail_there = tail_among (small_slots l small) tail is
 
     pub tail_linked : is_linked (location_at l.records.items tail) ≡ true
@@ -113,10 +112,10 @@ module _ (l : LinkState) (small : Small) (main : MainRing) (q : AreQueues l smal
 
   -- Main's first slot is in Main, and without it the others are left
   pub first_there : (slot : ℕ) (bit : Bool) → slice_get (main_entries l main) 0 ≡ Some (slot, bit)
-      → (has slot (main_slots l main) ≡ true) × (without_slot slot (main_entries l main) ≡ drop 1 (main_entries l main))
+      → (list_any (eqb slot) (main_slots l main) ≡ true) × (without_slot slot (main_entries l main) ≡ drop 1 (main_entries l main))
   first_there slot bit is =
       let out = first_out slot bit (main_entries l main) is (rw (main_slots-of l main) q.main.queue.linked.apart) in
-      (ap (λ z. has slot z) (sym (main_slots-of l main)) ∙ out.0, out.1)
+      (ap (λ z. list_any (eqb slot) z) (sym (main_slots-of l main)) ∙ out.0, out.1)
 
 module _ (l : LinkState) (small : Small) (is : last_or None (small_slots l small) ≡ None) where
   pub keeps_tail-none : keeps_tail (last_or None (small_entries l small)) ≡ true

@@ -1,15 +1,16 @@
 -- Main: how its list changes when a slot is put in or removed.
 use Rattle.std.proofs.Common.{◌≡◌, ℕ, ◌+◌, ◌-◌, ◌^◌, ◌<◌, Bool, true, false, not, cond, eqb, Some, None, slice_get, List, [], ◌∷◌, ◌++◌, length, map, set, refl, sym, ap, ◌∙◌, subst, arith}
-use Rattle.std.specs.List.{filter}
+use Rattle.std.specs.List.{filter, list_any}
 use Rattle.std.proofs.lemmas.Bool.{both_ways, or_cases}
 use Rattle.std.proofs.lemmas.List.{map-append, length_push}
+use Rattle.std.proofs.lemmas.List.Folds.{list_any-append}
 use Rattle.clock2q_queues.specs.declared.main_ring.MainRing.{MainRing}
 use Rattle.clock2q_queues.specs.declared.links.Location.TheVariants.{Free, Main}
-use Rattle.clock2q_queues.specs.Rings.{has, without}
+use Rattle.clock2q_queues.specs.Rings.{without}
 use Rattle.clock2q_queues.specs.Links.{LinkState, IsSameBut, SetsBit, Attaches, Detaches, record_at, location_at, bit_at}
 use Rattle.clock2q_queues.specs.MainRing.{IsMain, IsMainRing, main_slots, main_entries}
 use Rattle.clock2q_queues.proofs.InQueue.{AreInQueue, main_linked}
-use Rattle.clock2q_queues.proofs.Rings.{eqb_self, eqb_swap, has-append, differs, has-without}
+use Rattle.clock2q_queues.proofs.Rings.{eqb_self, eqb_swap, differs, among-without, distinct_none}
 use Rattle.clock2q_queues.proofs.Joining.{Inserts, Inserts-before, Inserts-first, first_in, Removes-detached, length-without, map-agree, slots_from-is, filter-entries}
 use Rattle.clock2q_queues.proofs.Booleans.{or_parts}
 
@@ -21,7 +22,7 @@ IsMainRing-from l main ss m = subst (λ z. IsMain l main z) (sym (main_slots-is 
 
 -- a ring with no slot, whatever the links hold
 pub IsMainRing-empty : (l : LinkState) → length l.records.items < 2 ^ 32 → IsMainRing l (record { hand = None; len = 0 })
-IsMainRing-empty l h = grind (arith, both_ways)
+IsMainRing-empty l h = grind (arith, both_ways, distinct_none eqb)
 
 -- The hand after a slot was put in
 
@@ -40,13 +41,13 @@ pub record PushesMain (slot : ℕ) (old : LinkState) (main : MainRing) (new : Li
   pub others : IsSameBut (slot ∷ main_slots old main) old new
 
 module _ (slot : ℕ) (old : LinkState) (main : MainRing) (new : LinkState) (main' : MainRing)
-    (m : IsMainRing old main) (b : slot < length old.records.items) (absent : has slot (main_slots old main) ≡ false)
+    (m : IsMainRing old main) (b : slot < length old.records.items) (absent : list_any (eqb slot) (main_slots old main) ≡ false)
     (cleared : SetsBit slot false old (record new { records = old.records; made = old.made })) (n : main'.len ≡ main.len + 1) where
   bit_new : (t : ℕ) → bit_at new t ≡ cond (eqb t slot) false (bit_at old t)
   bit_new t = cleared.bits t
 
   pushed : Inserts slot Main (main_slots old main) old.records.items new.records.items → main'.hand ≡ slice_get (main_slots old main ++ slot ∷ []) 0 → PushesMain slot old main new main'
-  pushed i h = grind (arith, length_push, or_cases, has-append, differs, both_ways, IsMainRing-from, main_slots-is, map-append, map-agree, bit_new, eqb_self, or_parts)
+  pushed i h = grind (arith, length_push, or_cases, list_any-append, differs, both_ways, IsMainRing-from, main_slots-is, map-append, map-agree, bit_new, eqb_self, or_parts)
 
   pub PushesMain-attached : (cost hand : ℕ) → main.hand ≡ Some hand → Attaches slot hand Main cost old.records new.records → main'.hand ≡ Some hand → PushesMain slot old main new main'
   PushesMain-attached cost hand e a h =
@@ -68,7 +69,7 @@ pub record UnlinksMain (slot : ℕ) (old : LinkState) (main : MainRing) (new : L
   pub freed : location_at new.records.items slot ≡ Free
   pub others : IsSameBut (main_slots old main) old new
 
-pub UnlinksMain-from : (slot : ℕ) (old : LinkState) (main : MainRing) (new : LinkState) (main' : MainRing) → IsMainRing old main → has slot (main_slots old main) ≡ true
+pub UnlinksMain-from : (slot : ℕ) (old : LinkState) (main : MainRing) (new : LinkState) (main' : MainRing) → IsMainRing old main → list_any (eqb slot) (main_slots old main) ≡ true
     → Detaches slot old.records new.records → SetsBit slot false old (record new { records = old.records })
     → main'.hand ≡ slice_get (without slot (main_slots old main)) 0 → main'.len ≡ main.len - 1 → UnlinksMain slot old main new main'
 UnlinksMain-from slot old main new main' m h d cleared s n =
@@ -77,13 +78,13 @@ UnlinksMain-from slot old main new main' m h d cleared s n =
     let bit_left : (t : ℕ) → eqb t slot ≡ false → bit_at new t ≡ bit_at old t = λ t other. cleared.bits t ∙ rw other refl in
     let is : IsMain new main' (without slot ss) = record {
       queue = record { linked = r.linked; starts = s; counted = omega (arith, n, m.queue.counted, length-without slot ss m.queue.linked.apart h); countable = rw r.as_many m.queue.countable };
-      location = λ t g. let w = has-without t slot ss g in r.locations t w.1 ∙ m.location t w.0;
+      location = λ t g. let w = among-without t slot ss g in r.locations t w.1 ∙ m.location t w.0;
     } in
     record {
       whole = IsMainRing-from new main' (without slot ss) is;
       entries =
           ap (λ z. map {B = ℕ × Bool} (λ s. (s, bit_at new s)) z) (main_slots-is new main' (without slot ss) is)
-          ∙ map-agree {X = ℕ × Bool} (λ s. (s, bit_at new s)) (λ s. (s, bit_at old s)) (without slot ss) (λ t g. ap (λ z. (t, z)) (bit_left t (has-without t slot ss g).1))
+          ∙ map-agree {X = ℕ × Bool} (λ s. (s, bit_at new s)) (λ s. (s, bit_at old s)) (without slot ss) (λ t g. ap (λ z. (t, z)) (bit_left t (among-without t slot ss g).1))
           ∙ sym (filter-entries slot (λ s. bit_at old s) ss);
       freed = ap (λ r. r.location) r.freed;
       others = record {

@@ -1,32 +1,33 @@
 -- How each call changes the order of the history's places and the chain of the free ones.
 use Rattle.std.proofs.Common.{◌≡◌, ℕ, zero, suc, ◌+◌, ◌-◌, ◌^◌, ◌<◌, ◌≤◌, Bool, true, false, ◌||◌, eqb, Option, Some}
 use Rattle.std.proofs.Common.{None, slice_get, List, [], ◌∷◌, ◌++◌, length, take, drop, inl, inr, refl, sym, ap, ◌∙◌, subst, arith}
-use Rattle.std.specs.List.{last_or}
+use Rattle.std.specs.List.{last_or, list_any, AllByRecursion, IsDistinct}
 use Rattle.std.proofs.lemmas.Bool.{eqb-true, both_ways, cases_Bool}
 use Rattle.std.proofs.lemmas.List.{length-append, length-set}
+use Rattle.std.proofs.lemmas.List.Folds.{list_any-append}
 use Rattle.clock2q_queues.specs.declared.links.Record.{Record}
 use Rattle.clock2q_queues.specs.declared.links.Location.TheVariants.{Free}
 use Rattle.clock2q_queues.specs.declared.order.Chain.{Chain}
-use Rattle.clock2q_queues.specs.Rings.{has, without, AllApart, AllBelow, around}
+use Rattle.clock2q_queues.specs.Rings.{without, around}
 use Rattle.clock2q_queues.specs.Cells.{CellsState, accessed, written}
 use Rattle.clock2q_queues.specs.Links.{IsLinked, Attaches, Detaches, end_of, made_below, slots_from, record_at, next_at, previous_at, vacant}
 use Rattle.clock2q_queues.specs.Neighbours.{PlaceRecords, place_records}
 use Rattle.clock2q_queues.specs.Order.{PlaceOrder, IsOrderOf, IsOrder, IsWholeOrder, free_places, order_shown, place_for}
 use Rattle.clock2q_queues.proofs.Records.{changed}
-use Rattle.clock2q_queues.proofs.Rings.{eqb_self, has-append, has_first, has_later, AllApart-left, AllApart-right, AllApart-append}
-use Rattle.clock2q_queues.proofs.Rings.{AllBelow-append, AllBelow-left, AllBelow-right, apart_from, apart_back, below-has, below-more, below_of, has-without}
+use Rattle.clock2q_queues.proofs.Rings.{eqb_self, among_first, among_later, IsDistinct-left, IsDistinct-right, IsDistinct-append, distinct_first, distinct_rest, distinct_more, distinct_none}
+use Rattle.clock2q_queues.proofs.Rings.{AllByRecursion-append, AllByRecursion-left, AllByRecursion-right, apart_from, apart_back, below-among, below-more, below_of, among-without}
 use Rattle.clock2q_queues.proofs.Joining.{Inserts, Inserts-before, Inserts-first, Removes, Removes-detached, IsLinked-kept, IsLinked-turned}
 use Rattle.clock2q_queues.proofs.Joining.{slots_from-is, end_some, first_in, next_in, previous_in, length-without, split_last, last_before}
 use Rattle.clock2q_queues.proofs.Booleans.{or_parts, or_neither}
 
 -- Lists of places
 
-pub around-kept : (next next' : ℕ → ℕ) (first count : ℕ) → ((t : ℕ) → has t (around next first count) ≡ true → next' t ≡ next t) → around next' first count ≡ around next first count
+pub around-kept : (next next' : ℕ → ℕ) (first count : ℕ) → ((t : ℕ) → list_any (eqb t) (around next first count) ≡ true → next' t ≡ next t) → around next' first count ≡ around next first count
 around-kept next next' first zero h = refl
 around-kept next next' first (suc count) h =
     ap (λ zs. first ∷ zs)
-    (ap (λ z. around next' z count) (h first (has_first first (around next (next first) count)))
-    ∙ around-kept next next' (next first) count (λ t g. h t (has_later t first (around next (next first) count) g)))
+    (ap (λ z. around next' z count) (h first (among_first first (around next (next first) count)))
+    ∙ around-kept next next' (next first) count (λ t g. h t (among_later t first (around next (next first) count) g)))
 
 pub length-around : (next : ℕ → ℕ) (first count : ℕ) → length (around next first count) ≡ count
 length-around next first zero = refl
@@ -41,30 +42,30 @@ take_front xs x =
     take_of [] = refl
     take_of (y ∷ ys) = ap (λ zs. y ∷ zs) (take_of ys)
 
-pub absent_below : (n : ℕ) (ss : List ℕ) → AllBelow n ss → has n ss ≡ false
+pub absent_below : (n : ℕ) (ss : List ℕ) → AllByRecursion (λ s. s < n) ss → list_any (eqb n) ss ≡ false
 absent_below n [] b = refl
-absent_below n (s ∷ ss) b = or_neither (eqb n s) (has n ss)
+absent_below n (s ∷ ss) b = or_neither (eqb n s) (list_any (eqb n) ss)
     (elim (cases_Bool (eqb n s)) [ inl e ↦ absurd (omega (arith, eqb-true n s e, b.0)) | inr e ↦ e ])
     (absent_below n ss b.1)
 
 -- the place for a new key, the head of the chain or the next unused one, goes in front
 pub record FitsNext (limit place : ℕ) (ps fs : List ℕ) : Type 0 where
   pub fits : place < limit
-  pub absent : has place ps ≡ false
-  pub apart : AllApart (place ∷ ps ++ drop 1 fs)
-  pub below : AllBelow (suc (length ps) + length (drop 1 fs)) (place ∷ ps ++ drop 1 fs)
+  pub absent : list_any (eqb place) ps ≡ false
+  pub apart : IsDistinct eqb (place ∷ ps ++ drop 1 fs)
+  pub below : AllByRecursion (λ s. s < suc (length ps) + length (drop 1 fs)) (place ∷ ps ++ drop 1 fs)
   pub within : suc (length ps) + length (drop 1 fs) ≤ limit
   pub made : place ≤ length ps + length fs
   pub makes : made_below (place + 1) (length ps + length fs) ≡ suc (length ps) + length (drop 1 fs)
 
-pub FitsNext-from : (limit : ℕ) (ps fs : List ℕ) → AllApart (ps ++ fs) → AllBelow (length ps + length fs) (ps ++ fs) → length ps + length fs ≤ limit → length ps < limit
+pub FitsNext-from : (limit : ℕ) (ps fs : List ℕ) → IsDistinct eqb (ps ++ fs) → AllByRecursion (λ s. s < length ps + length fs) (ps ++ fs) → length ps + length fs ≤ limit → length ps < limit
     → FitsNext limit (place_for (length ps) fs) ps fs
 FitsNext-from limit ps [] a b w h =
-    let b' : AllBelow (length ps) (ps ++ []) = subst (λ n. AllBelow n (ps ++ [])) (let e : length ps + 0 ≡ length ps = omega arith in e) b in
+    let b' : AllByRecursion (λ s. s < length ps) (ps ++ []) = subst (λ n. AllByRecursion (λ s. s < n) (ps ++ [])) (let e : length ps + 0 ≡ length ps = omega arith in e) b in
     record {
       fits = h;
-      absent = absent_below (length ps) ps (AllBelow-left (length ps) ps [] b');
-      apart = (absent_below (length ps) (ps ++ []) b', a);
+      absent = absent_below (length ps) ps (AllByRecursion-left (length ps) ps [] b');
+      apart = distinct_more eqb (length ps) (ps ++ []) (absent_below (length ps) (ps ++ []) b') a;
       below = (omega arith, below-more (length ps) (suc (length ps) + 0) (ps ++ []) (omega arith) b');
       within = omega arith;
       made = omega arith;
@@ -72,17 +73,18 @@ FitsNext-from limit ps [] a b w h =
     }
 FitsNext-from limit ps (f ∷ fs) a b w h =
     let n = length ps + length (f ∷ fs) in
-    let right = AllApart-right ps (f ∷ fs) a in
-    let f_below = (AllBelow-right n ps (f ∷ fs) b).0 in
-    let rest : AllBelow n (ps ++ fs) = AllBelow-append n ps fs (AllBelow-left n ps (f ∷ fs) b) (AllBelow-right n ps (f ∷ fs) b).1 in
-    let absent : has f ps ≡ false = apart_back ps (f ∷ fs) a f (has_first f fs) in
+    let right = IsDistinct-right ps (f ∷ fs) a in
+    let f_below = (AllByRecursion-right n ps (f ∷ fs) b).0 in
+    let rest : AllByRecursion (λ s. s < n) (ps ++ fs) = AllByRecursion-append n ps fs (AllByRecursion-left n ps (f ∷ fs) b) (AllByRecursion-right n ps (f ∷ fs) b).1 in
+    let absent : list_any (eqb f) ps ≡ false = apart_back ps (f ∷ fs) a f (among_first f fs) in
     record {
       fits = omega (arith, f_below, w);
       absent = absent;
-      apart = (
-        has-append f ps fs ∙ or_neither (has f ps) (has f fs) absent right.0,
-        AllApart-append ps fs (AllApart-left ps (f ∷ fs) a) right.1 (λ t g. (or_parts (eqb t f) (has t fs) (apart_from ps (f ∷ fs) a t g)).1),
-      );
+      apart =
+          distinct_more eqb f (ps ++ fs)
+          (list_any-append (eqb f) ps fs ∙ or_neither (list_any (eqb f) ps) (list_any (eqb f) fs) absent (distinct_first eqb f fs right))
+          (IsDistinct-append ps fs (IsDistinct-left ps (f ∷ fs) a) (distinct_rest eqb f fs right)
+          (λ t g. (or_parts (eqb t f) (list_any (eqb t) fs) (apart_from ps (f ∷ fs) a t g)).1));
       below = (omega (arith, f_below), below-more n (suc (length ps) + length fs) (ps ++ fs) (omega arith) rest);
       within = omega (arith, w);
       made = omega (arith, f_below);
@@ -90,11 +92,11 @@ FitsNext-from limit ps (f ∷ fs) a b w h =
     }
 
 -- the places in another order
-pub apart-turned : (ps qs fs : List ℕ) → AllApart qs → ((t : ℕ) → has t qs ≡ true → has t ps ≡ true) → AllApart (ps ++ fs) → AllApart (qs ++ fs)
-apart-turned ps qs fs a same apart = AllApart-append qs fs a (AllApart-right ps fs apart) (λ t h. apart_from ps fs apart t (same t h))
+pub apart-turned : (ps qs fs : List ℕ) → IsDistinct eqb qs → ((t : ℕ) → list_any (eqb t) qs ≡ true → list_any (eqb t) ps ≡ true) → IsDistinct eqb (ps ++ fs) → IsDistinct eqb (qs ++ fs)
+apart-turned ps qs fs a same apart = IsDistinct-append qs fs a (IsDistinct-right ps fs apart) (λ t h. apart_from ps fs apart t (same t h))
 
-pub below-turned : (n : ℕ) (ps qs fs : List ℕ) → ((t : ℕ) → has t qs ≡ true → has t ps ≡ true) → AllBelow n (ps ++ fs) → AllBelow n (qs ++ fs)
-below-turned n ps qs fs same below = AllBelow-append n qs fs (below-has n qs (λ t h. below_of n ps (AllBelow-left n ps fs below) t (same t h))) (AllBelow-right n ps fs below)
+pub below-turned : (n : ℕ) (ps qs fs : List ℕ) → ((t : ℕ) → list_any (eqb t) qs ≡ true → list_any (eqb t) ps ≡ true) → AllByRecursion (λ s. s < n) (ps ++ fs) → AllByRecursion (λ s. s < n) (qs ++ fs)
+below-turned n ps qs fs same below = AllByRecursion-append n qs fs (below-among n qs (λ t h. below_of n ps (AllByRecursion-left n ps fs below) t (same t h))) (AllByRecursion-right n ps fs below)
 
 or_swap : (x y : Bool) → (x || y) ≡ true → (y || (x || false)) ≡ true
 or_swap true true h = refl
@@ -109,8 +111,12 @@ IsOrder-from {rs} {newest} {len} {chain} {ps} {fs} o =
     subst (λ z. IsOrderOf rs newest len chain z (free_places rs.cells.items chain)) (sym (slots_from-is rs.cells.items newest len ps o.queue))
     (subst (λ z. IsOrderOf rs newest len chain ps z) (sym o.chained) o)
 
-pub IsWholeOrder-from : (l : PlaceRecords) (newest : Option ℕ) (len : ℕ) (chain : Chain) → IsOrder l newest len chain → IsWholeOrder (order_shown l newest len chain)
-IsWholeOrder-from l newest len chain o = record { apart = o.apart; below = o.below; within = o.within; countable = o.queue.countable }
+pub whole_order : (l : PlaceRecords) (newest : Option ℕ) (len : ℕ) (chain : Chain) → IsOrder l newest len chain → IsWholeOrder (order_shown l newest len chain)
+whole_order l newest len chain o = record { apart = o.apart; below = o.below; within = o.within; countable = o.queue.countable }
+
+-- no place was used
+pub empty_order : (l : PlaceRecords) → l.made ≡ 0 → length l.cells.items < 2 ^ 32 → IsOrder l None 0 (record { head = 0; len = 0 })
+empty_order l m h = grind (arith, distinct_none eqb)
 
 -- the view of an order of these places and a chain of those
 pub order_shown-is : (l : PlaceRecords) {newest : Option ℕ} {len : ℕ} {chain : Chain} {ps fs : List ℕ} → IsOrderOf l newest len chain ps fs
@@ -122,15 +128,15 @@ order_shown-is l {newest} {len} {chain} {ps} {fs} o =
 -- The chain
 
 pub chain-put : (old new : CellsState Record) (chain : Chain) (place : ℕ) (r : Record) → new ≡ written place r old
-    → r.next ≡ chain.head → place < length old.items → has place (free_places old.items chain) ≡ false
+    → r.next ≡ chain.head → place < length old.items → list_any (eqb place) (free_places old.items chain) ≡ false
     → free_places new.items (record { head = place; len = chain.len + 1 }) ≡ place ∷ free_places old.items chain
 chain-put old new chain place r e next fits absent =
     let nexts = (λ (t : ℕ). ap (λ (z : CellsState Record). next_at z.items t) e ∙ changed (λ p. p.next) old.items place r vacant t fits) in
     let to_head : next_at new.items place ≡ chain.head = nexts place ∙ rw (eqb_self place) next in
     let n : chain.len + 1 ≡ suc chain.len = omega arith in
-    let other = (λ (t : ℕ) (h : has t (free_places old.items chain) ≡ true).
+    let other = (λ (t : ℕ) (h : list_any (eqb t) (free_places old.items chain) ≡ true).
     let q : eqb t place ≡ false = elim (cases_Bool (eqb t place)) [
-      | inl q ↦ absurd (both_ways (has place (free_places old.items chain)) absent (subst (λ z. has z (free_places old.items chain) ≡ true) (eqb-true t place q) h))
+      | inl q ↦ absurd (both_ways (list_any (eqb place) (free_places old.items chain)) absent (subst (λ z. list_any (eqb z) (free_places old.items chain) ≡ true) (eqb-true t place q) h))
       | inr q ↦ q
     ] in
     nexts t ∙ rw q refl) in
@@ -139,7 +145,11 @@ chain-put old new chain place r e next fits absent =
     ∙ ap (λ zs. place ∷ zs) (around-kept (next_at old.items) (next_at new.items) chain.head chain.len other)
 
 pub head_made : (l : PlaceRecords) (newest : Option ℕ) (len : ℕ) (chain : Chain) → IsOrder l newest len chain → 0 < chain.len → chain.head < l.made
-head_made l newest len chain o some = grind (arith, has_first, below_of, AllBelow-right)
+head_made l newest len chain o some =
+    let places = slots_from l.cells.items newest len in
+    let free = free_places l.cells.items chain in
+    let count = length places + length free in
+    grind (arith, among_first, below_of count free (AllByRecursion-right count places free o.below) chain.head)
 
 module _ (l : PlaceRecords) (newest : Option ℕ) (len : ℕ) (chain : Chain) (o : IsOrder l newest len chain) where
   abbrev pub places_now : List ℕ
@@ -152,9 +162,9 @@ module _ (l : PlaceRecords) (newest : Option ℕ) (len : ℕ) (chain : Chain) (o
   chain_counted = length-around (next_at l.cells.items) chain.head chain.len
 
   -- a place in order has neighbours, and so have they
-  pub place_made : (place : ℕ) → has place places_now ≡ true → (place < l.made) × (next_at l.cells.items place < l.made) × (previous_at l.cells.items place < l.made)
+  pub place_made : (place : ℕ) → list_any (eqb place) places_now ≡ true → (place < l.made) × (next_at l.cells.items place < l.made) × (previous_at l.cells.items place < l.made)
   place_made place there =
-      let below : AllBelow l.made places_now = rw o.made (AllBelow-left (length places_now + length free_now) places_now free_now o.below) in
+      let below : AllByRecursion (λ s. s < l.made) places_now = rw o.made (AllByRecursion-left (length places_now + length free_now) places_now free_now o.below) in
       let rs = l.cells.items in (
         below_of l.made places_now below place there,
         below_of l.made places_now below (next_at rs place) (next_in rs places_now place o.queue.linked there),
@@ -214,8 +224,8 @@ module _ (l : PlaceRecords) (newest : Option ℕ) (len : ℕ) (chain : Chain) (o
     pushes : (new : PlaceRecords) → new.made ≡ made_below (place + 1) mid.made → Inserts place Free places_now mid.cells.items new.cells.items → Pushed place len' chain' new
     pushes new m i =
         let as_many : length new.cells.items ≡ length l.cells.items = i.as_many ∙ ap (λ (z : List Record). length z) k.slots in
-        let elsewhere = (λ (t : ℕ) (g : has t (free_places mid.cells.items chain') ≡ true).
-        let apart : has t (place ∷ places_now) ≡ false = apart_back (place ∷ places_now) (drop 1 free_now) fits.apart t (subst (λ zs. has t zs ≡ true) k.rest g) in
+        let elsewhere = (λ (t : ℕ) (g : list_any (eqb t) (free_places mid.cells.items chain') ≡ true).
+        let apart : list_any (eqb t) (place ∷ places_now) ≡ false = apart_back (place ∷ places_now) (drop 1 free_now) fits.apart t (subst (λ zs. list_any (eqb t) zs ≡ true) k.rest g) in
         ap (λ (z : Record). z.next) (i.others t apart)) in
         record {
           order = record {
@@ -267,8 +277,8 @@ module _ (l : PlaceRecords) (newest : Option ℕ) (len : ℕ) (chain : Chain) (o
       let xs = p.0 in
       let front : take (length places_now - 1) places_now ≡ xs = ap (λ (z : List ℕ). take (length z - 1) z) p.1 ∙ take_front xs oldest in
       let linked : IsLinked l.cells.items (oldest ∷ xs) = IsLinked-turned l.cells.items xs (oldest ∷ []) (subst (λ z. IsLinked l.cells.items z) p.1 o.queue.linked) in
-      let same = (λ (t : ℕ) (h : has t (oldest ∷ xs) ≡ true).
-      subst (λ zs. has t zs ≡ true) (sym p.1) (has-append t xs (oldest ∷ []) ∙ or_swap (eqb t oldest) (has t xs) h)) in
+      let same = (λ (t : ℕ) (h : list_any (eqb t) (oldest ∷ xs) ≡ true).
+      subst (λ zs. list_any (eqb t) zs ≡ true) (sym p.1) (list_any-append (eqb t) xs (oldest ∷ []) ∙ or_swap (eqb t oldest) (list_any (eqb t) xs) h)) in
       let count : length places_now ≡ suc (length xs) = omega (arith, ap (λ (z : List ℕ). length z) p.1, length-append xs (oldest ∷ [])) in
       record {
         oldest_was = was;
@@ -277,7 +287,7 @@ module _ (l : PlaceRecords) (newest : Option ℕ) (len : ℕ) (chain : Chain) (o
               queue = record { linked = linked; starts = end_some len oldest occupied; counted = o.queue.counted ∙ count; countable = o.queue.countable };
               chained = refl;
               apart = apart-turned places_now (oldest ∷ xs) free_now linked.apart same o.apart;
-              below = below-turned (suc (length xs) + length free_now) places_now (oldest ∷ xs) free_now same (subst (λ n. AllBelow (n + length free_now) (places_now ++ free_now)) count o.below);
+              below = below-turned (suc (length xs) + length free_now) places_now (oldest ∷ xs) free_now same (subst (λ n. AllByRecursion (λ s. s < n + length free_now) (places_now ++ free_now)) count o.below);
               within = omega (arith, count, o.within);
               made = omega (arith, count, o.made);
             }));
@@ -285,7 +295,7 @@ module _ (l : PlaceRecords) (newest : Option ℕ) (len : ℕ) (chain : Chain) (o
 
   -- A place taken out
 
-  module _ (place : ℕ) (there : has place places_now ≡ true) where
+  module _ (place : ℕ) (there : list_any (eqb place) places_now ≡ true) where
     pub place_fits : place < length l.cells.items
     place_fits = below_of (length l.cells.items) places_now o.queue.linked.below place there
 
@@ -297,8 +307,8 @@ module _ (l : PlaceRecords) (newest : Option ℕ) (len : ℕ) (chain : Chain) (o
       free_still = around-kept (next_at l.cells.items) (next_at mid.cells.items) chain.head chain.len
           (λ t g. ap (λ (z : Record). z.next) (removed.others t (apart_back places_now free_now o.apart t g)))
 
-      pub not_free : has place (free_places mid.cells.items chain) ≡ false
-      not_free = ap (λ zs. has place zs) free_still ∙ apart_from places_now free_now o.apart place there
+      pub not_free : list_any (eqb place) (free_places mid.cells.items chain) ≡ false
+      not_free = ap (λ zs. list_any (eqb place) zs) free_still ∙ apart_from places_now free_now o.apart place there
 
       pub chain_fits : chain.len + 1 < 2 ^ 32
       chain_fits =
@@ -312,15 +322,16 @@ module _ (l : PlaceRecords) (newest : Option ℕ) (len : ℕ) (chain : Chain) (o
           let fits : place < length mid.cells.items = rw removed.as_many place_fits in
           let count = length-without place places_now o.queue.linked.apart there in
           let total : length places_now + length free_now ≡ length (without place places_now) + length (place ∷ free_now) = omega (arith, count) in
-          let records : (t : ℕ) → has t (without place places_now) ≡ true → record_at new.cells.items t ≡ record_at mid.cells.items t = (λ t h.
-          ap (λ (z : CellsState Record). record_at z.items t) w ∙ changed (λ p. p) mid.cells.items place r vacant t fits ∙ rw ((has-without t place places_now h).1) refl) in
+          let records : (t : ℕ) → list_any (eqb t) (without place places_now) ≡ true → record_at new.cells.items t ≡ record_at mid.cells.items t = (λ t h.
+          ap (λ (z : CellsState Record). record_at z.items t) w ∙ changed (λ p. p) mid.cells.items place r vacant t fits ∙ rw ((among-without t place places_now h).1) refl) in
           let apart =
-          AllApart-append (without place places_now) (place ∷ free_now) removed.linked.apart (apart_from places_now free_now o.apart place there, AllApart-right places_now free_now o.apart)
-          (λ t h. let g = has-without t place places_now h in or_neither (eqb t place) (has t free_now) g.1 (apart_from places_now free_now o.apart t g.0)) in
+          IsDistinct-append (without place places_now) (place ∷ free_now) removed.linked.apart
+          (distinct_more eqb place free_now (apart_from places_now free_now o.apart place there) (IsDistinct-right places_now free_now o.apart))
+          (λ t h. let g = among-without t place places_now h in or_neither (eqb t place) (list_any (eqb t) free_now) g.1 (apart_from places_now free_now o.apart t g.0)) in
           let n = length places_now + length free_now in
-          let below = AllBelow-append n (without place places_now) (place ∷ free_now)
-          (below-has n (without place places_now) (λ t h. below_of n places_now (AllBelow-left n places_now free_now o.below) t (has-without t place places_now h).0))
-          (below_of n places_now (AllBelow-left n places_now free_now o.below) place there, AllBelow-right n places_now free_now o.below) in
+          let below = AllByRecursion-append n (without place places_now) (place ∷ free_now)
+          (below-among n (without place places_now) (λ t h. below_of n places_now (AllByRecursion-left n places_now free_now o.below) t (among-without t place places_now h).0))
+          (below_of n places_now (AllByRecursion-left n places_now free_now o.below) place there, AllByRecursion-right n places_now free_now o.below) in
           record {
             queue = record {
               linked = IsLinked-kept mid.cells.items new.cells.items (without place places_now) removed.linked (as_many ∙ sym removed.as_many) records;
@@ -330,7 +341,7 @@ module _ (l : PlaceRecords) (newest : Option ℕ) (len : ℕ) (chain : Chain) (o
             };
             chained = c ∙ ap (λ zs. place ∷ zs) free_still;
             apart = apart;
-            below = subst (λ z. AllBelow z (without place places_now ++ place ∷ free_now)) total below;
+            below = subst (λ z. AllByRecursion (λ s. s < z) (without place places_now ++ place ∷ free_now)) total below;
             within = rw as_many (omega (arith, total, o.within));
             made = m ∙ o.made ∙ total;
           }

@@ -1,11 +1,11 @@
 -- Small and Main share the links: a change to no slot of a queue leaves that queue unchanged.
-use Rattle.std.proofs.Common.{arith, ◌≡◌, ℕ, Bool, true, false, get_or, Option, None, List, length, map, sym, ap, ◌∙◌, subst}
+use Rattle.std.proofs.Common.{arith, ◌≡◌, ℕ, Bool, true, false, get_or, Option, None, List, length, map, sym, ap, ◌∙◌, subst, eqb}
 use Rattle.std.proofs.lemmas.Bool.{both_ways, cases_Bool}
+use Rattle.std.specs.List.{list_any}
 use Rattle.clock2q_machine.specs.Ages.{Age}
 use Rattle.clock2q_queues.specs.declared.links.Record.{Record}
 use Rattle.clock2q_queues.specs.declared.main_ring.MainRing.{MainRing}
 use Rattle.clock2q_queues.specs.declared.small.Small.{Small}
-use Rattle.clock2q_queues.specs.Rings.{has}
 use Rattle.clock2q_queues.specs.Links.{LinkState, IsSameBut, location_at, bit_at}
 use Rattle.clock2q_queues.specs.MainRing.{IsMain, IsMainRing, main_slots, main_entries}
 use Rattle.clock2q_queues.specs.Small.{IsSmall, IsSmallQueue, IsInSmall, small_slots, small_entries, age_of, age_at}
@@ -20,9 +20,9 @@ pub record KeepsMain (old : LinkState) (main : MainRing) (new : LinkState) : Typ
   pub entries : main_entries new main ≡ main_entries old main
 
 pub KeepsMain-from : (old : LinkState) (main : MainRing) (new : LinkState) (ss : List ℕ) → IsMainRing old main → IsSameBut ss old new
-    → ((t : ℕ) → has t (main_slots old main) ≡ true → has t ss ≡ false) → KeepsMain old main new
+    → ((t : ℕ) → list_any (eqb t) (main_slots old main) ≡ true → list_any (eqb t) ss ≡ false) → KeepsMain old main new
 KeepsMain-from old main new ss m s d =
-    let same = (λ (t : ℕ) (h : has t (main_slots old main) ≡ true). s.others t (d t h)) in
+    let same = (λ (t : ℕ) (h : list_any (eqb t) (main_slots old main) ≡ true). s.others t (d t h)) in
     let is : IsMain new main (main_slots old main) = record {
       queue = record {
         linked = IsLinked-kept old.records.items new.records.items (main_slots old main) m.queue.linked s.as_many (λ t h. ap (λ z. z.0) (same t h));
@@ -47,9 +47,9 @@ pub record KeepsSmall (old : LinkState) (small : Small) (new : LinkState) : Type
   pub entries : small_entries new small ≡ small_entries old small
 
 pub KeepsSmall-from : (old : LinkState) (small : Small) (new : LinkState) (ss : List ℕ) → IsSmallQueue old small → IsSameBut ss old new → new.window.items ≡ old.window.items
-    → ((t : ℕ) → has t (small_slots old small) ≡ true → has t ss ≡ false) → KeepsSmall old small new
+    → ((t : ℕ) → list_any (eqb t) (small_slots old small) ≡ true → list_any (eqb t) ss ≡ false) → KeepsSmall old small new
 KeepsSmall-from old small new ss m s p d =
-    let same = (λ (t : ℕ) (h : has t (small_slots old small) ≡ true). s.others t (d t h)) in
+    let same = (λ (t : ℕ) (h : list_any (eqb t) (small_slots old small) ≡ true). s.others t (d t h)) in
     let window : length new.window.items ≡ length old.window.items = ap (λ (z : List (Option ℕ)). length z) p in
     let is : IsSmall new small (small_slots old small) = record {
       queue = record {
@@ -80,8 +80,8 @@ KeepsSmall-from old small new ss m s p d =
     }
 
 -- no slot is in both
-pub small_apart : (l : LinkState) (small : Small) (main : MainRing) → IsSmallQueue l small → IsMainRing l main → (t : ℕ) → has t (small_slots l small) ≡ true → has t (main_slots l main) ≡ false
+pub small_apart : (l : LinkState) (small : Small) (main : MainRing) → IsSmallQueue l small → IsMainRing l main → (t : ℕ) → list_any (eqb t) (small_slots l small) ≡ true → list_any (eqb t) (main_slots l main) ≡ false
 small_apart l small main s m t h = grind (arith, cases_Bool)
 
-pub main_apart : (l : LinkState) (small : Small) (main : MainRing) → IsSmallQueue l small → IsMainRing l main → (t : ℕ) → has t (main_slots l main) ≡ true → has t (small_slots l small) ≡ false
+pub main_apart : (l : LinkState) (small : Small) (main : MainRing) → IsSmallQueue l small → IsMainRing l main → (t : ℕ) → list_any (eqb t) (main_slots l main) ≡ true → list_any (eqb t) (small_slots l small) ≡ false
 main_apart l small main s m t h = grind (arith, cases_Bool, both_ways, small_apart)

@@ -1,15 +1,16 @@
 -- Lists of entries by slot: their slots, and how they change when a slot leaves or is hit.
 use Rattle.std.proofs.Common.{◌≡◌, ℕ, suc, ◌-◌, Bool, true, false, not, cond, eqb, Some, None, slice_get, List, [], ◌∷◌, ◌++◌, length, map, take, drop, inl, inr, refl, sym, ap, ◌∙◌, subst, arith}
-use Rattle.std.specs.List.{filter, last_or}
+use Rattle.std.specs.List.{filter, last_or, list_any, IsDistinct}
 use Rattle.std.proofs.lemmas.Bool.{eq-eqb, cases_Bool}
 use Rattle.std.proofs.lemmas.List.{map-append, take-append-drop}
+use Rattle.std.proofs.lemmas.List.Folds.{list_any-append}
 use Rattle.clock2q_machine.specs.Ages.{Age}
 use Rattle.clock2q_queues.specs.MainRing.{set_front, from_victim, main_hit_at}
 use Rattle.clock2q_queues.specs.Queues.{slots_of, without_slot}
-use Rattle.clock2q_queues.specs.Rings.{has, without, AllApart}
+use Rattle.clock2q_queues.specs.Rings.{without}
 use Rattle.clock2q_queues.specs.Small.{small_hit_at}
 use Rattle.clock2q_machine.proofs.Whole.{last_some}
-use Rattle.clock2q_queues.proofs.Rings.{eqb_self, eqb_swap, has-append, has_first, has_later, differs}
+use Rattle.clock2q_queues.proofs.Rings.{eqb_self, eqb_swap, among_first, among_later, differs, distinct_first, distinct_rest}
 use Rattle.clock2q_queues.proofs.Booleans.{or_left, or_neither, or_parts}
 
 -- Slots of entries
@@ -41,44 +42,44 @@ slots_of-hit h slot (e ∷ es) = elim (cases_Bool (eqb e.0 slot)) [
 ]
 
 -- the hand's choice keeps Main's slots
-pub members-chosen : (es : List (ℕ × Bool)) (t : ℕ) → has t (slots_of (from_victim es)) ≡ false → has t (slots_of es) ≡ false
+pub members-chosen : (es : List (ℕ × Bool)) (t : ℕ) → list_any (eqb t) (slots_of (from_victim es)) ≡ false → list_any (eqb t) (slots_of es) ≡ false
 members-chosen es t h =
     let front = take (set_front es) es in
     let rest = drop (set_front es) es in
-    let p = or_parts (has t (slots_of rest)) (has t (slots_of front))
-    (sym (ap (λ z. has t z) (slots_of-append rest (map (λ e. (e.0, false)) front))
-    ∙ ap (λ z. has t (slots_of rest ++ z)) (slots_of-mapped (λ b. false) front) ∙ has-append t (slots_of rest) (slots_of front)) ∙ h) in
-    sym (ap (λ z. has t (slots_of z)) (take-append-drop (set_front es) es)) ∙ ap (λ z. has t z) (slots_of-append front rest)
-    ∙ has-append t (slots_of front) (slots_of rest) ∙ or_neither (has t (slots_of front)) (has t (slots_of rest)) p.1 p.0
+    let p = or_parts (list_any (eqb t) (slots_of rest)) (list_any (eqb t) (slots_of front))
+    (sym (ap (λ z. list_any (eqb t) z) (slots_of-append rest (map (λ e. (e.0, false)) front))
+    ∙ ap (λ z. list_any (eqb t) (slots_of rest ++ z)) (slots_of-mapped (λ b. false) front) ∙ list_any-append (eqb t) (slots_of rest) (slots_of front)) ∙ h) in
+    sym (ap (λ z. list_any (eqb t) (slots_of z)) (take-append-drop (set_front es) es)) ∙ ap (λ z. list_any (eqb t) z) (slots_of-append front rest)
+    ∙ list_any-append (eqb t) (slots_of front) (slots_of rest) ∙ or_neither (list_any (eqb t) (slots_of front)) (list_any (eqb t) (slots_of rest)) p.1 p.0
 
 -- A slot that isn't there
 
-pub without_slot-absent : {X : Type 0} (slot : ℕ) (es : List (ℕ × X)) → has slot (slots_of es) ≡ false → es ≡ without_slot slot es
+pub without_slot-absent : {X : Type 0} (slot : ℕ) (es : List (ℕ × X)) → list_any (eqb slot) (slots_of es) ≡ false → es ≡ without_slot slot es
 without_slot-absent slot [] h = refl
 without_slot-absent slot (e ∷ es) h =
-    let d : eqb e.0 slot ≡ false = eqb_swap slot e.0 (or_parts (eqb slot e.0) (has slot (slots_of es)) h).0 in
-    rw d (ap (λ zs. e ∷ zs) (without_slot-absent slot es (or_parts (eqb slot e.0) (has slot (slots_of es)) h).1))
+    let d : eqb e.0 slot ≡ false = eqb_swap slot e.0 (or_parts (eqb slot e.0) (list_any (eqb slot) (slots_of es)) h).0 in
+    rw d (ap (λ zs. e ∷ zs) (without_slot-absent slot es (or_parts (eqb slot e.0) (list_any (eqb slot) (slots_of es)) h).1))
 
 -- a slot that isn't in a queue is not hit there
-pub small_hit_at-absent : (slot : ℕ) (es : List (ℕ × Age)) → has slot (slots_of es) ≡ false → es ≡ small_hit_at slot es
+pub small_hit_at-absent : (slot : ℕ) (es : List (ℕ × Age)) → list_any (eqb slot) (slots_of es) ≡ false → es ≡ small_hit_at slot es
 small_hit_at-absent slot [] h = refl
 small_hit_at-absent slot (e ∷ es) h =
-    let d : eqb e.0 slot ≡ false = eqb_swap slot e.0 (or_parts (eqb slot e.0) (has slot (slots_of es)) h).0 in
-    rw d (ap (λ zs. e ∷ zs) (small_hit_at-absent slot es (or_parts (eqb slot e.0) (has slot (slots_of es)) h).1))
+    let d : eqb e.0 slot ≡ false = eqb_swap slot e.0 (or_parts (eqb slot e.0) (list_any (eqb slot) (slots_of es)) h).0 in
+    rw d (ap (λ zs. e ∷ zs) (small_hit_at-absent slot es (or_parts (eqb slot e.0) (list_any (eqb slot) (slots_of es)) h).1))
 
-pub main_hit_at-absent : (slot : ℕ) (es : List (ℕ × Bool)) → has slot (slots_of es) ≡ false → es ≡ main_hit_at slot es
+pub main_hit_at-absent : (slot : ℕ) (es : List (ℕ × Bool)) → list_any (eqb slot) (slots_of es) ≡ false → es ≡ main_hit_at slot es
 main_hit_at-absent slot [] h = refl
 main_hit_at-absent slot (e ∷ es) h =
-    let d : eqb e.0 slot ≡ false = eqb_swap slot e.0 (or_parts (eqb slot e.0) (has slot (slots_of es)) h).0 in
-    rw d (ap (λ zs. e ∷ zs) (main_hit_at-absent slot es (or_parts (eqb slot e.0) (has slot (slots_of es)) h).1))
+    let d : eqb e.0 slot ≡ false = eqb_swap slot e.0 (or_parts (eqb slot e.0) (list_any (eqb slot) (slots_of es)) h).0 in
+    rw d (ap (λ zs. e ∷ zs) (main_hit_at-absent slot es (or_parts (eqb slot e.0) (list_any (eqb slot) (slots_of es)) h).1))
 
 -- The last entry
 
-last_in : (ss : List ℕ) (s x : ℕ) → last_or None (s ∷ ss) ≡ Some x → has x (s ∷ ss) ≡ true
+last_in : (ss : List ℕ) (s x : ℕ) → last_or None (s ∷ ss) ≡ Some x → list_any (eqb x) (s ∷ ss) ≡ true
 last_in [] s x e = let q : x ≡ s = cc in or_left (eqb x s) false (eq-eqb x s q)
-last_in (t ∷ ss) s x e = has_later x s (t ∷ ss) (last_in ss t x e)
+last_in (t ∷ ss) s x e = among_later x s (t ∷ ss) (last_in ss t x e)
 
-pub tail_among : (ss : List ℕ) (x : ℕ) → last_or None ss ≡ Some x → has x ss ≡ true
+pub tail_among : (ss : List ℕ) (x : ℕ) → last_or None ss ≡ Some x → list_any (eqb x) ss ≡ true
 tail_among [] x e = absurd (cc)
 tail_among (s ∷ ss) x e = last_in ss s x e
 
@@ -98,33 +99,33 @@ tail_entry f (s ∷ ss) x e = last-entry f ss s x e
 
 module _ {X : Type 0} where
   -- the first entry leaves
-  pub first_out : (s : ℕ) (x : X) (es : List (ℕ × X)) → slice_get es 0 ≡ Some (s, x) → AllApart (slots_of es) → (has s (slots_of es) ≡ true) × (without_slot s es ≡ drop 1 es)
+  pub first_out : (s : ℕ) (x : X) (es : List (ℕ × X)) → slice_get es 0 ≡ Some (s, x) → IsDistinct eqb (slots_of es) → (list_any (eqb s) (slots_of es) ≡ true) × (without_slot s es ≡ drop 1 es)
   first_out s x [] h a = absurd (cc)
   first_out s x (e ∷ es) h a =
       let q : s ≡ e.0 = named e h in (
-        subst (λ z. has z (e.0 ∷ slots_of es) ≡ true) (sym q) (has_first e.0 (slots_of es)),
-        subst (λ z. without_slot z (e ∷ es) ≡ es) (sym q) (rw (eqb_self e.0) (sym (without_slot-absent e.0 es a.0))),
+        subst (λ z. list_any (eqb z) (e.0 ∷ slots_of es) ≡ true) (sym q) (among_first e.0 (slots_of es)),
+        subst (λ z. without_slot z (e ∷ es) ≡ es) (sym q) (rw (eqb_self e.0) (sym (without_slot-absent e.0 es (distinct_first eqb e.0 (slots_of es) a)))),
       )
     where
       named : (e : ℕ × X) → Some e ≡ Some (s, x) → s ≡ e.0
       named e h = let k : e ≡ (s, x) = cc in sym (ap (λ (z : ℕ × X). z.0) k)
 
   -- the last entry leaves
-  pub last_out : (s : ℕ) (es : List (ℕ × X)) → last_or None (slots_of es) ≡ Some s → AllApart (slots_of es) → (has s (slots_of es) ≡ true) × (without_slot s es ≡ take (length es - 1) es)
+  pub last_out : (s : ℕ) (es : List (ℕ × X)) → last_or None (slots_of es) ≡ Some s → IsDistinct eqb (slots_of es) → (list_any (eqb s) (slots_of es) ≡ true) × (without_slot s es ≡ take (length es - 1) es)
   last_out s [] h a = absurd (cc)
   last_out s (e ∷ []) h a =
       let q : s ≡ e.0 = same e.0 h in (
-        subst (λ z. has z (e.0 ∷ []) ≡ true) (sym q) (has_first e.0 []),
+        subst (λ z. list_any (eqb z) (e.0 ∷ []) ≡ true) (sym q) (among_first e.0 []),
         subst (λ z. without_slot z (e ∷ []) ≡ []) (sym q) (rw (eqb_self e.0) refl),
       )
     where
       same : (t : ℕ) → Some t ≡ Some s → s ≡ t
       same t h = cc
   last_out s (e ∷ f ∷ es) h a =
-      let r = last_out s (f ∷ es) h a.1 in
-      let d : eqb e.0 s ≡ false = eqb_swap s e.0 (differs s e.0 (slots_of (f ∷ es)) r.0 a.0) in
+      let r = last_out s (f ∷ es) h (distinct_rest eqb e.0 (slots_of (f ∷ es)) a) in
+      let d : eqb e.0 s ≡ false = eqb_swap s e.0 (differs s e.0 (slots_of (f ∷ es)) r.0 (distinct_first eqb e.0 (slots_of (f ∷ es)) a)) in
       let n : length (e ∷ f ∷ es) - 1 ≡ suc (length (f ∷ es) - 1) = omega arith in
-      (has_later s e.0 (slots_of (f ∷ es)) r.0, rw (d, n) (ap (λ zs. e ∷ zs) r.1))
+      (among_later s e.0 (slots_of (f ∷ es)) r.0, rw (d, n) (ap (λ zs. e ∷ zs) r.1))
 
   -- there is no last entry
   pub none_last : (es : List (ℕ × X)) → last_or None (slots_of es) ≡ None → es ≡ take (length es - 1) es

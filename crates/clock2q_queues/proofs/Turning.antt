@@ -1,14 +1,15 @@
 -- Small, whose oldest slot became its newest.
 use Rattle.std.proofs.Common.{◌≡◌, ℕ, ◌+◌, ◌<◌, true, false, not, cond, eqb, Option, Some, None, IfSome, List, [], ◌∷◌, ◌++◌, length, inl, inr, refl, sym, ap, ◌∙◌, subst, arith}
-use Rattle.std.specs.List.{filter, last_or}
+use Rattle.std.specs.List.{filter, last_or, list_any, IsDistinct, AllByRecursion}
 use Rattle.std.proofs.lemmas.Bool.{cases_Bool, eqb-true}
 use Rattle.std.proofs.lemmas.List.{append-nil, length-set}
+use Rattle.std.proofs.lemmas.List.Folds.{list_any-append}
 use Rattle.clock2q_queues.specs.declared.links.Record.{Record}
 use Rattle.clock2q_queues.specs.declared.links.Location.{Location}
 use Rattle.clock2q_queues.specs.declared.links.Location.TheVariants.{SmallYoung}
 use Rattle.clock2q_queues.specs.declared.small.Small.{Small}
 use Rattle.clock2q_queues.specs.Cells.{CellsState, HitBits, accessed, bit_in, written}
-use Rattle.clock2q_queues.specs.Rings.{has, without, AllApart}
+use Rattle.clock2q_queues.specs.Rings.{without}
 use Rattle.clock2q_queues.specs.Links.{LinkState, IsLinked, IsSameBut, end_of, record_at, young_at, next_at, previous_at, location_at, bit_at, with_location, vacant}
 use Rattle.clock2q_queues.specs.Ends.{position_freed}
 use Rattle.clock2q_queues.specs.Flags.{is_linked}
@@ -16,18 +17,18 @@ use Rattle.clock2q_queues.specs.Small.{IsSmallQueue, GrowsOld, small_slots, smal
 use Rattle.clock2q_queues.proofs.Booleans.{and_false, or_parts, or_neither}
 use Rattle.clock2q_queues.proofs.InQueue.{in_small_linked}
 use Rattle.clock2q_queues.proofs.Records.{changed}
-use Rattle.clock2q_queues.proofs.Rings.{IsRing-kept, eqb_self, has-append, has-without_test, without-parted}
+use Rattle.clock2q_queues.proofs.Rings.{IsRing-kept, eqb_self, among-without_test, without-parted}
 use Rattle.clock2q_queues.proofs.Joining.{Inserts, IsLinked-turned, end_some, in_bounds, last_before, length-without, same_record, split_last}
 use Rattle.clock2q_queues.proofs.Leaving.{others_stay, ages_kept, records_now, window_now, bits-freed}
 use Rattle.clock2q_queues.proofs.SlotLists.{tail_among}
 use Rattle.clock2q_queues.proofs.Window.{AreStaying, Admits, Admits-from, aged_slots, cursor_linked}
 
 -- a list that ends with this slot is the others, then the slot
-ends_in : (ss : List ℕ) (slot : ℕ) → AllApart ss → last_or None ss ≡ Some slot → ss ≡ without slot ss ++ slot ∷ []
+ends_in : (ss : List ℕ) (slot : ℕ) → IsDistinct eqb ss → last_or None ss ≡ Some slot → ss ≡ without slot ss ++ slot ∷ []
 ends_in [] slot a e = absurd (cc)
 ends_in (s ∷ ss) slot a e =
     let p = split_last ss s slot e in
-    let w : without slot (s ∷ ss) ≡ p.0 = ap (λ z. without slot z) p.1 ∙ without-parted p.0 slot [] (subst (λ z. AllApart z) p.1 a) ∙ append-nil p.0 in
+    let w : without slot (s ∷ ss) ≡ p.0 = ap (λ z. without slot z) p.1 ∙ without-parted p.0 slot [] (subst (λ z. IsDistinct eqb z) p.1 a) ∙ append-nil p.0 in
     p.1 ∙ ap (λ z. z ++ slot ∷ []) (sym w)
 
 -- if there is a slot, there is an oldest one
@@ -35,8 +36,8 @@ pub oldest_is : {l : LinkState} {small : Small} → IsSmallQueue l small → 0 <
 oldest_is {l} {small} m some = sym m.ends ∙ end_some small.len small.oldest (omega (arith, some, m.queue.counted))
 
 -- the slot is none of the others
-pub gone : (slot : ℕ) (ss : List ℕ) → has slot (without slot ss) ≡ false
-gone slot ss = has-without_test slot slot ss ∙ rw (eqb_self slot) (and_false (has slot ss))
+pub gone : (slot : ℕ) (ss : List ℕ) → list_any (eqb slot) (without slot ss) ≡ false
+gone slot ss = among-without_test slot slot ss ∙ rw (eqb_self slot) (and_false (list_any (eqb slot) ss))
 
 -- a slot of Small is in a queue
 
@@ -67,7 +68,7 @@ module _ (slot : ℕ) (old : LinkState) (small : Small) (m : IsSmallQueue old sm
   abbrev rest : List ℕ
   rest = without slot (small_slots old small)
 
-  pub there : has slot (small_slots old small) ≡ true
+  pub there : list_any (eqb slot) (small_slots old small) ≡ true
   there = tail_among (small_slots old small) slot is
 
   pub slot_fits : slot < length old.records.items
@@ -135,7 +136,10 @@ module _ (slot : ℕ) (old : LinkState) (small : Small) (m : IsSmallQueue old sm
       as_many_new = ap (λ (l : LinkState). length l.records.items) n ∙ length-set aged.records.items slot _ ∙ ap (λ (l : LinkState). length l.records.items) a
 
       inserted : Inserts slot (SmallYoung small.cursor) rest mid.records.items new.records.items
-      inserted = grind (arith, IsRing-kept, linked_before, stood, as_many_new, or_parts, same_record, as_many)
+      inserted =
+          let as_before : length new.records.items ≡ length old.records.items = as_many_new ∙ o.as_many ∙ ap (λ (rs : List Record). length rs) records_left in
+          let below = subst (λ z. AllByRecursion (λ s. s < z) (rest ++ slot ∷ [])) (sym as_before) linked_before.below in
+          grind (arith, IsRing-kept, linked_before, stood, as_before, or_parts, same_record, below)
 
       counted : small'.len ≡ length rest + 1
       counted = omega (arith, len, m.queue.counted, length-without slot (small_slots old small) m.queue.linked.apart there)
@@ -153,15 +157,15 @@ module _ (slot : ℕ) (old : LinkState) (small : Small) (m : IsSmallQueue old sm
             ∙ ap (λ z. admitted (length old.window.items) slot z) (ages_kept slot read m there kept as_many positions was e (λ t other. ap (λ (l : LinkState). bit_at l t) r));
         others = record {
           others = λ t h.
-              let h' : has t (slot ∷ rest) ≡ false = not_turned t h in
+              let h' : list_any (eqb t) (slot ∷ rest) ≡ false = not_turned t h in
               admits.others.others t h' ∙ ap (λ (rs : List Record). (record_at rs t, bit_at left t)) records_left ∙ ap (λ (b : HitBits). (record_at old.records.items t, bit_in b.items t)) bits_left;
           as_many = admits.others.as_many ∙ ap (λ (rs : List Record). length rs) records_left;
         };
         window = window_new ∙ window_left;
       }
         where
-          not_turned : (t : ℕ) → has t (small_slots old small) ≡ false → has t (slot ∷ rest) ≡ false
+          not_turned : (t : ℕ) → list_any (eqb t) (small_slots old small) ≡ false → list_any (eqb t) (slot ∷ rest) ≡ false
           not_turned t h =
-              let p : has t (rest ++ slot ∷ []) ≡ false = subst (λ z. has t z ≡ false) parted h in
-              let q = or_parts (has t rest) (has t (slot ∷ [])) (sym (has-append t rest (slot ∷ [])) ∙ p) in
-              or_neither (eqb t slot) (has t rest) (or_parts (eqb t slot) false q.1).0 q.0
+              let p : list_any (eqb t) (rest ++ slot ∷ []) ≡ false = subst (λ z. list_any (eqb t) z ≡ false) parted h in
+              let q = or_parts (list_any (eqb t) rest) (list_any (eqb t) (slot ∷ [])) (sym (list_any-append (eqb t) rest (slot ∷ [])) ∙ p) in
+              or_neither (eqb t slot) (list_any (eqb t) rest) (or_parts (eqb t slot) false q.1).0 q.0

@@ -1,7 +1,7 @@
 -- Small: how its list and the window change when a slot is admitted or leaves.
 use Rattle.std.proofs.Common.{◌≡◌, ℕ, ◌+◌, ◌^◌, ◌<◌, ◌≢◌, Bool, true, false, cond, eqb, Option, Some, None, slice_get}
 use Rattle.std.proofs.Common.{IfSome, List, [], ◌∷◌, length, map, set, get_or, inl, inr, refl, sym, ap, ◌∙◌, subst, arith}
-use Rattle.std.specs.List.{last_or}
+use Rattle.std.specs.List.{last_or, list_any, AllByRecursion}
 use Rattle.std.proofs.lemmas.Bool.{eqb-true, eq-eqb, ne_eqb, both_ways, cases_Bool, or_cases, lt-ltb, le-ltb, cases_lt}
 use Rattle.std.proofs.lemmas.List.{length-set}
 use Rattle.clock2q_machine.specs.Ages as ages
@@ -9,7 +9,6 @@ use Rattle.clock2q_machine.specs.Ages.{Age, grown}
 use Rattle.clock2q_queues.specs.declared.links.Location.{Location}
 use Rattle.clock2q_queues.specs.declared.links.Location.TheVariants.{Free, SmallYoung, SmallOld, Main}
 use Rattle.clock2q_queues.specs.declared.small.Small.{Small}
-use Rattle.clock2q_queues.specs.Rings.{has}
 use Rattle.clock2q_queues.specs.declared.links.Record.{Record}
 use Rattle.clock2q_queues.specs.Cells.{CellsState, accessed, written}
 use Rattle.clock2q_queues.specs.Flags.{is_linked}
@@ -17,7 +16,7 @@ use Rattle.clock2q_queues.specs.Links.{LinkState, IsBlank, IsLinked, IsSameBut, 
 use Rattle.clock2q_queues.specs.Small.{IsSmall, IsSmallQueue, IsInSmall, GrowsOld, small_slots, small_entries, admissions_since, next_cursor, age_of, age_at, admitted, is_there}
 use Rattle.clock2q_queues.proofs.InQueue.{in_small_linked}
 use Rattle.clock2q_queues.proofs.Records.{changed}
-use Rattle.clock2q_queues.proofs.Rings.{IsRing-kept, eqb_self, has_first, has_later, differs}
+use Rattle.clock2q_queues.proofs.Rings.{IsRing-kept, eqb_self, among_first, among_later, differs, distinct_none}
 use Rattle.clock2q_queues.proofs.Joining.{Inserts, Inserts-before, Inserts-first, slots_from-is, IsLinked-turned, end_some, first_in, previous_in, same_record}
 use Rattle.clock2q_queues.proofs.Booleans.{or_left, or_parts}
 
@@ -61,12 +60,12 @@ grown-at_cursor window cursor bit h =
     let a = admissions_since-cursor window cursor h in
     rw (le-ltb (admissions_since window cursor cursor + 1) window (omega arith)) refl
 
-entries-mapped : (f g : ℕ → Age) (h : Age → Age) (ss : List ℕ) → ((t : ℕ) → has t ss ≡ true → f t ≡ h (g t))
+entries-mapped : (f g : ℕ → Age) (h : Age → Age) (ss : List ℕ) → ((t : ℕ) → list_any (eqb t) ss ≡ true → f t ≡ h (g t))
     → map {B = ℕ × Age} (λ s. (s, f s)) ss ≡ map {A = ℕ × Age} {B = ℕ × Age} (λ e. (e.0, h e.1)) (map {B = ℕ × Age} (λ s. (s, g s)) ss)
 entries-mapped f g h [] e = refl
 entries-mapped f g h (s ∷ ss) e =
-    ap (λ z. (s, z) ∷ map {B = ℕ × Age} (λ s. (s, f s)) ss) (e s (has_first s ss))
-    ∙ ap (λ zs. (s, h (g s)) ∷ zs) (entries-mapped f g h ss (λ t k. e t (has_later t s ss k)))
+    ap (λ z. (s, z) ∷ map {B = ℕ × Age} (λ s. (s, f s)) ss) (e s (among_first s ss))
+    ∙ ap (λ zs. (s, h (g s)) ∷ zs) (entries-mapped f g h ss (λ t k. e t (among_later t s ss k)))
 
 pub small_slots-is : (l : LinkState) (small : Small) (ss : List ℕ) → IsSmall l small ss → small_slots l small ≡ ss
 small_slots-is l small ss m = slots_from-is l.records.items (end_of small.len small.newest) small.len ss m.queue
@@ -76,13 +75,13 @@ IsSmallQueue-from l small ss m = subst (λ z. IsSmall l small z) (sym (small_slo
 
 -- the queue after the slot at the cursor became old
 linked_still : (old mid : LinkState) (ss : List ℕ) (cursor : ℕ) → IsLinked old.records.items ss → GrowsOld cursor old mid → IsLinked mid.records.items ss
-linked_still old mid ss cursor k o = grind (arith, IsRing-kept)
+linked_still old mid ss cursor k o = grind (arith, IsRing-kept, subst (λ z. AllByRecursion (λ s. s < z) ss) (sym o.as_many) k.below)
 
 -- the slots of Small, perhaps without one that leaves: their locations, and what the window's positions hold
 pub record AreStaying (l : LinkState) (cursor : ℕ) (ss : List ℕ) : Type 0 where
-  pub location : (t : ℕ) → has t ss ≡ true → IsInSmall (location_at l.records.items t)
-  pub placed : (t position : ℕ) → has t ss ≡ true → location_at l.records.items t ≡ SmallYoung position → (position < length l.window.items) × (young_at l position ≡ Some t)
-  pub occupied : (position t : ℕ) → young_at l position ≡ Some t → (has t ss ≡ true) × (location_at l.records.items t ≡ SmallYoung position)
+  pub location : (t : ℕ) → list_any (eqb t) ss ≡ true → IsInSmall (location_at l.records.items t)
+  pub placed : (t position : ℕ) → list_any (eqb t) ss ≡ true → location_at l.records.items t ≡ SmallYoung position → (position < length l.window.items) × (young_at l position ≡ Some t)
+  pub occupied : (position t : ℕ) → young_at l position ≡ Some t → (list_any (eqb t) ss ≡ true) × (location_at l.records.items t ≡ SmallYoung position)
   pub cursor_in : 0 < length l.window.items → cursor < length l.window.items
   pub countable : length l.records.items < 2 ^ 32
   pub countable_positions : length l.window.items < 2 ^ 32
@@ -124,7 +123,7 @@ pub record IsSameWithout (slot : ℕ) (old new : LinkState) : Type 0 where
   pub bits : (t : ℕ) → eqb t slot ≡ false → bit_at new t ≡ bit_at old t
 
 module _ {slot : ℕ} {old : LinkState} {cursor : ℕ} {ss : List ℕ} {mid aged new : LinkState} (small' : Small)
-    (m : AreStaying old cursor ss) (absent : has slot ss ≡ false) (w : 0 < length old.window.items)
+    (m : AreStaying old cursor ss) (absent : list_any (eqb slot) ss ≡ false) (w : 0 < length old.window.items)
     (o : GrowsOld cursor old mid) (e : aged ≡ record mid { window = written cursor (Some slot) mid.window })
     (i : Inserts slot (SmallYoung cursor) ss mid.records.items new.records.items)
     (same : IsSameWithout slot aged new)
@@ -152,13 +151,13 @@ module _ {slot : ℕ} {old : LinkState} {cursor : ℕ} {ss : List ℕ} {mid aged
   bit_new t other = same.bits t other ∙ ap (λ (l : LinkState). bit_at l t) e ∙ o.bits t
 
   -- a young slot of the queue that isn't at the cursor has another position
-  elsewhere : (t position : ℕ) → has t ss ≡ true → is_there (young_at old cursor) t ≡ false
+  elsewhere : (t position : ℕ) → list_any (eqb t) ss ≡ true → is_there (young_at old cursor) t ≡ false
       → location_at old.records.items t ≡ SmallYoung position → (position < length old.window.items) × (position ≢ cursor)
   elsewhere t position h n y =
       let p = m.placed t position h y in
       (p.0, λ q. both_ways (is_there (young_at old cursor) t) n (is_there-own _ t (subst (λ z. young_at old z ≡ Some t) q p.1)))
 
-  aged_at : (t : ℕ) → has t ss ≡ true → age_at new small'.cursor t ≡ grown (length old.window.items) (age_at old cursor t)
+  aged_at : (t : ℕ) → list_any (eqb t) ss ≡ true → age_at new small'.cursor t ≡ grown (length old.window.items) (age_at old cursor t)
   aged_at t h =
       let d : eqb t slot ≡ false = differs t slot ss h absent in
       elim (cases_Bool (is_there (young_at old cursor) t)) [
@@ -174,13 +173,13 @@ module _ {slot : ℕ} {old : LinkState} {cursor : ℕ} {ss : List ℕ} {mid aged
   own_location = location_new slot ∙ rw (eqb_self slot) refl
 
   -- a slot that is in the queue now was in it before, unless it is new
-  young_new : (t position : ℕ) → has t (slot ∷ ss) ≡ true → location_at new.records.items t ≡ SmallYoung position → (position < length new.window.items) × (young_at new position ≡ Some t)
+  young_new : (t position : ℕ) → list_any (eqb t) (slot ∷ ss) ≡ true → location_at new.records.items t ≡ SmallYoung position → (position < length new.window.items) × (young_at new position ≡ Some t)
   young_new t position h y = grind (arith, cases_Bool, eqb-true, own_location, window_new, within, young_at_new, eqb_self, or_cases, both_ways, location_new, elsewhere, ne_eqb)
 
-  occupied_new : (position t : ℕ) → young_at new position ≡ Some t → (has t (slot ∷ ss) ≡ true) × (location_at new.records.items t ≡ SmallYoung position)
-  occupied_new position t h = grind (arith, cases_Bool, young_at_new, or_left, eq-eqb, own_location, eqb-true, differs, is_there-true, both_ways, has_later, location_new)
+  occupied_new : (position t : ℕ) → young_at new position ≡ Some t → (list_any (eqb t) (slot ∷ ss) ≡ true) × (location_at new.records.items t ≡ SmallYoung position)
+  occupied_new position t h = grind (arith, cases_Bool, young_at_new, or_left, eq-eqb, own_location, eqb-true, differs, is_there-true, both_ways, among_later, location_new)
 
-  in_small_new : (t : ℕ) → has t (slot ∷ ss) ≡ true → IsInSmall (location_at new.records.items t)
+  in_small_new : (t : ℕ) → list_any (eqb t) (slot ∷ ss) ≡ true → IsInSmall (location_at new.records.items t)
   in_small_new t h = grind (arith, cases_Bool, location_new, or_cases, both_ways)
 
   cursor_new : small'.cursor < length new.window.items
@@ -214,10 +213,10 @@ module _ {slot : ℕ} {old : LinkState} {cursor : ℕ} {ss : List ℕ} {mid aged
         (entries-mapped (λ s. age_at new small'.cursor s) (λ s. age_at old cursor s) (λ a. grown (length old.window.items) a) ss aged_at);
     others = record {
       others = λ t h.
-          let d : eqb t slot ≡ false = (or_parts (eqb t slot) (has t ss) h).0 in
-          let k : has t ss ≡ false = (or_parts (eqb t slot) (has t ss) h).1 in
+          let d : eqb t slot ≡ false = (or_parts (eqb t slot) (list_any (eqb t) ss) h).0 in
+          let k : list_any (eqb t) ss ≡ false = (or_parts (eqb t slot) (list_any (eqb t) ss) h).1 in
           let f : is_there (young_at old cursor) t ≡ false = elim (cases_Bool (is_there (young_at old cursor) t)) [
-            | inl z ↦ absurd (both_ways (has t ss) k (m.occupied cursor t (is_there-true _ t z)).0)
+            | inl z ↦ absurd (both_ways (list_any (eqb t) ss) k (m.occupied cursor t (is_there-true _ t z)).0)
             | inr z ↦ z
           ] in
           ap (λ z. (z, bit_at new t)) (i.others t h ∙ same_record (record_at mid.records.items t) (record_at old.records.items t) (o.previouses t) (o.nexts t) (o.locations t ∙ rw f refl))
@@ -229,7 +228,7 @@ module _ {slot : ℕ} {old : LinkState} {cursor : ℕ} {ss : List ℕ} {mid aged
 -- a queue with no slot, if no position is taken
 pub IsSmallQueue-empty : (l : LinkState) → IsBlank l → IsSmallQueue l (record { newest = 0; oldest = 0; len = 0; cursor = 0 })
 IsSmallQueue-empty l b = record {
-  queue = record { linked = record { ring = tt; apart = tt; below = tt }; starts = refl; counted = refl; countable = b.countable };
+  queue = record { linked = record { ring = tt; apart = distinct_none eqb; below = tt }; starts = refl; counted = refl; countable = b.countable };
   ends = refl;
   location = λ t h. absurd (both_ways false refl h);
   placed = λ t position h y. absurd (both_ways false refl h);
@@ -251,7 +250,7 @@ module _ (slot : ℕ) (old : LinkState) (small : Small) (mid aged : LinkState) (
   records_aged : aged.records ≡ mid.records
   records_aged = ap (λ (l : LinkState). l.records) e
 
-  still_in : (t : ℕ) → has t (small_slots old small) ≡ true → is_linked (location_at aged.records.items t) ≡ true
+  still_in : (t : ℕ) → list_any (eqb t) (small_slots old small) ≡ true → is_linked (location_at aged.records.items t) ≡ true
   still_in t there = grind (arith, cases_Bool, in_small_linked)
 
   -- the slots between which a new one is put are in Small
@@ -259,7 +258,7 @@ module _ (slot : ℕ) (old : LinkState) (small : Small) (mid aged : LinkState) (
       → (is_linked (location_at aged.records.items small.newest) ≡ true) × (is_linked (location_at aged.records.items (previous_at aged.records.items small.newest)) ≡ true)
   first_linked some = grind (arith, first_in, end_some, still_in, previous_in)
 
-  module _ (new : LinkState) (small' : Small) (b : slot < length old.records.items) (absent : has slot (small_slots old small) ≡ false) (w : 0 < length old.window.items)
+  module _ (new : LinkState) (small' : Small) (b : slot < length old.records.items) (absent : list_any (eqb slot) (small_slots old small) ≡ false) (w : 0 < length old.window.items)
       (cleared : SetsBit slot false aged (record new { records = aged.records; made = aged.made })) (n : small'.newest ≡ slot)
       (c : small'.len ≡ small.len + 1) (r : small'.cursor ≡ next_cursor (length old.window.items) small.cursor) where
     counted : small'.len ≡ length (small_slots old small) + 1

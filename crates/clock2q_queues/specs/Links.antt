@@ -1,8 +1,9 @@
 -- What the links hold, and how it changes.
-use Rattle.std.specs.Prelude.{◌≡◌, ℕ, ◌+◌, ◌-◌, ◌^◌, ◌<◌, ◌≤◌, ◌==◌, nat_lt, Bool, true, false, List, [], ◌++◌, length, Option, Some, None, slice_get, slice_index_or, replicate, if◌then◌else◌}
+use Rattle.std.specs.Prelude.{◌≡◌, ℕ, ◌+◌, ◌-◌, ◌^◌, ◌<◌, ◌≤◌, ◌==◌, nat_lt, Bool, true, false, List, [], ◌++◌, length, Option, Some, None, slice_get, slice_index_or, replicate, if◌then◌else◌, nat_eq}
 use Rattle.std.specs.Bool.{then_some}
+use Rattle.std.specs.List.{list_any, AllByRecursion, IsDistinct}
 use Rattle.clock2q_queues.specs.Cells.{CellsState, HitBits, cells_state, hit_bits, written, bit_in}
-use Rattle.clock2q_queues.specs.Rings.{has, AllApart, AllBelow, IsRing, around}
+use Rattle.clock2q_queues.specs.Rings.{IsRing, around}
 use Rattle.clock2q_queues.specs.declared.links.Record.{Record}
 use Rattle.clock2q_queues.specs.declared.links.Flag.{Flag}
 use Rattle.clock2q_queues.specs.declared.links.Location.{Location}
@@ -42,8 +43,8 @@ with_location slot location rs = written slot (record (record_at rs.items slot) 
 -- these slots form a ring, each of them once
 pub record IsLinked (rs : List Record) (slots : List ℕ) : Type 0 where
   pub ring : IsRing (next_at rs) (previous_at rs) slots
-  pub apart : AllApart slots
-  pub below : AllBelow (length rs) slots
+  pub apart : IsDistinct nat_eq slots
+  pub below : AllByRecursion (λ s. s < length rs) slots
 
 -- the slot at an end of a queue with this number of slots, if it has any
 abbrev pub end_of : ℕ → ℕ → Option ℕ
@@ -141,7 +142,7 @@ pub record SetsBit (slot : ℕ) (bit : Bool) (old new : LinkState) : Type 0 wher
 
 -- all slots but these are unchanged
 pub record IsSameBut (slots : List ℕ) (old new : LinkState) : Type 0 where
-  pub others : (t : ℕ) → has t slots ≡ false → slot_at new t ≡ slot_at old t
+  pub others : (t : ℕ) → list_any (nat_eq t) slots ≡ false → slot_at new t ≡ slot_at old t
   pub as_many : length new.records.items ≡ length old.records.items
 
 -- no slot is in a queue and no position is taken, and the numbers of slots and of positions fit in 32 bits

@@ -1,7 +1,7 @@
 -- Main as a list from the hand, and how the hand's choice changes it.
-use Rattle.std.specs.Prelude.{◌≡◌, ℕ, Bool, true, false, List, map, ◌==◌, if◌then◌else◌}
+use Rattle.std.specs.Prelude.{◌≡◌, ℕ, Bool, true, false, List, map, ◌==◌, if◌then◌else◌, nat_eq}
+use Rattle.std.specs.List.{list_any}
 use Rattle.clock2q_machine.specs.Hand as hand
-use Rattle.clock2q_queues.specs.Rings.{has}
 use Rattle.clock2q_queues.specs.Links.{LinkState, IsQueue, slots_from, location_at, bit_at}
 use Rattle.clock2q_queues.specs.declared.links.Location.TheVariants.{Main}
 use Rattle.clock2q_queues.specs.declared.main_ring.MainRing.{MainRing}
@@ -17,7 +17,7 @@ main_entries l main = map (λ s. (s, bit_at l s)) (main_slots l main)
 -- these slots are Main's, and their locations say so
 pub record IsMain (l : LinkState) (main : MainRing) (slots : List ℕ) : Type 0 where
   pub queue : IsQueue l.records.items main.hand main.len slots
-  pub location : (t : ℕ) → has t slots ≡ true → location_at l.records.items t ≡ Main
+  pub location : (t : ℕ) → list_any (nat_eq t) slots ≡ true → location_at l.records.items t ≡ Main
 
 -- the links represent Main
 abbrev pub IsMainRing : LinkState → MainRing → Type 0

@@ -1,6 +1,7 @@
 -- The places of the history in the order of their keys, and the chain of the free ones.
-use Rattle.std.specs.Prelude.{◌≡◌, ℕ, ◌+◌, ◌^◌, ◌<◌, ◌≤◌, List, [], ◌∷◌, ◌++◌, length, Option}
-use Rattle.clock2q_queues.specs.Rings.{AllApart, AllBelow, around}
+use Rattle.std.specs.Prelude.{◌≡◌, ℕ, ◌+◌, ◌^◌, ◌<◌, ◌≤◌, List, [], ◌∷◌, ◌++◌, length, Option, nat_eq}
+use Rattle.std.specs.List.{AllByRecursion, IsDistinct}
+use Rattle.clock2q_queues.specs.Rings.{around}
 use Rattle.clock2q_queues.specs.declared.links.Record.{Record}
 use Rattle.clock2q_queues.specs.Links.{IsQueue, slots_from, next_at}
 use Rattle.clock2q_queues.specs.Neighbours.{PlaceRecords}
@@ -39,8 +40,8 @@ free_places rs chain = around (next_at rs) chain.head chain.len
 pub record IsOrderOf (rs : PlaceRecords) (newest : Option ℕ) (len : ℕ) (chain : Chain) (places free : List ℕ) : Type 0 where
   pub queue : IsQueue rs.cells.items newest len places
   pub chained : free_places rs.cells.items chain ≡ free
-  pub apart : AllApart (places ++ free)
-  pub below : AllBelow (length places + length free) (places ++ free)
+  pub apart : IsDistinct nat_eq (places ++ free)
+  pub below : AllByRecursion (λ s. s < length places + length free) (places ++ free)
   pub within : length places + length free ≤ length rs.cells.items
   pub made : rs.made ≡ length places + length free
 
@@ -54,7 +55,7 @@ order_shown rs newest len chain = record { places = slots_from rs.cells.items ne
 
 -- what callers may rely on: no place occurs twice, each was used, and no more were used than there are
 pub record IsWholeOrder (o : PlaceOrder) : Type 0 where
-  pub apart : AllApart (o.places ++ o.free)
-  pub below : AllBelow (used o) (o.places ++ o.free)
+  pub apart : IsDistinct nat_eq (o.places ++ o.free)
+  pub below : AllByRecursion (λ s. s < used o) (o.places ++ o.free)
   pub within : used o ≤ o.limit
   pub countable : o.limit < 2 ^ 32

@@ -1,8 +1,7 @@
 -- Small and Main as two lists, over the links that they share.
-use Rattle.std.specs.Prelude.{◌≡◌, ℕ, Bool, true, false, not, ◌&&◌, nat_lt, ◌==◌, List, [], map, ◌++◌, length, Option, Some, None}
-use Rattle.std.specs.List.{filter, last_or}
+use Rattle.std.specs.Prelude.{◌≡◌, ℕ, Bool, true, false, not, ◌&&◌, nat_lt, ◌==◌, ◌<◌, List, [], map, ◌++◌, length, Option, Some, None, nat_eq}
+use Rattle.std.specs.List.{filter, last_or, list_any, AllByRecursion, IsDistinct}
 use Rattle.clock2q_machine.specs.Ages.{Age, is_promoted}
-use Rattle.clock2q_queues.specs.Rings.{has, AllApart, AllBelow}
 use Rattle.clock2q_queues.specs.Links.{LinkState, accesses_of, location_at}
 use Rattle.clock2q_queues.specs.Small.{IsSmallQueue, small_slots, small_entries}
 use Rattle.clock2q_queues.specs.MainRing.{IsMainRing, main_slots, main_entries}
@@ -38,7 +37,7 @@ queues_shown l small main = record {
 pub record AreQueues (l : LinkState) (s : Small) (m : MainRing) : Type 0 where
   pub small : IsSmallQueue l s
   pub main : IsMainRing l m
-  pub elsewhere : (t : ℕ) → has t (small_slots l s) ≡ false → has t (main_slots l m) ≡ false → location_at l.records.items t ≡ at.Free
+  pub elsewhere : (t : ℕ) → list_any (nat_eq t) (small_slots l s) ≡ false → list_any (nat_eq t) (main_slots l m) ≡ false → location_at l.records.items t ≡ at.Free
 
 -- the slots of a queue's entries
 abbrev pub slots_of : {X : Type 0} → List (ℕ × X) → List ℕ
@@ -54,10 +53,10 @@ empty_queues slots window = record { small = []; main = []; slots = slots; made 
 
 -- a slot is there: in one of the queues, or in neither
 abbrev pub IsAt : Location → ℕ → QueueState → Type 0
-IsAt at.Free slot q = (has slot (slots_of q.small) ≡ false) × (has slot (slots_of q.main) ≡ false)
-IsAt (at.SmallYoung position) slot q = (has slot (slots_of q.small) ≡ true) × (has slot (slots_of q.main) ≡ false)
-IsAt at.SmallOld slot q = (has slot (slots_of q.small) ≡ true) × (has slot (slots_of q.main) ≡ false)
-IsAt at.Main slot q = (has slot (slots_of q.small) ≡ false) × (has slot (slots_of q.main) ≡ true)
+IsAt at.Free slot q = (list_any (nat_eq slot) (slots_of q.small) ≡ false) × (list_any (nat_eq slot) (slots_of q.main) ≡ false)
+IsAt (at.SmallYoung position) slot q = (list_any (nat_eq slot) (slots_of q.small) ≡ true) × (list_any (nat_eq slot) (slots_of q.main) ≡ false)
+IsAt at.SmallOld slot q = (list_any (nat_eq slot) (slots_of q.small) ≡ true) × (list_any (nat_eq slot) (slots_of q.main) ≡ false)
+IsAt at.Main slot q = (list_any (nat_eq slot) (slots_of q.small) ≡ false) × (list_any (nat_eq slot) (slots_of q.main) ≡ true)
 
 -- whether Small's oldest slot goes on to Main instead of leaving
 abbrev pub tail_promoted : Option (ℕ × Age) → Bool
@@ -75,5 +74,5 @@ victim_leaves q = nat_lt 0 (length q.main) && keeps_tail (last_or None q.small)
 
 -- what callers may rely on: no slot occurs twice, and each is below the number of slots
 pub record IsWholeQueues (q : QueueState) : Type 0 where
-  pub apart : AllApart (slots_of q.small ++ slots_of q.main)
-  pub below : AllBelow q.slots (slots_of q.small ++ slots_of q.main)
+  pub apart : IsDistinct nat_eq (slots_of q.small ++ slots_of q.main)
+  pub below : AllByRecursion (λ s. s < q.slots) (slots_of q.small ++ slots_of q.main)

@@ -1,25 +1,10 @@
 -- Slots in a ring: each links to a next one, which links back to it.
-use Rattle.std.specs.Prelude.{◌≡◌, ℕ, zero, suc, ◌<◌, Bool, false, not, ◌||◌, ◌==◌, nat_eq, List, [], ◌∷◌}
+use Rattle.std.specs.Prelude.{◌≡◌, ℕ, zero, suc, not, ◌==◌, List, [], ◌∷◌}
 use Rattle.std.specs.List.{filter}
-
--- whether a slot is among these
-abbrev pub has : ℕ → List ℕ → Bool
-has slot [] = false
-has slot (s ∷ slots) = nat_eq slot s || has slot slots
 
 -- the slots without this one
 abbrev pub without : ℕ → List ℕ → List ℕ
 without slot slots = filter (λ s. not (s == slot)) slots
-
--- no slot occurs twice
-abbrev pub AllApart : List ℕ → Type 0
-AllApart [] = Unit {0}
-AllApart (s ∷ slots) = (has s slots ≡ false) × AllApart slots
-
--- each slot is below this bound
-abbrev pub AllBelow : ℕ → List ℕ → Type 0
-AllBelow n [] = Unit {0}
-AllBelow n (s ∷ slots) = (s < n) × AllBelow n slots
 
 -- links from one slot through these to another: each is the next of the one before it, and links back to it
 abbrev pub Joins : (next previous : ℕ → ℕ) → ℕ → List ℕ → ℕ → Type 0

@@ -1,9 +1,8 @@
 -- Small as a list of slots with their ages, newest first, and how an admission changes it.
-use Rattle.std.specs.Prelude.{◌≡◌, ℕ, ◌+◌, ◌-◌, ◌^◌, ◌<◌, Bool, true, false, nat_lt, ◌==◌, if◌then◌else◌, List, ◌∷◌, map, length, Option, Some, None}
-use Rattle.std.specs.List.{last_or}
+use Rattle.std.specs.Prelude.{◌≡◌, ℕ, ◌+◌, ◌-◌, ◌^◌, ◌<◌, Bool, true, false, nat_lt, ◌==◌, if◌then◌else◌, List, ◌∷◌, map, length, Option, Some, None, nat_eq}
+use Rattle.std.specs.List.{last_or, list_any}
 use Rattle.clock2q_machine.specs.Ages as ages
 use Rattle.clock2q_machine.specs.Ages.{Age, grown, touched}
-use Rattle.clock2q_queues.specs.Rings.{has}
 use Rattle.clock2q_queues.specs.Links.{LinkState, IsQueue, end_of, slots_from, next_at, previous_at, location_at, bit_at, young_at}
 use Rattle.clock2q_queues.specs.declared.links.Location.{Location}
 use Rattle.clock2q_queues.specs.declared.links.Location.TheVariants.{Free, SmallYoung, SmallOld, Main}
@@ -46,9 +45,9 @@ IsInSmall Main = ⊥
 pub record IsSmall (l : LinkState) (small : Small) (slots : List ℕ) : Type 0 where
   pub queue : IsQueue l.records.items (end_of small.len small.newest) small.len slots
   pub ends : end_of small.len small.oldest ≡ last_or None slots
-  pub location : (t : ℕ) → has t slots ≡ true → IsInSmall (location_at l.records.items t)
-  pub placed : (t position : ℕ) → has t slots ≡ true → location_at l.records.items t ≡ SmallYoung position → (position < length l.window.items) × (young_at l position ≡ Some t)
-  pub occupied : (position t : ℕ) → young_at l position ≡ Some t → (has t slots ≡ true) × (location_at l.records.items t ≡ SmallYoung position)
+  pub location : (t : ℕ) → list_any (nat_eq t) slots ≡ true → IsInSmall (location_at l.records.items t)
+  pub placed : (t position : ℕ) → list_any (nat_eq t) slots ≡ true → location_at l.records.items t ≡ SmallYoung position → (position < length l.window.items) × (young_at l position ≡ Some t)
+  pub occupied : (position t : ℕ) → young_at l position ≡ Some t → (list_any (nat_eq t) slots ≡ true) × (location_at l.records.items t ≡ SmallYoung position)
   pub cursor_in : 0 < length l.window.items → small.cursor < length l.window.items
   pub countable_positions : length l.window.items < 2 ^ 32
 

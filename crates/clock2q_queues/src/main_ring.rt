@@ -1,9 +1,8 @@
 //! Main: a ring of slots with a hand, which looks for the slot to evict.
-ghost use Rattle.std.specs.Prelude.{◌≡◌, ℕ, ◌+◌, ◌-◌, ◌^◌, ◌<◌, ◌≤◌, ◌==◌, true, false, not, [], ◌∷◌, ◌++◌, length, drop, Some, slice_get};
-ghost use Rattle.std.specs.List.{filter};
+ghost use Rattle.std.specs.Prelude.{◌≡◌, ℕ, ◌+◌, ◌-◌, ◌^◌, ◌<◌, ◌≤◌, ◌==◌, true, false, not, [], ◌∷◌, ◌++◌, length, drop, Some, slice_get, nat_eq};
+ghost use Rattle.std.specs.List.{filter, list_any};
 ghost use Rattle.std.specs.Option.{option_map};
 ghost use Rattle.clock2q_queues.specs.Cells.{Rises, accessed};
-ghost use Rattle.clock2q_queues.specs.Rings.{has};
 ghost use Rattle.clock2q_queues.specs.Links.{LinkState, IsSameBut, location_at, made_below};
 
 use crate::links::{Links, Location};
@@ -33,7 +32,7 @@ impl MainRing {
     pub(crate) fn push<A: Allocator>(&mut self, links: &mut Links<A>, slot: u32)
         requires whole { IsMainRing links.old self.old }
         requires slot_in { slot < length links.old.records.items }
-        requires absent { has slot (main_slots links.old self.old) ≡ false }
+        requires absent { list_any (nat_eq slot) (main_slots links.old self.old) ≡ false }
         ensures whole { IsMainRing links.new self.new }
         ensures entries { main_entries links.new self.new
             ≡ main_entries links.old self.old ++ (slot, false) ∷ [] }
@@ -57,7 +56,7 @@ impl MainRing {
     /// Removes a slot. If the hand is at that slot, it moves on.
     pub(crate) fn unlink<A: Allocator>(&mut self, links: &mut Links<A>, slot: u32)
         requires whole { IsMainRing links.old self.old }
-        requires present { has slot (main_slots links.old self.old) ≡ true }
+        requires present { list_any (nat_eq slot) (main_slots links.old self.old) ≡ true }
         ensures whole { IsMainRing links.new self.new }
         ensures entries { main_entries links.new self.new
             ≡ filter (λ e. not (e.0 == slot)) (main_entries links.old self.old) }

@@ -1,8 +1,8 @@
 //! Places that are reused, ordered newest first, and the chain of the free ones.
-ghost use Rattle.std.specs.Prelude.{◌≡◌, ◌+◌, ◌-◌, ◌<◌, true, [], ◌∷◌, take, drop, length, Some, None, IfOk};
-ghost use Rattle.std.specs.List.{last_or};
+ghost use Rattle.std.specs.Prelude.{◌≡◌, ◌+◌, ◌-◌, ◌<◌, true, [], ◌∷◌, take, drop, length, Some, None, IfOk, nat_eq};
+ghost use Rattle.std.specs.List.{last_or, list_any};
 ghost use Rattle.clock2q_queues.specs.Cells.{Rises};
-ghost use Rattle.clock2q_queues.specs.Rings.{has, without};
+ghost use Rattle.clock2q_queues.specs.Rings.{without};
 
 use crate::neighbours::{Neighbourhoods, Neighbours};
 use std::alloc::{AllocError, Allocator, Global};
@@ -136,7 +136,7 @@ impl<A: Allocator> Order<A> {
 
     /// Gives up a place, and puts it at the head of the chain.
     pub fn unlink(&mut self, place: u32)
-        requires { has place self.old.places ≡ true }
+        requires { list_any (nat_eq place) self.old.places ≡ true }
         ensures whole { IsWholeOrder self.new }
         ensures order { self.new
             ≡ record self.old {

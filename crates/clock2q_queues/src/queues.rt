@@ -1,10 +1,9 @@
 //! The two queues of a cache's residents, Small and Main, over the links that they share.
-ghost use Rattle.std.specs.Prelude.{◌≡◌, ℕ, ◌+◌, ◌-◌, ◌<◌, ◌≤◌, ◌⊎◌, false, true, [], ◌∷◌, ◌++◌, length, take, drop, slice_get, None, Some, IfOk};
-ghost use Rattle.std.specs.List.{last_or};
+ghost use Rattle.std.specs.Prelude.{◌≡◌, ℕ, ◌+◌, ◌-◌, ◌<◌, ◌≤◌, ◌⊎◌, false, true, [], ◌∷◌, ◌++◌, length, take, drop, slice_get, None, Some, IfOk, nat_eq};
+ghost use Rattle.std.specs.List.{last_or, list_any};
 ghost use Rattle.std.specs.Option.{option_map};
 ghost use Rattle.clock2q_queues.specs.Cells.{Rises};
 ghost use Rattle.clock2q_queues.specs.Links.{made_below};
-ghost use Rattle.clock2q_queues.specs.Rings.{has};
 ghost use Rattle.clock2q_queues.specs.Small.{admitted, small_hit_at};
 ghost use Rattle.clock2q_queues.specs.MainRing.{inspections, from_victim, main_hit_at};
 ghost use Rattle.clock2q_queues.specs.Queues.{slots_of, without_slot, empty_queues, victim_leaves, IsAt, IsWholeQueues, tail_promoted};
@@ -126,8 +125,8 @@ impl<A: Allocator> Queues<A> {
     #[inline(always)]
     pub fn admit(&mut self, slot: u32)
         requires slot_in { slot < self.old.slots }
-        requires not_in_small { has slot (slots_of self.old.small) ≡ false }
-        requires not_in_main { has slot (slots_of self.old.main) ≡ false }
+        requires not_in_small { list_any (nat_eq slot) (slots_of self.old.small) ≡ false }
+        requires not_in_main { list_any (nat_eq slot) (slots_of self.old.main) ≡ false }
         requires window { 0 < self.old.window }
         ensures queues { self.new
             ≡ record self.old {
@@ -149,8 +148,8 @@ impl<A: Allocator> Queues<A> {
     #[inline(always)]
     pub fn append(&mut self, slot: u32)
         requires slot_in { slot < self.old.slots }
-        requires not_in_small { has slot (slots_of self.old.small) ≡ false }
-        requires not_in_main { has slot (slots_of self.old.main) ≡ false }
+        requires not_in_small { list_any (nat_eq slot) (slots_of self.old.small) ≡ false }
+        requires not_in_main { list_any (nat_eq slot) (slots_of self.old.main) ≡ false }
         ensures queues { self.new
             ≡ record self.old {
               main = self.old.main ++ (slot, false) ∷ [];
@@ -175,7 +174,7 @@ impl<A: Allocator> Queues<A> {
     /// Returns true if a slot is in a queue. Any number may be asked for: one that is no slot's is in
     /// none. It accesses no link.
     pub fn is_resident(&self, slot: usize) -> bool
-        ensures resident { result ≡ has slot (slots_of self.now.small ++ slots_of self.now.main) }
+        ensures resident { result ≡ list_any (nat_eq slot) (slots_of self.now.small ++ slots_of self.now.main) }
     {
         self.links.is_linked(slot)
     }
@@ -333,8 +332,8 @@ impl<A: Allocator> Queues<A> {
 
     /// Records a hit on a slot. A hit on a young slot doesn't count.
     pub fn hit(&mut self, slot: u32)
-        requires resident { (has slot (slots_of self.old.small) ≡ true)
-            ⊎ (has slot (slots_of self.old.main) ≡ true) }
+        requires resident { (list_any (nat_eq slot) (slots_of self.old.small) ≡ true)
+            ⊎ (list_any (nat_eq slot) (slots_of self.old.main) ≡ true) }
         ensures queues { self.new
             ≡ record self.old {
               small = small_hit_at slot self.old.small;

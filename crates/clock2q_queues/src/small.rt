@@ -1,8 +1,7 @@
 //! Small: the queue of the newest residents, of which the last admitted ones are young.
-ghost use Rattle.std.specs.Prelude.{◌≡◌, ℕ, ◌+◌, ◌-◌, ◌^◌, ◌<◌, ◌≤◌, ◌==◌, true, false, not, [], ◌∷◌, length, Some, None};
-ghost use Rattle.std.specs.List.{filter, last_or};
+ghost use Rattle.std.specs.Prelude.{◌≡◌, ℕ, ◌+◌, ◌-◌, ◌^◌, ◌<◌, ◌≤◌, ◌==◌, true, false, not, [], ◌∷◌, length, Some, None, nat_eq};
+ghost use Rattle.std.specs.List.{filter, last_or, list_any};
 ghost use Rattle.clock2q_queues.specs.Cells.{Rises};
-ghost use Rattle.clock2q_queues.specs.Rings.{has};
 ghost use Rattle.clock2q_queues.specs.Links.{LinkState, IsBlank, IsSameBut, accesses_of, location_at, made_below};
 
 use crate::links::{Links, Location};
@@ -47,7 +46,7 @@ impl Small {
     pub(crate) fn push<A: Allocator>(&mut self, links: &mut Links<A>, slot: u32)
         requires whole { IsSmallQueue links.old self.old }
         requires slot_in { slot < length links.old.records.items }
-        requires absent { has slot (small_slots links.old self.old) ≡ false }
+        requires absent { list_any (nat_eq slot) (small_slots links.old self.old) ≡ false }
         requires window { 0 < length links.old.window.items }
         ensures whole { IsSmallQueue links.new self.new }
         ensures entries { small_entries links.new self.new
@@ -103,7 +102,7 @@ impl Small {
     /// Removes a slot. If it was young, its position becomes free.
     pub(crate) fn unlink<A: Allocator>(&mut self, links: &mut Links<A>, slot: u32)
         requires whole { IsSmallQueue links.old self.old }
-        requires present { has slot (small_slots links.old self.old) ≡ true }
+        requires present { list_any (nat_eq slot) (small_slots links.old self.old) ≡ true }
         ensures whole { IsSmallQueue links.new self.new }
         ensures entries { small_entries links.new self.new
             ≡ filter (λ e. not (e.0 == slot)) (small_entries links.old self.old) }

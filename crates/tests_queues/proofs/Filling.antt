@@ -1,12 +1,11 @@
 -- A ring that was filled in order, each slot with a set bit.
 use Rattle.std.proofs.Common.{◌≡◌, ℕ, zero, suc, ◌+◌, ◌≤◌, Bool, true, false, cond, eqb, List, [], ◌∷◌, ◌++◌, map, inl, inr, refl, sym, ap, ◌∙◌, arith}
-use Rattle.std.specs.List.{range_with_len}
+use Rattle.std.specs.List.{range_with_len, list_any}
 use Rattle.std.proofs.lemmas.Bool.{cases_Bool, eq-eqb, eqb-true}
 use Rattle.std.proofs.lemmas.List.FromFn.{map-range_with_len_more}
 use Rattle.clock2q_queues.specs.MainRing.{main_hit_at}
 use Rattle.clock2q_queues.specs.Queues.{slots_of}
-use Rattle.clock2q_queues.specs.Rings.{has}
-use Rattle.clock2q_queues.proofs.Rings.{has_first, has_later}
+use Rattle.clock2q_queues.proofs.Rings.{among_first, among_later}
 
 abbrev pub all_set : List ℕ → List (ℕ × Bool)
 all_set slots = map (λ slot. (slot, true)) slots
@@ -27,7 +26,7 @@ filled_more from n slot e =
     hit_last slot (range_with_len from n) ∙ sym (map-range_with_len_more set from n slot e)
 
 -- the next slot is not there yet
-pub not_there : (from n slot : ℕ) → from + n ≤ slot → has slot (slots_of (all_set (range_with_len from n))) ≡ false
+pub not_there : (from n slot : ℕ) → from + n ≤ slot → list_any (eqb slot) (slots_of (all_set (range_with_len from n))) ≡ false
 not_there from zero slot h = refl
 not_there from (suc n) slot h = elim (cases_Bool (eqb slot from)) [
   | inl e ↦ absurd (omega (arith, h, eqb-true slot from e))
@@ -35,6 +34,6 @@ not_there from (suc n) slot h = elim (cases_Bool (eqb slot from)) [
 ]
 
 -- the slot that was put last is there
-pub put_there : (slot : ℕ) (es : List (ℕ × Bool)) → has slot (slots_of (es ++ (slot, false) ∷ [])) ≡ true
-put_there slot [] = has_first slot []
-put_there slot (e ∷ es) = has_later slot e.0 (slots_of (es ++ (slot, false) ∷ [])) (put_there slot es)
+pub put_there : (slot : ℕ) (es : List (ℕ × Bool)) → list_any (eqb slot) (slots_of (es ++ (slot, false) ∷ [])) ≡ true
+put_there slot [] = among_first slot []
+put_there slot (e ∷ es) = among_later slot e.0 (slots_of (es ++ (slot, false) ∷ [])) (put_there slot es)

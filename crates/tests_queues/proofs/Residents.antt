@@ -1,7 +1,7 @@
 -- The state after each call of a directory with one slot.
 use Rattle.std.proofs.Common.{◌≡◌, ℕ, ◌+◌, ◌%◌, ◌^◌, ◌<◌, Bool, false, eqb, Option, Some, None, List, [], ◌∷◌, take, length, refl, sym, ap, ◌∙◌, subst, arith}
 use Rattle.std.specs.Prelude.{IfSome, if◌then◌else◌}
-use Rattle.std.specs.List.{find, AllByRecursion}
+use Rattle.std.specs.List.{find, AllByRecursion, list_any}
 use Rattle.std.proofs.lemmas.Bool.{both_ways}
 use Rattle.clock2q_handles.specs.Homes.{candidates, with_handle, removed}
 use Rattle.clock2q_directory.specs.declared.keys.store.Entry.{Entry}
@@ -10,19 +10,18 @@ use Rattle.clock2q_directory.specs.Indexes.{IsIndex}
 use Rattle.clock2q_directory.specs.Keys.{KeyPlaces, key_places, entry, written, hash_at, key_at, Writes}
 use Rattle.clock2q_directory.specs.Directory.{Known, IsResident, IsWithinRoom, Remembers}
 use Rattle.clock2q_directory.specs.History.{Remembered, Places, HasRoom, remembered, places_with, most_beside, pushed_places, oldest_hash, places_looked_up}
-use Rattle.clock2q_queues.specs.Rings.{has}
 use Rattle.clock2q_directory.proofs.Emptied.{for-new, new-none, emptied-slots, cleared_like}
 use Rattle.clock2q_directory.proofs.Entries.{length-written, slice_get-written}
 use Rattle.clock2q_directory.proofs.Hashed.{all-take}
 use Rattle.clock2q_directory.proofs.Indexes.{length-put, length-taken, IsIndex-put, IsIndex-taken}
 use Rattle.clock2q_directory.proofs.Remembering.{slots-pushed, shared-pushed}
-use Rattle.clock2q_queues.proofs.Rings.{has_first}
+use Rattle.clock2q_queues.proofs.Rings.{among_first, distinct_alone}
 use Rattle.clock2q_directory.proofs.Views.{slots-entered, slots-left}
 use Rattle.tests_queues.specs.Beside.{HasSlots, IsAlone, HasResident}
 
-none_there : (cs : List ℕ) → ((p : ℕ) → has p cs ≡ false) → cs ≡ []
+none_there : (cs : List ℕ) → ((p : ℕ) → list_any (eqb p) cs ≡ false) → cs ≡ []
 none_there [] h = refl
-none_there (c ∷ cs) h = absurd (both_ways (has c (c ∷ cs)) (h c) (has_first c cs))
+none_there (c ∷ cs) h = absurd (both_ways (list_any (eqb c) (c ∷ cs)) (h c) (among_first c cs))
 
 none_some : (x : ℕ) → None ≡ Some x → ⊥
 none_some x e = cc
@@ -121,7 +120,7 @@ was_made (e ∷ es) hash is = omega arith
 module _ {key hashes : ℕ} {d : Known ℕ (Unit {0})} (k : HasResident key hashes d.history d.residents) where
   -- the key is a resident of the directory, which has room for another if it leaves
   pub is-resident : IsResident 0 d
-  is-resident = record { taken = 0 ∷ []; indexed = k.taken.indexed; apart = (refl, tt); there = refl; made = was_made d.residents.entries (key % hashes) k.at; below = omega arith }
+  is-resident = record { taken = 0 ∷ []; indexed = k.taken.indexed; apart = distinct_alone eqb 0; there = refl; made = was_made d.residents.entries (key % hashes) k.at; below = omega arith }
 
   pub within-room : IsWithinRoom d.history
   within-room = record { room = omega (arith, k.taken.indexed.counted, k.taken.room); few = omega (arith, k.taken.indexed.counted, k.taken.few) }
@@ -152,7 +151,7 @@ module _ {key hashes : ℕ} {h : Remembered ℕ} {r : KeyPlaces ℕ (Unit {0})} 
     left-alone = record {
       some = k.taken.some;
       hashed = hashed;
-      indexed = rw (now_left, keys) (IsIndex-taken (slots h.places.index) r.entries (0 ∷ []) 0 (key % hashes) k.taken.indexed (omega (arith, k.taken.room)) (refl, tt) k.at);
+      indexed = rw (now_left, keys) (IsIndex-taken (slots h.places.index) r.entries (0 ∷ []) 0 (key % hashes) k.taken.indexed (omega (arith, k.taken.room)) (distinct_alone eqb 0) k.at);
       room = omega (arith, k.taken.room, as_many_left, beside);
       few = omega (arith, k.taken.few, beside);
       writable = omega (arith, k.taken.writable, room);
@@ -170,7 +169,7 @@ module _ {key hashes : ℕ} {h : Remembered ℕ} {r : KeyPlaces ℕ (Unit {0})} 
       record {
         some = k.taken.some;
         hashed = subst (λ z. AllByRecursion (λ e. e.0 ≡ e.1 % hashes) z) (sym (ap (λ (z : Remembered ℕ). z.entries) is)) k.taken.hashed;
-        indexed = rw slots_now (IsIndex-taken (slots h.places.index) r.entries (0 ∷ []) 0 (key % hashes) k.taken.indexed (omega (arith, k.taken.room)) (refl, tt) k.at);
+        indexed = rw slots_now (IsIndex-taken (slots h.places.index) r.entries (0 ∷ []) 0 (key % hashes) k.taken.indexed (omega (arith, k.taken.room)) (distinct_alone eqb 0) k.at);
         room = omega (arith, k.taken.room, count, same);
         few = omega (arith, k.taken.few, same);
         writable = k.taken.writable;

@@ -1,8 +1,8 @@
 //! Keys by place: what each call writes, moves out and counts.
 ghost use Rattle.std.specs.Prelude.{◌≡◌, ℕ, ◌+◌, ◌^◌, ◌<◌, ◌≤◌, List, length, IfSome, nat_eq, true};
+ghost use Rattle.std.specs.List.{AllByRecursion};
 ghost use Rattle.clock2q_handles.specs.Homes.{capacity};
 ghost use Rattle.clock2q_directory.specs.Keys.{is_key_at, with_value};
-ghost use Rattle.clock2q_queues.specs.Rings.{AllBelow};
 ghost use Rattle.clock2q_directory.specs.Indexes.{IsIndex};
 
 use clock2q_count::Count;
@@ -95,12 +95,12 @@ fn put(keys: &mut Keys<u64, ()>, index: &mut Table<u32>, hash: u64, key: u64)
     requires short { keys.old.room < 2 ^ 24 }
     requires spacious { keys.old.room ≤ capacity (length index.old.homes) }
     requires indexed { (places : List ℕ) × IsIndex index.old.homes keys.old.entries places ×
-        AllBelow (length keys.old.entries) places × (length places ≡ length keys.old.entries) }
+        AllByRecursion (λ s. s < length keys.old.entries) places × (length places ≡ length keys.old.entries) }
     ensures room { keys.new.room ≡ keys.old.room }
     ensures len { length keys.new.entries ≡ length keys.old.entries + 1 }
     ensures spacious { keys.new.room ≤ capacity (length index.new.homes) }
     ensures indexed { (places : List ℕ) × IsIndex index.new.homes keys.new.entries places ×
-        AllBelow (length keys.new.entries) places × (length places ≡ length keys.new.entries) }
+        AllByRecursion (λ s. s < length keys.new.entries) places × (length places ≡ length keys.new.entries) }
 {
     let place = keys.len() as u32;
     keys.push(hash, key, ());

@@ -1,8 +1,8 @@
 //! What happens to a key: it enters, leaves, is remembered or forgotten.
-ghost use Rattle.std.specs.Prelude.{◌≡◌, ◌+◌, ◌^◌, ◌<◌, ◌≤◌, true, length, IfSome};
+ghost use Rattle.std.specs.Prelude.{◌≡◌, ◌+◌, ◌^◌, ◌<◌, ◌≤◌, true, length, IfSome, nat_eq};
+ghost use Rattle.std.specs.List.{list_any};
 ghost use Rattle.clock2q_handles.specs.Homes.{candidates};
 ghost use Rattle.clock2q_queues.specs.Order.{IsWholeOrder, used};
-ghost use Rattle.clock2q_queues.specs.Rings.{has};
 ghost use Rattle.clock2q_directory.specs.Keys.{entry, written};
 ghost use Rattle.clock2q_directory.specs.Indexes.{IsIndex};
 ghost use Rattle.clock2q_directory.specs.Index.{places, forgotten_if};
@@ -244,7 +244,7 @@ fn put_key<K: Drop, A: Allocator>(
     ensures made { MakesPlace index.now (forgotten_if result.1 result.0 index.now) order.old order.new
         keys.old.entries result.0 }
     ensures held { IfSome result.1
-        (λ oldest. has result.0 (candidates (places index.now) oldest) ≡ true) }
+        (λ oldest. list_any (nat_eq result.0) (candidates (places index.now) oldest) ≡ true) }
     ensures written { keys.new ≡
         record keys.old {
           entries = written result.0 (entry hash key tt) keys.old.entries;

@@ -2,11 +2,11 @@ use Rattle.std.proofs.Common.{◌≡◌, ℕ, suc, ◌<◌, ◌≤◌, true, fal
 use Rattle.std.specs.Prelude.{Result, Ok, Err, IsOk}
 use Rattle.std.proofs.lemmas.Bool.{both_ways, eq-eqb}
 use Rattle.std.proofs.lemmas.List.{length-append}
+use Rattle.std.specs.List.{list_any, AllByRecursion}
 use Rattle.clock2q_handles.specs.Homes.{with_handle}
 use Rattle.clock2q_handles.specs.Changes.{PutIn}
 use Rattle.clock2q_handles.specs.declared.error.TableError.{TableError}
 use Rattle.clock2q_directory.specs.declared.keys.store.Entry.{Entry}
-use Rattle.clock2q_queues.specs.Rings.{has, AllBelow}
 use Rattle.clock2q_directory.specs.Keys.{KeyPlaces, entry, written}
 use Rattle.clock2q_directory.specs.Indexes.{IsIndex}
 use Rattle.clock2q_queues.proofs.Rings.{differs}
@@ -15,7 +15,7 @@ use Rattle.clock2q_directory.proofs.Entries.{slice_get-written, slice_get-writte
 use Rattle.clock2q_directory.proofs.Indexes.{length-put, IsIndex-put}
 use Rattle.tests_queues.proofs.keys.put.Goals as goal
 
-below_more : (n m : ℕ) (ps : List ℕ) → n ≤ m → AllBelow n ps → AllBelow m ps
+below_more : (n m : ℕ) (ps : List ℕ) → n ≤ m → AllByRecursion (λ s. s < n) ps → AllByRecursion (λ s. s < m) ps
 below_more n m [] h b = tt
 below_more n m (p ∷ ps) h b = (omega (arith, b.0, h), below_more n m ps h b.1)
 
@@ -24,16 +24,16 @@ done old new hash place (Ok x) put ok = put.0
 done old new hash place (Err e) put ok = cc
 
 indexed_more : (index index' : List (List (ℕ × ℕ))) (keys : List (Entry ℕ Unit)) (ps : List ℕ) (hash key : ℕ)
-    → IsIndex index keys ps → AllBelow (length keys) ps → length ps ≡ length keys → 0 < length index
+    → IsIndex index keys ps → AllByRecursion (λ s. s < length keys) ps → length ps ≡ length keys → 0 < length index
     → index' ≡ with_handle index hash (length keys) → (places : List ℕ) × IsIndex index' (keys ++ entry hash key tt ∷ []) places
-    × AllBelow (length (keys ++ entry hash key tt ∷ [])) places × (length places ≡ length (keys ++ entry hash key tt ∷ []))
+    × AllByRecursion (λ s. s < length (keys ++ entry hash key tt ∷ [])) places × (length places ≡ length (keys ++ entry hash key tt ∷ []))
 indexed_more index index' keys ps hash key i below count some is =
     let place = length keys in
     let e = entry hash key tt in
     let pushed : written place e keys ≡ keys ++ e ∷ [] = written-push place e keys refl in
-    let absent : has place ps ≡ false = absent_below place ps below in
+    let absent : list_any (eqb place) ps ≡ false = absent_below place ps below in
     let same =
-    (λ (t : ℕ) (h : has t ps ≡ true). ap (λ z. elim z [ None ↦ None | Some e ↦ Some e.hash ])
+    (λ (t : ℕ) (h : list_any (eqb t) ps ≡ true). ap (λ z. elim z [ None ↦ None | Some e ↦ Some e.hash ])
     (slice_get-written_other place t e keys (omega arith) (λ q. both_ways (eqb t place) (differs t place ps h absent) (eq-eqb t place q)))) in
     let at = ap (λ z. elim z [ None ↦ None | Some e ↦ Some e.hash ]) (slice_get-written place e keys (omega arith)) in
     let put : IsIndex (with_handle index hash place) (written place e keys) (place ∷ ps) = IsIndex-put index keys (written place e keys) ps place hash i some absent same at in

@@ -1,6 +1,5 @@
-use Rattle.std.proofs.Common.{◌≡◌, ℕ, ◌+◌, ◌-◌, Bool, false, List, [], ◌∷◌, ◌++◌, inr, ap, ◌∙◌, arith}
-use Rattle.std.specs.List.{range_with_len}
-use Rattle.clock2q_queues.specs.Rings.{has}
+use Rattle.std.proofs.Common.{◌≡◌, ℕ, ◌+◌, ◌-◌, Bool, false, List, [], ◌∷◌, ◌++◌, inr, ap, ◌∙◌, arith, eqb}
+use Rattle.std.specs.List.{range_with_len, list_any}
 use Rattle.clock2q_machine.specs.Ages.{Age}
 use Rattle.clock2q_queues.specs.MainRing.{main_hit_at}
 use Rattle.clock2q_queues.specs.Small.{small_hit_at}
@@ -11,13 +10,13 @@ use Rattle.tests_queues.proofs.queues.fill_main.Goals as goal
 pub append-requires-clause-not_in_main : goal.append-requires-clause-not_in_main
 append-requires-clause-not_in_main c =
     let slot = c.loop-slot.slot in
-    ap (λ (main : List (ℕ × Bool)). has slot (slots_of main)) c.loop-slot.invariant.2 ∙ not_there 2 (slot - 2) slot (omega (arith, c.loop-slot.auto.slot))
+    ap (λ (main : List (ℕ × Bool)). list_any (eqb slot) (slots_of main)) c.loop-slot.invariant.2 ∙ not_there 2 (slot - 2) slot (omega (arith, c.loop-slot.auto.slot))
 
 pub hit-requires : goal.hit-requires
 hit-requires c =
     let slot = c.loop-slot.slot in
     let put = c.append.ensures.queues in
-    record { resident = inr (ap (λ (q : QueueState). has slot (slots_of q.main)) put ∙ put_there slot c.loop-slot.queues.main) }
+    record { resident = inr (ap (λ (q : QueueState). list_any (eqb slot) (slots_of q.main)) put ∙ put_there slot c.loop-slot.queues.main) }
 
 pub loop-slot-preserved : goal.loop-slot-preserved
 loop-slot-preserved c =

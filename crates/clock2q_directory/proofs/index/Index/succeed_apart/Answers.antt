@@ -1,7 +1,7 @@
-use Rattle.std.proofs.Common.{◌≡◌, false, refl, ap, ◌∙◌, arith}
+use Rattle.std.proofs.Common.{◌≡◌, false, refl, ap, ◌∙◌, arith, eqb}
+use Rattle.std.specs.List.{list_any}
 use Rattle.clock2q_handles.specs.Homes.{candidates}
 use Rattle.clock2q_handles.specs.Layout.{run}
-use Rattle.clock2q_queues.specs.Rings.{has}
 use Rattle.clock2q_directory.specs.Accesses.{most_changed}
 use Rattle.clock2q_directory.specs.Index.{index_of, index_state, is_shared, slots, forgotten_if}
 use Rattle.clock2q_directory.proofs.Views.{held_entry}
@@ -29,7 +29,7 @@ exchange-requires g c =
       few = shared-few v c.self.invariant.sorted (few-apart c.args.self.now v (same g at) (apart g at) c.requires.beside.few);
       gap = tt;
       spare = λ none. absurd (cc);
-      held = held_entry v c.args.old_hash c.args.slot (ap (λ z. has c.args.slot (candidates z c.args.old_hash)) (same g at) ∙ c.requires.may.held.there);
+      held = held_entry v c.args.old_hash c.args.slot (ap (λ z. list_any (eqb c.args.slot) (candidates z c.args.old_hash)) (same g at) ∙ c.requires.may.held.there);
     }
 
 pub invariant_of-self : goal.invariant_of-self

@@ -1,6 +1,6 @@
-use Rattle.std.proofs.Common.{◌≡◌, true, Some, None, ap, ◌∙◌, arith}
+use Rattle.std.proofs.Common.{◌≡◌, true, Some, None, ap, ◌∙◌, arith, eqb}
+use Rattle.std.specs.List.{list_any}
 use Rattle.clock2q_handles.specs.Homes.{candidates}
-use Rattle.clock2q_queues.specs.Rings.{has}
 use Rattle.clock2q_directory.specs.Index.{IndexState, index_of, is_shared, slots}
 use Rattle.clock2q_directory.proofs.Sorted.{spare-there, held_place}
 use Rattle.clock2q_directory.proofs.Succession.{IsBeside, beside-free, beside-past, still-held, succeeded, succeeded-indexed}
@@ -15,7 +15,7 @@ module _ (g : Over) (c : After-self g) where
   shared : is_shared before ≡ true
   shared = ap is_shared c.self.view_is ∙ c.requires.shared
 
-  held : has c.args.slot (candidates (slots before) c.args.old_hash) ≡ true
+  held : list_any (eqb c.args.slot) (candidates (slots before) c.args.old_hash) ≡ true
   held = (rw (← c.self.view_is) at c.requires.may).held.there
 
 past : (g : Over) (c : After-exchange g) → is_shared (index_of c.self.inside.shared c.self.inside.own c.self.inside.charged.total) ≡ true

@@ -1,7 +1,7 @@
 use Rattle.std.proofs.Common.{◌<◌, ◌∷◌, length, drop, ap, subst, ◌∙◌, sym, arith}
 use Rattle.clock2q_queues.specs.Links.{end_of, slots_from}
 use Rattle.clock2q_queues.specs.Order.{PlaceOrder, free_places}
-use Rattle.clock2q_queues.proofs.Orders.{Chooses, Pushed, IsOrder-from, IsWholeOrder-from, order_shown-is, head_made, takes_head, takes_unused, place_in, place_next, first_made, pushes-attached, pushes-alone}
+use Rattle.clock2q_queues.proofs.Orders.{Chooses, Pushed, IsOrder-from, whole_order, order_shown-is, head_made, takes_head, takes_unused, place_in, place_next, first_made, pushes-attached, pushes-alone}
 use Rattle.clock2q_queues.proofs.order.Order.push.Given.{Over}
 use Rattle.clock2q_queues.proofs.order.Order.push.Goals.{Joined-self-gt0, Joined-self-eq0}
 use Rattle.clock2q_queues.proofs.order.Order.push.Goals as goal
@@ -43,7 +43,7 @@ pub invariant_of-self : goal.invariant_of-self
 invariant_of-self g c = IsOrder-from (pushed g (goal.at.invariant_of-self g c).Joined-self-eq0).order
 
 pub returns-clause-whole : goal.returns-clause-whole
-returns-clause-whole g c = IsWholeOrder-from _ _ _ _ (IsOrder-from (pushed g (goal.at.returns-clause-whole g c).Joined-self-eq0).order)
+returns-clause-whole g c = whole_order _ _ _ _ (IsOrder-from (pushed g (goal.at.returns-clause-whole g c).Joined-self-eq0).order)
 
 pub returns-clause-place : goal.returns-clause-place
 returns-clause-place g c = rw (← c.self.view_is) (chosen g (goal.at.returns-clause-place g c).Joined-self-gt0).is

@@ -4,7 +4,7 @@ use Rattle.clock2q_queues.specs.Links.{end_of}
 use Rattle.clock2q_queues.specs.Neighbours.{PlaceRecords}
 use Rattle.clock2q_queues.specs.declared.links.Record.{Record}
 use Rattle.clock2q_queues.specs.Order.{PlaceOrder, order_shown}
-use Rattle.clock2q_queues.proofs.Orders.{IsOrder-from, IsWholeOrder-from, order_shown-is, reuses}
+use Rattle.clock2q_queues.proofs.Orders.{IsOrder-from, whole_order, order_shown-is, reuses}
 use Rattle.clock2q_queues.proofs.order.Order.reuse_oldest.Goals as goal
 
 pub invariant_of-self : goal.invariant_of-self
@@ -22,7 +22,7 @@ returns g c =
     (subst (λ (z : PlaceOrder). 0 < length z.places) (sym c.self.view_is) c.requires) refl (ap (λ (z : Record). z.previous) (c.oldest.view_is ∙ c.read.ensures.value)) in
     let q = order_shown i.records (end_of i.len i.newest) i.len i.chain in
     record {
-      whole = IsWholeOrder-from _ _ _ _ (IsOrder-from r.order);
+      whole = whole_order _ _ _ _ (IsOrder-from r.order);
       oldest = ap (λ (z : PlaceOrder). last_or None z.places) (sym c.self.view_is) ∙ r.oldest_was;
       order = rw (← c.self.view_is) (order_shown-is _ r.order
           ∙ ap (λ (z : PlaceRecords). record { places = oldest ∷ take (length q.places - 1) q.places; free = q.free; limit = length z.cells.items; accesses = z.cells.accesses })

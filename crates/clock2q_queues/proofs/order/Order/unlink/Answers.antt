@@ -1,10 +1,11 @@
 use Rattle.std.proofs.Common.{◌≡◌, ℕ, Option, ◌+◌, ◌-◌, ◌∷◌, cond, eqb, refl, ap, ◌∙◌, arith}
 use Rattle.std.proofs.lemmas.Bool.{eq-eqb, ne_eqb}
+use Rattle.std.specs.List.{list_any}
 use Rattle.clock2q_queues.specs.declared.links.Record.{Record}
-use Rattle.clock2q_queues.specs.Rings.{has, without}
+use Rattle.clock2q_queues.specs.Rings.{without}
 use Rattle.clock2q_queues.specs.Links.{end_of, next_at, slots_from}
 use Rattle.clock2q_queues.specs.Order.{PlaceOrder, IsOrderOf, free_places, order_shown}
-use Rattle.clock2q_queues.proofs.Orders.{IsOrder-from, IsWholeOrder-from, order_shown-is, place_fits, place_made, not_free, chain_fits, chain-put, Unlinks, unlinked_counts}
+use Rattle.clock2q_queues.proofs.Orders.{IsOrder-from, whole_order, order_shown-is, place_fits, place_made, not_free, chain_fits, chain-put, Unlinks, unlinked_counts}
 use Rattle.clock2q_queues.proofs.Joining.{first_left}
 use Rattle.clock2q_queues.proofs.order.Order.unlink.Given.{Over}
 use Rattle.clock2q_queues.proofs.order.Order.unlink.Goals.{After-write, Then-self-place, Else-self-place}
@@ -13,7 +14,7 @@ use Rattle.clock2q_queues.proofs.order.Order.unlink.Goals as goal
 pub detach-was-requires : goal.detach-was-requires
 detach-was-requires g c =
     let i = c.self.inside in
-    let there = ap (λ (z : PlaceOrder). has c.args.place z.places) c.self.view_is ∙ c.requires in
+    let there = ap (λ (z : PlaceOrder). list_any (eqb c.args.place) z.places) c.self.view_is ∙ c.requires in
     let n = place_made i.records (end_of i.len i.newest) i.len i.chain c.self.invariant c.args.place there in
     record { place_in = n.0; next_in = n.1; previous_in = n.2 }
 
@@ -34,7 +35,7 @@ module _ (g : Over) (c : After-write g) (newest : ℕ)
   left =
       let i = c.self.inside in
       let place = c.args.place in
-      let there = ap (λ (z : PlaceOrder). has place z.places) c.self.view_is ∙ c.requires in
+      let there = ap (λ (z : PlaceOrder). list_any (eqb place) z.places) c.self.view_is ∙ c.requires in
       let mid = c.detach-was.new.self in
       let d = c.detach-was.ensures.detached in
       Unlinks i.records first i.len i.chain c.self.invariant place there mid d c.write.new.self _ (end_of (i.len - 1) newest) _ c.write.ensures.written (c.write.ensures.made ∙ c.detach-was.ensures.made)
@@ -67,9 +68,9 @@ invariant_of-self-else-self-place g c = let at = goal.at.invariant_of-self-else-
 pub returns-then-self-place : goal.returns-then-self-place
 returns-then-self-place g c =
     let at = goal.at.returns-then-self-place g c in
-    record { whole = IsWholeOrder-from _ _ _ _ (IsOrder-from (left g at.After-write _ (next_is g at.Then-self-place))); order = order g at.After-write _ (next_is g at.Then-self-place) }
+    record { whole = whole_order _ _ _ _ (IsOrder-from (left g at.After-write _ (next_is g at.Then-self-place))); order = order g at.After-write _ (next_is g at.Then-self-place) }
 
 pub returns-else-self-place : goal.returns-else-self-place
 returns-else-self-place g c =
     let at = goal.at.returns-else-self-place g c in
-    record { whole = IsWholeOrder-from _ _ _ _ (IsOrder-from (left g at.After-write _ (stays g at.Else-self-place))); order = order g at.After-write _ (stays g at.Else-self-place) }
+    record { whole = whole_order _ _ _ _ (IsOrder-from (left g at.After-write _ (stays g at.Else-self-place))); order = order g at.After-write _ (stays g at.Else-self-place) }

@@ -1,5 +1,5 @@
-use Rattle.std.proofs.Common.{arith, true, ap, ◌∙◌}
-use Rattle.clock2q_queues.specs.Rings.{has}
+use Rattle.std.proofs.Common.{arith, true, ap, ◌∙◌, eqb}
+use Rattle.std.specs.List.{list_any}
 use Rattle.clock2q_queues.specs.Queues.{QueueState, slots_of}
 use Rattle.clock2q_queues.proofs.Locations.{in_small_alone}
 use Rattle.clock2q_queues.proofs.Sharing.{after_small_left, after_main_left, in_small, in_main, queues_equal}
@@ -11,13 +11,13 @@ unlink-requires-clause-present g c =
     let read = c.location.ensures in
     let at = in_small_alone c.location.result c.args.slot c.args.self.now c.in-SmallYoung.is read.value in
     in_small c.self.inside.links c.self.inside.small c.self.inside.main _ c.args.slot true c.self.view_is
-    (ap (λ (q : QueueState). has c.args.slot (slots_of q.small)) read.queues ∙ at.0)
+    (ap (λ (q : QueueState). list_any (eqb c.args.slot) (slots_of q.small)) read.queues ∙ at.0)
 
 pub unlink-requires-in-Main-clause-present : goal.unlink-requires-in-Main-clause-present
 unlink-requires-in-Main-clause-present g c =
     let read = c.in-Main.ensures in
     in_main c.self.inside.links c.self.inside.small c.self.inside.main _ c.args.slot true c.self.view_is
-    (ap (λ (q : QueueState). has c.args.slot (slots_of q.main)) read.queues ∙ read.value.1)
+    (ap (λ (q : QueueState). list_any (eqb c.args.slot) (slots_of q.main)) read.queues ∙ read.value.1)
 
 pub invariant_of-self : goal.invariant_of-self
 invariant_of-self g c =
