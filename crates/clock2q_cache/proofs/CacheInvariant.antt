@@ -1,6 +1,6 @@
 -- A cache's fields keep their invariant after each change of the layers, and the machine becomes what it should.
 use Rattle.std.proofs.Common.{◌≡◌, ℕ, suc, ◌+◌, ◌^◌, ◌<◌, ◌≤◌, Bool, true, false, Option, Some, None, List, [], ◌∷◌, ◌++◌, map, length, drop, reverse, refl, sym, ap, ◌∙◌, arith, length-append, eqb}
-use Rattle.clock2q_cache.proofs.Names.{Entry, length-written, made_below, key_at-own, key_at-others, values-written, length-values, IfNone, IsEquivalence, last_or, AllByRecursion, total, capacity, with_handle, KeyPlaces, entry, written, key_at, admitted, QueueState, slots_of, IndexState, is_shared, slots, Remembered, most_beside, list_any-append, length-put, or_parts, Shares, main_share, Machine, Placement, vacancy, vacant_slot, into_main, into_small, into_small_at, joining_main, placed, stored, known_count, Fills, Writes, machine_of, places_of, with_keys_small, with_keys_main, IsStored, IsSized, IsKept, IsPlaced, whole-stored, placed-admitted, placed-joining, slots-entered, slots-left, removed, left, list_any}
+use Rattle.clock2q_cache.proofs.Names.{Entry, length-written, made_below, key_at-own, key_at-others, values-written, length-values, IfNone, IsEquivalence, last_or, AllByRecursion, total, capacity, with_handle, KeyPlaces, entry, written, key_at, admitted, QueueState, slots_of, IndexState, is_shared, slots, Remembered, most_beside, list_any-append, length-put, or_parts, Shares, main_share, Machine, Placement, vacancy, vacant_slot, into_main, into_small, into_small_at, joining_main, placed, stored, known_count, Fills, Writes, machine_of, queued_slots, with_keys_small, with_keys_main, IsStored, IsSized, IsKept, IsPlaced, whole-stored, placed-admitted, placed-joining, slots-entered, slots-left, removed, left, list_any}
 use Rattle.clock2q_directory.specs.Index as known
 use Rattle.clock2q_machine.specs.Entries as machine
 use Rattle.clock2q_cache.proofs.WithKeys.{small-admitted, main-behind, small_with, main_with, keys-agree, length-small, length-main}
@@ -56,7 +56,7 @@ module _ {K V : Type 0} {eq : K → K → Bool} {hash : K → ℕ} {shares : Sha
   -- a slot that a key that joins a queue may take
   pub record IsFree (slot : ℕ) : Type 0 where
     pub taken : vacancy m ≡ Some slot
-    pub absent : list_any (eqb slot) (places_of q) ≡ false
+    pub absent : list_any (eqb slot) (queued_slots q) ≡ false
     pub not_in_small : list_any (eqb slot) (slots_of q.small) ≡ false
     pub not_in_main : list_any (eqb slot) (slots_of q.main) ≡ false
     pub next : slot ≤ length keys.entries
@@ -99,7 +99,7 @@ module _ {K V : Type 0} {eq : K → K → Bool} {hash : K → ℕ} {shares : Sha
       {index' : List (List (ℕ × ℕ))} {keys' : KeyPlaces K V} {free' : List ℕ} {room' : ℕ}
       → known_count (eq key) m ≡ 0 → IsPlaced key m p → (w : Writes hsh key value slot keys.entries keys'.entries) → slot ≡ p.slot
       → machine_of shares q' keys'.entries h'.entries free' ≡ stored p.slot w.held p.machine
-      → IsStored hash index' keys'.entries (places_of q') → AllByRecursion (λ e. e.0 ≡ hash e.1) h'.entries
+      → IsStored hash index' keys'.entries (queued_slots q') → AllByRecursion (λ e. e.0 ≡ hash e.1) h'.entries
       → length keys'.entries ≤ q'.made → IsSized shares q' h'.limit (most_beside h') (length index') keys'.room room' → IsDone slot value p q' h' index' keys' free' room'
   placed-done {key} absent placed w at is stored hashed linked sized = record {
     holds = record { whole = rw is (whole-stored eq m kept.whole laws key absent _ placed w.held); stored = stored; hashed = hashed; linked = linked; sized = sized };
@@ -121,8 +121,8 @@ module _ {K V : Type 0} {eq : K → K → Bool} {hash : K → ℕ} {shares : Sha
   -- a key takes a free slot and joins a queue
   module _ {key : K} {value : Option V} {hsh slot n : ℕ} {index' : List (List (ℕ × ℕ))} {keys' : KeyPlaces K V} (f : IsFree slot) (is : hsh ≡ hash key) (absent : known_count (eq key) m ≡ 0)
       (indexed : index' ≡ with_handle index hsh slot) (w : Writes hsh key value slot keys.entries keys'.entries) (renewed : keys' ≡ record keys { entries = keys'.entries; writes = n }) where
-    entered : IsStored hash index' keys'.entries (slot ∷ places_of q)
-    entered = rw (indexed, w.becomes, is) (stored-entered hash index keys.entries (places_of q) slot key w.held kept.stored index_some f.absent f.next)
+    entered : IsStored hash index' keys'.entries (slot ∷ queued_slots q)
+    entered = rw (indexed, w.becomes, is) (stored-entered hash index keys.entries (queued_slots q) slot key w.held kept.stored index_some f.absent f.next)
 
     own : key_at keys'.entries slot ≡ Some key
     own = rw w.becomes (key_at-own slot hsh key w.held keys.entries f.next)
@@ -140,7 +140,7 @@ module _ {K V : Type 0} {eq : K → K → Bool} {hash : K → ℕ} {shares : Sha
 
     done : {p : Placement K V} {room' : ℕ} (q' : QueueState) (free' : List ℕ) → IsPlaced key m p → slot ≡ p.slot → room' ≡ room → q'.slots ≡ q.slots → q'.made ≡ made_below (slot + 1) q.made → q'.window ≡ q.window
         → machine_of shares q' keys'.entries h.entries free' ≡ stored p.slot w.held p.machine
-        → ((t : ℕ) → times t (places_of q') ≡ times t (slot ∷ places_of q)) → length q'.small + length q'.main ≡ suc (length q.small + length q.main)
+        → ((t : ℕ) → times t (queued_slots q') ≡ times t (slot ∷ queued_slots q)) → length q'.small + length q'.main ≡ suc (length q.small + length q.main)
         → IsDone slot value p q' h index' keys' free' room'
     done q' free' placed at free_room slots made window e as_often as_many =
         placed-done absent placed w at e (stored-moved q' entered as_often (as_many ∙ ap suc (sym (length-places q)))) kept.hashed
@@ -155,7 +155,7 @@ module _ {K V : Type 0} {eq : K → K → Bool} {hash : K → ℕ} {shares : Sha
         let q1 : QueueState = record q { small = admitted q.window slot q.small; made = made_below (slot + 1) q.made; accesses = q'.accesses } in
         rw (queues, into-small key f.taken)
         (done q1 free' (placed-admitted eq m kept.whole key slot None f.taken some) refl free_room refl refl refl (cc (main_same, values))
-        (λ t. omega (arith, times-both t q1, times-admitted t q.window slot q.small, times-cons t slot (places_of q), times-both t q))
+        (λ t. omega (arith, times-both t q1, times-admitted t q.window slot q.small, times-cons t slot (queued_slots q), times-both t q))
         (omega (arith, length-admitted q.window slot q.small)))
 
     pub main-done : {q' : QueueState} {free' : List ℕ} {room' : ℕ} → length m.main < main_share shares → q' ≡ record q { main = q.main ++ (slot, false) ∷ []; made = made_below (slot + 1) q.made; accesses = q'.accesses }
@@ -165,5 +165,5 @@ module _ {K V : Type 0} {eq : K → K → Bool} {hash : K → ℕ} {shares : Sha
         let t : with_keys_main (key_at keys'.entries) q1.main ≡ machine.behind_hand key slot m.main = grind (arith, main-behind (key_at keys'.entries) slot key q.main own, main_same) in
         rw (queues, into-main key f.taken some)
         (done q1 free' (placed-joining eq m kept.whole key slot f.taken some) refl free_room refl refl refl (cc (small_same, values))
-        (λ t. omega (arith, times-both t q1, times-pushed t q.main (slot, false), times-cons t slot (places_of q), times-both t q))
+        (λ t. omega (arith, times-both t q1, times-pushed t q.main (slot, false), times-cons t slot (queued_slots q), times-both t q))
         (omega (arith, length-append q.main ((slot, false) ∷ []))))

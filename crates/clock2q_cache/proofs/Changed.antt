@@ -1,7 +1,7 @@
 -- A cache's fields keep their invariant when a key's history is erased or a value is replaced, and those of a new cache
 -- have it.
 use Rattle.std.proofs.Common.{◌≡◌, ℕ, ◌<◌, ◌==◌, Bool, true, false, not, Option, Some, None, slice_get, List, [], ◌∷◌, map, length, refl, sym, ap, ◌∙◌, subst, arith, eqb-true}
-use Rattle.clock2q_cache.proofs.Names.{nat_le, is_some, IsEquivalence, filter, list_any, AllByRecursion, Entry, below-more, KeyPlaces, written, hash_at, key_at, with_value, IsIndex, HasHash, no_entries, QueueState, Remembered, most_beside, slice_get-written, slice_get-written_other, length-written, set-written, all-written, values-written, length-values, IsIndex-cleared, length-cleared, IsIndex-kept, Shares, Machine, stored, empty, vacancy, goes_to_main, IsWhole, machine_of, places_of, IsStored, IsSized, IsKept, whole-forgotten, all_resident, small_share, whole-changed, All-from_recursion, recursion_from_All, All-filter, slice_get_some}
+use Rattle.clock2q_cache.proofs.Names.{nat_le, is_some, IsEquivalence, filter, list_any, AllByRecursion, Entry, below-more, KeyPlaces, written, hash_at, key_at, with_value, IsIndex, HasHash, no_entries, QueueState, Remembered, most_beside, slice_get-written, slice_get-written_other, length-written, set-written, all-written, values-written, length-values, IsIndex-cleared, length-cleared, IsIndex-kept, Shares, Machine, stored, empty, vacancy, goes_to_main, IsWhole, machine_of, queued_slots, IsStored, IsSized, IsKept, whole-forgotten, all_resident, small_share, whole-changed, All-from_recursion, recursion_from_All, All-filter, slice_get_some}
 use Rattle.std.proofs.lemmas.Bool.{le-leb}
 use Rattle.clock2q_queues.proofs.Booleans.{or_false}
 use Rattle.clock2q_directory.specs.History.{forgotten, places_looked_up}
@@ -100,11 +100,11 @@ module _ {K V : Type 0} {eq : K → K → Bool} {hash : K → ℕ} {shares : Sha
     pub kept-replaced : (keys' : KeyPlaces K V) → keys'.entries ≡ with_value slot value keys.entries → keys'.room ≡ keys.room → IsKept eq hash shares q h index keys' free room
     kept-replaced keys' is keys_room = record {
       whole = subst (λ z. IsWhole eq (machine_of shares q z h.entries free)) (sym is) (subst (IsWhole eq) (sym replaced-machine) (whole-changed eq m kept.whole slot value below));
-      stored = subst (λ z. IsStored hash index z (places_of q)) (sym is) (record {
+      stored = subst (λ z. IsStored hash index z (queued_slots q)) (sym is) (record {
         made =
-            below-more (length keys.entries) (length (with_value slot value keys.entries)) (places_of q)
+            below-more (length keys.entries) (length (with_value slot value keys.entries)) (queued_slots q)
             (omega (arith, ap (λ (z : List (Entry K V)). length z) r.written, length-written slot (record r.entry { value = value }) keys.entries (omega (arith, made)))) kept.stored.made;
-        indexed = IsIndex-kept index keys.entries (with_value slot value keys.entries) (places_of q) (λ t g. hash-same slot value keys.entries r made t) kept.stored.indexed;
+        indexed = IsIndex-kept index keys.entries (with_value slot value keys.entries) (queued_slots q) (λ t g. hash-same slot value keys.entries r made t) kept.stored.indexed;
         hashed =
             subst (λ z. AllByRecursion (λ e. e.hash ≡ hash e.key) z) (sym r.written)
             (all-written (λ e. e.hash ≡ hash e.key) slot (record r.entry { value = value })

@@ -1,6 +1,6 @@
 -- Slots that were never made are made, and are free.
 use Rattle.std.proofs.Common.{◌≡◌, ℕ, suc, ◌+◌, ◌-◌, ◌<◌, Bool, true, Option, Some, None, slice_get, List, [], ◌∷◌, ◌++◌, map, length, reverse, refl, ap, ◌∙◌, arith, length-append, ◌||◌, eqb}
-use Rattle.clock2q_cache.proofs.Names.{made_below, length-values, IsEquivalence, Mut, Called, AllByRecursion, range_with_len, append-nil, append_assoc, map-append, reverse-append, reverse-reverse, or_true, Entry, KeyPlaces, entry, key_at, QueueState, slots_of, Remembered, list_any-append, below_of, below-among, IsIndex-kept, FillsUp, Shares, Machine, prefilled, machine_of, places_of, IsKept, lasting-prefilled, get-append, list_any}
+use Rattle.clock2q_cache.proofs.Names.{made_below, length-values, IsEquivalence, Mut, Called, AllByRecursion, range_with_len, append-nil, append_assoc, map-append, reverse-append, reverse-reverse, or_true, Entry, KeyPlaces, entry, key_at, QueueState, slots_of, Remembered, list_any-append, below_of, below-among, IsIndex-kept, FillsUp, Shares, Machine, prefilled, machine_of, queued_slots, IsKept, lasting-prefilled, get-append, list_any}
 use Rattle.clock2q_cache.proofs.WithKeys.{small_with, main_with, keys-agree}
 use Rattle.clock2q_cache.proofs.CacheInvariant.{sized-same}
 use Rattle.std.proofs.lemmas.Fn.{FoldsTo-push}
@@ -48,8 +48,8 @@ module _ {K V : Type 0} {eq : K → K → Bool} {hash : K → ℕ} {shares : Sha
   made-count = omega (arith, as_many, length-values keys.entries, length-values added)
 
   -- the entries that were there are where they were
-  before : {Y : Type 0} (f : Option (Entry K V) → Y) (t : ℕ) → list_any (eqb t) (places_of q) ≡ true → f (slice_get (keys.entries ++ added) t) ≡ f (slice_get keys.entries t)
-  before f t g = ap f (get-append keys.entries added t (below_of (length keys.entries) (places_of q) kept.stored.made t g))
+  before : {Y : Type 0} (f : Option (Entry K V) → Y) (t : ℕ) → list_any (eqb t) (queued_slots q) ≡ true → f (slice_get (keys.entries ++ added) t) ≡ f (slice_get keys.entries t)
+  before f t g = ap f (get-append keys.entries added t (below_of (length keys.entries) (queued_slots q) kept.stored.made t g))
 
   key-before : (t : ℕ) → (list_any (eqb t) (slots_of q.small) || list_any (eqb t) (slots_of q.main)) ≡ true → key_at (keys.entries ++ added) t ≡ key_at keys.entries t
   key-before t g = before (λ z. elim z [ None ↦ None | Some e ↦ Some e.key ]) t (list_any-append (eqb t) (slots_of q.small) (slots_of q.main) ∙ g)
@@ -65,8 +65,8 @@ module _ {K V : Type 0} {eq : K → K → Bool} {hash : K → ℕ} {shares : Sha
   kept-prefilled {q' = q'} linked hashed keys_room free_room = rw linked (record {
     whole = rw machine-prefilled (lasting-prefilled eq laws made m (omega (arith, made-count)) kept.whole);
     stored = rw is (record {
-      made = below-among (length (keys.entries ++ added)) (places_of q) (λ t g. omega (arith, below_of (length keys.entries) (places_of q) kept.stored.made t g, length-append keys.entries added));
-      indexed = IsIndex-kept index keys.entries (keys.entries ++ added) (places_of q) (before (λ z. elim z [ None ↦ None | Some e ↦ Some e.hash ])) kept.stored.indexed;
+      made = below-among (length (keys.entries ++ added)) (queued_slots q) (λ t g. omega (arith, below_of (length keys.entries) (queued_slots q) kept.stored.made t g, length-append keys.entries added));
+      indexed = IsIndex-kept index keys.entries (keys.entries ++ added) (queued_slots q) (before (λ z. elim z [ None ↦ None | Some e ↦ Some e.hash ])) kept.stored.indexed;
       hashed = all-append (λ e. e.hash ≡ hash e.key) keys.entries added kept.stored.hashed hashed;
     });
     hashed = kept.hashed;

@@ -1,6 +1,6 @@
 -- A lookup through the index finds the machine's slot of the key, and a hit there does what the machine's does.
 use Rattle.std.proofs.Common.{◌≡◌, ℕ, ◌+◌, ◌<◌, ◌≤◌, ◌⊎◌, Bool, true, false, ◌&&◌, cond, eqb, Option, Some, None, slice_get, List, [], ◌∷◌, map, length, refl, sym, ap, ◌∙◌, arith, eqb-true}
-use Rattle.clock2q_cache.proofs.Names.{IfSome, IsEquivalence, option_map, count_by, find, list_any, cons_option, AllByRecursion, sum_by-cons, candidates, or_true, touched, slots_of-hit, Entry, KeyPlaces, key_at, entries_of, is_key_at, HasHash, small_hit_at, main_hit_at, then_some, QueueState, slots_of, Remembered, place_of, found_slot, found_place, list_any-append, among_first, below_of, same_place, key_there, any_entry, length-values, lookup, found_there, not_found, Shares, Machine, slot_of, hit, is_at, machine_of, places_of, IsKept, whole-hit, candidates_there, distinct_none, distinct_more, IsDistinct}
+use Rattle.clock2q_cache.proofs.Names.{IfSome, IsEquivalence, option_map, count_by, find, list_any, cons_option, AllByRecursion, sum_by-cons, candidates, or_true, touched, slots_of-hit, Entry, KeyPlaces, key_at, entries_of, is_key_at, HasHash, small_hit_at, main_hit_at, then_some, QueueState, slots_of, Remembered, place_of, found_slot, found_place, list_any-append, among_first, below_of, same_place, key_there, any_entry, length-values, lookup, found_there, not_found, Shares, Machine, slot_of, hit, is_at, machine_of, queued_slots, IsKept, whole-hit, candidates_there, distinct_none, distinct_more, IsDistinct}
 use Rattle.clock2q_directory.specs.declared.found.Found.{Found}
 use Rattle.clock2q_cache.proofs.WithKeys.{HaveKeys, have_later, paired, paired-cons, small-hit, main-hit}
 use Rattle.clock2q_cache.proofs.Indexed.{residents-paired}
@@ -73,7 +73,7 @@ any-counted is [] e = absurd (cc)
 any-counted is (k ∷ ks) e = grind (arith, sum_by-cons (λ x. cond (is x) 1 0) k ks, any-counted is ks)
 
 -- a resident's slot is in one of the queues
-pub either-queue : (q : QueueState) (slot : ℕ) → list_any (eqb slot) (places_of q) ≡ true → (list_any (eqb slot) (slots_of q.small) ≡ true) ⊎ (list_any (eqb slot) (slots_of q.main) ≡ true)
+pub either-queue : (q : QueueState) (slot : ℕ) → list_any (eqb slot) (queued_slots q) ≡ true → (list_any (eqb slot) (slots_of q.small) ≡ true) ⊎ (list_any (eqb slot) (slots_of q.main) ≡ true)
 either-queue q slot there = grind (arith, list_any-append)
 
 module _ {K V : Type 0} {eq : K → K → Bool} {hash : K → ℕ} {shares : Shares} {q : QueueState} {h : Remembered K} {index : List (List (ℕ × ℕ))} {keys : KeyPlaces K V} {free : List ℕ} {room : ℕ}
@@ -83,34 +83,34 @@ module _ {K V : Type 0} {eq : K → K → Bool} {hash : K → ℕ} {shares : Sha
 
   -- each candidate has a key
   pub candidates-there : (x : ℕ) → AllByRecursion (λ place. place < length keys.entries) (candidates index x)
-  candidates-there x = candidates_there index keys.entries (places_of q) x kept.stored.indexed
+  candidates-there x = candidates_there index keys.entries (queued_slots q) x kept.stored.indexed
 
-  known_residents : (is : K → Bool) → count_by (λ (e : ℕ × K). is e.1) (entries_of keys.entries (places_of q)) ≤ count_by (λ e. is e.key) m.small + count_by (λ e. is e.key) m.main
+  known_residents : (is : K → Bool) → count_by (λ (e : ℕ × K). is e.1) (entries_of keys.entries (queued_slots q)) ≤ count_by (λ e. is e.key) m.small + count_by (λ e. is e.key) m.main
   known_residents is = omega (
     arith,
-    paired-counted keys.entries is (places_of q),
+    paired-counted keys.entries is (queued_slots q),
     ap (λ (z : List (K × ℕ)). count_by (λ r. is r.0) z) (residents-paired laws kept),
     counted_residents (λ k s. is k) m,
   )
 
-  pub distinct : IsDistinct (λ d e. eq d.1 e.1) (entries_of keys.entries (places_of q))
-  distinct = distinct-once eq laws (entries_of keys.entries (places_of q)) (λ k. omega (arith, known_residents (eq k), kept.whole.keys_once k))
+  pub distinct : IsDistinct (λ d e. eq d.1 e.1) (entries_of keys.entries (queued_slots q))
+  distinct = distinct-once eq laws (entries_of keys.entries (queued_slots q)) (λ k. omega (arith, known_residents (eq k), kept.whole.keys_once k))
 
   module _ (key : K) where
-    slot-among : slot_of (eq key) m ≡ find (is_key_at eq key keys.entries) (places_of q)
+    slot-among : slot_of (eq key) m ≡ find (is_key_at eq key keys.entries) (queued_slots q)
     slot-among =
         ap (λ (z : List (K × ℕ)). option_map (λ (r : K × ℕ). r.1) (find (λ r. eq key r.0) z)) (residents-paired laws kept)
-        ∙ paired-found (key_at keys.entries) (eq key) (is_key_at eq key keys.entries) (key-compares keys.entries eq key) (places_of q) (have_keys keys.entries (places_of q) kept.stored.made)
+        ∙ paired-found (key_at keys.entries) (eq key) (is_key_at eq key keys.entries) (key-compares keys.entries eq key) (queued_slots q) (have_keys keys.entries (queued_slots q) kept.stored.made)
 
     -- what a lookup finds
     pub found : ((x y : K) → eq x y ≡ true → hash x ≡ hash y) → (hsh : ℕ) → hsh ≡ hash key → find (is_key_at eq key keys.entries) (candidates index hsh) ≡ slot_of (eq key) m
     found respects hsh is =
-        let same = hashes-same eq hash key keys.entries (places_of q) respects kept.stored.hashed in
-        grind (arith, lookup eq (hash key) key index keys.entries (places_of q) kept.stored.indexed same laws distinct, slot-among)
+        let same = hashes-same eq hash key keys.entries (queued_slots q) respects kept.stored.hashed in
+        grind (arith, lookup eq (hash key) key index keys.entries (queued_slots q) kept.stored.indexed same laws distinct, slot-among)
 
     -- a slot that is found is a resident's
-    pub found-there : (slot : ℕ) → slot_of (eq key) m ≡ Some slot → (list_any (eqb slot) (places_of q) ≡ true) × (is_key_at eq key keys.entries slot ≡ true)
-    found-there slot is = found_there (is_key_at eq key keys.entries) (places_of q) slot (sym is ∙ slot-among)
+    pub found-there : (slot : ℕ) → slot_of (eq key) m ≡ Some slot → (list_any (eqb slot) (queued_slots q) ≡ true) × (is_key_at eq key keys.entries slot ≡ true)
+    found-there slot is = found_there (is_key_at eq key keys.entries) (queued_slots q) slot (sym is ∙ slot-among)
 
     -- a key in the history is not a resident
     unresident : list_any (eq key) m.history ≡ true → None ≡ slot_of (eq key) m
@@ -121,7 +121,7 @@ module _ {K V : Type 0} {eq : K → K → Bool} {hash : K → ℕ} {shares : Sha
         of (Some slot) is =
             let f = found-there slot is in
             let e = key_there eq key keys.entries slot f.1 in
-            let resident = any-counted (λ (x : ℕ × K). eq key x.1) (entries_of keys.entries (places_of q)) (any_entry eq key keys.entries (places_of q) slot e.0 f.0 e.1 e.2) in
+            let resident = any-counted (λ (x : ℕ × K). eq key x.1) (entries_of keys.entries (queued_slots q)) (any_entry eq key keys.entries (queued_slots q) slot e.0 f.0 e.1 e.2) in
             absurd (omega (arith, kept.whole.keys_once key, resident, known_residents (eq key), any-counted (eq key) m.history remembered))
 
     -- what a lookup among both residents and remembered keys finds
@@ -134,20 +134,20 @@ module _ {K V : Type 0} {eq : K → K → Bool} {hash : K → ℕ} {shares : Sha
 
     pub found-made : (o : Option ℕ) → o ≡ slot_of (eq key) m → IfSome o (λ slot. slot < length m.values)
     found-made None is = tt
-    found-made (Some slot) is = grind (arith, below_of (length keys.entries) (places_of q) kept.stored.made, found-there slot, length-values)
+    found-made (Some slot) is = grind (arith, below_of (length keys.entries) (queued_slots q) kept.stored.made, found-there slot, length-values)
 
     -- whether a slot is the key's
-    pub at-slot : (slot : ℕ) → is_at slot (slot_of (eq key) m) ≡ (list_any (eqb slot) (places_of q) && is_key_at eq key keys.entries slot)
+    pub at-slot : (slot : ℕ) → is_at slot (slot_of (eq key) m) ≡ (list_any (eqb slot) (queued_slots q) && is_key_at eq key keys.entries slot)
     at-slot slot = of (slot_of (eq key) m) refl
       where
-        of : (o : Option ℕ) → slot_of (eq key) m ≡ o → is_at slot o ≡ (list_any (eqb slot) (places_of q) && is_key_at eq key keys.entries slot)
+        of : (o : Option ℕ) → slot_of (eq key) m ≡ o → is_at slot o ≡ (list_any (eqb slot) (queued_slots q) && is_key_at eq key keys.entries slot)
         of None none = grind (arith, not_found, slot-among)
         of (Some p) some = grind (arith, found-there p some, same_place, distinct)
 
-    pub at-places : (slot : ℕ) → list_any (eqb slot) (places_of q) ≡ true → is_key_at eq key keys.entries slot ≡ is_at slot (slot_of (eq key) m)
+    pub at-places : (slot : ℕ) → list_any (eqb slot) (queued_slots q) ≡ true → is_key_at eq key keys.entries slot ≡ is_at slot (slot_of (eq key) m)
     at-places slot there = grind (arith, at-slot slot)
 
-    pub not-at : (slot : ℕ) → list_any (eqb slot) (places_of q) ≡ false → None ≡ then_some (is_at slot (slot_of (eq key) m)) slot
+    pub not-at : (slot : ℕ) → list_any (eqb slot) (queued_slots q) ≡ false → None ≡ then_some (is_at slot (slot_of (eq key) m)) slot
     not-at slot absent = grind (arith, at-slot slot)
 
     pub slot-at : (slot : ℕ) → is_at slot (slot_of (eq key) m) ≡ true → slot_of (eq key) m ≡ Some slot
@@ -159,8 +159,8 @@ module _ {K V : Type 0} {eq : K → K → Bool} {hash : K → ℕ} {shares : Sha
 
     -- a hit
     module _ (slot : ℕ) (is : slot_of (eq key) m ≡ Some slot) where
-      key-there : (k : K) (t : ℕ) → list_any (eqb t) (places_of q) ≡ true → key_at keys.entries t ≡ Some k → eq key k ≡ eqb t slot
-      key-there k t g at = grind (arith, key-compares, eqb-true, same_place eq laws key keys.entries (places_of q) distinct t slot, found-there slot is)
+      key-there : (k : K) (t : ℕ) → list_any (eqb t) (queued_slots q) ≡ true → key_at keys.entries t ≡ Some k → eq key k ≡ eqb t slot
+      key-there k t g at = grind (arith, key-compares, eqb-true, same_place eq laws key keys.entries (queued_slots q) distinct t slot, found-there slot is)
 
       module _ {q' : QueueState} (queues : q' ≡ record q { small = small_hit_at slot q.small; main = main_hit_at slot q.main }) where
         pub hit-machine : machine_of shares q' keys.entries h.entries free ≡ hit (eq key) m
@@ -170,7 +170,7 @@ module _ {K V : Type 0} {eq : K → K → Bool} {hash : K → ℕ} {shares : Sha
         kept-hit =
             let small = slots_of-hit touched slot q.small in
             let main = slots_of-hit (λ b. true) slot q.main in
-            let places : places_of q' ≡ places_of q = grind (arith, small, main) in
+            let places : queued_slots q' ≡ queued_slots q = grind (arith, small, main) in
             record {
               whole = rw hit-machine (whole-hit eq m kept.whole (eq key));
               stored = rw places kept.stored;

@@ -1,6 +1,6 @@
 -- Which resident leaves next, and what a cache's fields become when it leaves though no key comes.
 use Rattle.std.proofs.Common.{◌≡◌, ℕ, suc, ◌+◌, ◌-◌, ◌<◌, ◌==◌, Bool, true, false, not, ◌&&◌, cond, eqb, Option, Some, None, List, [], ◌∷◌, ◌++◌, map, length, take, reverse, inl, inr, refl, sym, ap, ◌∙◌, subst, arith, eq-eqb, eqb-true, length-append}
-use Rattle.clock2q_cache.proofs.Names.{if◌then◌else◌, nat_lt, none_is, slice_get, slice_get_some, IfSome, IsEquivalence, last_or, option_map, AllByRecursion, cases_Bool, lt-ltb, ltb-true, Age, take-map, All-from_recursion, recursion_from_All, All-take, without, among-without_test, and_true, and_false, eqb_swap, KeyPlaces, hash_at, key_at, removed, length-taken, QueueState, slots_of, from_victim, Remembered, most_beside, Shares, history_share, SmallEntry, Machine, is_promoted, IsWhole, machine_of, places_of, with_keys_small, with_keys_main, IsStored, IsKept, list_any}
+use Rattle.clock2q_cache.proofs.Names.{if◌then◌else◌, nat_lt, none_is, slice_get, slice_get_some, IfSome, IsEquivalence, last_or, option_map, AllByRecursion, cases_Bool, lt-ltb, ltb-true, Age, take-map, All-from_recursion, recursion_from_All, All-take, without, among-without_test, and_true, and_false, eqb_swap, KeyPlaces, hash_at, key_at, removed, length-taken, QueueState, slots_of, from_victim, Remembered, most_beside, Shares, history_share, SmallEntry, Machine, is_promoted, IsWhole, machine_of, queued_slots, with_keys_small, with_keys_main, IsStored, IsKept, list_any}
 use Rattle.std.proofs.lemmas.List.{length-reverse}
 use Rattle.clock2q_queues.proofs.Joining.{length-without}
 use Rattle.clock2q_machine.specs.Entries as machine
@@ -69,22 +69,22 @@ module _ {K V : Type 0} {eq : K → K → Bool} {hash : K → ℕ} {shares : Sha
       kept-unmoved = rw (is, taken) (record { whole = kept.whole; stored = kept.stored; hashed = kept.hashed; linked = kept.linked; sized = sized-same kept.sized refl refl refl refl refl refl refl })
 
   -- a slot left the queues, which may have the others in another order
-  stored-gone : (slot old : ℕ) (q' : QueueState) → hash_at keys.entries slot ≡ Some old → list_any (eqb slot) (places_of q) ≡ true
-      → ((t : ℕ) → times t (places_of q) ≡ times t (places_of q') + cond (slot == t) 1 0) → suc (length q'.small + length q'.main) ≡ length q.small + length q.main
-      → IsStored hash (removed eqb index old slot) keys.entries (places_of q')
+  stored-gone : (slot old : ℕ) (q' : QueueState) → hash_at keys.entries slot ≡ Some old → list_any (eqb slot) (queued_slots q) ≡ true
+      → ((t : ℕ) → times t (queued_slots q) ≡ times t (queued_slots q') + cond (slot == t) 1 0) → suc (length q'.small + length q'.main) ≡ length q.small + length q.main
+      → IsStored hash (removed eqb index old slot) keys.entries (queued_slots q')
   stored-gone slot old q' at there as_often as_many =
-      stored-same hash (removed eqb index old slot) keys.entries (without slot (places_of q)) (places_of q')
-      (stored-left hash index keys.entries (places_of q) slot old kept.stored (index_some laws kept) (apart laws kept) at) others
-      (omega (arith, length-places q', length-places q, as_many, length-without slot (places_of q) (apart laws kept) there))
+      stored-same hash (removed eqb index old slot) keys.entries (without slot (queued_slots q)) (queued_slots q')
+      (stored-left hash index keys.entries (queued_slots q) slot old kept.stored (index_some laws kept) (apart laws kept) at) others
+      (omega (arith, length-places q', length-places q, as_many, length-without slot (queued_slots q) (apart laws kept) there))
     where
-      others : (t : ℕ) → list_any (eqb t) (places_of q') ≡ list_any (eqb t) (without slot (places_of q))
+      others : (t : ℕ) → list_any (eqb t) (queued_slots q') ≡ list_any (eqb t) (without slot (queued_slots q))
       others t = elim (cases_Bool (eqb t slot)) [
         | inl same ↦
-            times-none t (places_of q') (omega (arith, as_often t, ap {B = ℕ} (λ b. cond b 1 0) (eq-eqb slot t (sym (eqb-true t slot same))), at_most_once laws kept t))
-            ∙ sym (among-without_test t slot (places_of q) ∙ ap (λ b. list_any (eqb t) (places_of q) && not b) same ∙ and_false (list_any (eqb t) (places_of q)))
+            times-none t (queued_slots q') (omega (arith, as_often t, ap {B = ℕ} (λ b. cond b 1 0) (eq-eqb slot t (sym (eqb-true t slot same))), at_most_once laws kept t))
+            ∙ sym (among-without_test t slot (queued_slots q) ∙ ap (λ b. list_any (eqb t) (queued_slots q) && not b) same ∙ and_false (list_any (eqb t) (queued_slots q)))
         | inr other ↦
-            among-times t (places_of q') (places_of q) (omega (arith, as_often t, ap {B = ℕ} (λ b. cond b 1 0) (eqb_swap t slot other)))
-            ∙ sym (among-without_test t slot (places_of q) ∙ ap (λ b. list_any (eqb t) (places_of q) && not b) other ∙ and_true (list_any (eqb t) (places_of q)))
+            among-times t (queued_slots q') (queued_slots q) (omega (arith, as_often t, ap {B = ℕ} (λ b. cond b 1 0) (eqb_swap t slot other)))
+            ∙ sym (among-without_test t slot (queued_slots q) ∙ ap (λ b. list_any (eqb t) (queued_slots q) && not b) other ∙ and_true (list_any (eqb t) (queued_slots q)))
       ]
 
   abbrev gone : Option (SmallEntry K) → Machine K V
@@ -103,7 +103,7 @@ module _ {K V : Type 0} {eq : K → K → Bool} {hash : K → ℕ} {shares : Sha
     module _ {old : ℕ} {index' : List (List (ℕ × ℕ))} {free' : List ℕ} {room' : ℕ} (at : hash_at keys.entries slot ≡ Some old) (out : index' ≡ removed eqb index old slot)
         (freed : reverse free' ≡ slot ∷ reverse free) (free_room : room' ≡ room) (leaves : victim_leaves m ≡ true) where
       is-gone : (q' : QueueState) → machine_of shares q' keys.entries h.entries free' ≡ gone (last_or None m.small)
-          → ((t : ℕ) → times t (places_of q) ≡ times t (places_of q') + cond (slot == t) 1 0) → suc (length q'.small + length q'.main) ≡ length q.small + length q.main
+          → ((t : ℕ) → times t (queued_slots q) ≡ times t (queued_slots q') + cond (slot == t) 1 0) → suc (length q'.small + length q'.main) ≡ length q.small + length q.main
           → q'.slots ≡ q.slots → q'.made ≡ q.made → q'.window ≡ q.window → IsGone q' index' free' room'
       is-gone q' is as_often as_many slots made window = record {
         machine = is;
@@ -226,9 +226,9 @@ module _ {K V : Type 0} {eq : K → K → Bool} {hash : K → ℕ} {shares : Sha
 
   module _ (slot : ℕ) (next : IsNext (Some slot)) where
     -- a resident's slot
-    pub next-in : list_any (eqb slot) (places_of q) ≡ true
+    pub next-in : list_any (eqb slot) (queued_slots q) ≡ true
     next-in = by (queues.victim_leaves q) refl where
-      by : (b : Bool) → queues.victim_leaves q ≡ b → list_any (eqb slot) (places_of q) ≡ true
+      by : (b : Bool) → queues.victim_leaves q ≡ b → list_any (eqb slot) (queued_slots q) ≡ true
       by true stays = victim-in laws kept slot (next.victim stays)
       by false leaves = tail-in laws kept slot (sym (next.tail leaves))
 

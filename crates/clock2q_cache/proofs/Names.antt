@@ -49,7 +49,7 @@ pub use Rattle.clock2q_machine.proofs.Standing.{get-within, get-append}
 pub use Rattle.clock2q_machine.proofs.Storing.{stored_same, stored_again}
 pub use Rattle.clock2q_machine.proofs.Weights.{length-from_victim, weight-last}
 pub use Rattle.clock2q_machine.proofs.Whole.{IsPlaced, whole-stored, placed-admitted, placed-joining, some_is, whole-forgotten, all_resident, small_share, whole-hit, last_some, none_is, one_if, counted_made, victim_made, no_vacancy, placed-main, placed-small, placed-replacing, placed-evicting, placed-promoting, unknown_once_forgotten}
-pub use Rattle.clock2q_cache.specs.CacheFields.{machine_of, places_of, with_keys_small, with_keys_main, IsStored, IsSized, IsKept, counts_of}
+pub use Rattle.clock2q_cache.specs.CacheFields.{machine_of, queued_slots, with_keys_small, with_keys_main, IsStored, IsSized, IsKept, counts_of}
 pub use Rattle.clock2q_cache.specs.CacheState.{CacheState, cache_state, Counts, residents_in, remembered_in}
 pub use Rattle.clock2q_cache.specs.Charged.{most_links, most_keys, with_slot}
 pub use Rattle.clock2q_cache.specs.Closures.{Takes, Fetches, FillsUp, Reuses, AsksResident, MayBeAsked, Retains, TakesInTurn}

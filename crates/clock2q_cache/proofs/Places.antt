@@ -1,6 +1,6 @@
 -- Which resident is at a slot, and what an insertion does to the index.
 use Rattle.std.proofs.Common.{arith, ◌≡◌, ℕ, ◌==◌, Bool, true, false, eqb, Option, Some, None, List, [], ◌∷◌, map, inl, inr, refl, sym, ap, ◌∙◌, eqb-true, eq-eqb}
-use Rattle.clock2q_cache.proofs.Names.{find, last_or, AllByRecursion, IsEquivalence, cases_Bool, KeyPlaces, key_at, hash_at, QueueState, slots_of, Remembered, Places, oldest_hash, pushed_places, among_first, eqb_swap, Shares, history_share, Machine, resident_at, machine_of, places_of, IsKept, if◌then◌else◌, IfSome, option_map, is_promoted, SmallEntry, remembering, left_by, entered, key_out, list_any}
+use Rattle.clock2q_cache.proofs.Names.{find, last_or, AllByRecursion, IsEquivalence, cases_Bool, KeyPlaces, key_at, hash_at, QueueState, slots_of, Remembered, Places, oldest_hash, pushed_places, among_first, eqb_swap, Shares, history_share, Machine, resident_at, machine_of, queued_slots, IsKept, if◌then◌else◌, IfSome, option_map, is_promoted, SmallEntry, remembering, left_by, entered, key_out, list_any}
 use Rattle.clock2q_directory.specs.Index as known
 use Rattle.clock2q_cache.proofs.WithKeys.{HaveKeys, have_later, paired, paired-cons}
 use Rattle.clock2q_cache.proofs.Stored.{have_keys, hash-of-key}
@@ -38,22 +38,22 @@ module _ {K V : Type 0} {eq : K → K → Bool} {hash : K → ℕ} {shares : Sha
   abbrev m : Machine K V
   m = machine_of shares q keys.entries h.entries free
 
-  have : HaveKeys (key_at keys.entries) (places_of q)
-  have = have_keys keys.entries (places_of q) kept.stored.made
+  have : HaveKeys (key_at keys.entries) (queued_slots q)
+  have = have_keys keys.entries (queued_slots q) kept.stored.made
 
-  resident-here : (slot : ℕ) → resident_at m slot ≡ (if list_any (eqb slot) (places_of q) then option_map (λ k. (k, slot)) (key_at keys.entries slot) else None)
-  resident-here slot = ap (λ (z : List (K × ℕ)). find (λ (r : K × ℕ). r.1 == slot) z) (residents-paired laws kept) ∙ paired-at (key_at keys.entries) slot (places_of q) have
+  resident-here : (slot : ℕ) → resident_at m slot ≡ (if list_any (eqb slot) (queued_slots q) then option_map (λ k. (k, slot)) (key_at keys.entries slot) else None)
+  resident-here slot = ap (λ (z : List (K × ℕ)). find (λ (r : K × ℕ). r.1 == slot) z) (residents-paired laws kept) ∙ paired-at (key_at keys.entries) slot (queued_slots q) have
 
   -- the resident at a slot of the queues
-  pub resident-there : (slot : ℕ) (k : K) → list_any (eqb slot) (places_of q) ≡ true → key_at keys.entries slot ≡ Some k → resident_at m slot ≡ Some (k, slot)
+  pub resident-there : (slot : ℕ) (k : K) → list_any (eqb slot) (queued_slots q) ≡ true → key_at keys.entries slot ≡ Some k → resident_at m slot ≡ Some (k, slot)
   resident-there slot k there at = resident-here slot ∙ rw (there, at) refl
 
   -- another slot has none
-  pub resident-none : (slot : ℕ) → list_any (eqb slot) (places_of q) ≡ false → resident_at m slot ≡ None
+  pub resident-none : (slot : ℕ) → list_any (eqb slot) (queued_slots q) ≡ false → resident_at m slot ≡ None
   resident-none slot absent = resident-here slot ∙ rw absent refl
 
   -- the resident at a slot leaves
-  pub left-resident : (p : Places) (slot : ℕ) {old : ℕ} {p' : Places} → list_any (eqb slot) (places_of q) ≡ true → hash_at keys.entries slot ≡ Some old
+  pub left-resident : (p : Places) (slot : ℕ) {old : ℕ} {p' : Places} → list_any (eqb slot) (queued_slots q) ≡ true → hash_at keys.entries slot ≡ Some old
       → p' ≡ record p { index = known.left old slot p.index } → p' ≡ left_by hash (resident_at m slot) slot p
   left-resident p slot {old} there at indexed = grind (arith, have, hash-of-key, left_by, resident-there)
 
@@ -67,11 +67,11 @@ module _ {K V : Type 0} {eq : K → K → Bool} {hash : K → ℕ} {shares : Sha
 
   module _ (p : Places) (key : K) (slot : ℕ) {hsh : ℕ} {p' : Places} (is : hsh ≡ hash key) where
     -- a key enters at a slot that has no resident
-    pub entered-vacant : list_any (eqb slot) (places_of q) ≡ false → p' ≡ record p { index = known.entered hsh slot p.index } → p' ≡ entered hash key slot None m p
+    pub entered-vacant : list_any (eqb slot) (queued_slots q) ≡ false → p' ≡ record p { index = known.entered hsh slot p.index } → p' ≡ entered hash key slot None m p
     entered-vacant absent indexed = grind (arith, resident-none)
 
     -- a key takes the slot of a resident, which leaves
-    pub entered-renewed : {old : ℕ} → list_any (eqb slot) (places_of q) ≡ true → hash_at keys.entries slot ≡ Some old
+    pub entered-renewed : {old : ℕ} → list_any (eqb slot) (queued_slots q) ≡ true → hash_at keys.entries slot ≡ Some old
         → p' ≡ record p { index = known.entered_from p.index hsh slot (known.left old slot p.index) } → p' ≡ entered hash key slot None m p
     entered-renewed {old} there at indexed = grind (arith, have, hash-of-key, left_by, resident-there)
 

@@ -1,6 +1,6 @@
 -- A key that takes the slot of another: of Main's victim, or of Small's tail.
 use Rattle.std.proofs.Common.{◌≡◌, ℕ, suc, ◌+◌, ◌-◌, ◌^◌, ◌<◌, ◌≤◌, ◌==◌, Bool, true, false, cond, eqb, Option, Some, None, List, [], ◌∷◌, ◌++◌, map, length, take, drop, refl, sym, ap, ◌∙◌, subst, arith, eq-eqb, length-append}
-use Rattle.clock2q_cache.proofs.Names.{length-written, Entry, Known, slots, key_at-own, key_at-others, values-written, length-values, if◌then◌else◌, slice_get, IfSome, IsEquivalence, last_or, AllByRecursion, take-map, length-map, take-append-drop, slots_of-append, slots_of-mapped, sum_by-append, total, with_handle, removed, Age, is_promoted, KeyPlaces, entry, hash_at, key_at, admitted, set_front, from_victim, QueueState, slots_of, Remembered, is_remembered, most_beside, list_any-append, eqb_self, among_first, below_of, length-put, length-taken, Shares, main_share, history_share, SmallEntry, MainEntry, Machine, Placement, vacancy, into_main, into_small, into_small_at, joining_main, replacing_victim, evicting_tail, promoting_tail, stored, known_count, machine_of, places_of, with_keys_small, with_keys_main, IsStored, IsKept, Writes, IsPlaced, some_is, placed-replacing, placed-evicting, placed-promoting, weight-last, All-from_recursion, recursion_from_All, All-take, tail_promoted, list_any}
+use Rattle.clock2q_cache.proofs.Names.{length-written, Entry, Known, slots, key_at-own, key_at-others, values-written, length-values, if◌then◌else◌, slice_get, IfSome, IsEquivalence, last_or, AllByRecursion, take-map, length-map, take-append-drop, slots_of-append, slots_of-mapped, sum_by-append, total, with_handle, removed, Age, is_promoted, KeyPlaces, entry, hash_at, key_at, admitted, set_front, from_victim, QueueState, slots_of, Remembered, is_remembered, most_beside, list_any-append, eqb_self, among_first, below_of, length-put, length-taken, Shares, main_share, history_share, SmallEntry, MainEntry, Machine, Placement, vacancy, into_main, into_small, into_small_at, joining_main, replacing_victim, evicting_tail, promoting_tail, stored, known_count, machine_of, queued_slots, with_keys_small, with_keys_main, IsStored, IsKept, Writes, IsPlaced, some_is, placed-replacing, placed-evicting, placed-promoting, weight-last, All-from_recursion, recursion_from_All, All-take, tail_promoted, list_any}
 use Rattle.clock2q_directory.specs.Directory.{IsResident, IsWithinRoom}
 use Rattle.clock2q_cache.proofs.Changed.{known-any}
 use Rattle.clock2q_cache.proofs.Finding.{none-has, counted-map}
@@ -53,8 +53,8 @@ module _ {K V : Type 0} {eq : K → K → Bool} {hash : K → ℕ} {shares : Sha
   once_at t = omega (arith, at_most_once laws kept t, times-both t q)
 
   -- a resident's slot was made, and is below the capacity
-  pub slot-below : (slot : ℕ) → list_any (eqb slot) (places_of q) ≡ true → (slot < length keys.entries) × (slot < shares.capacity) × (slot < 2 ^ 24)
-  slot-below slot there = grind (arith, below_of (length keys.entries) (places_of q) kept.stored.made, kept.whole.made_within, length-values, kept.sized.short)
+  pub slot-below : (slot : ℕ) → list_any (eqb slot) (queued_slots q) ≡ true → (slot < length keys.entries) × (slot < shares.capacity) × (slot < 2 ^ 24)
+  slot-below slot there = grind (arith, below_of (length keys.entries) (queued_slots q) kept.stored.made, kept.whole.made_within, length-values, kept.sized.short)
 
   -- Main's victim
   module _ (victim : ℕ) (first : slice_get (from_victim q.main) 0 ≡ Some (victim, false)) where
@@ -79,7 +79,7 @@ module _ {K V : Type 0} {eq : K → K → Bool} {hash : K → ℕ} {shares : Sha
     pub victim-not_in_small : list_any (eqb victim) (slots_of q.small) ≡ false
     victim-not_in_small = times-none victim (slots_of q.small) (omega (arith, victim_times, once_at victim))
 
-    pub victim-in : list_any (eqb victim) (places_of q) ≡ true
+    pub victim-in : list_any (eqb victim) (queued_slots q) ≡ true
     victim-in = list_any-append (eqb victim) (slots_of q.small) (slots_of q.main) ∙ rw (victim-not_in_small, victim-there) refl
 
     pub length-rest : suc (length rest) ≡ length q.main
@@ -119,7 +119,7 @@ module _ {K V : Type 0} {eq : K → K → Bool} {hash : K → ℕ} {shares : Sha
     tail-there_in_small : list_any (eqb tail) (slots_of q.small) ≡ true
     tail-there_in_small = among-times tail (slots_of q.small) (tail ∷ slots_of front) (omega (arith, front_times tail, times-cons tail tail (slots_of front))) ∙ among_first tail (slots_of front)
 
-    pub tail-in : list_any (eqb tail) (places_of q) ≡ true
+    pub tail-in : list_any (eqb tail) (queued_slots q) ≡ true
     tail-in = list_any-append (eqb tail) (slots_of q.small) (slots_of q.main) ∙ rw tail-there_in_small refl
 
     pub tail-not_in_front : list_any (eqb tail) (slots_of front) ≡ false
@@ -193,13 +193,13 @@ module _ {K V : Type 0} {eq : K → K → Bool} {hash : K → ℕ} {shares : Sha
 
   -- a key takes a resident's slot
   module _ {key : K} {value : Option V} {hsh slot old n : ℕ} {index' : List (List (ℕ × ℕ))} {keys' : KeyPlaces K V} (is : hsh ≡ hash key) (absent : known_count (eq key) m ≡ 0)
-      (there : list_any (eqb slot) (places_of q) ≡ true) (at : hash_at keys.entries slot ≡ Some old) (indexed : index' ≡ with_handle (removed eqb index old slot) hsh slot)
+      (there : list_any (eqb slot) (queued_slots q) ≡ true) (at : hash_at keys.entries slot ≡ Some old) (indexed : index' ≡ with_handle (removed eqb index old slot) hsh slot)
       (w : Writes hsh key value slot keys.entries keys'.entries) (renewed : keys' ≡ record keys { entries = keys'.entries; writes = n }) where
     next : slot ≤ length keys.entries
     next = omega (arith, (slot-below slot there).0)
 
-    same_places : IsStored hash index' keys'.entries (places_of q)
-    same_places = rw (indexed, w.becomes, is) (stored-renewed hash index keys.entries (places_of q) slot old key w.held kept.stored (index_some laws kept) (apart laws kept) there at)
+    same_places : IsStored hash index' keys'.entries (queued_slots q)
+    same_places = rw (indexed, w.becomes, is) (stored-renewed hash index keys.entries (queued_slots q) slot old key w.held kept.stored (index_some laws kept) (apart laws kept) there at)
 
     own : key_at keys'.entries slot ≡ Some key
     own = rw w.becomes (key_at-own slot hsh key w.held keys.entries next)
@@ -218,7 +218,7 @@ module _ {K V : Type 0} {eq : K → K → Bool} {hash : K → ℕ} {shares : Sha
 
     done : {p : Placement K V} {h' : Remembered K} (q' : QueueState) → IsPlaced key m p → slot ≡ p.slot → q'.slots ≡ q.slots → q'.made ≡ q.made → q'.window ≡ q.window
         → h'.limit ≡ h.limit → most_beside h' ≡ most_beside h → machine_of shares q' keys'.entries h'.entries free ≡ stored p.slot w.held p.machine → AllByRecursion (λ e. e.0 ≡ hash e.1) h'.entries
-        → ((t : ℕ) → times t (places_of q') ≡ times t (places_of q)) → length q'.small + length q'.main ≡ length q.small + length q.main
+        → ((t : ℕ) → times t (queued_slots q') ≡ times t (queued_slots q)) → length q'.small + length q'.main ≡ length q.small + length q.main
         → IsDone laws kept slot value p q' h' index' keys' free room
     done q' placed own_slot slots made window limit beside e hashed as_often as_many =
         placed-done laws kept absent placed w own_slot e (stored-moved q' same_places as_often (as_many ∙ sym (length-places q))) hashed
@@ -309,10 +309,10 @@ module _ {K V : Type 0} {eq : K → K → Bool} {hash : K → ℕ} {shares : Sha
 -- what the directory requires of a resident's slot
 module _ {K V : Type 0} {eq : K → K → Bool} {hash : K → ℕ} {shares : Shares} {q : QueueState} (d : Known K V) {free : List ℕ} {room : ℕ}
     (laws : IsEquivalence eq) (kept : IsKept eq hash shares q d.history (slots d.history.places.index) d.residents free room) where
-  pub is-resident : (slot : ℕ) → list_any (eqb slot) (places_of q) ≡ true → IsResident slot d
+  pub is-resident : (slot : ℕ) → list_any (eqb slot) (queued_slots q) ≡ true → IsResident slot d
   is-resident slot there =
       let below = slot-below laws kept slot there in
-      record { taken = places_of q; indexed = kept.stored.indexed; apart = apart laws kept; there = there; made = below.0; below = below.2 }
+      record { taken = queued_slots q; indexed = kept.stored.indexed; apart = apart laws kept; there = there; made = below.0; below = below.2 }
 
   pub within-room : IsWithinRoom d.history
   within-room =

@@ -1,7 +1,7 @@
 -- Which slots have a resident, and what a cache's fields become when one of them leaves.
 use Rattle.std.proofs.Common.{◌≡◌, ℕ, ◌+◌, ◌<◌, ◌≤◌, ◌==◌, Bool, true, false, not, eqb, Option, Some, None, List, [], ◌∷◌, ◌++◌, map, length, reverse, inl, inr, refl, sym, ap, ◌∙◌, subst, arith, eq-eqb}
 use Rattle.std.proofs.lemmas.List.Sums.{length-filter, count_by-le-length}
-use Rattle.clock2q_cache.proofs.Names.{length-values, is_some, IsSome, IfSome, IsEquivalence, option_map, filter, find, count_by, cases_Bool, both_ways, slots_of-filter, some_is, filter-append, removed, without, KeyPlaces, hash_at, key_at, QueueState, slots_of, without_slot, Remembered, below_of, length-taken, Shares, Machine, residents, resident_at, resident_count, slot_of, vacated, SmallEntry, MainEntry, append-nil, IsWhole, machine_of, places_of, with_keys_small, with_keys_main, IsStored, IsKept, whole-vacated, list_any}
+use Rattle.clock2q_cache.proofs.Names.{length-values, is_some, IsSome, IfSome, IsEquivalence, option_map, filter, find, count_by, cases_Bool, both_ways, slots_of-filter, some_is, filter-append, removed, without, KeyPlaces, hash_at, key_at, QueueState, slots_of, without_slot, Remembered, below_of, length-taken, Shares, Machine, residents, resident_at, resident_count, slot_of, vacated, SmallEntry, MainEntry, append-nil, IsWhole, machine_of, queued_slots, with_keys_small, with_keys_main, IsStored, IsKept, whole-vacated, list_any}
 use Rattle.clock2q_cache.proofs.WithKeys.{standing-keyed, small-without, main-without}
 use Rattle.clock2q_cache.proofs.Stored.{stored-left, have_keys}
 use Rattle.clock2q_cache.proofs.Slots.{small_have, main_have, apart, times-some, times-both}
@@ -49,24 +49,24 @@ module _ {K V : Type 0} {eq : K → K → Bool} {hash : K → ℕ} {shares : Sha
   m = machine_of shares q keys.entries h.entries free
 
   -- a slot has a resident if it is in a queue
-  pub resident-some : (t : ℕ) → is_some (resident_at m t) ≡ list_any (eqb t) (places_of q)
-  resident-some t = elim (cases_Bool (list_any (eqb t) (places_of q))) [
-    | inl g ↦ let k = have_keys keys.entries (places_of q) kept.stored.made t g in ap (λ (z : Option (K × ℕ)). is_some z) (resident-there laws kept t k.0 g k.1) ∙ sym g
+  pub resident-some : (t : ℕ) → is_some (resident_at m t) ≡ list_any (eqb t) (queued_slots q)
+  resident-some t = elim (cases_Bool (list_any (eqb t) (queued_slots q))) [
+    | inl g ↦ let k = have_keys keys.entries (queued_slots q) kept.stored.made t g in ap (λ (z : Option (K × ℕ)). is_some z) (resident-there laws kept t k.0 g k.1) ∙ sym g
     | inr g ↦ ap (λ (z : Option (K × ℕ)). is_some z) (resident-none laws kept t g) ∙ sym g
   ]
 
   -- past the slots that were made there is no resident
   pub past-none : (slot : ℕ) → length keys.entries ≤ slot → false ≡ is_some (resident_at m slot)
   past-none slot past =
-      let absent : list_any (eqb slot) (places_of q) ≡ false = grind (arith, below_of (length keys.entries) (places_of q) kept.stored.made slot) in
+      let absent : list_any (eqb slot) (queued_slots q) ≡ false = grind (arith, below_of (length keys.entries) (queued_slots q) kept.stored.made slot) in
       sym (resident-some slot ∙ absent)
 
   module _ (slot : ℕ) (there : IsSome (resident_at m slot)) where
-    pub slot-used : list_any (eqb slot) (places_of q) ≡ true
+    pub slot-used : list_any (eqb slot) (queued_slots q) ≡ true
     slot-used = sym (resident-some slot) ∙ there
 
     pub slot-made : slot < length keys.entries
-    slot-made = below_of (length keys.entries) (places_of q) kept.stored.made slot slot-used
+    slot-made = below_of (length keys.entries) (queued_slots q) kept.stored.made slot slot-used
 
     pub slot-in : slot < q.slots
     slot-in = omega (arith, slot-made, kept.sized.as_many, kept.whole.made_within, length-values keys.entries)
@@ -75,7 +75,7 @@ module _ {K V : Type 0} {eq : K → K → Bool} {hash : K → ℕ} {shares : Sha
     resident-key k at = resident-there laws kept slot k slot-used at
 
     pub own-key : (k : K) × (key_at keys.entries slot ≡ Some k)
-    own-key = have_keys keys.entries (places_of q) kept.stored.made slot slot-used
+    own-key = have_keys keys.entries (queued_slots q) kept.stored.made slot slot-used
 
     pub own-resident : resident_at m slot ≡ Some (own-key.0, slot)
     own-resident = resident-key own-key.0 own-key.1
@@ -87,7 +87,7 @@ module _ {K V : Type 0} {eq : K → K → Bool} {hash : K → ℕ} {shares : Sha
     standing-counted : 0 < count_by (λ e. e.slot == slot) m.small + count_by (λ e. e.slot == slot) m.main
     standing-counted = omega (
       arith,
-      times-some slot (places_of q) slot-used,
+      times-some slot (queued_slots q) slot-used,
       times-both slot q,
       standing-keyed (key_at keys.entries) slot q.small q.main (small_have laws kept) (main_have laws kept),
     )
@@ -107,8 +107,8 @@ module _ {K V : Type 0} {eq : K → K → Bool} {hash : K → ℕ} {shares : Sha
           → q'.slots ≡ q.slots → q'.made ≡ q.made → q'.window ≡ q.window → room' ≡ room → IsKept eq hash shares q' h index' keys free' room'
       kept-vacated at out slots made window free_room = record {
         whole = subst (IsWhole eq) (sym vacated-machine) (whole-vacated eq m kept.whole slot standing-counted);
-        stored = subst (λ z. IsStored hash z keys.entries (places_of q')) (sym out) (subst (λ z. IsStored hash (removed eqb index old slot) keys.entries z) (sym places)
-            (stored-left hash index keys.entries (places_of q) slot old kept.stored (index_some laws kept) (apart laws kept) at));
+        stored = subst (λ z. IsStored hash z keys.entries (queued_slots q')) (sym out) (subst (λ z. IsStored hash (removed eqb index old slot) keys.entries z) (sym places)
+            (stored-left hash index keys.entries (queued_slots q) slot old kept.stored (index_some laws kept) (apart laws kept) at));
         hashed = kept.hashed;
         linked = omega (arith, made, kept.linked);
         sized =
@@ -116,7 +116,7 @@ module _ {K V : Type 0} {eq : K → K → Bool} {hash : K → ℕ} {shares : Sha
             (ap (λ (z : List (List (ℕ × ℕ))). length z) out ∙ length-taken index old slot) refl free_room;
       }
         where
-          places : places_of q' ≡ without slot (places_of q)
+          places : queued_slots q' ≡ without slot (queued_slots q)
           places = ap (λ z. slots_of z ++ slots_of q'.main) small ∙ ap (λ z. z ++ slots_of q'.main) (slots_of-filter slot q.small)
               ∙ ap (λ z. without slot (slots_of q.small) ++ slots_of z) main ∙ ap (λ z. without slot (slots_of q.small) ++ z) (slots_of-filter slot q.main)
               ∙ sym (filter-append (λ t. not (eqb t slot)) (slots_of q.small) (slots_of q.main))

@@ -1,6 +1,6 @@
 -- The slots whose keys have one hash are those of the residents whose keys have it, each once.
 use Rattle.std.proofs.Common.{◌≡◌, ℕ, ◌<◌, Bool, true, ◌&&◌, eqb-true, Option, Some, None, slice_get, List, [], ◌∷◌, length, inl, inr, refl, sym, ◌∙◌, arith, ◌-◌, eqb}
-use Rattle.clock2q_cache.proofs.Names.{and_false, IfNone, IfSome, length-values, IsEquivalence, AllByRecursion, eqb_self, find, is_key_at, slot_of, filter, cases_Bool, candidates, Entry, KeyPlaces, among_first, below_of, candidate_there, slice_get_some, QueueState, Remembered, Shares, Machine, machine_of, places_of, IsKept, distinct_none, distinct_first, distinct_rest, distinct_more, list_any, IsDistinct}
+use Rattle.clock2q_cache.proofs.Names.{and_false, IfNone, IfSome, length-values, IsEquivalence, AllByRecursion, eqb_self, find, is_key_at, slot_of, filter, cases_Bool, candidates, Entry, KeyPlaces, among_first, below_of, candidate_there, slice_get_some, QueueState, Remembered, Shares, Machine, machine_of, queued_slots, IsKept, distinct_none, distinct_first, distinct_rest, distinct_more, list_any, IsDistinct}
 use Rattle.std.proofs.lemmas.Bool.{eq-eqb}
 use Rattle.clock2q_queues.proofs.Rings.{among_later}
 use Rattle.clock2q_directory.specs.Hashed.{has_hash}
@@ -52,8 +52,8 @@ module _ {K V : Type 0} {eq : K → K → Bool} {hash : K → ℕ} {shares : Sha
 
   same-hash : (x t : ℕ) → list_any (eqb t) (candidates index x) ≡ true → has_hash keys.entries x t ≡ has_hash_at hash x m t
   same-hash x t there =
-      let in-use = (candidate_there index keys.entries (places_of q) x t kept.stored.indexed there).0 in
-      let e = slice_get_some keys.entries t (below_of (length keys.entries) (places_of q) kept.stored.made t in-use) in
+      let in-use = (candidate_there index keys.entries (queued_slots q) x t kept.stored.indexed there).0 in
+      let e = slice_get_some keys.entries t (below_of (length keys.entries) (queued_slots q) kept.stored.made t in-use) in
       grind (arith, e.1, resident-there laws kept t e.0.key in-use, hash-there t e.0 e.1)
 
   pub with-hash : (x : ℕ) → filter (has_hash keys.entries x) (candidates index x) ≡ filter (has_hash_at hash x m) (candidates index x)
@@ -76,9 +76,9 @@ module _ {K V : Type 0} {eq : K → K → Bool} {hash : K → ℕ} {shares : Sha
 
   -- a resident with the hash is among the candidates
   is-candidate : (x t : ℕ) → has_hash_at hash x m t ≡ true → list_any (eqb t) (candidates index x) ≡ true
-  is-candidate x t it = elim (cases_Bool (list_any (eqb t) (places_of q))) [
+  is-candidate x t it = elim (cases_Bool (list_any (eqb t) (queued_slots q))) [
     | inl in-use ↦
-        let e = slice_get_some keys.entries t (below_of (length keys.entries) (places_of q) kept.stored.made t in-use) in
+        let e = slice_get_some keys.entries t (below_of (length keys.entries) (queued_slots q) kept.stored.made t in-use) in
         grind (arith, e.1, resident-there laws kept t e.0.key in-use, hash-there t e.0 e.1, eqb-true, eqb_self, kept.stored.indexed.listed x t)
     | inr gone ↦ absurd (grind (arith, resident-none laws kept t gone))
   ]

@@ -25,8 +25,8 @@ module _ {K : Type 0} where
   with_keys_main key main = filter_map (λ e. option_map (λ k. record { key = k; slot = e.0; bit = e.1 }) (key e.0)) main
 
 -- the slots of the residents
-abbrev pub places_of : QueueState → List ℕ
-places_of q = slots_of q.small ++ slots_of q.main
+abbrev pub queued_slots : QueueState → List ℕ
+queued_slots q = slots_of q.small ++ slots_of q.main
 
 module _ {K V : Type 0} where
   -- the machine, from the queues, the keys and values by slot, the keys of the history and the free slots, the last of
@@ -64,7 +64,7 @@ pub record IsSized (shares : Shares) (q : QueueState) (limit beside homes keys_r
 pub record IsKept {K V : Type 0} (eq : K → K → Bool) (hash : K → ℕ) (shares : Shares) (q : QueueState)
     (h : Remembered K) (index : List (List (ℕ × ℕ))) (keys : KeyPlaces K V) (free : List ℕ) (room : ℕ) : Type 0 where
   pub whole : IsWhole eq (machine_of shares q keys.entries h.entries free)
-  pub stored : IsStored hash index keys.entries (places_of q)
+  pub stored : IsStored hash index keys.entries (queued_slots q)
   pub hashed : AllByRecursion (λ e. e.0 ≡ hash e.1) h.entries
   pub linked : length keys.entries ≤ q.made
   pub sized : IsSized shares q h.limit (most_beside h) (length index) keys.room room

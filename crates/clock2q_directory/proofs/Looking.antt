@@ -16,7 +16,7 @@ use Rattle.clock2q_directory.specs.Keys.{KeyPlaces, entries_of, is_key_at, compa
 use Rattle.clock2q_directory.specs.Indexes.{HasHash}
 use Rattle.clock2q_directory.specs.History.{IsHistory, place_of, found_slot, found_place, found_gap, first_known}
 use Rattle.clock2q_directory.proofs.Indexes.{candidates_there}
-use Rattle.clock2q_directory.proofs.Lookups.{Asked, begins_with, comparisons-within}
+use Rattle.clock2q_directory.proofs.Lookups.{Compared, begins_with, comparisons-within}
 use Rattle.clock2q_directory.proofs.Views.{candidates-slots, candidates-places, candidates-own}
 use Rattle.clock2q_directory.proofs.Forgetting.{placed}
 
@@ -45,9 +45,9 @@ pub next-slot : {h s : ℕ} (handles : List ℕ) → Some h ≡ slice_get handle
 next-slot {h} {s} handles is says = grind (arith, says-slot, begins_with, slots-first)
 
 -- it is the next to be compared
-pub asked-slot : {test : ℕ → Bool} {n bound : ℕ} {all : List ℕ} {asked : ℕ} (handles : List ℕ) {h s : ℕ} → Asked test n bound all asked (slots_among handles)
-    → Some h ≡ slice_get handles 0 → Handle.Resident s ≡ unpacked h → Asked test n bound all asked (s ∷ slots_among (drop 1 handles))
-asked-slot {test} {n} {bound} {all} {asked} handles a is says = subst (λ z. Asked test n bound all asked z) (next-slot handles is says) a
+pub compared-slot : {test : ℕ → Bool} {n bound : ℕ} {all : List ℕ} {compared : ℕ} (handles : List ℕ) {h s : ℕ} → Compared test n bound all compared (slots_among handles)
+    → Some h ≡ slice_get handles 0 → Handle.Resident s ≡ unpacked h → Compared test n bound all compared (s ∷ slots_among (drop 1 handles))
+compared-slot {test} {n} {bound} {all} {compared} handles a is says = subst (λ z. Compared test n bound all compared z) (next-slot handles is says) a
 
 -- if all are slots, none is skipped
 pub slots-all : (hs : List ℕ) → AllByRecursion (λ h. h < first_remembered) hs → slots_among hs ≡ hs
@@ -120,12 +120,12 @@ module _ (a b : ℕ → Bool) (end : Option GapValue) where
       ]
 
   -- none of the handles so far has the key, and no more were compared than there are
-  pub record LooksOn (all left : List ℕ) (slot_bound place_bound asked asked_now comparisons comparisons_now : ℕ) : Type 0 where
+  pub record LooksOn (all left : List ℕ) (slot_bound place_bound compared compared_now comparisons comparisons_now : ℕ) : Type 0 where
     pub first : first_known a b end all ≡ first_known a b end left
     pub slots : AllByRecursion (λ s. s < slot_bound) (slots_among left)
     pub places : AllByRecursion (λ p. p < place_bound) (places_among left)
-    pub asked_from : asked ≤ asked_now
-    pub asked_most : asked_now + length (slots_among left) ≤ asked + length (slots_among all)
+    pub compared_from : compared ≤ compared_now
+    pub compared_most : compared_now + length (slots_among left) ≤ compared + length (slots_among all)
     pub comparisons_from : comparisons ≤ comparisons_now
     pub comparisons_most : comparisons_now + length (places_among left) ≤ comparisons + length (places_among all)
 

@@ -90,11 +90,11 @@ is_empty {xs = []} e = refl
 is_empty {xs = y ∷ xs} e = absurd (cc)
 
 -- none of the places compared so far has the key
-pub record Asked (test : ℕ → Bool) (n bound : ℕ) (all : List ℕ) (asked : ℕ) (left : List ℕ) : Type 0 where
+pub record Compared (test : ℕ → Bool) (n bound : ℕ) (all : List ℕ) (compared : ℕ) (left : List ℕ) : Type 0 where
   pub found : find test all ≡ find test left
-  pub comparisons : n + comparisons_of test all ≡ asked + comparisons_of test left
+  pub comparisons : n + comparisons_of test all ≡ compared + comparisons_of test left
   pub there : AllByRecursion (λ place. place < bound) left
 
-pub asked-found : {test : ℕ → Bool} {n bound : ℕ} {all : List ℕ} {asked : ℕ} (place : ℕ) (left : List ℕ) → Asked test n bound all asked (place ∷ left) → true ≡ test place
-    → (Some place ≡ find test all) × (asked + 1 ≡ n + comparisons_of test all)
-asked-found {test} place left a it = grind arith
+pub compared-found : {test : ℕ → Bool} {n bound : ℕ} {all : List ℕ} {compared : ℕ} (place : ℕ) (left : List ℕ) → Compared test n bound all compared (place ∷ left) → true ≡ test place
+    → (Some place ≡ find test all) × (compared + 1 ≡ n + comparisons_of test all)
+compared-found {test} place left a it = grind arith

@@ -65,9 +65,9 @@ impl<K: Eq, V, A: Allocator> Keys<K, V, A> {
         ensures value { result ≡ is_key_at K.eq key.now self.old.entries place }
         ensures counted { self.new ≡ record self.old { comparisons = self.old.comparisons + 1 } }
     {
-        let mut asked = Count::new();
-        let is_key = self.is_counting_in(place, key, &mut asked);
-        self.add_comparisons(&asked);
+        let mut compared = Count::new();
+        let is_key = self.is_counting_in(place, key, &mut compared);
+        self.add_comparisons(&compared);
         is_key
     }
 
@@ -85,9 +85,9 @@ impl<K: Eq, V, A: Allocator> Keys<K, V, A> {
                   (slots_among handles.entry.left);
             } }
     {
-        let mut asked = Count::new();
-        let found = self.find_counting_in(handles, key, &mut asked);
-        self.add_comparisons(&asked);
+        let mut compared = Count::new();
+        let found = self.find_counting_in(handles, key, &mut compared);
+        self.add_comparisons(&compared);
         found
     }
 
@@ -116,25 +116,25 @@ impl<K: Eq, V, A: Allocator> Keys<K, V, A> {
     }
 
     /// Returns the first slot among `handles` that has `key`. The comparisons are counted in
-    /// `asked` instead.
+    /// `compared` instead.
     pub fn find_counting_in(
         &self,
         mut handles: Candidates<'_, u32>,
         key: &K,
-        asked: &mut Count,
+        compared: &mut Count,
     ) -> Option<u32>
         requires used { AllByRecursion (λ place. place < length self.now.entries)
             (slots_among handles.left) }
         ensures found { result ≡
             find (is_key_at K.eq key.now self.now.entries) (slots_among handles.entry.left) }
-        ensures counted { asked.new.total ≡
-            asked.old.total +
+        ensures counted { compared.new.total ≡
+            compared.old.total +
             comparisons_of (is_key_at K.eq key.now self.now.entries)
             (slots_among handles.entry.left) }
     {
         while let Some(handle) = handles.peek() {
             if let Handle::Resident(slot) = Handle::unpack(handle) {
-                if self.is_counting_in(slot, key, asked) {
+                if self.is_counting_in(slot, key, compared) {
                     return Some(slot);
                 }
             }

@@ -6,4 +6,4 @@
 
 mod pages;
 
-pub use crate::pages::{find, frame_of, is_in};
+pub use crate::pages::{enter, find, is_in};

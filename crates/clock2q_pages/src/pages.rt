@@ -14,7 +14,7 @@ use std::hash::{BuildHasher, Hash};
 /// frame keeps it, with a hit.
 ///
 /// If another page got the frame last, or none did, the caller has to load the page.
-pub fn frame_of<S: BuildHasher>(
+pub fn enter<S: BuildHasher>(
     pages: &mut Cache<usize, Option<usize>, S>,
     page: usize,
 ) -> (usize, Option<usize>)

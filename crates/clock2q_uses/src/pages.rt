@@ -5,7 +5,7 @@ ghost use Rattle.std.specs.NonZero.{non_zero_usize_get};
 ghost use Rattle.std.specs.Prelude.{◌≡◌, ◌≢◌, ◌<◌, ◌≤◌, ◌↔◌, Err, Some, IfOk, OnErr, IsErrOf, length, map, slice_get};
 
 use clock2q::{Cache, CacheError, MAX_CAPACITY};
-use clock2q_pages::frame_of;
+use clock2q_pages::enter;
 use std::alloc::{AllocError, Global};
 use std::hash::BuildHasher;
 use std::num::NonZeroUsize;
@@ -29,7 +29,7 @@ pub fn load<T: Copy, S: BuildHasher>(
     ensures unread { IsLoaded pages.old.machine page result → frames.new ≡ frames.old }
     ensures shares { pages.new.machine.shares ≡ pages.old.machine.shares }
 {
-    let (frame, last) = frame_of(pages, page);
+    let (frame, last) = enter(pages, page);
     if last != Some(page) {
         frames[frame] = file[page];
     }

@@ -3,13 +3,13 @@
 #![tactic(auto)]
 
 mod comparing;
-mod draws;
+mod linear_hash;
 mod refusing;
-mod spread;
+mod split_mix;
 mod trying;
 
 pub use comparing::{same, same_at};
-pub use draws::Draws;
+pub use linear_hash::{LinearHashBuilder, LinearHasher};
 pub use refusing::Refusing;
-pub use spread::{Spread, Spreading};
+pub use split_mix::SplitMix64;
 pub use trying::{Tried, try_in_turn};

@@ -5,25 +5,25 @@ use std::alloc::Global;
 use std::num::NonZeroUsize;
 use std::process::Abort;
 use std::test::Fail;
-use testing::{Draws, Spread, same, same_at};
+use testing::{LinearHashBuilder, SplitMix64, same, same_at};
 
-type Numbers = Cache<u64, u64, Spread>;
+type Numbers = Cache<u64, u64, LinearHashBuilder>;
 
 /// The keys are below this.
 const KEYS: u64 = 60;
 
 /// Hashes of which only the two highest bits differ.
-const FOUR_HASHES: Spread = Spread {
+const FOUR_HASHES: LinearHashBuilder = LinearHashBuilder {
     times: 1 << 62,
     more: 5,
 };
 
-fn cache_of(alloc: Global, capacity: usize, spread: Spread) -> Result<Numbers, Fail> {
+fn cache_of(alloc: Global, capacity: usize, spread: LinearHashBuilder) -> Result<Numbers, Fail> {
     let capacity = NonZeroUsize::new(capacity).ok_or("not zero")?;
     Ok(Cache::with_hasher(alloc, capacity, spread)?)
 }
 
-fn hash_of(spread: Spread, key: u64) -> u64 {
+fn hash_of(spread: LinearHashBuilder, key: u64) -> u64 {
     key.wrapping_mul(spread.times).wrapping_add(spread.more)
 }
 
@@ -40,7 +40,13 @@ fn slots_of(alloc: Global, cache: &Numbers, hash: u64) -> Result<Vec<usize>, Fai
 }
 
 /// Each resident with this hash is listed, and nothing else is.
-fn list_is_right(rt: &impl Abort, slots: &[usize], cache: &Numbers, hash: u64, spread: Spread) {
+fn list_is_right(
+    rt: &impl Abort,
+    slots: &[usize],
+    cache: &Numbers,
+    hash: u64,
+    spread: LinearHashBuilder,
+) {
     let mut residents: usize = 0;
     for other in 0..KEYS {
         if hash_of(spread, other) == hash {
@@ -58,7 +64,7 @@ fn lists_are_right(
     rt: &impl Abort,
     alloc: Global,
     cache: &Numbers,
-    spread: Spread,
+    spread: LinearHashBuilder,
 ) -> Result<(), Fail> {
     for key in 0..KEYS {
         let hash = hash_of(spread, key);
@@ -125,7 +131,7 @@ fn calls_agree(
     by_slot: &mut Numbers,
     seed: u64,
 ) -> Result<(), Fail> {
-    let mut draws = Draws::new(seed);
+    let mut draws = SplitMix64::new(seed);
     for _ in 0..500 {
         let call = draws.below(4);
         call_both(by_key, by_slot, call, draws.below(KEYS));

@@ -2,7 +2,7 @@
 
 use crate::model::Model;
 use clock2q_cache::Occupant;
-use testing::Draws;
+use testing::SplitMix64;
 
 /// A call of a cache whose keys and values are numbers.
 #[derive(Clone, Copy, Debug)]
@@ -72,7 +72,7 @@ pub(crate) fn made_value(first: u64, more: u64, made: u64) -> u64 {
 
 impl Call {
     /// The call with this number in a list: mostly one that looks a key up or inserts it.
-    pub(crate) fn drawn(draws: &mut Draws, model: &Model, number: u64) -> Call {
+    pub(crate) fn drawn(draws: &mut SplitMix64, model: &Model, number: u64) -> Call {
         let key = draws.below(model.keys());
         match draws.below(400) {
             0..=59 => Call::Put(key, number),
@@ -97,7 +97,7 @@ impl Call {
     }
 
     /// A call that changes nothing, or one that chooses which residents stay.
-    fn aside(draws: &mut Draws, key: u64, kind: u64) -> Call {
+    fn aside(draws: &mut SplitMix64, key: u64, kind: u64) -> Call {
         match kind {
             383..=386 => {
                 let bits = draws.next() | draws.next();

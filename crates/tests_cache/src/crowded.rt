@@ -5,9 +5,9 @@ use crate::tested::{Position, Tested};
 use std::alloc::Global;
 use std::process::Abort;
 use std::test::Fail;
-use testing::{Draws, Spread};
+use testing::{LinearHashBuilder, SplitMix64};
 
-type Crowded = Tested<Spread>;
+type Crowded = Tested<LinearHashBuilder>;
 
 /// Puts a quarter more keys than the cache can hold.
 fn fill(rt: &impl Abort, tested: &mut Crowded, capacity: u64, list: u64) -> Result<(), Fail> {
@@ -19,7 +19,7 @@ fn fill(rt: &impl Abort, tested: &mut Crowded, capacity: u64, list: u64) -> Resu
 
 /// Makes drawn calls, except those that clear the cache.
 fn drive(rt: &impl Abort, tested: &mut Crowded, calls: u64, list: u64) -> Result<(), Fail> {
-    let mut draws = Draws::new(list);
+    let mut draws = SplitMix64::new(list);
     for number in 0..calls {
         let position = Position { list, number };
         match Call::drawn(&mut draws, &tested.model, number) {
@@ -46,14 +46,24 @@ fn is_same(rt: &impl Abort, tested: &mut Crowded, capacity: u64, list: u64) -> R
 }
 
 /// The same, with a cache made for it, under a hasher.
-fn agrees(rt: &impl Abort, alloc: Global, capacity: u64, spread: Spread) -> Result<(), Fail> {
+fn agrees(
+    rt: &impl Abort,
+    alloc: Global,
+    capacity: u64,
+    spread: LinearHashBuilder,
+) -> Result<(), Fail> {
     let mut tested = Tested::usual(alloc, capacity as usize, spread)?;
     is_same(rt, &mut tested, capacity, spread.times)
 }
 
 #[test]
 fn one_hash_for_all(rt: HostRuntime) -> Result<(), Fail> {
-    agrees(&rt, rt.alloc(), 2_000, Spread { times: 0, more: 0 })
+    agrees(
+        &rt,
+        rt.alloc(),
+        2_000,
+        LinearHashBuilder { times: 0, more: 0 },
+    )
 }
 
 /// Hashes that differ only in their lowest bits, in the highest, or in bits between, which no table
@@ -61,7 +71,7 @@ fn one_hash_for_all(rt: HostRuntime) -> Result<(), Fail> {
 #[test]
 fn hashes_that_differ_little(rt: HostRuntime) -> Result<(), Fail> {
     for bit in [0u32, 56, 12, 28] {
-        let spread = Spread {
+        let spread = LinearHashBuilder {
             times: 1 << bit,
             more: 0xAB00_0000_0000_000F,
         };

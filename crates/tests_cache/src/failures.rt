@@ -8,7 +8,7 @@ use std::hash::BuildHasher;
 use std::num::NonZeroUsize;
 use std::process::Abort;
 use std::test::Fail;
-use testing::{Refusing, Spread};
+use testing::{LinearHashBuilder, Refusing};
 
 type Numbers<S> = Cache<u64, u64, S>;
 
@@ -153,7 +153,7 @@ fn usual_hasher(rt: HostRuntime) -> Result<(), Fail> {
 #[test]
 fn bad_hashers(rt: HostRuntime) -> Result<(), Fail> {
     for (times, more) in BAD_HASHERS {
-        runs_answer(&rt, rt.alloc(), Spread { times, more })?;
+        runs_answer(&rt, rt.alloc(), LinearHashBuilder { times, more })?;
     }
     Ok(())
 }

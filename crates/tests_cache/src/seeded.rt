@@ -7,7 +7,7 @@ use clock2q_cache::DefaultHashBuilder;
 use std::alloc::Global;
 use std::process::Abort;
 use std::test::Fail;
-use testing::Draws;
+use testing::SplitMix64;
 
 /// The number of close looks at a list.
 const LOOKS: u64 = 10;
@@ -28,7 +28,7 @@ enum Kind {
 }
 
 /// The shares for such a list.
-fn shares_of(draws: &mut Draws, kind: Kind, capacity: usize) -> Shares {
+fn shares_of(draws: &mut SplitMix64, kind: Kind, capacity: usize) -> Shares {
     if capacity < 2 {
         return Shares::usual(capacity);
     }
@@ -63,7 +63,7 @@ fn drive(
     rt: &impl Abort,
     tested: &mut Usual,
     end: Position,
-    draws: &mut Draws,
+    draws: &mut SplitMix64,
 ) -> Result<(), Fail> {
     let list = end.list;
     for number in 0..end.number {
@@ -87,7 +87,7 @@ fn drive_and_look(
     rt: &impl Abort,
     tested: &mut Usual,
     end: Position,
-    draws: &mut Draws,
+    draws: &mut SplitMix64,
 ) -> Result<(), Fail> {
     drive(rt, tested, end, draws)?;
     look_closely(rt, tested, end)
@@ -100,7 +100,7 @@ fn beginning_is_same(
     kind: Kind,
     end: Position,
 ) -> Result<(), Fail> {
-    let mut draws = Draws::new(end.list);
+    let mut draws = SplitMix64::new(end.list);
     let shares = shares_of(&mut draws, kind, end.list as usize);
     let mut tested = made(alloc, kind, shares)?;
     drive_and_look(rt, &mut tested, end, &mut draws)

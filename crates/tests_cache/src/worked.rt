@@ -7,7 +7,7 @@ use std::alloc::Global;
 use std::hash::BuildHasher;
 use std::process::Abort;
 use std::test::Fail;
-use testing::Spread;
+use testing::LinearHashBuilder;
 
 /// A run of a cache with some capacity. The keys in a range are put first, each as its own value,
 /// and then some are hit.
@@ -594,7 +594,7 @@ pub(crate) const BAD_HASHERS: [(u64, u64); 4] = [
 #[test]
 fn bad_hashers(rt: HostRuntime) -> Result<(), Fail> {
     for (times, more) in BAD_HASHERS {
-        runs_answer(&rt, rt.alloc(), Spread { times, more }, more)?;
+        runs_answer(&rt, rt.alloc(), LinearHashBuilder { times, more }, more)?;
     }
     Ok(())
 }

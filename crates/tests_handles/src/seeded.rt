@@ -6,7 +6,7 @@ use crate::plain::Plain;
 use crate::walks::yields;
 use std::alloc::{AllocError, Global};
 use std::test::Fail;
-use testing::{Draws, same_at};
+use testing::{SplitMix64, same_at};
 
 const LISTS: u64 = 200;
 
@@ -21,7 +21,7 @@ const UNREAD: u32 = 40;
 /// Calls drawn from a seed.
 #[derive(Drop)]
 struct DrawnCalls {
-    draws: Draws,
+    draws: SplitMix64,
     /// The number of homes near the end of the slots that the hashes have.
     homes: u64,
 }
@@ -294,7 +294,7 @@ impl Pair {
 /// Makes the calls of a list on a new table and on new plain lists.
 fn is_same(alloc: Global, list: u64) -> Result<(), Fail> {
     let mut draws = DrawnCalls {
-        draws: Draws::new(list),
+        draws: SplitMix64::new(list),
         homes: 1 << (list % 4),
     };
     let mut pair = Pair::with_capacity(alloc, (list % 3 * 10) as usize)?;

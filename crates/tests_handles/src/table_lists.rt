@@ -7,7 +7,7 @@ use crate::runs::replies_of;
 use clock2q_table_commands::{TableCommand, TableReply};
 use std::alloc::{AllocError, Global};
 use std::test::Fail;
-use testing::{Draws, same_at};
+use testing::{SplitMix64, same_at};
 
 const LISTS: u64 = 200;
 
@@ -27,7 +27,7 @@ struct List {
 /// What the commands of a list are drawn from.
 #[derive(Drop)]
 struct Source {
-    draws: Draws,
+    draws: SplitMix64,
     /// The number of homes near the end of the slots that the handles have.
     homes: u64,
     alloc: Global,
@@ -195,7 +195,7 @@ fn replies_are(replies: &[TableReply<u64>], list: &List, seed: u64) -> Result<()
 /// Draws a list for tables with room for this many handles.
 fn list_of(alloc: Global, seed: u64, handles: usize) -> Result<List, AllocError> {
     let mut source = Source {
-        draws: Draws::new(seed),
+        draws: SplitMix64::new(seed),
         homes: 1 << (seed % 4),
         alloc,
         plain: Plain::with_capacity(alloc, handles)?,

@@ -6,7 +6,7 @@ use crate::calls::{
 use crate::counted::Counts;
 use std::alloc::Global;
 use std::test::Fail;
-use testing::{Spread, same, same_at};
+use testing::{LinearHashBuilder, same, same_at};
 
 /// Puts the keys from the first up to the end.
 fn fill<'a>(cache: &mut Counting<'a>, counts: &'a Counts, first: u64, end: u64) {
@@ -77,7 +77,12 @@ fn asks<'a>(
 }
 
 /// The same, with a cache made for it.
-fn asks_anew(alloc: Global, spread: Spread, call: Call, wanted: (u64, u64)) -> Result<(), Fail> {
+fn asks_anew(
+    alloc: Global,
+    spread: LinearHashBuilder,
+    call: Call,
+    wanted: (u64, u64),
+) -> Result<(), Fail> {
     let counts = Counts::new();
     with_counting(alloc, 2, spread, |cache| asks(cache, &counts, call, wanted))
 }
@@ -86,7 +91,7 @@ fn asks_anew(alloc: Global, spread: Spread, call: Call, wanted: (u64, u64)) -> R
 /// unknown one.
 fn each_asks(
     alloc: Global,
-    spread: Spread,
+    spread: LinearHashBuilder,
     calls: &[Call],
     wanted: [(u64, u64); 3],
 ) -> Result<(), Fail> {

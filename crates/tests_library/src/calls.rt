@@ -5,14 +5,14 @@ use clock2q_cache::Cache;
 use std::alloc::Global;
 use std::num::NonZeroUsize;
 use std::test::Fail;
-use testing::Spread;
+use testing::LinearHashBuilder;
 
 /// A hash of its own for each key, and one hash for all keys.
-pub(crate) const APART: Spread = Spread { times: 1, more: 0 };
+pub(crate) const APART: LinearHashBuilder = LinearHashBuilder { times: 1, more: 0 };
 
-pub(crate) const ALIKE: Spread = Spread { times: 0, more: 0 };
+pub(crate) const ALIKE: LinearHashBuilder = LinearHashBuilder { times: 0, more: 0 };
 
-pub(crate) type Counting<'a> = Cache<Counted<'a>, u64, Spread>;
+pub(crate) type Counting<'a> = Cache<Counted<'a>, u64, LinearHashBuilder>;
 
 /// Puts three keys into an empty cache of two, and counts anew what is asked. 2 and 3 are resident
 /// then, 3 in the slot that 1 had. 1 is remembered, and comes before 2 and 3, in this order, under
@@ -28,7 +28,7 @@ pub(crate) fn put_three<'a>(cache: &mut Counting<'a>, counts: &'a Counts) {
 pub(crate) fn with_counting<'a, W>(
     alloc: Global,
     capacity: usize,
-    spread: Spread,
+    spread: LinearHashBuilder,
     work: W,
 ) -> Result<(), Fail>
 where

@@ -7,21 +7,21 @@ use std::cell::Cell;
 use std::hash::BuildHasher;
 use std::num::NonZeroUsize;
 use std::test::Fail;
-use testing::{Spread, Spreading, same_at};
+use testing::{LinearHashBuilder, LinearHasher, same_at};
 
 /// Hashes as its spread does, and counts the hashes in a place that all hashers of a test share.
 #[derive(Clone, Copy)]
 struct CountedHashes<'a> {
-    spread: Spread,
+    spread: LinearHashBuilder,
     made: &'a Cell<u64>,
 }
 
 impl BuildHasher for CountedHashes<'_> {
-    type Hasher = Spreading;
+    type Hasher = LinearHasher;
 
-    ghost build_hasher = { λ counted. ⟦<Spread as BuildHasher>⟧.build_hasher counted.spread };
+    ghost build_hasher = { λ counted. ⟦<LinearHashBuilder as BuildHasher>⟧.build_hasher counted.spread };
 
-    fn build_hasher(&self) -> Spreading {
+    fn build_hasher(&self) -> LinearHasher {
         self.made.set(self.made.get().saturating_add(1));
         self.spread.build_hasher()
     }

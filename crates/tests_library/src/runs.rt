@@ -7,7 +7,7 @@ use crate::counted::{Counted, Counts};
 use clock2q_command::{Command, run};
 use std::alloc::{AllocError, Global};
 use std::test::Fail;
-use testing::{Spread, same_at};
+use testing::{LinearHashBuilder, same_at};
 
 type Commands<'a> = Vec<Command<Counted<'a>, u64>>;
 
@@ -102,7 +102,12 @@ fn list_asks<'a>(
 }
 
 /// The same, with a cache made for it.
-fn asks_anew(alloc: Global, spread: Spread, list: List, wanted: (u64, u64)) -> Result<(), Fail> {
+fn asks_anew(
+    alloc: Global,
+    spread: LinearHashBuilder,
+    list: List,
+    wanted: (u64, u64),
+) -> Result<(), Fail> {
     let counts = Counts::new();
     with_counting(alloc, 2, spread, |cache| {
         list_asks(alloc, cache, &counts, list, wanted)

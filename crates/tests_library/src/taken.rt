@@ -5,7 +5,7 @@ use clock2q_memo::Memo;
 use std::alloc::Global;
 use std::num::NonZeroUsize;
 use std::test::Fail;
-use testing::{Refusing, Spread, same_at};
+use testing::{LinearHashBuilder, Refusing, same_at};
 
 /// The bytes that a cache of 64-bit keys and values with the usual shares takes, by its capacity.
 ///
@@ -63,8 +63,8 @@ fn caches(rt: HostRuntime) -> Result<(), Fail> {
         let capacity = NonZeroUsize::new(capacity).ok_or("not zero")?;
         let made = Cache::<u64, u64, DefaultHashBuilder, &Refusing<Global>>::new(&alloc, capacity);
         holds(&alloc, made, bytes)?;
-        let hasher = Spread { times: 1, more: 0 };
-        let made = Cache::<u64, u64, Spread, &Refusing<Global>>::with_hasher(
+        let hasher = LinearHashBuilder { times: 1, more: 0 };
+        let made = Cache::<u64, u64, LinearHashBuilder, &Refusing<Global>>::with_hasher(
             &alloc, capacity, hasher,
         );
         holds(&alloc, made, bytes)?;
@@ -94,8 +94,8 @@ fn memos(rt: HostRuntime) -> Result<(), Fail> {
         let made: Result<Memo<u64, u64, _, DefaultHashBuilder, &Refusing<Global>>, CacheError> =
             Memo::new(&alloc, capacity, identity);
         holds(&alloc, made, bytes)?;
-        let hasher = Spread { times: 1, more: 0 };
-        let made: Result<Memo<u64, u64, _, Spread, &Refusing<Global>>, CacheError> =
+        let hasher = LinearHashBuilder { times: 1, more: 0 };
+        let made: Result<Memo<u64, u64, _, LinearHashBuilder, &Refusing<Global>>, CacheError> =
             Memo::with_hasher(&alloc, capacity, hasher, identity);
         holds(&alloc, made, bytes)?;
     }

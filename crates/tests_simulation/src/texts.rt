@@ -11,7 +11,7 @@ use std::hash::{BuildHasher, RandomState};
 use std::io::Write;
 use std::test::Fail;
 use std::time::Clock;
-use testing::{Spread, same, same_at};
+use testing::{LinearHashBuilder, same, same_at};
 
 /// Returns what a simulation writes.
 pub(crate) fn written(alloc: Global, line: &str, input: &[u8]) -> Result<Vec<u8>, Fail> {
@@ -161,7 +161,7 @@ fn other_hashers(rt: HostRuntime) -> Result<(), Fail> {
     let text = written_with(rt.alloc(), line, trace, RandomState::new(&rt)?)?;
     same(text.as_slice(), wanted.as_slice())?;
     for (times, more) in [(0, 0), (0, 0xAB00_0000_0000_000F), (0, u64::MAX), (1, 0)] {
-        let spread = Spread { times, more };
+        let spread = LinearHashBuilder { times, more };
         let text = written_with(rt.alloc(), line, trace, spread)?;
         same_at(text.as_slice(), wanted.as_slice(), spread)?;
     }

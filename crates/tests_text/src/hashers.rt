@@ -8,10 +8,10 @@ use clock2q_text::{Script, parse, reply_text};
 use std::alloc::Global;
 use std::hash::{BuildHasher, RandomState};
 use std::test::Fail;
-use testing::{Spread, same_at};
+use testing::{LinearHashBuilder, same_at};
 
 /// Returns the replies of a cache with a hasher to the commands of a text, as a text.
-fn answered_under(alloc: Global, text: &[u8], spread: Spread) -> Result<Vec<u8>, Fail> {
+fn answered_under(alloc: Global, text: &[u8], spread: LinearHashBuilder) -> Result<Vec<u8>, Fail> {
     let script = parse(alloc, text)?;
     let Script {
         capacity,
@@ -36,7 +36,7 @@ fn served_under<S: BuildHasher + Drop>(
 }
 
 /// Checks the replies to a row with a hasher.
-fn row_is_answered(alloc: Global, row: Row, spread: Spread) -> Result<(), Fail> {
+fn row_is_answered(alloc: Global, row: Row, spread: LinearHashBuilder) -> Result<(), Fail> {
     let (text, want) = row_texts(alloc, row)?;
     let answered = answered_under(alloc, text.as_bytes(), spread)?;
     same_at(answered.as_slice(), want.as_bytes(), (spread, row.3))?;
@@ -50,7 +50,7 @@ fn row_is_answered(alloc: Global, row: Row, spread: Spread) -> Result<(), Fail> 
 fn bad_hashers(rt: HostRuntime) -> Result<(), Fail> {
     for (times, more) in [(0, 0), (0, 0xAB00_0000_0000_000F), (0, u64::MAX), (1, 0)] {
         for row in RUNS {
-            row_is_answered(rt.alloc(), row, Spread { times, more })?;
+            row_is_answered(rt.alloc(), row, LinearHashBuilder { times, more })?;
         }
     }
     Ok(())

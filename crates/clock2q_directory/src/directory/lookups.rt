@@ -45,7 +45,7 @@ impl<K: Eq, V, A: Allocator> Directory<K, V, A> {
               places = places_looked_up hash self.old.history.places;
               comparisons = self.new.history.comparisons;
             } }
-        ensures asked { Rises 0
+        ensures compared { Rises 0
             (length (candidates
             (slots self.old.history.places.index) hash)) self.old.residents.comparisons self.new.residents.comparisons }
         ensures comparisons { Rises 0
@@ -186,7 +186,7 @@ fn look_among<K: Eq, V, A: Allocator>(
         record residents.old { comparisons = residents.new.comparisons } }
     ensures remembered { remembered.new ≡
         record remembered.old { comparisons = remembered.new.comparisons } }
-    ensures asked { Rises 0
+    ensures compared { Rises 0
         (length (slots_among handles.entry.left)) residents.old.comparisons residents.new.comparisons }
     ensures comparisons { Rises 0
         (length (places_among handles.entry.left)) remembered.old.comparisons remembered.new.comparisons }

@@ -188,22 +188,22 @@ impl<K: Drop, V: Drop, A: Allocator> Keys<K, V, A> {
 impl<K: Eq, V, A: Allocator> Keys<K, V, A> {
     ghost use Rattle.clock2q_directory.specs.Keys.{is_key_at};
 
-    /// Returns true if `key` equals the key at a place, and counts the comparison in `asked`.
-    pub(super) fn is_counting_in(&self, place: u32, key: &K, asked: &mut Count) -> bool
+    /// Returns true if `key` equals the key at a place, and counts the comparison in `compared`.
+    pub(super) fn is_counting_in(&self, place: u32, key: &K, compared: &mut Count) -> bool
         requires used { place < length self.now.entries }
         ensures value { result ≡ is_key_at K.eq key.now self.now.entries place }
-        ensures counted { asked.new.total ≡ asked.old.total + 1 }
+        ensures counted { compared.new.total ≡ compared.old.total + 1 }
     {
-        asked.tick();
+        compared.tick();
         *key == self.entries[place as usize].key
     }
 
     /// Adds comparisons that were counted elsewhere.
-    pub(super) fn add_comparisons(&mut self, asked: &Count)
+    pub(super) fn add_comparisons(&mut self, compared: &Count)
         ensures added { self.new ≡
-            record self.old { comparisons = self.old.comparisons + asked.now.total } }
+            record self.old { comparisons = self.old.comparisons + compared.now.total } }
     {
-        self.comparisons.raise(asked);
+        self.comparisons.raise(compared);
     }
 
     /// Raises the count of comparisons by an amount that the proof of the call picks. A caller that

@@ -5,15 +5,15 @@ use Rattle.clock2q_uses.proofs.pages.load.Goals as goal
 
 pub returns-then-ne-clause-content : goal.returns-then-ne-clause-content
 returns-then-ne-clause-content g c =
-    let e = c.frame_of-frame.ensures in
+    let e = c.enter-frame.ensures in
     let there = slice_get-get_or c.args.file.now c.args.page c.index-file-page.result c.requires.page ∙ ap Some (sym c.index-file-page.is) in
-    λ loaded. set_there c.args.frames.now c.frame_of-frame.result.0 c.index-file-page.result (omega (arith, e.within, c.requires.frames)) ∙ sym there
+    λ loaded. set_there c.args.frames.now c.enter-frame.result.0 c.index-file-page.result (omega (arith, e.within, c.requires.frames)) ∙ sym there
 
 pub returns-then-ne-clause-loaded : goal.returns-then-ne-clause-loaded
 returns-then-ne-clause-loaded g c =
-    let e = c.frame_of-frame.ensures in
-    copied_loaded c.args.file.now c.args.frames.now c.args.pages.now.machine c.frame_of-frame.new.pages.machine c.args.page
-    c.frame_of-frame.result.0 c.index-file-page.result
+    let e = c.enter-frame.ensures in
+    copied_loaded c.args.file.now c.args.frames.now c.args.pages.now.machine c.enter-frame.new.pages.machine c.args.page
+    c.enter-frame.result.0 c.index-file-page.result
     (slice_get-get_or c.args.file.now c.args.page c.index-file-page.result c.requires.page
     ∙ ap Some (sym c.index-file-page.is)) (omega (arith, e.within, c.requires.frames)) e.loads e.keeps
 

@@ -22,8 +22,8 @@ returns-then-is_shared g c =
     let is = sym (shared g (goal.at.returns-then-is_shared g c).After-is_shared) ∙ c.if-is_shared.true in
     let handles = rw c.charge_lookup.ensures.looked at c.handles.ensures.handles in
     let places = ap places_among handles ∙ sym (candidates-places c.self.inside.index c.args.hash is) in
-    let asked = ap (λ (z : KeyPlaces _ _). z.comparisons) c.find_remembered.ensures.counted in
-    let r = searched g.met.K.Eq.laws c.args.hash c.args.key.now c.self.invariant hashed places c.find_remembered.ensures.found asked in
+    let compared = ap (λ (z : KeyPlaces _ _). z.comparisons) c.find_remembered.ensures.counted in
+    let r = searched g.met.K.Eq.laws c.args.hash c.args.key.now c.self.invariant hashed places c.find_remembered.ensures.found compared in
     rw (← c.self.view_is) (record { place = r.0; kept = rw (c.find_remembered.ensures.counted, c.charge_lookup.ensures.looked) refl; residents = refl; comparisons = r.1 })
 
 pub find-requires : goal.find-requires
@@ -37,8 +37,8 @@ returns-in_err-place g c =
     let is = sym (shared g (goal.at.returns-in_err-place g c).After-is_shared) ∙ c.if-is_shared.false in
     let own = rw c.charge_lookup.ensures.looked at c.own_places.ensures.places in
     let places = ap slots_among own ∙ own-places c.self.invariant c.args.hash is in
-    let asked = ap (λ (z : KeyPlaces _ _). z.comparisons) c.find.ensures.counted in
-    let r = searched g.met.K.Eq.laws c.args.hash c.args.key.now c.self.invariant hashed places c.find.ensures.found asked in
+    let compared = ap (λ (z : KeyPlaces _ _). z.comparisons) c.find.ensures.counted in
+    let r = searched g.met.K.Eq.laws c.args.hash c.args.key.now c.self.invariant hashed places c.find.ensures.found compared in
     rw (← c.self.view_is) (record {
       place = c.from_residual.ensures ∙ sym c.in_err-place.was ∙ r.0;
       kept = rw (c.find.ensures.counted, c.charge_lookup.ensures.looked) refl;
@@ -52,8 +52,8 @@ returns g c =
     let is = sym (shared g (goal.at.returns g c).After-is_shared) ∙ c.if-is_shared.false in
     let own = rw c.charge_lookup.ensures.looked at c.own_places.ensures.places in
     let places = ap slots_among own ∙ own-places c.self.invariant c.args.hash is in
-    let asked = ap (λ (z : KeyPlaces _ _). z.comparisons) c.find.ensures.counted in
-    let r = searched g.met.K.Eq.laws c.args.hash c.args.key.now c.self.invariant hashed places c.find.ensures.found asked in
+    let compared = ap (λ (z : KeyPlaces _ _). z.comparisons) c.find.ensures.counted in
+    let r = searched g.met.K.Eq.laws c.args.hash c.args.key.now c.self.invariant hashed places c.find.ensures.found compared in
     rw (← c.self.view_is) (record {
       place = ap (λ p. Some p) c.new.ensures.place ∙ sym c.in_ok-place.was ∙ r.0;
       kept = rw (c.find.ensures.counted, c.charge_lookup.ensures.looked) refl;

@@ -64,8 +64,8 @@ module _ (g : Over) (c : After-look_among-found g) where
   known-ended : found_slot found ≡ None → found_place found ≡ None → IsSome (found_gap found)
   known-ended none nowhere = subst IsSome (sym (first.ended none nowhere ∙ c.handles.ensures.end)) refl
 
-  known-asked : Rises 0 (length (candidates (slots c.self.inside.index) c.args.hash)) c.self.inside.residents.comparisons c.look_among-found.new.residents.comparisons
-  known-asked = (c.look_among-found.ensures.asked.0, omega (arith, c.look_among-found.ensures.asked.1, ap length slots-left))
+  known-compared : Rises 0 (length (candidates (slots c.self.inside.index) c.args.hash)) c.self.inside.residents.comparisons c.look_among-found.new.residents.comparisons
+  known-compared = (c.look_among-found.ensures.compared.0, omega (arith, c.look_among-found.ensures.compared.1, ap length slots-left))
 
   known-comparisons : Rises 0 (length (candidates (places c.self.inside.index) c.args.hash)) c.self.inside.remembered.comparisons c.look_among-found.new.remembered.comparisons
   known-comparisons = (c.look_among-found.ensures.comparisons.0, omega (arith, c.look_among-found.ensures.comparisons.1, places-most))
@@ -98,10 +98,10 @@ returns-in-Absent-clause-ended g c _ nowhere =
     let ended = known-ended g at (ap found_slot c.in-Absent.is) (ap found_place c.in-Absent.is) in
     rw (c.lookup_apart.ensures.gap nowhere) (rw c.in-Absent.is at ended)
 
-pub returns-in-Absent-clause-asked : goal.returns-in-Absent-clause-asked
-returns-in-Absent-clause-asked g c =
-    let at = (goal.at.returns-in-Absent-clause-asked g c).After-look_among-found in
-    rw (← c.self.view_is) (rw c.lookup_apart.ensures.residents (known-asked g at))
+pub returns-in-Absent-clause-compared : goal.returns-in-Absent-clause-compared
+returns-in-Absent-clause-compared g c =
+    let at = (goal.at.returns-in-Absent-clause-compared g c).After-look_among-found in
+    rw (← c.self.view_is) (rw c.lookup_apart.ensures.residents (known-compared g at))
 
 pub returns-in_default-clause-place : goal.returns-in_default-clause-place
 returns-in_default-clause-place g c _ =
@@ -124,10 +124,10 @@ returns-in_default-clause-ended g c _ _ =
     let at = (goal.at.returns-in_default-clause-ended g c).After-look_among-found in
     rw c.in-Absent.is at (known-ended g at (ap found_slot c.in-Absent.is) (ap found_place c.in-Absent.is))
 
-pub returns-in_default-clause-asked : goal.returns-in_default-clause-asked
-returns-in_default-clause-asked g c =
-    let at = (goal.at.returns-in_default-clause-asked g c).After-look_among-found in
-    rw (← c.self.view_is) (known-asked g at)
+pub returns-in_default-clause-compared : goal.returns-in_default-clause-compared
+returns-in_default-clause-compared g c =
+    let at = (goal.at.returns-in_default-clause-compared g c).After-look_among-found in
+    rw (← c.self.view_is) (known-compared g at)
 
 pub returns-in_default-clause-comparisons : goal.returns-in_default-clause-comparisons
 returns-in_default-clause-comparisons g c =
@@ -163,10 +163,10 @@ returns-in_default-2-clause-ended g c none nowhere =
     let at = (goal.at.returns-in_default-2-clause-ended g c).After-look_among-found in
     known-ended g at none nowhere
 
-pub returns-in_default-2-clause-asked : goal.returns-in_default-2-clause-asked
-returns-in_default-2-clause-asked g c =
-    let at = (goal.at.returns-in_default-2-clause-asked g c).After-look_among-found in
-    rw (← c.self.view_is) (known-asked g at)
+pub returns-in_default-2-clause-compared : goal.returns-in_default-2-clause-compared
+returns-in_default-2-clause-compared g c =
+    let at = (goal.at.returns-in_default-2-clause-compared g c).After-look_among-found in
+    rw (← c.self.view_is) (known-compared g at)
 
 pub returns-in_default-2-clause-comparisons : goal.returns-in_default-2-clause-comparisons
 returns-in_default-2-clause-comparisons g c =

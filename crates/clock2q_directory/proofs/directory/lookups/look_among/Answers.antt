@@ -15,12 +15,12 @@ returns-then-key_equals-clause-found g c =
     let it = sym c.if-key_equals.true ∙ c.key_equals.ensures.value ∙ ap (λ r. is_key_at g.K.PartialEq.eq c.args.key.now r.entries c.in-Resident.slot) c.loop-handle.invariant.residents in
     (resident-found _ _ _ (looks-next _ _ _ c.loop-handle.invariant.looks (sym c.in-Ok.ensures.candidate)) c.in-Resident.ensures.unpacked it).0
 
-pub returns-then-key_equals-clause-asked : goal.returns-then-key_equals-clause-asked
-returns-then-key_equals-clause-asked g c =
+pub returns-then-key_equals-clause-compared : goal.returns-then-key_equals-clause-compared
+returns-then-key_equals-clause-compared g c =
     let it = sym c.if-key_equals.true ∙ c.key_equals.ensures.value ∙ ap (λ r. is_key_at g.K.PartialEq.eq c.args.key.now r.entries c.in-Resident.slot) c.loop-handle.invariant.residents in
     let on = looks-next _ _ _ c.loop-handle.invariant.looks (sym c.in-Ok.ensures.candidate) in
     let counted = ap (λ r. r.comparisons) c.key_equals.ensures.counted in
-    (omega (arith, on.asked_from, counted), omega (arith, (resident-found _ _ _ on c.in-Resident.ensures.unpacked it).1, counted))
+    (omega (arith, on.compared_from, counted), omega (arith, (resident-found _ _ _ on c.in-Resident.ensures.unpacked it).1, counted))
 
 pub key_equals-requires-in-Remembered : goal.key_equals-requires-in-Remembered
 key_equals-requires-in-Remembered g c =

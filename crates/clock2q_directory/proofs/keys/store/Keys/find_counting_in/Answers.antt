@@ -2,22 +2,22 @@ use Rattle.std.proofs.Common.{ap, drop, sym, ◌∙◌, arith}
 use Rattle.std.specs.List.{find}
 use Rattle.clock2q_directory.specs.Index.{slots_among}
 use Rattle.clock2q_directory.specs.Keys.{is_key_at, comparisons_of}
-use Rattle.clock2q_directory.proofs.Looking.{asked-slot}
-use Rattle.clock2q_directory.proofs.Lookups.{asked-found, is_empty}
+use Rattle.clock2q_directory.proofs.Looking.{compared-slot}
+use Rattle.clock2q_directory.proofs.Lookups.{compared-found, is_empty}
 use Rattle.clock2q_directory.proofs.keys.store.Keys.find_counting_in.Goals as goal
 
 pub is_counting_in-requires : goal.is_counting_in-requires
-is_counting_in-requires g c = record { used = (asked-slot c.loop-handle.handles.left c.loop-handle.invariant c.in-Some.ensures.candidate c.in-Resident.ensures.unpacked).there.0 }
+is_counting_in-requires g c = record { used = (compared-slot c.loop-handle.handles.left c.loop-handle.invariant c.in-Some.ensures.candidate c.in-Resident.ensures.unpacked).there.0 }
 
 pub returns-then-is_counting_in-clause-found : goal.returns-then-is_counting_in-clause-found
 returns-then-is_counting_in-clause-found g c =
-    (asked-found c.in-Resident.slot (slots_among (drop 1 c.loop-handle.handles.left))
-    (asked-slot c.loop-handle.handles.left c.loop-handle.invariant c.in-Some.ensures.candidate c.in-Resident.ensures.unpacked) (sym c.if-is_counting_in.true ∙ c.is_counting_in.ensures.value)).0
+    (compared-found c.in-Resident.slot (slots_among (drop 1 c.loop-handle.handles.left))
+    (compared-slot c.loop-handle.handles.left c.loop-handle.invariant c.in-Some.ensures.candidate c.in-Resident.ensures.unpacked) (sym c.if-is_counting_in.true ∙ c.is_counting_in.ensures.value)).0
 
 pub returns-then-is_counting_in-clause-counted : goal.returns-then-is_counting_in-clause-counted
 returns-then-is_counting_in-clause-counted g c =
-    c.is_counting_in.ensures.counted ∙ (asked-found c.in-Resident.slot (slots_among (drop 1 c.loop-handle.handles.left))
-    (asked-slot c.loop-handle.handles.left c.loop-handle.invariant c.in-Some.ensures.candidate c.in-Resident.ensures.unpacked) (sym c.if-is_counting_in.true ∙ c.is_counting_in.ensures.value)).1
+    c.is_counting_in.ensures.counted ∙ (compared-found c.in-Resident.slot (slots_among (drop 1 c.loop-handle.handles.left))
+    (compared-slot c.loop-handle.handles.left c.loop-handle.invariant c.in-Some.ensures.candidate c.in-Resident.ensures.unpacked) (sym c.if-is_counting_in.true ∙ c.is_counting_in.ensures.value)).1
 
 pub returns-clause-found : goal.returns-clause-found
 returns-clause-found g c =

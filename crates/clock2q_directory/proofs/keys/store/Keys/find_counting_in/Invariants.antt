@@ -1,13 +1,13 @@
 use Rattle.std.proofs.Common.{length}
 use Rattle.clock2q_directory.specs.Keys.{is_key_at}
 use Rattle.clock2q_directory.specs.Index.{slots_among}
-use Rattle.clock2q_directory.proofs.Lookups.{Asked}
+use Rattle.clock2q_directory.proofs.Lookups.{Compared}
 use Rattle.clock2q_directory.proofs.keys.store.Keys.find_counting_in.Given as goal
 
 abbrev pub invariant-loop-handle : goal.invariant-loop-handle
 invariant-loop-handle g l =
-    Asked (is_key_at g.K.PartialEq.eq l.fn.key l.fn.self.entries) l.fn.asked.total (length l.fn.self.entries)
-    (slots_among l.fn.handles.left) l.asked.total (slots_among l.handles.left)
+    Compared (is_key_at g.K.PartialEq.eq l.fn.key l.fn.self.entries) l.fn.compared.total (length l.fn.self.entries)
+    (slots_among l.fn.handles.left) l.compared.total (slots_among l.handles.left)
 
 abbrev pub decreases-loop-handle : goal.decreases-loop-handle
 decreases-loop-handle g l = length l.handles.left

@@ -1,10 +1,10 @@
 use Rattle.std.proofs.Common.{◌≡◌, length}
 use Rattle.clock2q_directory.specs.Keys.{is_key_at}
 use Rattle.clock2q_directory.specs.Index.{places_among}
-use Rattle.clock2q_directory.proofs.Lookups.{Asked}
+use Rattle.clock2q_directory.proofs.Lookups.{Compared}
 use Rattle.clock2q_directory.proofs.keys.store.Keys.find_remembered.Given as goal
 
 abbrev pub invariant-loop-handle : goal.invariant-loop-handle
 invariant-loop-handle g l =
-    Asked (is_key_at g.K.PartialEq.eq l.fn.key l.fn.self.entries) l.fn.self.comparisons (length l.fn.self.entries) (places_among l.fn.handles.left) l.self.comparisons (places_among l.handles.left)
+    Compared (is_key_at g.K.PartialEq.eq l.fn.key l.fn.self.entries) l.fn.self.comparisons (length l.fn.self.entries) (places_among l.fn.handles.left) l.self.comparisons (places_among l.handles.left)
     × (l.self ≡ record l.fn.self { comparisons = l.self.comparisons })

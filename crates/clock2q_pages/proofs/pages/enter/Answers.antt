@@ -2,7 +2,7 @@ use Rattle.std.proofs.Common.{rules, ◌≡◌, ◌<◌, Some, eqb, slice_get, s
 use Rattle.clock2q_pages.proofs.Paging.{last_is_loaded, page_there, page_alone, others_keep_frames, frame_within, value_there, values_elsewhere, same_shares}
 use Rattle.clock2q_machine.specs.Steps.{put}
 use Rattle.clock2q_pages.specs.Pages.{last_in}
-use Rattle.clock2q_pages.proofs.pages.frame_of.Goals as goal
+use Rattle.clock2q_pages.proofs.pages.enter.Goals as goal
 
 pub returns-clause-resident : goal.returns-clause-resident
 returns-clause-resident g c = page_there c.args.pages.now.machine c.len.ensures.whole c.args.page (Some c.args.page) ∙ ap Some (sym c.get_or_insert_mut-frame.ensures.slot)

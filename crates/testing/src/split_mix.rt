@@ -1,24 +1,25 @@
 //! Numbers determined by a seed.
 ghost use Rattle.std.specs.Prelude.{◌<◌};
 
-/// A stream of numbers determined by its seed, so that a list of drawn calls can be repeated.
+/// SplitMix64, a stream of numbers determined by its seed, so that a list of drawn calls can be
+/// repeated.
 ///
 /// # Example
 ///
 /// ```
-/// let mut draws = Draws::new(1);
+/// let mut draws = SplitMix64::new(1);
 /// let die = draws.below(6) + 1;
 /// ```
 #[derive(Drop)]
-pub struct Draws {
+pub struct SplitMix64 {
     /// A sum that grows by an odd step; its bits, mixed, are the numbers.
     sum: u64,
 }
 
-impl Draws {
+impl SplitMix64 {
     /// Creates a seed's stream.
-    pub fn new(seed: u64) -> Draws {
-        Draws { sum: seed }
+    pub fn new(seed: u64) -> SplitMix64 {
+        SplitMix64 { sum: seed }
     }
 
     /// Returns the next number.

@@ -10,43 +10,43 @@ use std::hash::{BuildHasher, Hasher};
 /// # Example
 ///
 /// ```
-/// let one_hash_for_all = Spread { times: 0, more: 7 };
+/// let one_hash_for_all = LinearHashBuilder { times: 0, more: 7 };
 /// ```
 #[derive(Clone, Copy, Debug)]
-pub struct Spread {
+pub struct LinearHashBuilder {
     pub times: u64,
     pub more: u64,
 }
 
-/// The hasher that [`Spread`] makes. It hashes the number that was written last.
+/// The hasher that [`LinearHashBuilder`] makes. It hashes the number that was written last.
 #[derive(Clone, Copy)]
-pub struct Spreading {
-    spread: Spread,
+pub struct LinearHasher {
+    builder: LinearHashBuilder,
     number: u64,
 }
 
-impl BuildHasher for Spread {
-    type Hasher = Spreading;
+impl BuildHasher for LinearHashBuilder {
+    type Hasher = LinearHasher;
 
-    ghost build_hasher = { λ spread. record { spread = spread; number = 0 } };
+    ghost build_hasher = { λ builder. record { builder = builder; number = 0 } };
 
-    fn build_hasher(&self) -> Spreading {
-        Spreading {
-            spread: *self,
+    fn build_hasher(&self) -> LinearHasher {
+        LinearHasher {
+            builder: *self,
             number: 0,
         }
     }
 }
 
-impl Hasher for Spreading {
+impl Hasher for LinearHasher {
     ghost write = { λ s bytes. record s { number = cond (length bytes == 8) (from_le_bytes w64 bytes) s.number } };
 
-    ghost finish = { λ s. (s.number * s.spread.times % 2 ^ 64 + s.spread.more) % 2 ^ 64 };
+    ghost finish = { λ s. (s.number * s.builder.times % 2 ^ 64 + s.builder.more) % 2 ^ 64 };
 
     fn finish(&self) -> u64 {
         self.number
-            .wrapping_mul(self.spread.times)
-            .wrapping_add(self.spread.more)
+            .wrapping_mul(self.builder.times)
+            .wrapping_add(self.builder.more)
     }
 
     fn write(&mut self, bytes: &[u8]) {
