@@ -194,7 +194,6 @@ impl<A: Allocator> Links<A> {
         ensures cleared { SetsBit slot false self.old
             (record self.new { records = self.old.records }) }
     {
-        self.records.set_flag(slot, Flag::Free);
         self.records.detach(slot)
     }
 

@@ -1,7 +1,7 @@
 //! The records and the flags of the slots. Both are made when a slot is first in a queue.
 ghost use Rattle.std.specs.Prelude.{◌≡◌, ℕ, ◌+◌, ◌-◌, ◌<◌, ◌≤◌, true, IfOk, length, replicate, slice_index_or, slice_set};
 ghost use Rattle.clock2q_queues.specs.Cells.{cells_state, accessed};
-ghost use Rattle.clock2q_queues.specs.Flags.{is_linked};
+ghost use Rattle.clock2q_queues.specs.Flags.{is_linked, says_linked};
 ghost use Rattle.clock2q_queues.specs.declared.links.Flag.{Flag};
 ghost use Rattle.clock2q_queues.specs.Links.{Attaches, Detaches, location_at, made_below, next_at, previous_at, record_at, vacant, with_location};
 
@@ -103,9 +103,10 @@ impl<A: Allocator> Records<A> {
         }
     }
 
-    /// Writes the flag of a slot that was made.
+    /// Writes the flag of a slot that stays in a queue.
     pub(super) fn set_flag(&mut self, slot: u32, flag: Flag)
-        requires { slot < self.old.made }
+        requires linked { is_linked (location_at self.old.cells.items slot) ≡ true }
+        requires stays { says_linked flag ≡ true }
         ensures { self.new ≡ record self.old { flags = slice_set self.old.flags slot flag } }
     {
         self.flags[slot as usize] = flag;
@@ -194,7 +195,8 @@ impl<A: Allocator> Records<A> {
         self.items[before as usize].previous = slot;
     }
 
-    /// Removes a slot from between its neighbours, and returns the record that it had.
+    /// Removes a slot from between its neighbours, and returns the record that it had. The slot's flag
+    /// becomes free by the write that makes its record vacant.
     pub(super) fn detach(&mut self, slot: u32) -> Record
         requires slot_in { is_linked (location_at self.old.cells.items slot) ≡ true }
         requires next_in { is_linked (location_at self.old.cells.items
@@ -204,7 +206,7 @@ impl<A: Allocator> Records<A> {
         ensures detached { Detaches slot self.old.cells self.new.cells }
         ensures value { result ≡ record_at self.old.cells.items slot }
         ensures made { self.new.made ≡ self.old.made }
-        ensures flags { self.new.flags ≡ self.old.flags }
+        ensures flags { self.new.flags ≡ slice_set self.old.flags slot Flag.Free }
     {
         self.accesses.tick();
         let was = self.items[slot as usize];
@@ -215,6 +217,7 @@ impl<A: Allocator> Records<A> {
         self.accesses.tick();
         self.items[was.next as usize].previous = was.previous;
         self.accesses.tick();
+        self.flags[slot as usize] = Flag::Free;
         self.items[slot as usize] = VACANT;
         was
     }

@@ -7,7 +7,7 @@ use Rattle.clock2q_queues.proofs.Flagged.{bit_set, flags_changed}
 use Rattle.clock2q_queues.proofs.links.Links.set_bit.Goals as goal
 
 pub set_flag-requires : goal.set_flag-requires
-set_flag-requires g c = c.self.invariant.made c.args.slot (ap (λ (l : LinkState). is_linked (location_at l.records.items c.args.slot)) c.self.view_is ∙ c.requires)
+set_flag-requires g c = record { linked = ap (λ (l : LinkState). is_linked (location_at l.records.items c.args.slot)) c.self.view_is ∙ c.requires; stays = refl }
 
 pub invariant_of-self : goal.invariant_of-self
 invariant_of-self g c =

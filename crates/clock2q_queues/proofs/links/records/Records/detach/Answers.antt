@@ -1,7 +1,8 @@
-use Rattle.std.proofs.Common.{◌≡◌, ap, arith}
+use Rattle.std.proofs.Common.{◌≡◌, ◌<◌, length, sym, ap, arith}
+use Rattle.clock2q_queues.specs.declared.links.Flag.{Flag}
 use Rattle.clock2q_queues.specs.declared.links.Record.{Record}
 use Rattle.clock2q_queues.specs.Links.{SlotRecords, record_at, previous_at}
-use Rattle.clock2q_queues.proofs.AllRecords.{all-detached, linked-made, linked-value}
+use Rattle.clock2q_queues.proofs.AllRecords.{all-detached, flags-set, linked-made, linked-value}
 use Rattle.clock2q_queues.proofs.links.records.Records.detach.Given.{Over}
 use Rattle.clock2q_queues.proofs.links.records.Records.detach.Goals.{After-index-was}
 use Rattle.clock2q_queues.proofs.links.records.Records.detach.Goals as goal
@@ -27,3 +28,10 @@ returns-clause-detached g c =
     rw (← c.self.view_is) (detached (rw (← c.self.view_is) at c.requires.slot_in) (rw (← c.self.view_is) at c.requires.next_in) (rw (← c.self.view_is) at c.requires.previous_in)
     (rw (← c.self.view_is) at is) c.index_mut.ensures.value c.index_mut-2.ensures.value
     (omega (arith, c.tick.ensures.ticked, c.tick-2.ensures.ticked, c.tick-3.ensures.ticked, c.tick-4.ensures.ticked, c.tick-5.ensures.ticked, c.tick-6.ensures.ticked)))
+
+pub returns-clause-flags : goal.returns-clause-flags
+returns-clause-flags g c =
+    let i = c.self.inside in
+    let there = linked-made i.items.items i.slots i.flags.items i.accesses.total c.args.slot c.args.self.now c.self.view_is c.requires.slot_in in
+    let within : c.args.slot < length i.flags.items = omega (arith, there, c.self.invariant.as_many, ap (λ (z : SlotRecords). z.made) c.self.view_is) in
+    rw (← c.self.view_is) (sym (flags-set i.flags.items i.slots c.args.slot Flag.Free within))
