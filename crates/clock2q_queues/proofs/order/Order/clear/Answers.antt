@@ -1,5 +1,4 @@
 use Rattle.std.proofs.Common.{None, arith}
-use Rattle.std.proofs.lemmas.Grind.{common_steps}
 use Rattle.std.proofs.lemmas.List.{length-replicate}
 use Rattle.clock2q_queues.proofs.Orders.{empty_order, whole_order}
 use Rattle.clock2q_queues.proofs.order.Order.clear.Goals as goal
@@ -9,6 +8,3 @@ invariant_of-self g c = empty_order c.clear.new.self (grind (arith, c.clear.ensu
 
 pub returns-clause-whole : goal.returns-clause-whole
 returns-clause-whole g c = whole_order c.clear.new.self None 0 (record { head = 0; len = 0 }) (invariant_of-self g c)
-
-pub returns-clause-order : goal.returns-clause-order
-returns-clause-order g c = grind (arith, common_steps)
