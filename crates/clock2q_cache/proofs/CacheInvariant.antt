@@ -1,6 +1,6 @@
 -- A cache's fields keep their invariant after each change of the layers, and the machine becomes what it should.
 use Rattle.std.proofs.Common.{◌≡◌, ℕ, suc, ◌+◌, ◌^◌, ◌<◌, ◌≤◌, Bool, true, false, Option, Some, None, List, [], ◌∷◌, ◌++◌, map, length, drop, reverse, refl, sym, ap, ◌∙◌, arith, length-append, eqb}
-use Rattle.clock2q_cache.proofs.Names.{Entry, length-written, made_below, key_at-own, key_at-others, values-written, length-values, IfNone, IsEquivalence, last_or, AllByRecursion, total, capacity, with_handle, KeyPlaces, entry, written, key_at, admitted, QueueState, slots_of, IndexState, is_shared, slots, Remembered, most_beside, list_any-append, length-put, or_parts, Shares, main_share, Machine, Placement, vacancy, vacant_slot, into_main, into_small, into_small_at, joining_main, placed, stored, known_count, Fills, Writes, machine_of, queued_slots, with_keys_small, with_keys_main, IsStored, IsSized, IsKept, IsPlaced, whole-stored, placed-admitted, placed-joining, slots-entered, slots-left, removed, left, list_any}
+use Rattle.clock2q_cache.proofs.Names.{Entry, length-written, made_below, key_at-own, key_at-others, values-written, length-values, IfNone, IsEquivalence, last_or, AllByRecursion, total, capacity, with_handle, KeyPlaces, entry, written, key_at, admitted, QueueState, slots_of, IndexState, is_shared, slots, Remembered, most_beside, list_any-append, length-put, or_parts, Shares, main_share, Machine, Placement, vacancy, vacant_slot, into_main, into_small, into_small_at, joining_main, into_queue, stored, known_count, Fills, Writes, machine_of, queued_slots, with_keys_small, with_keys_main, IsStored, IsSized, IsCache, IsPlaced, whole-stored, placed-admitted, placed-joining, slots-entered, slots-left, without_handle, left, list_any}
 use Rattle.clock2q_directory.specs.Index as known
 use Rattle.clock2q_machine.specs.Entries as machine
 use Rattle.clock2q_cache.proofs.WithKeys.{small-admitted, main-behind, small_with, main_with, keys-agree, length-small, length-main}
@@ -25,7 +25,7 @@ module _ {K : Type 0} (h : Remembered K) {h' : Remembered K} {index : IndexState
 -- the slots after one replaced another
 pub slots-renewed : {K : Type 0} (h : Remembered K) {h' : Remembered K} (old hsh : ℕ) {slot : ℕ}
     → h' ≡ record h { places = record h.places { index = known.entered_from h.places.index hsh slot (left old slot h.places.index) } } → slot < 2 ^ 24
-    → slots h'.places.index ≡ with_handle (removed eqb (slots h.places.index) old slot) hsh slot
+    → slots h'.places.index ≡ with_handle (without_handle eqb (slots h.places.index) old slot) hsh slot
 slots-renewed h old hsh {slot} is below = now-slots h is (slots-entered (left old slot h.places.index) hsh slot (omega (arith, below))
     ∙ ap (λ z. with_handle z hsh slot) (slots-left h.places.index old slot (omega (arith, below))))
 
@@ -36,11 +36,11 @@ pub sized-same : {shares : Shares} {q q' : QueueState} {limit limit' beside besi
 sized-same s slots window limit beside homes keys_room free_room = grind arith
 
 pub kept-reindexed : {K V : Type 0} {eq : K → K → Bool} {hash : K → ℕ} {shares : Shares} {q : QueueState} {h h' : Remembered K} {index : List (List (ℕ × ℕ))} {keys : KeyPlaces K V}
-    {free : List ℕ} {room : ℕ} → IsReindexed h h' → IsKept eq hash shares q h index keys free room → IsKept eq hash shares q h' index keys free room
+    {free : List ℕ} {room : ℕ} → IsReindexed h h' → IsCache eq hash shares q h index keys free room → IsCache eq hash shares q h' index keys free room
 kept-reindexed moved kept = grind (arith, kept.whole, kept.stored, kept.hashed, kept.linked, sized-same, kept.sized)
 
 module _ {K V : Type 0} {eq : K → K → Bool} {hash : K → ℕ} {shares : Shares} {q : QueueState} {h : Remembered K} {index : List (List (ℕ × ℕ))} {keys : KeyPlaces K V} {free : List ℕ} {room : ℕ}
-    (laws : IsEquivalence eq) (kept : IsKept eq hash shares q h index keys free room) where
+    (laws : IsEquivalence eq) (kept : IsCache eq hash shares q h index keys free room) where
   abbrev pub m : Machine K V
   m = machine_of shares q keys.entries h.entries free
 
@@ -85,7 +85,7 @@ module _ {K V : Type 0} {eq : K → K → Bool} {hash : K → ℕ} {shares : Sha
   -- a key that has its slot: the invariant still holds, and the machine is as it should be
   pub record IsDone (slot : ℕ) (value : Option V) (p : Placement K V) (q' : QueueState) (h' : Remembered K)
       (index' : List (List (ℕ × ℕ))) (keys' : KeyPlaces K V) (free' : List ℕ) (room' : ℕ) : Type 0 where
-    pub holds : IsKept eq hash shares q' h' index' keys' free' room'
+    pub holds : IsCache eq hash shares q' h' index' keys' free' room'
     pub fills : Fills value p m (machine_of shares q' keys'.entries h'.entries free')
     pub at : slot ≡ p.slot
 
@@ -115,7 +115,7 @@ module _ {K V : Type 0} {eq : K → K → Bool} {hash : K → ℕ} {shares : Sha
   into-main key taken some = grind arith
 
   pub made-to-join : {slot : ℕ} (main : Bool) (key : K) (value : Option V) → vacancy m ≡ Some slot → (main ≡ true → length m.main < main_share shares)
-      → IfNone value ((placed main key m).slot < length m.values) → IfNone value (slot < length keys.entries)
+      → IfNone value ((into_queue main key m).slot < length m.values) → IfNone value (slot < length keys.entries)
   made-to-join main key value taken some = grind (arith, into-small, into-main, length-values keys.entries)
 
   -- a key takes a free slot and joins a queue

@@ -1,7 +1,7 @@
 -- A cache's fields keep their invariant when a key's history is erased or a value is replaced, and those of a new cache
 -- have it.
 use Rattle.std.proofs.Common.{◌≡◌, ℕ, ◌<◌, ◌==◌, Bool, true, false, not, Option, Some, None, slice_get, List, [], ◌∷◌, map, length, refl, sym, ap, ◌∙◌, subst, arith, eqb-true}
-use Rattle.clock2q_cache.proofs.Names.{nat_le, is_some, IsEquivalence, filter, list_any, AllByRecursion, Entry, below-more, KeyPlaces, written, hash_at, key_at, with_value, IsIndex, HasHash, no_entries, QueueState, Remembered, most_beside, slice_get-written, slice_get-written_other, length-written, set-written, all-written, values-written, length-values, IsIndex-cleared, length-cleared, IsIndex-kept, Shares, Machine, stored, empty, vacancy, goes_to_main, IsWhole, machine_of, queued_slots, IsStored, IsSized, IsKept, whole-forgotten, all_resident, small_share, whole-changed, All-from_recursion, recursion_from_All, All-filter, slice_get_some}
+use Rattle.clock2q_cache.proofs.Names.{nat_le, is_some, IsEquivalence, filter, list_any, AllByRecursion, Entry, below-more, KeyPlaces, written, hash_at, key_at, with_value, IsIndex, HasHash, no_entries, QueueState, Remembered, most_beside, slice_get-written, slice_get-written_other, length-written, set-written, all-written, values-written, length-values, IsIndex-cleared, length-cleared, IsIndex-kept, Shares, Machine, stored, empty, vacancy, goes_to_main, IsWhole, machine_of, queued_slots, IsStored, IsSized, IsCache, whole-forgotten, all_resident, small_share, whole-changed, All-from_recursion, recursion_from_All, All-filter, slice_get_some}
 use Rattle.std.proofs.lemmas.Bool.{le-leb}
 use Rattle.clock2q_queues.proofs.Booleans.{or_false}
 use Rattle.clock2q_directory.specs.History.{forgotten, places_looked_up}
@@ -52,17 +52,17 @@ module _ {K V : Type 0} where
   hash-same slot value es r below = entry-same (λ z. elim z [ None ↦ None | Some e ↦ Some e.hash ]) slot value es r below refl
 
 module _ {K V : Type 0} {eq : K → K → Bool} {hash : K → ℕ} {shares : Shares} {q : QueueState} {h : Remembered K} {index : List (List (ℕ × ℕ))} {keys : KeyPlaces K V} {free : List ℕ} {room : ℕ}
-    (laws : IsEquivalence eq) (kept : IsKept eq hash shares q h index keys free room) where
+    (laws : IsEquivalence eq) (kept : IsCache eq hash shares q h index keys free room) where
   abbrev m : Machine K V
   m = machine_of shares q keys.entries h.entries free
 
   -- keys are compared
-  pub kept-asked : (keys' : KeyPlaces K V) → keys'.entries ≡ keys.entries → keys'.room ≡ keys.room → IsKept eq hash shares q h index keys' free room
+  pub kept-asked : (keys' : KeyPlaces K V) → keys'.entries ≡ keys.entries → keys'.room ≡ keys.room → IsCache eq hash shares q h index keys' free room
   kept-asked keys' entries keys_room = grind (arith, kept.whole, kept.stored, kept.hashed, kept.linked, sized-same, kept.sized)
 
   -- a hash was looked up, and keys were compared
   pub kept-looked : (x : ℕ) (h' : Remembered K) (keys' : KeyPlaces K V) → h' ≡ record h { places = places_looked_up x h.places; comparisons = h'.comparisons } → keys'.entries ≡ keys.entries
-      → keys'.room ≡ keys.room → IsKept eq hash shares q h' index keys' free room
+      → keys'.room ≡ keys.room → IsCache eq hash shares q h' index keys' free room
   kept-looked x h' keys' same entries keys_room = grind (arith, kept.whole, kept.stored, kept.hashed, kept.linked, sized-same, kept.sized)
 
   -- the key's history is erased
@@ -70,7 +70,7 @@ module _ {K V : Type 0} {eq : K → K → Bool} {hash : K → ℕ} {shares : Sha
     pub forgotten-machine : machine_of shares q keys.entries h'.entries free ≡ cache.forgotten (eq key) m
     forgotten-machine = let r = ap (λ z. map (λ (e : ℕ × K). e.1) z) entries ∙ keys-filtered (eq key) h.entries in cc
 
-    pub kept-forgotten : h'.limit ≡ h.limit → most_beside h' ≡ most_beside h → {index' : List (List (ℕ × ℕ))} → index' ≡ index → IsKept eq hash shares q h' index' keys free room
+    pub kept-forgotten : h'.limit ≡ h.limit → most_beside h' ≡ most_beside h → {index' : List (List (ℕ × ℕ))} → index' ≡ index → IsCache eq hash shares q h' index' keys free room
     kept-forgotten limit beside same = record {
       whole = rw forgotten-machine (whole-forgotten eq m kept.whole (eq key));
       stored = grind (arith, same, kept.stored);
@@ -97,7 +97,7 @@ module _ {K V : Type 0} {eq : K → K → Bool} {hash : K → ℕ} {shares : Sha
         let v = ap (λ z. map (λ (e : Entry K V). e.value) z) r.written ∙ values-written slot (record r.entry { value = value }) keys.entries (omega (arith, made)) in
         cc
 
-    pub kept-replaced : (keys' : KeyPlaces K V) → keys'.entries ≡ with_value slot value keys.entries → keys'.room ≡ keys.room → IsKept eq hash shares q h index keys' free room
+    pub kept-replaced : (keys' : KeyPlaces K V) → keys'.entries ≡ with_value slot value keys.entries → keys'.room ≡ keys.room → IsCache eq hash shares q h index keys' free room
     kept-replaced keys' is keys_room = record {
       whole = subst (λ z. IsWhole eq (machine_of shares q z h.entries free)) (sym is) (subst (IsWhole eq) (sym replaced-machine) (whole-changed eq m kept.whole slot value below));
       stored = subst (λ z. IsStored hash index z (queued_slots q)) (sym is) (record {
@@ -140,14 +140,14 @@ module _ {K V : Type 0} where
       → IsEquivalence eq
       → shares.small < shares.capacity → q.small ≡ [] → q.main ≡ [] → h.entries ≡ [] → IsIndex {K = K} {V = V} index [] []
       → keys.entries ≡ [] → free ≡ [] → IsSized shares q h.limit (most_beside h) (length index) keys.room room
-      → IsKept eq hash shares q h index keys free room × (machine_of shares q keys.entries h.entries free ≡ empty shares)
+      → IsCache eq hash shares q h index keys free room × (machine_of shares q keys.entries h.entries free ≡ empty shares)
   kept-empty laws below small main entries indexed keyed none sized = grind arith
 
   -- a cache that is cleared
   pub kept-cleared : {eq : K → K → Bool} {hash : K → ℕ} {shares : Shares} {q q' : QueueState} {h h' : Remembered K} {index index' : List (List (ℕ × ℕ))} {keys keys' : KeyPlaces K V}
-      {free free' : List ℕ} {room room' : ℕ} → IsEquivalence eq → IsKept eq hash shares q h index keys free room
+      {free free' : List ℕ} {room room' : ℕ} → IsEquivalence eq → IsCache eq hash shares q h index keys free room
       → q'.small ≡ [] → q'.main ≡ [] → h'.entries ≡ [] → keys'.entries ≡ [] → free' ≡ [] → index' ≡ no_entries (length index)
-      → q'.slots ≡ q.slots → q'.window ≡ q.window → h'.limit ≡ h.limit → most_beside h' ≡ most_beside h → keys'.room ≡ keys.room → room' ≡ room → IsKept eq hash shares q' h' index' keys' free' room'
+      → q'.slots ≡ q.slots → q'.window ≡ q.window → h'.limit ≡ h.limit → most_beside h' ≡ most_beside h → keys'.room ≡ keys.room → room' ≡ room → IsCache eq hash shares q' h' index' keys' free' room'
   kept-cleared laws kept small main entries keyed none emptied slots window limit beside keys_room free_room =
       let sized = sized-same kept.sized slots window limit beside (length-cleared _ _ emptied) keys_room free_room in
       (kept-empty laws kept.whole.small_below small main entries (IsIndex-cleared _ _ [] emptied) keyed none sized).0

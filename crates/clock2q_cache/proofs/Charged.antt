@@ -1,6 +1,6 @@
 -- A cache whose counts are raised to their bounds before a value of it is lent.
 use Rattle.std.proofs.Common.{◌≡◌, ℕ, ◌+◌, ◌-◌, Bool, true, length, refl, arith}
-use Rattle.clock2q_cache.proofs.Names.{HashMembers, IsEquivalence, inspections_for, CacheState, cache_state, Put, most_links, most_keys, with_slot, Takes, Costs, Spends, accesses_for, alike, IsWhole, Machine, stored, known_taken, put, slotted, stored_same}
+use Rattle.clock2q_cache.proofs.Names.{HashMembers, IsEquivalence, inspections_for, CacheState, cache_state, Put, most_links, most_keys, with_slot, TakesSlot, Costs, Spends, accesses_for, alike, IsWhole, Machine, stored, known_taken, put, slotted, stored_same}
 use Rattle.std.specs.declared.hash.Hasher as hasher
 use Rattle.std.specs.declared.hash.BuildHasher as builder
 use Rattle.clock2q_directory.specs.Index.{IsWithinCapacity}
@@ -9,7 +9,7 @@ use Rattle.clock2q_machine.proofs.Clock.{clock_bounded}
 use Rattle.clock2q_cache.proofs.Reaching.{reaches-taken}
 
 module _ {K V S H : Type 0} (key : HashMembers K) (build : builder.Ghosts S H) (hash : hasher.Ghosts H) {k : K} {made : V → Type 0} {slot : ℕ} (old new : CacheState K V S)
-    (taken : Takes (key.eq k) k made old.machine slot new.machine) (known : new.known ≡ known_taken key build hash k old) (same : new.hasher ≡ old.hasher)
+    (taken : TakesSlot (key.eq k) k made old.machine slot new.machine) (known : new.known ≡ known_taken key build hash k old) (same : new.hasher ≡ old.hasher)
     (spent : Spends (inspections_for (key.eq k) old.machine) (accesses_for (key.eq k) old.machine) (alike key build hash k old) old.counts new.counts) where
   -- what the caller leaves behind the reference is then the key's value
   pub lent : {links keys : ℕ} → links ≡ most_links key build hash k old → keys ≡ most_keys key build hash k old → (w : V)
@@ -29,6 +29,6 @@ charged-costs {key = key} {build} {hash} {k} w old laws respects whole as_many w
 }
 
 -- a value that was taken and is not written to stays as it was taken
-pub unwritten : {K V : Type 0} {is : K → Bool} {key : K} {made : V → Type 0} {old new : Machine K V} {slot : ℕ} (t : Takes is key made old slot new)
+pub unwritten : {K V : Type 0} {is : K → Bool} {key : K} {made : V → Type 0} {old new : Machine K V} {slot : ℕ} (t : TakesSlot is key made old slot new)
     → put is key t.value old ≡ slotted is key t.value old
 unwritten {new = new} {slot} t = grind (arith, t.writes t.value, stored_same new slot t.value t.there, t.becomes)

@@ -4,11 +4,11 @@ use Rattle.std.specs.Borrow.{Bor}
 use Rattle.std.specs.Option.{IsSomeAnd}
 use Rattle.std.specs.Prelude.{IfSome, MatchOption}
 use Rattle.std.specs.Fn.{Once, FnOnceReturnsAt}
-use Rattle.clock2q_cache.proofs.Names.{if◌then◌else◌, is_some, slice_get, list_any, option_and_then, option_map, slice_get_within, last_or, main_share, Machine, Placement, slot_of, value_of, vacancy, stored, inserted, IsWhole, Fills, placed, stored_same}
+use Rattle.clock2q_cache.proofs.Names.{if◌then◌else◌, is_some, slice_get, list_any, option_and_then, option_map, slice_get_within, last_or, main_share, Machine, Placement, slot_of, value_of, vacancy, stored, inserted, IsWhole, Fills, into_queue, stored_same}
 use Rattle.clock2q_machine.specs.Calls.{Put}
 use Rattle.clock2q_machine.specs.Entries.{first_of, from_victim}
 use Rattle.clock2q_machine.specs.Leaving.{leaves_for, leaves_for_main, leaves_for_small, victim_of, with_value}
-use Rattle.clock2q_cache.specs.Insertions.{IsSent, leaves_placed, Notes}
+use Rattle.clock2q_cache.specs.Insertions.{IsAdmitted, leaves_placed, Notes}
 use Rattle.clock2q_cache.proofs.Making.{small-unknown, placed-there, placed-values}
 
 -- a closure was called with the key that leaves
@@ -52,7 +52,7 @@ pub victim-handed : {K V : Type 0} (eq : K → K → Bool) (m : Machine K V) (ke
 victim-handed eq m key value absent = sym (ap (λ (o : Option ℕ). handed m (if is_some o then None else leaves_for (list_any (eq key) m.history) m)) absent)
 
 -- the same once the key's history is erased
-module _ {K V : Type 0} {is : K → Bool} {m m1 : Machine K V} {main : Bool} (s : IsSent is m m1 main) where
+module _ {K V : Type 0} {is : K → Bool} {m m1 : Machine K V} {main : Bool} (s : IsAdmitted is m m1 main) where
   pub leaver-there : leaves_placed main m1 ≡ leaves_for (list_any is m.history) m
   leaver-there = ap (leaves_placed main) s.erased ∙ ap (λ b. leaves_placed b m) s.goes
 
@@ -65,10 +65,10 @@ module _ {K V : Type 0} (is : K → Bool) (m : Machine K V) (P : V → Type 0) w
   had-before found there p = subst (λ o. IfSome o P) (sym (ap (option_and_then (slice_get m.values)) found ∙ there)) p
 
 -- a key that is placed without a value leaves the values as they are, and its slot can be given one
-module _ {K V : Type 0} (eq : K → K → Bool) (key : K) {m m1 : Machine K V} {main : Bool} (s : IsSent (eq key) m m1 main) (h : IsWhole eq m1) {slot : ℕ} {new : Machine K V}
-    (at : slot ≡ (placed main key m1).slot) (f : Fills None (placed main key m1) m1 new) where
+module _ {K V : Type 0} (eq : K → K → Bool) (key : K) {m m1 : Machine K V} {main : Bool} (s : IsAdmitted (eq key) m m1 main) (h : IsWhole eq m1) {slot : ℕ} {new : Machine K V}
+    (at : slot ≡ (into_queue main key m1).slot) (f : Fills None (into_queue main key m1) m1 new) where
   abbrev p : Placement K V
-  p = placed main key m1
+  p = into_queue main key m1
 
   values : p.machine.values ≡ m1.values
   values = placed-values eq m1 h key main (small-unknown eq key s)

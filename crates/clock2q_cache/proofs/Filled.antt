@@ -1,6 +1,6 @@
 -- Slots that were never made are made, and are free.
 use Rattle.std.proofs.Common.{◌≡◌, ℕ, suc, ◌+◌, ◌-◌, ◌<◌, Bool, true, Option, Some, None, slice_get, List, [], ◌∷◌, ◌++◌, map, length, reverse, refl, ap, ◌∙◌, arith, length-append, ◌||◌, eqb}
-use Rattle.clock2q_cache.proofs.Names.{made_below, length-values, IsEquivalence, Mut, Called, AllByRecursion, range_with_len, append-nil, append_assoc, map-append, reverse-append, reverse-reverse, or_true, Entry, KeyPlaces, entry, key_at, QueueState, slots_of, Remembered, list_any-append, below_of, below-among, IsIndex-kept, FillsUp, Shares, Machine, prefilled, machine_of, queued_slots, IsKept, lasting-prefilled, get-append, list_any}
+use Rattle.clock2q_cache.proofs.Names.{made_below, length-values, IsEquivalence, Mut, Called, AllByRecursion, range_with_len, append-nil, append_assoc, map-append, reverse-append, reverse-reverse, or_true, Entry, KeyPlaces, entry, key_at, QueueState, slots_of, Remembered, list_any-append, below_of, below-among, IsIndex-kept, FillsUp, Shares, Machine, prefilled, machine_of, queued_slots, IsCache, lasting-prefilled, get-append, list_any}
 use Rattle.clock2q_cache.proofs.WithKeys.{small_with, main_with, keys-agree}
 use Rattle.clock2q_cache.proofs.CacheInvariant.{sized-same}
 use Rattle.std.proofs.lemmas.Fn.{FoldsTo-push}
@@ -34,7 +34,7 @@ module _ {F K V : Type 0} {g : Mut F Unit V} {f : F} {hash : K → ℕ} {old : L
   FillsUp-length s = grind (arith, s.is, length-append, s.as_many)
 
 module _ {K V : Type 0} {eq : K → K → Bool} {hash : K → ℕ} {shares : Shares} {q : QueueState} {h : Remembered K} {index : List (List (ℕ × ℕ))} {keys : KeyPlaces K V} {free : List ℕ} {room : ℕ}
-    (laws : IsEquivalence eq) (kept : IsKept eq hash shares q h index keys free room)
+    (laws : IsEquivalence eq) (kept : IsCache eq hash shares q h index keys free room)
     (added : List (Entry K V)) (keys' : KeyPlaces K V) (free' : List ℕ) (room' : ℕ)
     (is : keys'.entries ≡ keys.entries ++ added) (as_many : length keys.entries + length added ≡ shares.capacity)
     (freed : free' ≡ free ++ reverse (range_with_len (length keys.entries) (shares.capacity - length keys.entries))) where
@@ -61,7 +61,7 @@ module _ {K V : Type 0} {eq : K → K → Bool} {hash : K → ℕ} {shares : Sha
       grind (arith, small, main, key-before, or_true, map-append (λ (e : Entry K V). e.value) keys.entries added, length-values, reverse-append, reverse-reverse)
 
   pub kept-prefilled : {links : ℕ} {q' : QueueState} → q' ≡ record q { made = made_below shares.capacity q.made; accesses = links }
-      → AllByRecursion (λ e. e.hash ≡ hash e.key) added → keys'.room ≡ keys.room → room' ≡ room → IsKept eq hash shares q' h index keys' free' room'
+      → AllByRecursion (λ e. e.hash ≡ hash e.key) added → keys'.room ≡ keys.room → room' ≡ room → IsCache eq hash shares q' h index keys' free' room'
   kept-prefilled {q' = q'} linked hashed keys_room free_room = rw linked (record {
     whole = rw machine-prefilled (lasting-prefilled eq laws made m (omega (arith, made-count)) kept.whole);
     stored = rw is (record {

@@ -1,6 +1,6 @@
 -- A lookup through the index finds the machine's slot of the key, and a hit there does what the machine's does.
 use Rattle.std.proofs.Common.{◌≡◌, ℕ, ◌+◌, ◌<◌, ◌≤◌, ◌⊎◌, Bool, true, false, ◌&&◌, cond, eqb, Option, Some, None, slice_get, List, [], ◌∷◌, map, length, refl, sym, ap, ◌∙◌, arith, eqb-true}
-use Rattle.clock2q_cache.proofs.Names.{IfSome, IsEquivalence, option_map, count_by, find, list_any, cons_option, AllByRecursion, sum_by-cons, candidates, or_true, touched, slots_of-hit, Entry, KeyPlaces, key_at, entries_of, is_key_at, HasHash, small_hit_at, main_hit_at, then_some, QueueState, slots_of, Remembered, place_of, found_slot, found_place, list_any-append, among_first, below_of, same_place, key_there, any_entry, length-values, lookup, found_there, not_found, Shares, Machine, slot_of, hit, is_at, machine_of, queued_slots, IsKept, whole-hit, candidates_there, distinct_none, distinct_more, IsDistinct}
+use Rattle.clock2q_cache.proofs.Names.{IfSome, IsEquivalence, option_map, count_by, find, list_any, cons_option, AllByRecursion, sum_by-cons, candidates, or_true, touched, slots_of-hit, Entry, KeyPlaces, key_at, entries_of, is_key_at, HasHash, small_hit_at, main_hit_at, then_some, QueueState, slots_of, Remembered, place_of, found_slot, found_place, list_any-append, among_first, below_of, same_place, key_there, any_entry, length-values, lookup, found_there, not_found, Shares, Machine, slot_of, hit, is_at, machine_of, queued_slots, IsCache, whole-hit, candidates_there, distinct_none, distinct_more, IsDistinct}
 use Rattle.clock2q_directory.specs.declared.found.Found.{Found}
 use Rattle.clock2q_cache.proofs.WithKeys.{HaveKeys, have_later, paired, paired-cons, small-hit, main-hit}
 use Rattle.clock2q_cache.proofs.Indexed.{residents-paired}
@@ -77,7 +77,7 @@ pub either-queue : (q : QueueState) (slot : ℕ) → list_any (eqb slot) (queued
 either-queue q slot there = grind (arith, list_any-append)
 
 module _ {K V : Type 0} {eq : K → K → Bool} {hash : K → ℕ} {shares : Shares} {q : QueueState} {h : Remembered K} {index : List (List (ℕ × ℕ))} {keys : KeyPlaces K V} {free : List ℕ} {room : ℕ}
-    (laws : IsEquivalence eq) (kept : IsKept eq hash shares q h index keys free room) where
+    (laws : IsEquivalence eq) (kept : IsCache eq hash shares q h index keys free room) where
   abbrev m : Machine K V
   m = machine_of shares q keys.entries h.entries free
 
@@ -166,7 +166,7 @@ module _ {K V : Type 0} {eq : K → K → Bool} {hash : K → ℕ} {shares : Sha
         pub hit-machine : machine_of shares q' keys.entries h.entries free ≡ hit (eq key) m
         hit-machine = grind (arith, small-hit, main-hit, key-there, list_any-append, or_true, small_have laws kept, main_have laws kept)
 
-        pub kept-hit : IsKept eq hash shares q' h index keys free room
+        pub kept-hit : IsCache eq hash shares q' h index keys free room
         kept-hit =
             let small = slots_of-hit touched slot q.small in
             let main = slots_of-hit (λ b. true) slot q.main in

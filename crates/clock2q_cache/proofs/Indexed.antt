@@ -1,6 +1,6 @@
 -- What is in the index, in terms of the machine.
 use Rattle.std.proofs.Common.{◌≡◌, ℕ, ◌<◌, ◌≤◌, ◌==◌, Bool, ◌||◌, ◌&&◌, Option, Some, None, slice_get, List, [], ◌∷◌, map, length, refl, arith, eqb-true, eqb}
-use Rattle.clock2q_cache.proofs.Names.{slice_get_some, list_any, zip, AllByRecursion, length-map, IsEquivalence, Entry, KeyPlaces, key_at, hash_at, hashed_at, entries_of, IsIndex, is_named, is_alike, QueueState, Remembered, IsWholeHistory, among_first, Shares, residents, machine_of, queued_slots, IsKept, HasPlaces}
+use Rattle.clock2q_cache.proofs.Names.{slice_get_some, list_any, zip, AllByRecursion, length-map, IsEquivalence, Entry, KeyPlaces, key_at, hash_at, hashed_at, entries_of, IsIndex, is_named, is_alike, QueueState, Remembered, IsWholeHistory, among_first, Shares, residents, machine_of, queued_slots, IsCache, HasPlaces}
 use Rattle.clock2q_directory.specs.Index as known
 use Rattle.clock2q_cache.proofs.WithKeys.{HaveKeys, have_later, paired, paired-cons, residents-keyed}
 use Rattle.clock2q_cache.proofs.Stored.{all-at}
@@ -64,7 +64,7 @@ module _ {K V : Type 0} (hash : K → ℕ) (entries : List (Entry K V)) where
   are_remembered (s ∷ ss) many a = grind (arith, are_remembered ss, entries_within ss, paired-cons, key-of)
 
 module _ {K V : Type 0} {eq : K → K → Bool} {hash : K → ℕ} {shares : Shares} {q : QueueState} {h : Remembered K} {index : List (List (ℕ × ℕ))} {keys : KeyPlaces K V} {free : List ℕ} {room : ℕ}
-    (laws : IsEquivalence eq) (kept : IsKept eq hash shares q h index keys free room) where
+    (laws : IsEquivalence eq) (kept : IsCache eq hash shares q h index keys free room) where
   -- the residents are the keys at the slots in use
   pub residents-paired : residents (machine_of shares q keys.entries h.entries free) ≡ paired (key_at keys.entries) (queued_slots q)
   residents-paired = residents-keyed (key_at keys.entries) q.small q.main (small_have laws kept) (main_have laws kept)

@@ -1,11 +1,11 @@
 -- What the insertion of a key costs.
 use Rattle.std.proofs.Common.{◌≡◌, ℕ, ◌+◌, ◌<◌, ◌≤◌, Bool, false, not, List, [], ◌∷◌, length, Some, None, ap, sym, ◌∙◌, arith}
-use Rattle.clock2q_cache.proofs.Names.{if◌then◌else◌, is_some, IfSome, list_any, last_or, IsEquivalence, KeyPlaces, key_at, inspections, QueueState, Entry, Remembered, Places, Age, is_promoted, last_some, none_is, Shares, Machine, slot_of, vacancy, goes_to_main, forgotten, goes_on, inspections_for, small_inspections, machine_of, IsKept, counts_of, CacheState, Counts, Spends, accesses_for, discarded}
+use Rattle.clock2q_cache.proofs.Names.{if◌then◌else◌, is_some, IfSome, list_any, last_or, IsEquivalence, KeyPlaces, key_at, inspections, QueueState, Entry, Remembered, Places, Age, is_promoted, last_some, none_is, Shares, Machine, slot_of, vacancy, goes_to_main, forgotten, goes_on, inspections_for, small_inspections, machine_of, IsCache, counts_of, CacheState, Counts, Spends, accesses_for, discarded}
 use Rattle.clock2q_queues.specs.Cells.{Rises}
 use Rattle.clock2q_directory.specs.declared.found.Found.{Found}
 use Rattle.clock2q_directory.specs.History.{found_gap}
 use Rattle.clock2q_directory.specs.Index.{IsGapFor}
-use Rattle.clock2q_cache.specs.Insertions.{IsFoundFor, IsSent}
+use Rattle.clock2q_cache.specs.Insertions.{IsFoundFor, IsAdmitted}
 use Rattle.clock2q_machine.specs.Entries as machine
 use Rattle.clock2q_cache.proofs.Spent.{spends-both, spends-more}
 use Rattle.clock2q_cache.proofs.WithKeys.{main-inspections}
@@ -27,7 +27,7 @@ module _ {K V : Type 0} (q : QueueState) (h : Remembered K) (keys : KeyPlaces K 
   evicted-spends queues reused pushed remembered renewed = grind (arith, inspections, reused.0, remembered.0, reused.1, remembered.1)
 
 module _ {K V : Type 0} {eq : K → K → Bool} {hash : K → ℕ} {shares : Shares} {q : QueueState} {h : Remembered K} {index : List (List (ℕ × ℕ))} {keys : KeyPlaces K V} {free : List ℕ} {room : ℕ}
-    (laws : IsEquivalence eq) (kept : IsKept eq hash shares q h index keys free room) where
+    (laws : IsEquivalence eq) (kept : IsCache eq hash shares q h index keys free room) where
   -- a key that takes the slot of Main's victim; any other change of the queues costs as much
   pub victim-spends : {q' : QueueState} {keys' : KeyPlaces K V} {small : List (ℕ × Age)} {main : List (ℕ × Bool)} {es : List (Entry K V)} {n looks : ℕ} (most : ℕ)
       → looks ≡ q.inspections + inspections q.main → Rises (inspections q.main) (inspections q.main + most) q.accesses q'.accesses
@@ -51,7 +51,7 @@ module _ {K V : Type 0} (m : Machine K V) where
   tail-inspections b none some at = grind (arith, not, goes_on, last_or, tail-goes)
 
 -- a key that is erased from the history enters Main or Small
-pub sent-by : {K V : Type 0} {is : K → Bool} {m m1 : Machine K V} {main known : Bool} → known ≡ list_any is m.history → m1 ≡ forgotten is m → main ≡ goes_to_main known m1 → IsSent is m m1 main
+pub sent-by : {K V : Type 0} {is : K → Bool} {m m1 : Machine K V} {main known : Bool} → known ≡ list_any is m.history → m1 ≡ forgotten is m → main ≡ goes_to_main known m1 → IsAdmitted is m m1 main
 sent-by {m = m} {known = known} had erased goes = record { erased = erased; goes = goes ∙ ap (goes_to_main known) erased ∙ ap (λ b. goes_to_main b m) had }
 
 -- the gap that a lookup found is still there then

@@ -1,6 +1,6 @@
 -- Which resident leaves next, and what a cache's fields become when it leaves though no key comes.
 use Rattle.std.proofs.Common.{◌≡◌, ℕ, suc, ◌+◌, ◌-◌, ◌<◌, ◌==◌, Bool, true, false, not, ◌&&◌, cond, eqb, Option, Some, None, List, [], ◌∷◌, ◌++◌, map, length, take, reverse, inl, inr, refl, sym, ap, ◌∙◌, subst, arith, eq-eqb, eqb-true, length-append}
-use Rattle.clock2q_cache.proofs.Names.{if◌then◌else◌, nat_lt, none_is, slice_get, slice_get_some, IfSome, IsEquivalence, last_or, option_map, AllByRecursion, cases_Bool, lt-ltb, ltb-true, Age, take-map, All-from_recursion, recursion_from_All, All-take, without, among-without_test, and_true, and_false, eqb_swap, KeyPlaces, hash_at, key_at, removed, length-taken, QueueState, slots_of, from_victim, Remembered, most_beside, Shares, history_share, SmallEntry, Machine, is_promoted, IsWhole, machine_of, queued_slots, with_keys_small, with_keys_main, IsStored, IsKept, list_any}
+use Rattle.clock2q_cache.proofs.Names.{if◌then◌else◌, nat_lt, none_is, slice_get, slice_get_some, IfSome, IsEquivalence, last_or, option_map, AllByRecursion, cases_Bool, lt-ltb, ltb-true, Age, take-map, All-from_recursion, recursion_from_All, All-take, without, among-without_test, and_true, and_false, eqb_swap, KeyPlaces, hash_at, key_at, without_handle, length-taken, QueueState, slots_of, from_victim, Remembered, most_beside, Shares, history_share, SmallEntry, Machine, is_promoted, IsWhole, machine_of, queued_slots, with_keys_small, with_keys_main, IsStored, IsCache, list_any}
 use Rattle.std.proofs.lemmas.List.{length-reverse}
 use Rattle.clock2q_queues.proofs.Joining.{length-without}
 use Rattle.clock2q_machine.specs.Entries as machine
@@ -39,7 +39,7 @@ no-other o other = grind arith
 -- The fields.
 
 module _ {K V : Type 0} {eq : K → K → Bool} {hash : K → ℕ} {shares : Shares} {q : QueueState} {h : Remembered K} {index : List (List (ℕ × ℕ))} {keys : KeyPlaces K V} {free : List ℕ} {room : ℕ}
-    (laws : IsEquivalence eq) (kept : IsKept eq hash shares q h index keys free room) where
+    (laws : IsEquivalence eq) (kept : IsCache eq hash shares q h index keys free room) where
   abbrev m : Machine K V
   m = machine_of shares q keys.entries h.entries free
 
@@ -65,15 +65,15 @@ module _ {K V : Type 0} {eq : K → K → Bool} {hash : K → ℕ} {shares : Sha
       pub unretired-machine : machine_of shares q' keys.entries h.entries free ≡ tail_evicted (last_or None m.small) m
       unretired-machine = unmoved-machine ∙ ap (λ t. tail_evicted t m) (sym last_none)
 
-      pub kept-unmoved : IsKept eq hash shares q' h index keys free room
+      pub kept-unmoved : IsCache eq hash shares q' h index keys free room
       kept-unmoved = rw (is, taken) (record { whole = kept.whole; stored = kept.stored; hashed = kept.hashed; linked = kept.linked; sized = sized-same kept.sized refl refl refl refl refl refl refl })
 
   -- a slot left the queues, which may have the others in another order
   stored-gone : (slot old : ℕ) (q' : QueueState) → hash_at keys.entries slot ≡ Some old → list_any (eqb slot) (queued_slots q) ≡ true
       → ((t : ℕ) → times t (queued_slots q) ≡ times t (queued_slots q') + cond (slot == t) 1 0) → suc (length q'.small + length q'.main) ≡ length q.small + length q.main
-      → IsStored hash (removed eqb index old slot) keys.entries (queued_slots q')
+      → IsStored hash (without_handle eqb index old slot) keys.entries (queued_slots q')
   stored-gone slot old q' at there as_often as_many =
-      stored-same hash (removed eqb index old slot) keys.entries (without slot (queued_slots q)) (queued_slots q')
+      stored-same hash (without_handle eqb index old slot) keys.entries (without slot (queued_slots q)) (queued_slots q')
       (stored-left hash index keys.entries (queued_slots q) slot old kept.stored (index_some laws kept) (apart laws kept) at) others
       (omega (arith, length-places q', length-places q, as_many, length-without slot (queued_slots q) (apart laws kept) there))
     where
@@ -93,14 +93,14 @@ module _ {K V : Type 0} {eq : K → K → Bool} {hash : K → ℕ} {shares : Sha
   -- the machine once Main's victim has left, and that the fields keep it
   pub record IsGone (q' : QueueState) (index' : List (List (ℕ × ℕ))) (free' : List ℕ) (room' : ℕ) : Type 0 where
     pub machine : machine_of shares q' keys.entries h.entries free' ≡ gone (last_or None m.small)
-    pub holds : IsKept eq hash shares q' h index' keys free' room'
+    pub holds : IsCache eq hash shares q' h index' keys free' room'
 
   -- Main's victim leaves its slot, which is free then
   module _ (slot : ℕ) (first : slice_get (from_victim q.main) 0 ≡ Some (slot, false)) where
     pub victim-first : (k : K) → key_at keys.entries slot ≡ Some k → first_of (machine.from_victim m.main) ≡ Some (k, slot)
     victim-first k at = victim-leaves laws kept slot first k at
 
-    module _ {old : ℕ} {index' : List (List (ℕ × ℕ))} {free' : List ℕ} {room' : ℕ} (at : hash_at keys.entries slot ≡ Some old) (out : index' ≡ removed eqb index old slot)
+    module _ {old : ℕ} {index' : List (List (ℕ × ℕ))} {free' : List ℕ} {room' : ℕ} (at : hash_at keys.entries slot ≡ Some old) (out : index' ≡ without_handle eqb index old slot)
         (freed : reverse free' ≡ slot ∷ reverse free) (free_room : room' ≡ room) (leaves : victim_leaves m ≡ true) where
       is-gone : (q' : QueueState) → machine_of shares q' keys.entries h.entries free' ≡ gone (last_or None m.small)
           → ((t : ℕ) → times t (queued_slots q) ≡ times t (queued_slots q') + cond (slot == t) 1 0) → suc (length q'.small + length q'.main) ≡ length q.small + length q.main
@@ -181,8 +181,8 @@ module _ {K V : Type 0} {eq : K → K → Bool} {hash : K → ℕ} {shares : Sha
     pub retired-machine : machine_of shares q' keys.entries h'.entries free' ≡ tail_evicted (last_or None m.small) m
     retired-machine = grind (arith, retired-is, last_entry)
 
-    pub kept-retired : {index' : List (List (ℕ × ℕ))} {room' : ℕ} → index' ≡ removed eqb index old tail → most_beside h' ≡ most_beside h → room' ≡ room
-        → IsKept eq hash shares q' h' index' keys free' room'
+    pub kept-retired : {index' : List (List (ℕ × ℕ))} {room' : ℕ} → index' ≡ without_handle eqb index old tail → most_beside h' ≡ most_beside h → room' ≡ room
+        → IsCache eq hash shares q' h' index' keys free' room'
     kept-retired {index'} {room'} out beside free_room =
         record {
           whole = subst (IsWhole eq) (sym retired-machine) (whole-tail eq m kept.whole (last_or None m.small) refl);

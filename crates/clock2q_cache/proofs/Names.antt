@@ -13,7 +13,7 @@ pub use Rattle.std.specs.List.{last_or, AllByRecursion, filter, list_any, FoldsT
 pub use Rattle.std.specs.Option.{UnwrapsOrElse, option_and_then, option_map}
 pub use Rattle.std.specs.Prelude.{if◌then◌else◌, IfNone, nat_le, is_some, slice_set, IfSome, slice_get, nat_lt, IsSome, ◌-◌, ◌≡◌, ◌*◌}
 pub use denote.Param.Always.{always_mut, mut_next}
-pub use Rattle.clock2q_handles.specs.Homes.{total, capacity, candidates, with_handle, no_entries, removed}
+pub use Rattle.clock2q_handles.specs.Homes.{total, capacity, candidates, with_handle, no_entries, without_handle}
 pub use Rattle.clock2q_directory.specs.Directory.{Known}
 pub use Rattle.clock2q_directory.specs.History.{Remembered, most_beside, place_of, found_slot, found_place, IsWholeHistory, Places, oldest_hash, pushed_places, is_remembered}
 pub use Rattle.clock2q_directory.specs.Index.{IndexState, is_shared, slots, left}
@@ -34,7 +34,7 @@ pub use Rattle.clock2q_directory.proofs.Remembering.{slots-pushed, shared-pushed
 pub use Rattle.clock2q_queues.proofs.Rings.{distinct_none, distinct_first, distinct_rest, distinct_more, among_first, among_later, below-more, below_of, below-among, eqb_swap, eqb_self, among-without, among-without_test}
 pub use Rattle.clock2q_queues.proofs.SlotLists.{slots_of-hit, slots_of-append, slots_of-mapped, slots_of-filter}
 pub use Rattle.clock2q_directory.proofs.Views.{slots-entered, slots-left}
-pub use Rattle.clock2q_machine.specs.Ages.{Age, is_promoted, touched, grown}
+pub use Rattle.clock2q_machine.specs.Ages.{Age, is_promoted, touched, grown_older}
 pub use Rattle.clock2q_machine.specs.Bounds.{inspections_for, goes_on, takes_victim, set_bits, inspections_of}
 pub use Rattle.clock2q_machine.specs.Calls.{Put, Call, Get, GetAt, Set, Remove, Retain, Prefill, Try, Clear, With}
 pub use Rattle.clock2q_machine.specs.Entries.{SmallEntry, MainEntry}
@@ -49,13 +49,13 @@ pub use Rattle.clock2q_machine.proofs.Standing.{get-within, get-append}
 pub use Rattle.clock2q_machine.proofs.Storing.{stored_same, stored_again}
 pub use Rattle.clock2q_machine.proofs.Weights.{length-from_victim, weight-last}
 pub use Rattle.clock2q_machine.proofs.Whole.{IsPlaced, whole-stored, placed-admitted, placed-joining, some_is, whole-forgotten, all_resident, small_share, whole-hit, last_some, none_is, one_if, counted_made, victim_made, no_vacancy, placed-main, placed-small, placed-replacing, placed-evicting, placed-promoting, unknown_once_forgotten}
-pub use Rattle.clock2q_cache.specs.CacheFields.{machine_of, queued_slots, with_keys_small, with_keys_main, IsStored, IsSized, IsKept, counts_of}
+pub use Rattle.clock2q_cache.specs.CacheFields.{machine_of, queued_slots, with_keys_small, with_keys_main, IsStored, IsSized, IsCache, counts_of}
 pub use Rattle.clock2q_cache.specs.CacheState.{CacheState, cache_state, Counts, residents_in, remembered_in}
 pub use Rattle.clock2q_cache.specs.Charged.{most_links, most_keys, with_slot}
-pub use Rattle.clock2q_cache.specs.Closures.{Takes, Fetches, FillsUp, Reuses, AsksResident, MayBeAsked, Retains, TakesInTurn}
+pub use Rattle.clock2q_cache.specs.Closures.{TakesSlot, Fetches, FillsUp, Reuses, AsksResident, MayBeAsked, Retains, TakesResidents}
 pub use Rattle.clock2q_cache.specs.Costs.{Costs, Reaches, Spends, accesses_for, alike, Becomes, most_accesses, most_comparisons, most_slots, reached, walked, slots_for, slots_to_take}
 pub use Rattle.clock2q_cache.specs.Hashes.{hash_of}
 pub use Rattle.clock2q_cache.specs.Indexed.{HasPlaces, IsIndexed, IsSpacious}
-pub use Rattle.clock2q_cache.specs.Insertions.{Fills, placed_inspections, main_inspections, small_inspections, placed, next_is_vacant, makes_slot}
+pub use Rattle.clock2q_cache.specs.Insertions.{Fills, placed_inspections, main_inspections, small_inspections, into_queue, next_is_vacant, makes_slot}
 pub use Rattle.clock2q_cache.specs.Makers.{TakesTimes, MayMake}
 pub use Rattle.clock2q_cache.specs.Places.{hash_in, looked_for, known_at, known_with, known_taken, remembering, left_by, entered, key_out, discarded}

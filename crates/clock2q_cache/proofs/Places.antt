@@ -1,6 +1,6 @@
 -- Which resident is at a slot, and what an insertion does to the index.
 use Rattle.std.proofs.Common.{arith, ◌≡◌, ℕ, ◌==◌, Bool, true, false, eqb, Option, Some, None, List, [], ◌∷◌, map, inl, inr, refl, sym, ap, ◌∙◌, eqb-true, eq-eqb}
-use Rattle.clock2q_cache.proofs.Names.{find, last_or, AllByRecursion, IsEquivalence, cases_Bool, KeyPlaces, key_at, hash_at, QueueState, slots_of, Remembered, Places, oldest_hash, pushed_places, among_first, eqb_swap, Shares, history_share, Machine, resident_at, machine_of, queued_slots, IsKept, if◌then◌else◌, IfSome, option_map, is_promoted, SmallEntry, remembering, left_by, entered, key_out, list_any}
+use Rattle.clock2q_cache.proofs.Names.{find, last_or, AllByRecursion, IsEquivalence, cases_Bool, KeyPlaces, key_at, hash_at, QueueState, slots_of, Remembered, Places, oldest_hash, pushed_places, among_first, eqb_swap, Shares, history_share, Machine, resident_at, machine_of, queued_slots, IsCache, if◌then◌else◌, IfSome, option_map, is_promoted, SmallEntry, remembering, left_by, entered, key_out, list_any}
 use Rattle.clock2q_directory.specs.Index as known
 use Rattle.clock2q_cache.proofs.WithKeys.{HaveKeys, have_later, paired, paired-cons}
 use Rattle.clock2q_cache.proofs.Stored.{have_keys, hash-of-key}
@@ -34,7 +34,7 @@ oldest-hashed hash o p [] same all = same
 oldest-hashed hash o p (e ∷ es) same all = oldest-hashed hash (Some e) (Some e.1) es all.0 all.1
 
 module _ {K V : Type 0} {eq : K → K → Bool} {hash : K → ℕ} {shares : Shares} {q : QueueState} {h : Remembered K} {index : List (List (ℕ × ℕ))} {keys : KeyPlaces K V} {free : List ℕ} {room : ℕ}
-    (laws : IsEquivalence eq) (kept : IsKept eq hash shares q h index keys free room) where
+    (laws : IsEquivalence eq) (kept : IsCache eq hash shares q h index keys free room) where
   abbrev m : Machine K V
   m = machine_of shares q keys.entries h.entries free
 

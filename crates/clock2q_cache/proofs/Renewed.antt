@@ -1,6 +1,6 @@
 -- A key that takes the slot of another: of Main's victim, or of Small's tail.
 use Rattle.std.proofs.Common.{◌≡◌, ℕ, suc, ◌+◌, ◌-◌, ◌^◌, ◌<◌, ◌≤◌, ◌==◌, Bool, true, false, cond, eqb, Option, Some, None, List, [], ◌∷◌, ◌++◌, map, length, take, drop, refl, sym, ap, ◌∙◌, subst, arith, eq-eqb, length-append}
-use Rattle.clock2q_cache.proofs.Names.{length-written, Entry, Known, slots, key_at-own, key_at-others, values-written, length-values, if◌then◌else◌, slice_get, IfSome, IsEquivalence, last_or, AllByRecursion, take-map, length-map, take-append-drop, slots_of-append, slots_of-mapped, sum_by-append, total, with_handle, removed, Age, is_promoted, KeyPlaces, entry, hash_at, key_at, admitted, set_front, from_victim, QueueState, slots_of, Remembered, is_remembered, most_beside, list_any-append, eqb_self, among_first, below_of, length-put, length-taken, Shares, main_share, history_share, SmallEntry, MainEntry, Machine, Placement, vacancy, into_main, into_small, into_small_at, joining_main, replacing_victim, evicting_tail, promoting_tail, stored, known_count, machine_of, queued_slots, with_keys_small, with_keys_main, IsStored, IsKept, Writes, IsPlaced, some_is, placed-replacing, placed-evicting, placed-promoting, weight-last, All-from_recursion, recursion_from_All, All-take, tail_promoted, list_any}
+use Rattle.clock2q_cache.proofs.Names.{length-written, Entry, Known, slots, key_at-own, key_at-others, values-written, length-values, if◌then◌else◌, slice_get, IfSome, IsEquivalence, last_or, AllByRecursion, take-map, length-map, take-append-drop, slots_of-append, slots_of-mapped, sum_by-append, total, with_handle, without_handle, Age, is_promoted, KeyPlaces, entry, hash_at, key_at, admitted, set_front, from_victim, QueueState, slots_of, Remembered, is_remembered, most_beside, list_any-append, eqb_self, among_first, below_of, length-put, length-taken, Shares, main_share, history_share, SmallEntry, MainEntry, Machine, Placement, vacancy, into_main, into_small, into_small_at, joining_main, replacing_victim, evicting_tail, promoting_tail, stored, known_count, machine_of, queued_slots, with_keys_small, with_keys_main, IsStored, IsCache, Writes, IsPlaced, some_is, placed-replacing, placed-evicting, placed-promoting, weight-last, All-from_recursion, recursion_from_All, All-take, tail_promoted, list_any}
 use Rattle.clock2q_directory.specs.Directory.{IsResident, IsWithinRoom}
 use Rattle.clock2q_cache.proofs.Changed.{known-any}
 use Rattle.clock2q_cache.proofs.Finding.{none-has, counted-map}
@@ -45,7 +45,7 @@ pub no-tail : {X : Type 0} (xs : List (ℕ × X)) → 0 < length xs → None ≡
 no-tail xs some none = no_last (slots_of xs) (omega (arith, some, length-map xs (λ e. e.0))) (sym none)
 
 module _ {K V : Type 0} {eq : K → K → Bool} {hash : K → ℕ} {shares : Shares} {q : QueueState} {h : Remembered K} {index : List (List (ℕ × ℕ))} {keys : KeyPlaces K V} {free : List ℕ} {room : ℕ}
-    (laws : IsEquivalence eq) (kept : IsKept eq hash shares q h index keys free room) where
+    (laws : IsEquivalence eq) (kept : IsCache eq hash shares q h index keys free room) where
   abbrev m : Machine K V
   m = machine_of shares q keys.entries h.entries free
 
@@ -193,7 +193,7 @@ module _ {K V : Type 0} {eq : K → K → Bool} {hash : K → ℕ} {shares : Sha
 
   -- a key takes a resident's slot
   module _ {key : K} {value : Option V} {hsh slot old n : ℕ} {index' : List (List (ℕ × ℕ))} {keys' : KeyPlaces K V} (is : hsh ≡ hash key) (absent : known_count (eq key) m ≡ 0)
-      (there : list_any (eqb slot) (queued_slots q) ≡ true) (at : hash_at keys.entries slot ≡ Some old) (indexed : index' ≡ with_handle (removed eqb index old slot) hsh slot)
+      (there : list_any (eqb slot) (queued_slots q) ≡ true) (at : hash_at keys.entries slot ≡ Some old) (indexed : index' ≡ with_handle (without_handle eqb index old slot) hsh slot)
       (w : Writes hsh key value slot keys.entries keys'.entries) (renewed : keys' ≡ record keys { entries = keys'.entries; writes = n }) where
     next : slot ≤ length keys.entries
     next = omega (arith, (slot-below slot there).0)
@@ -224,7 +224,7 @@ module _ {K V : Type 0} {eq : K → K → Bool} {hash : K → ℕ} {shares : Sha
         placed-done laws kept absent placed w own_slot e (stored-moved q' same_places as_often (as_many ∙ sym (length-places q))) hashed
         (omega (arith, ap (λ (z : List (Entry K V)). length z) w.becomes, length-written slot (entry hsh key w.held) keys.entries next, (slot-below slot there).0, kept.linked, made))
         (sized-same kept.sized slots window limit beside
-        (ap (λ (z : List (List (ℕ × ℕ))). length z) indexed ∙ length-put (removed eqb index old slot) hsh slot ∙ length-taken index old slot)
+        (ap (λ (z : List (List (ℕ × ℕ))). length z) indexed ∙ length-put (without_handle eqb index old slot) hsh slot ∙ length-taken index old slot)
         (ap (λ (z : KeyPlaces K V). z.room) renewed) refl)
 
     -- Small without its tail, and with the key
@@ -308,7 +308,7 @@ module _ {K V : Type 0} {eq : K → K → Bool} {hash : K → ℕ} {shares : Sha
 
 -- what the directory requires of a resident's slot
 module _ {K V : Type 0} {eq : K → K → Bool} {hash : K → ℕ} {shares : Shares} {q : QueueState} (d : Known K V) {free : List ℕ} {room : ℕ}
-    (laws : IsEquivalence eq) (kept : IsKept eq hash shares q d.history (slots d.history.places.index) d.residents free room) where
+    (laws : IsEquivalence eq) (kept : IsCache eq hash shares q d.history (slots d.history.places.index) d.residents free room) where
   pub is-resident : (slot : ℕ) → list_any (eqb slot) (queued_slots q) ≡ true → IsResident slot d
   is-resident slot there =
       let below = slot-below laws kept slot there in

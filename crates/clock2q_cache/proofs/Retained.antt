@@ -1,7 +1,7 @@
 -- The closure was called for the residents of the first slots, and those that it refused left: one slot at a time, up
 -- to the last.
 use Rattle.std.proofs.Common.{◌≡◌, ℕ, zero, suc, ◌+◌, ◌-◌, ◌<◌, ◌≤◌, ◌==◌, Bool, true, false, not, cond, eqb, Option, Some, None, List, [], ◌∷◌, ◌++◌, map, length, refl, sym, ap, ◌∙◌, subst, arith, eqb-true, ne_eqb, length-append}
-use Rattle.clock2q_cache.proofs.Names.{slice_get, Mut, Called, always_mut, mut_next, filter, filter_map, cons_option, find, range_with_len, append-nil, map-append, length-map, filter_map-append, fold-append, AsksResident, MayBeAsked, Retains, TakesInTurn, SmallEntry, MainEntry, Machine, by_slot, resident_at, vacated, vacated_all, refused_slots, retained}
+use Rattle.clock2q_cache.proofs.Names.{slice_get, Mut, Called, always_mut, mut_next, filter, filter_map, cons_option, find, range_with_len, append-nil, map-append, length-map, filter_map-append, fold-append, AsksResident, MayBeAsked, Retains, TakesResidents, SmallEntry, MainEntry, Machine, by_slot, resident_at, vacated, vacated_all, refused_slots, retained}
 use Rattle.std.specs.Borrow.{Bor}
 use Rattle.std.specs.Fn.{Takes}
 use Rattle.std.specs.List.Retain.{ReturnsInTurn}
@@ -40,7 +40,7 @@ module _ {F K V : Type 0} (g : Mut F (Bor K × (Bor V × Unit {0})) Bool) where
   module _ (I : F → Type 0) (values : List V)
       (takes : (f : F) (key : Bor K) (value : Bor V) (slot : ℕ) → I f → slice_get values slot ≡ Some value.now → Takes g f (key, (value, tt)))
       (keeps : (f : F) (key : Bor K) (value : Bor V) (slot : ℕ) (b : Bool) (next : F) → I f → slice_get values slot ≡ Some value.now → Called g f (key, (value, tt)) b next → I next) where
-    in_turn_by : (rs : List (K × ℕ)) (f : F) → I f → TakesInTurn g values f rs
+    in_turn_by : (rs : List (K × ℕ)) (f : F) → I f → TakesResidents g values f rs
     in_turn_by [] f i = tt
     in_turn_by (r ∷ rs) f i = λ key value shows there. (takes f key value r.1 i there, λ b next called. in_turn_by rs next (keeps f key value r.1 b next i there called))
 
@@ -109,7 +109,7 @@ module _ {F K V : Type 0} (g : Mut F (Bor K × (Bor V × Unit {0})) Bool) (f : F
     pub over : RetainsOver (below old n) f' now
     pub later : (t : ℕ) → n ≤ t → resident_at now t ≡ resident_at old t
     pub values : now.values ≡ old.values
-    pub callable : TakesInTurn g old.values f' (above n)
+    pub callable : TakesResidents g old.values f' (above n)
 
   pub retains-none : MayBeAsked g f old → RetainsBelow 0 f old
   retains-none may = grind (arith, may.in_turn)
@@ -127,8 +127,8 @@ module _ {F K V : Type 0} (g : Mut F (Bor K × (Bor V × Unit {0})) Bool) (f : F
         }
 
     module _ (key : Bor K) (value : Bor V) (here : resident_at now n ≡ Some (key.now, n)) (shown : slice_get now.values n ≡ Some value.now) where
-      turn : TakesInTurn g old.values f' ((key.now, n) ∷ above (n + 1))
-      turn = subst (λ rs. TakesInTurn g old.values f' rs) (above-more n (Some (key.now, n)) made (sym (h.later n (omega arith)) ∙ here)) h.callable
+      turn : TakesResidents g old.values f' ((key.now, n) ∷ above (n + 1))
+      turn = subst (λ rs. TakesResidents g old.values f' rs) (above-more n (Some (key.now, n)) made (sym (h.later n (omega arith)) ∙ here)) h.callable
 
       there : slice_get old.values n ≡ Some value.now
       there = subst (λ z. slice_get z n ≡ Some value.now) h.values shown

@@ -1,6 +1,6 @@
 -- How often a slot occurs in a cache's queues, and which slots are distinct.
 use Rattle.std.proofs.Common.{◌≡◌, ℕ, zero, suc, ◌+◌, ◌<◌, ◌≤◌, ◌==◌, Bool, true, false, cond, Some, List, [], ◌∷◌, ◌++◌, map, length, take, drop, reverse, refl, ap, ◌∙◌, subst, arith, length-append, eqb}
-use Rattle.clock2q_cache.proofs.Names.{length-values, is_some, count_by, both_ways, length-map, sum_by-cons, sum_by-append, slots_of-mapped, or_true, Entry, KeyPlaces, key_at, Remembered, IsEquivalence, Age, grown, admitted, from_victim, QueueState, slots_of, list_any-append, eqb_self, eqb_swap, Shares, Machine, vacancy, vacant_slot, standings, machine_of, queued_slots, IsStored, IsKept, distinct_none, distinct_more, list_any, IsDistinct}
+use Rattle.clock2q_cache.proofs.Names.{length-values, is_some, count_by, both_ways, length-map, sum_by-cons, sum_by-append, slots_of-mapped, or_true, Entry, KeyPlaces, key_at, Remembered, IsEquivalence, Age, grown_older, admitted, from_victim, QueueState, slots_of, list_any-append, eqb_self, eqb_swap, Shares, Machine, vacancy, vacant_slot, standings, machine_of, queued_slots, IsStored, IsCache, distinct_none, distinct_more, list_any, IsDistinct}
 use Rattle.clock2q_cache.proofs.WithKeys.{HaveKeys, standing-keyed, length-small, length-main}
 use Rattle.clock2q_cache.proofs.Stored.{have_keys, stored-same}
 
@@ -40,13 +40,13 @@ times-pushed t [] x = omega (arith, times-cons t x.0 [])
 times-pushed t (y ∷ ys) x = omega (arith, times-cons t y.0 (slots_of (ys ++ x ∷ [])), times-cons t y.0 (slots_of ys), times-pushed t ys x)
 
 pub slots-admitted : (window slot : ℕ) (es : List (ℕ × Age)) → slots_of {X = Age} (admitted window slot es) ≡ slot ∷ slots_of es
-slots-admitted window slot es = ap (λ zs. slot ∷ zs) (slots_of-mapped (λ a. grown window a) es)
+slots-admitted window slot es = ap (λ zs. slot ∷ zs) (slots_of-mapped (λ a. grown_older window a) es)
 
 pub times-admitted : (t window slot : ℕ) (es : List (ℕ × Age)) → times t (slots_of (admitted window slot es)) ≡ cond (slot == t) 1 0 + times t (slots_of es)
 times-admitted t window slot es = ap (times t) (slots-admitted window slot es) ∙ times-cons t slot (slots_of es)
 
 pub length-admitted : (window slot : ℕ) (es : List (ℕ × Age)) → length (admitted window slot es) ≡ suc (length es)
-length-admitted window slot es = ap suc (length-map es (λ e. (e.0, grown window e.1)))
+length-admitted window slot es = ap suc (length-map es (λ e. (e.0, grown_older window e.1)))
 
 -- the hand's choice moves entries, and removes none
 length-split : (n : ℕ) (main : List (ℕ × Bool)) → length (drop n main) + length (map {B = ℕ × Bool} (λ (e : ℕ × Bool). (e.0, false)) (take n main)) ≡ length main
@@ -62,7 +62,7 @@ length-places q =
     length-append (slots_of q.small) (slots_of q.main) ∙ ap (λ n. n + length (slots_of q.main)) (length-map q.small (λ e. e.0)) ∙ ap (λ n. length q.small + n) (length-map q.main (λ e. e.0))
 
 module _ {K V : Type 0} {eq : K → K → Bool} {hash : K → ℕ} {shares : Shares} {q : QueueState} {h : Remembered K} {index : List (List (ℕ × ℕ))} {keys : KeyPlaces K V} {free : List ℕ} {room : ℕ}
-    (laws : IsEquivalence eq) (kept : IsKept eq hash shares q h index keys free room) where
+    (laws : IsEquivalence eq) (kept : IsCache eq hash shares q h index keys free room) where
   abbrev m : Machine K V
   m = machine_of shares q keys.entries h.entries free
 

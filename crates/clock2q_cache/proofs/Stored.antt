@@ -1,6 +1,6 @@
 -- The keys by slot and their index, after a key enters or replaces another.
 use Rattle.std.proofs.Common.{◌≡◌, ℕ, zero, suc, ◌<◌, ◌≤◌, true, false, eqb, Some, None, List, [], ◌∷◌, length, ap, sym, ◌∙◌, arith, subst, slice_get}
-use Rattle.clock2q_cache.proofs.Names.{AllByRecursion, with_handle, removed, Entry, without, entry, written, hash_at, key_at, eqb_self, below_of, among-without, among-without_test, below-among, below-more, and_true, and_false, some_is, length-written, slice_get_some, all-written, hash_at-own, hash_at-others, IsIndex-put, IsIndex-taken, length-taken, IsStored, list_any, IsDistinct}
+use Rattle.clock2q_cache.proofs.Names.{AllByRecursion, with_handle, without_handle, Entry, without, entry, written, hash_at, key_at, eqb_self, below_of, among-without, among-without_test, below-among, below-more, and_true, and_false, some_is, length-written, slice_get_some, all-written, hash_at-own, hash_at-others, IsIndex-put, IsIndex-taken, length-taken, IsStored, list_any, IsDistinct}
 use Rattle.clock2q_queues.proofs.Joining.{length-without}
 use Rattle.clock2q_cache.proofs.WithKeys.{HaveKeys}
 
@@ -42,7 +42,7 @@ module _ {K V : Type 0} (hash : K → ℕ) where
   -- a resident's slot leaves the index
   pub stored-left : (index : List (List (ℕ × ℕ))) (entries : List (Entry K V)) (places : List ℕ) (slot old : ℕ)
       → IsStored hash index entries places → 0 < length index → IsDistinct eqb places → hash_at entries slot ≡ Some old
-      → IsStored hash (removed eqb index old slot) entries (without slot places)
+      → IsStored hash (without_handle eqb index old slot) entries (without slot places)
   stored-left index entries places slot old i some apart at =
       let made = below-among (length entries) (without slot places) (λ t g. below_of (length entries) places i.made t (among-without t slot places g).0) in
       record { made = made; indexed = IsIndex-taken index entries places slot old i.indexed some apart at; hashed = i.hashed }
@@ -50,12 +50,12 @@ module _ {K V : Type 0} (hash : K → ℕ) where
   -- a key takes the place of a resident
   pub stored-renewed : (index : List (List (ℕ × ℕ))) (entries : List (Entry K V)) (places : List ℕ) (slot old : ℕ) (key : K) (value : V)
       → IsStored hash index entries places → 0 < length index → IsDistinct eqb places → list_any (eqb slot) places ≡ true → hash_at entries slot ≡ Some old
-      → IsStored hash (with_handle (removed eqb index old slot) (hash key) slot) (written slot (entry (hash key) key value) entries) places
+      → IsStored hash (with_handle (without_handle eqb index old slot) (hash key) slot) (written slot (entry (hash key) key value) entries) places
   stored-renewed index entries places slot old key value i some apart there at =
       let l = stored-left index entries places slot old i some apart at in
       let gone : list_any (eqb slot) (without slot places) ≡ false = grind (arith, among-without_test, eqb_self, and_false) in
       let below : slot < length entries = below_of (length entries) places i.made slot there in
-      let e = stored-entered (removed eqb index old slot) entries (without slot places) slot key value l (grind (arith, length-taken index old slot)) gone (omega (arith, below)) in
+      let e = stored-entered (without_handle eqb index old slot) entries (without slot places) slot key value l (grind (arith, length-taken index old slot)) gone (omega (arith, below)) in
       stored-same _ _ _ places e (λ t. grind (arith, among-without_test, and_true)) (grind (arith, length-without slot places apart there))
 
 -- a key at a place has its hash there

@@ -1,7 +1,7 @@
 -- Which slots have a resident, and what a cache's fields become when one of them leaves.
 use Rattle.std.proofs.Common.{◌≡◌, ℕ, ◌+◌, ◌<◌, ◌≤◌, ◌==◌, Bool, true, false, not, eqb, Option, Some, None, List, [], ◌∷◌, ◌++◌, map, length, reverse, inl, inr, refl, sym, ap, ◌∙◌, subst, arith, eq-eqb}
 use Rattle.std.proofs.lemmas.List.Sums.{length-filter, count_by-le-length}
-use Rattle.clock2q_cache.proofs.Names.{length-values, is_some, IsSome, IfSome, IsEquivalence, option_map, filter, find, count_by, cases_Bool, both_ways, slots_of-filter, some_is, filter-append, removed, without, KeyPlaces, hash_at, key_at, QueueState, slots_of, without_slot, Remembered, below_of, length-taken, Shares, Machine, residents, resident_at, resident_count, slot_of, vacated, SmallEntry, MainEntry, append-nil, IsWhole, machine_of, queued_slots, with_keys_small, with_keys_main, IsStored, IsKept, whole-vacated, list_any}
+use Rattle.clock2q_cache.proofs.Names.{length-values, is_some, IsSome, IfSome, IsEquivalence, option_map, filter, find, count_by, cases_Bool, both_ways, slots_of-filter, some_is, filter-append, without_handle, without, KeyPlaces, hash_at, key_at, QueueState, slots_of, without_slot, Remembered, below_of, length-taken, Shares, Machine, residents, resident_at, resident_count, slot_of, vacated, SmallEntry, MainEntry, append-nil, IsWhole, machine_of, queued_slots, with_keys_small, with_keys_main, IsStored, IsCache, whole-vacated, list_any}
 use Rattle.clock2q_cache.proofs.WithKeys.{standing-keyed, small-without, main-without}
 use Rattle.clock2q_cache.proofs.Stored.{stored-left, have_keys}
 use Rattle.clock2q_cache.proofs.Slots.{small_have, main_have, apart, times-some, times-both}
@@ -44,7 +44,7 @@ fewer-residents {K} {V} m slot there =
     (λ some. omega (arith, fewer in-main slot m.main [] 0 0 (omega arith) (λ no. absurd (cc)) (rw (append-nil (map in-main m.main)) some))) there
 
 module _ {K V : Type 0} {eq : K → K → Bool} {hash : K → ℕ} {shares : Shares} {q : QueueState} {h : Remembered K} {index : List (List (ℕ × ℕ))} {keys : KeyPlaces K V} {free : List ℕ} {room : ℕ}
-    (laws : IsEquivalence eq) (kept : IsKept eq hash shares q h index keys free room) where
+    (laws : IsEquivalence eq) (kept : IsCache eq hash shares q h index keys free room) where
   abbrev m : Machine K V
   m = machine_of shares q keys.entries h.entries free
 
@@ -103,11 +103,11 @@ module _ {K V : Type 0} {eq : K → K → Bool} {hash : K → ℕ} {shares : Sha
           ap (λ z. with_keys_main (key_at keys.entries) z) main ∙ main-without (key_at keys.entries) slot q.main (main_have laws kept) in
           cc
 
-      pub kept-vacated : hash_at keys.entries slot ≡ Some old → index' ≡ removed eqb index old slot
-          → q'.slots ≡ q.slots → q'.made ≡ q.made → q'.window ≡ q.window → room' ≡ room → IsKept eq hash shares q' h index' keys free' room'
+      pub kept-vacated : hash_at keys.entries slot ≡ Some old → index' ≡ without_handle eqb index old slot
+          → q'.slots ≡ q.slots → q'.made ≡ q.made → q'.window ≡ q.window → room' ≡ room → IsCache eq hash shares q' h index' keys free' room'
       kept-vacated at out slots made window free_room = record {
         whole = subst (IsWhole eq) (sym vacated-machine) (whole-vacated eq m kept.whole slot standing-counted);
-        stored = subst (λ z. IsStored hash z keys.entries (queued_slots q')) (sym out) (subst (λ z. IsStored hash (removed eqb index old slot) keys.entries z) (sym places)
+        stored = subst (λ z. IsStored hash z keys.entries (queued_slots q')) (sym out) (subst (λ z. IsStored hash (without_handle eqb index old slot) keys.entries z) (sym places)
             (stored-left hash index keys.entries (queued_slots q) slot old kept.stored (index_some laws kept) (apart laws kept) at));
         hashed = kept.hashed;
         linked = omega (arith, made, kept.linked);

@@ -1,6 +1,6 @@
 -- The slots whose keys have one hash are those of the residents whose keys have it, each once.
 use Rattle.std.proofs.Common.{◌≡◌, ℕ, ◌<◌, Bool, true, ◌&&◌, eqb-true, Option, Some, None, slice_get, List, [], ◌∷◌, length, inl, inr, refl, sym, ◌∙◌, arith, ◌-◌, eqb}
-use Rattle.clock2q_cache.proofs.Names.{and_false, IfNone, IfSome, length-values, IsEquivalence, AllByRecursion, eqb_self, find, is_key_at, slot_of, filter, cases_Bool, candidates, Entry, KeyPlaces, among_first, below_of, candidate_there, slice_get_some, QueueState, Remembered, Shares, Machine, machine_of, queued_slots, IsKept, distinct_none, distinct_first, distinct_rest, distinct_more, list_any, IsDistinct}
+use Rattle.clock2q_cache.proofs.Names.{and_false, IfNone, IfSome, length-values, IsEquivalence, AllByRecursion, eqb_self, find, is_key_at, slot_of, filter, cases_Bool, candidates, Entry, KeyPlaces, among_first, below_of, candidate_there, slice_get_some, QueueState, Remembered, Shares, Machine, machine_of, queued_slots, IsCache, distinct_none, distinct_first, distinct_rest, distinct_more, list_any, IsDistinct}
 use Rattle.std.proofs.lemmas.Bool.{eq-eqb}
 use Rattle.clock2q_queues.proofs.Rings.{among_later}
 use Rattle.clock2q_directory.specs.Hashed.{has_hash}
@@ -43,7 +43,7 @@ pub none-unless : (o : Option ℕ) → ((x : ℕ) → o ≡ Some x → ⊥) → 
 none-unless o other it = grind arith
 
 module _ {K V : Type 0} {eq : K → K → Bool} {hash : K → ℕ} {shares : Shares} {q : QueueState} {h : Remembered K} {index : List (List (ℕ × ℕ))} {keys : KeyPlaces K V} {free : List ℕ} {room : ℕ}
-    (laws : IsEquivalence eq) (kept : IsKept eq hash shares q h index keys free room) where
+    (laws : IsEquivalence eq) (kept : IsCache eq hash shares q h index keys free room) where
   abbrev m : Machine K V
   m = machine_of shares q keys.entries h.entries free
 

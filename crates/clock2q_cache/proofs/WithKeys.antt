@@ -1,6 +1,6 @@
 -- The queues' lists of slots, with the keys at the slots, change as the machine's lists do.
 use Rattle.std.proofs.Common.{◌≡◌, ℕ, zero, suc, ◌+◌, ◌==◌, Bool, true, false, not, cond, eqb, Option, Some, None, List, [], ◌∷◌, ◌++◌, map, length, take, drop, inl, inr, refl, ap, ◌∙◌, arith}
-use Rattle.clock2q_cache.proofs.Names.{if◌then◌else◌, last_or, count_by, filter, filter_map, option_map, cases_Bool, filter_map-append, sum_by-cons, Age, grown, touched, admitted, small_hit_at, set_front, inspections, from_victim, main_hit_at, slots_of, without_slot, among_first, among_later, SmallEntry, MainEntry, with_keys_small, with_keys_main, list_any}
+use Rattle.clock2q_cache.proofs.Names.{if◌then◌else◌, last_or, count_by, filter, filter_map, option_map, cases_Bool, filter_map-append, sum_by-cons, Age, grown_older, touched, admitted, small_hit_at, set_front, inspections, from_victim, main_hit_at, slots_of, without_slot, among_first, among_later, SmallEntry, MainEntry, with_keys_small, with_keys_main, list_any}
 use Rattle.clock2q_machine.specs.Entries as machine
 
 -- an entry of Small or of Main, and its key
@@ -121,7 +121,7 @@ module _ {K : Type 0} (key : ℕ → Option K) where
 
   -- an admission
   small-grown : (window : ℕ) (es : List (ℕ × Age))
-      → map (λ (e : SmallEntry K). record e { age = grown window e.age }) (with_keys_small key es) ≡ with_keys_small key (map {B = ℕ × Age} (λ (e : ℕ × Age). (e.0, grown window e.1)) es)
+      → map (λ (e : SmallEntry K). record e { age = grown_older window e.age }) (with_keys_small key es) ≡ with_keys_small key (map {B = ℕ × Age} (λ (e : ℕ × Age). (e.0, grown_older window e.1)) es)
   small-grown window [] = refl
   small-grown window (e ∷ es) = grind (arith, small-grown window es)
 

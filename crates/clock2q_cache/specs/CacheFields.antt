@@ -61,7 +61,7 @@ pub record IsSized (shares : Shares) (q : QueueState) (limit beside homes keys_r
 
 -- the invariant of a cache's fields. Each slot that has a value has a link record, so that no later call makes one for a
 -- slot below its own
-pub record IsKept {K V : Type 0} (eq : K → K → Bool) (hash : K → ℕ) (shares : Shares) (q : QueueState)
+pub record IsCache {K V : Type 0} (eq : K → K → Bool) (hash : K → ℕ) (shares : Shares) (q : QueueState)
     (h : Remembered K) (index : List (List (ℕ × ℕ))) (keys : KeyPlaces K V) (free : List ℕ) (room : ℕ) : Type 0 where
   pub whole : IsWhole eq (machine_of shares q keys.entries h.entries free)
   pub stored : IsStored hash index keys.entries (queued_slots q)

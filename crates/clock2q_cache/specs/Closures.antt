@@ -19,14 +19,14 @@ module _ {F K V : Type 0} (g : Mut F (Bor K × (Bor V × Unit {0})) Bool) where
 
   -- f may be called with the key of the first resident and the value of its slot and, whatever it returns, with the
   -- next
-  abbrev pub TakesInTurn : List V → F → List (K × ℕ) → Type 0
-  TakesInTurn values f [] = Unit {0}
-  TakesInTurn values f (r ∷ rs) = (key : Bor K) (value : Bor V) → key.now ≡ r.0 → slice_get values r.1 ≡ Some value.now
-      → IsCallableAt g f (key, (value, tt)) × ((b : Bool) (next : F) → Called g f (key, (value, tt)) b next → TakesInTurn values next rs)
+  abbrev pub TakesResidents : List V → F → List (K × ℕ) → Type 0
+  TakesResidents values f [] = Unit {0}
+  TakesResidents values f (r ∷ rs) = (key : Bor K) (value : Bor V) → key.now ≡ r.0 → slice_get values r.1 ≡ Some value.now
+      → IsCallableAt g f (key, (value, tt)) × ((b : Bool) (next : F) → Called g f (key, (value, tt)) b next → TakesResidents values next rs)
 
   -- f may be called for each resident, by ascending slot
   pub record MayBeAsked (f : F) (m : Machine K V) : Type 0 where
-    pub in_turn : TakesInTurn m.values f (by_slot m)
+    pub in_turn : TakesResidents m.values f (by_slot m)
 
   -- there was one call for each resident, by ascending slot, and the residents for which it returned false left
   pub record Retains (f : F) (old new : Machine K V) : Type 0 where
@@ -72,7 +72,7 @@ module _ {K V : Type 0} (is : K → Bool) (key : K) (made : V → Type 0) where
 
   -- the key is hit or inserted; a slot that was made before keeps its value, and a new one gets a value that was made;
   -- storing another value there is like a put
-  pub record Takes (old : Machine K V) (slot : ℕ) (new : Machine K V) : Type 0 where
+  pub record TakesSlot (old : Machine K V) (slot : ℕ) (new : Machine K V) : Type 0 where
     pub value : V
     pub at : slot ≡ slotted_at (slot_of is old) is key old
     pub had : UnwrapsOrElse (slice_get old.values slot) made value

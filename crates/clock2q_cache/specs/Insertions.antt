@@ -39,8 +39,8 @@ module _ {K V : Type 0} where
     pub becomes : new ≡ stored p.slot held p.machine
 
   -- a key goes into Main, or into Small
-  abbrev pub placed : Bool → K → Machine K V → Placement K V
-  placed main key m = if main then into_main key m else into_small key m
+  abbrev pub into_queue : Bool → K → Machine K V → Placement K V
+  into_queue main key m = if main then into_main key m else into_small key m
 
   -- the number of inspections by the hand then
   abbrev pub placed_inspections : Bool → Machine K V → ℕ
@@ -59,7 +59,7 @@ module _ {K V : Type 0} where
   leaves_placed main m = if main then leaves_for_main m else leaves_for_small (vacancy m) (last_or None m.small) m.main
 
 -- a key is erased from the history, and goes into Main or into Small
-pub record IsSent {K V : Type 0} (is : K → Bool) (m m1 : Machine K V) (main : Bool) : Type 0 where
+pub record IsAdmitted {K V : Type 0} (is : K → Bool) (m m1 : Machine K V) (main : Bool) : Type 0 where
   pub erased : m1 ≡ forgotten is m
   pub goes : main ≡ goes_to_main (list_any is m.history) m
 
@@ -104,11 +104,11 @@ module _ {K V S H : Type 0} (key : HashMembers K) (build : builder.Ghosts S H) (
   -- or into that of the two that was chosen
   abbrev pub EntersQueue : (main : Bool) → K → Option V → (slot : ℕ) → CacheState K V S → CacheState K V S → Type 0
   EntersQueue main k value slot old new =
-      let m = old.machine in Enters k value (placed main k m) (out_of main m) (placed_inspections main m) 29 slot old new
+      let m = old.machine in Enters k value (into_queue main k m) (out_of main m) (placed_inspections main m) 29 slot old new
 
   -- a key that is not resident is erased from the history, and goes into Main or into Small
-  pub record Sends (k : K) (x : ℕ) (main : Bool) (old new : CacheState K V S) : Type 0 where
-    pub sent : IsSent (key.eq k) old.machine new.machine main
+  pub record Admits (k : K) (x : ℕ) (main : Bool) (old new : CacheState K V S) : Type 0 where
+    pub sent : IsAdmitted (key.eq k) old.machine new.machine main
     pub known : new.known ≡ discarded (key.eq k) x old
     pub hasher : new.hasher ≡ old.hasher
     pub counts : Spends 0 7 0 old.counts new.counts

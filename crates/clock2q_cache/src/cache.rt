@@ -69,7 +69,7 @@ impl<K: Hash + Eq, V, S: BuildHasher, A: Allocator> Model for Cache<K, V, S, A> 
     ghost use Rattle.std.specs.Prelude.{vec_capacity};
     ghost use Rattle.clock2q_cache.specs.CacheState.{CacheState, cache_state, cache_code};
     ghost use Rattle.clock2q_directory.specs.Index.{slots};
-    ghost use Rattle.clock2q_cache.specs.CacheFields.{machine_of, counts_of, IsKept};
+    ghost use Rattle.clock2q_cache.specs.CacheFields.{machine_of, counts_of, IsCache};
     ghost use Rattle.clock2q_cache.specs.Hashes.{hash_of};
 
     ghost Value = { CacheState K V S };
@@ -78,7 +78,7 @@ impl<K: Hash + Eq, V, S: BuildHasher, A: Allocator> Model for Cache<K, V, S, A> 
 
     ghost view = { λ c. cache_state (machine_of c.shares c.queues c.directory.residents.entries c.directory.history.entries c.free.items) c.directory.history.places c.hasher (counts_of c.queues c.directory.history c.directory.residents) };
 
-    ghost invariant = { λ c. IsKept K.eq (λ k. hash_of S.BuildHasher S.Hasher.Hasher c.hasher (K.hash_input k)) c.shares c.queues c.directory.history (slots c.directory.history.places.index) c.directory.residents c.free.items (vec_capacity c.free) };
+    ghost invariant = { λ c. IsCache K.eq (λ k. hash_of S.BuildHasher S.Hasher.Hasher c.hasher (K.hash_input k)) c.shares c.queues c.directory.history (slots c.directory.history.places.index) c.directory.residents c.free.items (vec_capacity c.free) };
 }
 
 impl<K: Hash + Eq, V, S: BuildHasher, A: Allocator> Cache<K, V, S, A> {

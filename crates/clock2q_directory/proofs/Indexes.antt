@@ -6,7 +6,7 @@ use Rattle.std.proofs.lemmas.Bool.Decides.{leb_tells}
 use Rattle.std.proofs.lemmas.List.{length-append, length-replicate}
 use Rattle.std.proofs.lemmas.List.Folds.{list_any-append}
 use Rattle.clock2q_queues.specs.Rings.{without}
-use Rattle.clock2q_handles.specs.Homes.{top, home, no_entries, capacity, listed, total, candidates, with_handle, removed, is_entry_of, without_first}
+use Rattle.clock2q_handles.specs.Homes.{top, home, no_entries, capacity, listed, total, candidates, with_handle, without_handle, is_entry_of, without_first}
 use Rattle.clock2q_directory.specs.Keys.{hash_at}
 use Rattle.clock2q_handles.specs.TableStep.{fit, doubled_until, made_for}
 use Rattle.clock2q_directory.specs.Indexes.{IsIndex, is_alike, is_named}
@@ -84,7 +84,7 @@ length-put index hash place = length-with_list index hash (listed index hash ++ 
 pub total-put : (index : List (List (ℕ × ℕ))) (hash place : ℕ) → 0 < length index → total (with_handle index hash place) ≡ total index + 1
 total-put index hash place some = omega (arith, total-with_list index hash (listed index hash ++ (top hash, place) ∷ []) some, length-append (listed index hash) ((top hash, place) ∷ []))
 
-pub length-taken : (index : List (List (ℕ × ℕ))) (hash place : ℕ) → length (removed eqb index hash place) ≡ length index
+pub length-taken : (index : List (List (ℕ × ℕ))) (hash place : ℕ) → length (without_handle eqb index hash place) ≡ length index
 length-taken index hash place = length-with_list index hash (without_first (is_entry_of eqb hash place) (listed index hash))
 
 alike_parts : (index : List (List (ℕ × ℕ))) (x y : ℕ) → is_alike index x y ≡ true → (home index x ≡ home index y) × (top x ≡ top y)
@@ -132,13 +132,13 @@ module _ {K V : Type 0} where
   -- a place is taken out, if it was there
   module _ (index : List (List (ℕ × ℕ))) (keys : List (Entry K V)) (places : List ℕ) (place hash : ℕ) (i : IsIndex index keys places) (some : 0 < length index)
       (apart : IsDistinct eqb places) (at : hash_at keys place ≡ Some hash) where
-    named-taken : (x q : ℕ) → is_named (removed eqb index hash place) keys x q ≡ is_named index keys x q
-    named-taken x q = named-length index (removed eqb index hash place) keys x q (length-taken index hash place)
+    named-taken : (x q : ℕ) → is_named (without_handle eqb index hash place) keys x q ≡ is_named index keys x q
+    named-taken x q = named-length index (without_handle eqb index hash place) keys x q (length-taken index hash place)
 
-    listed-taken : (x q : ℕ) → list_any (eqb q) (candidates (removed eqb index hash place) x) ≡ (list_any (eqb q) (without place places) && is_named (removed eqb index hash place) keys x q)
+    listed-taken : (x q : ℕ) → list_any (eqb q) (candidates (without_handle eqb index hash place) x) ≡ (list_any (eqb q) (without place places) && is_named (without_handle eqb index hash place) keys x q)
     listed-taken x q =
-        let right : (list_any (eqb q) (without place places) && is_named (removed eqb index hash place) keys x q) ≡ ((list_any (eqb q) places && not (eqb q place)) && is_named index keys x q) =
-        ap (λ z. z && is_named (removed eqb index hash place) keys x q) (among-without_test q place places) ∙ ap (λ z. (list_any (eqb q) places && not (eqb q place)) && z) (named-taken x q) in
+        let right : (list_any (eqb q) (without place places) && is_named (without_handle eqb index hash place) keys x q) ≡ ((list_any (eqb q) places && not (eqb q place)) && is_named index keys x q) =
+        ap (λ z. z && is_named (without_handle eqb index hash place) keys x q) (among-without_test q place places) ∙ ap (λ z. (list_any (eqb q) places && not (eqb q place)) && z) (named-taken x q) in
         elim (cases_Bool (is_alike index x hash)) [
           | inl a ↦
               let p = alike_parts index x hash a in
@@ -153,7 +153,7 @@ module _ {K V : Type 0} where
               ]
         ]
 
-    pub taken-counted : total (removed eqb index hash place) + one_if (list_any (eqb place) places) ≡ length places
+    pub taken-counted : total (without_handle eqb index hash place) + one_if (list_any (eqb place) places) ≡ length places
     taken-counted = grind (arith, named-as, eqb_self, any-candidate, and_true, length-without_first, total-with_list)
 
     length-left : length (without place places) + one_if (list_any (eqb place) places) ≡ length places
@@ -162,7 +162,7 @@ module _ {K V : Type 0} where
       | inr h ↦ rw h (let e = ap (λ (z : List ℕ). length z) (without_absent place places h) in omega (arith, e))
     ]
 
-    pub IsIndex-taken : IsIndex (removed eqb index hash place) keys (without place places)
+    pub IsIndex-taken : IsIndex (without_handle eqb index hash place) keys (without place places)
     IsIndex-taken = record {
       listed = listed-taken;
       once = λ x. elim (cases_Bool (is_alike index x hash)) [
@@ -176,7 +176,7 @@ module _ {K V : Type 0} where
 
   -- the same for an index that may have no slots
   pub IsIndex-removed : (index : List (List (ℕ × ℕ))) (keys : List (Entry K V)) (places : List ℕ) (place hash : ℕ) → IsIndex index keys places → IsDistinct eqb places → hash_at keys place ≡ Some hash
-      → IsIndex (removed eqb index hash place) keys (without place places)
+      → IsIndex (without_handle eqb index hash place) keys (without place places)
   IsIndex-removed [] keys places place hash i apart at =
       let none = empty places (sym i.counted) in
       subst (λ z. IsIndex [] keys (without place z)) (sym none) (subst (λ z. IsIndex [] keys z) none i)

@@ -8,7 +8,7 @@ use Rattle.std.proofs.lemmas.List.Folds.{list_any-append}
 use Rattle.clock2q_directory.specs.declared.keys.store.Entry.{Entry}
 use Rattle.clock2q_queues.specs.Rings.{without}
 use Rattle.clock2q_queues.specs.Cells.{Rises}
-use Rattle.clock2q_handles.specs.Homes.{candidates, removed}
+use Rattle.clock2q_handles.specs.Homes.{candidates, without_handle}
 use Rattle.clock2q_directory.specs.Index as known
 use Rattle.clock2q_directory.specs.Index.{IndexState, remembered_at, forgotten_at}
 use Rattle.clock2q_queues.specs.Order.{PlaceOrder, IsWholeOrder, used, next_place, place_for}
@@ -123,7 +123,7 @@ module _ {K V : Type 0} {index : IndexState} {order order' : PlaceOrder} {keys :
         absent = ap (λ zs. list_any (eqb place) zs) (sym front) ∙ gone place order.places;
         indexed =
             subst (λ z. IsIndex z keys (take (order.limit - 1) order.places)) (sym (places-forgotten index hash place))
-            (subst (λ zs. IsIndex (removed eqb (known.places index) hash place) keys zs) front (IsIndex-removed (known.places index) keys order.places place hash i apart at));
+            (subst (λ zs. IsIndex (without_handle eqb (known.places index) hash place) keys zs) front (IsIndex-removed (known.places index) keys order.places place hash i apart at));
         slots = slots-forgotten index hash place;
         shared = like.shared;
         as_many = like.places;

@@ -2,7 +2,7 @@
 use Rattle.std.proofs.Common.{ℕ, ◌+◌, ◌≤◌, eqb, Option, Some, None, List, length, inl, inr, arith}
 use Rattle.std.specs.List.{last_or}
 use Rattle.std.proofs.lemmas.Bool.{cases_Bool}
-use Rattle.clock2q_handles.specs.Homes.{total, capacity, removed}
+use Rattle.clock2q_handles.specs.Homes.{total, capacity, without_handle}
 use Rattle.clock2q_handles.proofs.Removals.{removed-walk}
 use Rattle.clock2q_handles.proofs.Runs.{removed-room, removed-run}
 use Rattle.clock2q_directory.specs.Accesses.{most_changed}
@@ -11,7 +11,7 @@ use Rattle.clock2q_directory.specs.History.{Places, pushed_places, freed_place, 
 
 module _ (homes : List (List (ℕ × ℕ))) (room : total homes ≤ capacity (length homes)) (x h : ℕ) where
   -- once an entry has left a table, no change reads and writes more slots than before
-  pub removed-changed : (y : ℕ) → most_changed (removed eqb homes x h) y ≤ most_changed homes y
+  pub removed-changed : (y : ℕ) → most_changed (without_handle eqb homes x h) y ≤ most_changed homes y
   removed-changed y = omega (arith, removed-walk eqb homes x h room y, removed-run eqb homes x h room y)
 
 -- no change of either table reads and writes more slots than before, and the entries fit

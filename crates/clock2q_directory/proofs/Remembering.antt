@@ -3,9 +3,9 @@ use Rattle.std.proofs.Common.{◌≡◌, ℕ, zero, suc, ◌+◌, ◌-◌, ◌<�
 use Rattle.std.specs.Prelude.{if◌then◌else◌}
 use Rattle.std.specs.List.{last_or, list_any, IsDistinct}
 use Rattle.std.proofs.lemmas.Bool.{cases_Bool, eq-eqb, le-ltb}
-use Rattle.clock2q_handles.specs.Homes.{removed}
+use Rattle.clock2q_handles.specs.Homes.{without_handle}
 use Rattle.clock2q_directory.specs.Index as known
-use Rattle.clock2q_directory.specs.Index.{IndexState, first_remembered, left, remembered_at, forgotten_at, HasPlaceRoom, IsHeld}
+use Rattle.clock2q_directory.specs.Index.{IndexState, first_remembered, left, remembered_at, forgotten_at, HasPlaceRoom, HasSlotUnder}
 use Rattle.clock2q_directory.specs.declared.keys.store.Entry.{Entry}
 use Rattle.clock2q_queues.specs.Order.{PlaceOrder, IsWholeOrder, used, place_for}
 use Rattle.clock2q_directory.specs.Keys.{KeyPlaces, entry, written, hash_at, hashed_at, entries_of}
@@ -53,15 +53,15 @@ none-kept {order = order} {keys} e h none = grind (arith, no-place)
 
 -- the slots after a key leaves
 module _ (limit hash slot oldest : ℕ) (p : Places) (below : slot < first_remembered) where
-  pub slots-pushed : known.slots (pushed_places limit hash slot oldest p).index ≡ removed eqb (known.slots p.index) hash slot
+  pub slots-pushed : known.slots (pushed_places limit hash slot oldest p).index ≡ without_handle eqb (known.slots p.index) hash slot
   slots-pushed = elim (cases_Bool (ltb (length p.taken) limit)) [
     | inl e ↦ rw e (slots-remembered p.index hash slot (place_for (length p.taken) p.free) below)
     | inr e ↦ rw e (of (last_or None p.taken))
   ]
     where
-      of : (o : Option ℕ) → known.slots (taking_oldest hash slot oldest o p).index ≡ removed eqb (known.slots p.index) hash slot
+      of : (o : Option ℕ) → known.slots (taking_oldest hash slot oldest o p).index ≡ without_handle eqb (known.slots p.index) hash slot
       of None = slots-left p.index hash slot below
-      of (Some place) = slots-remembered (forgotten_at oldest place p.index) hash slot place below ∙ ap (λ z. removed eqb z hash slot) (slots-forgotten p.index oldest place)
+      of (Some place) = slots-remembered (forgotten_at oldest place p.index) hash slot place below ∙ ap (λ z. without_handle eqb z hash slot) (slots-forgotten p.index oldest place)
 
   pub shared-pushed : known.is_shared (pushed_places limit hash slot oldest p).index ≡ known.is_shared p.index
   shared-pushed = elim (cases_Bool (ltb (length p.taken) limit)) [
@@ -96,7 +96,7 @@ module _ {K : Type 0} {eq : K → K → Bool} {index index1 : IndexState} {order
   fewer = take (order.limit - 1) order.places
 
   -- the slot is still there
-  pub still_held : {hash slot : ℕ} → IsHeld hash slot index → IsHeld hash slot index1
+  pub still_held : {hash slot : ℕ} → HasSlotUnder hash slot index → HasSlotUnder hash slot index1
   still_held held = record { below = held.below; there = rw m.slots held.there }
 
   module _ {hash slot : ℕ} {key : K} {keys' : KeyPlaces K Unit} (write : keys' ≡ record keys { entries = written place (entry hash key tt) keys.entries; writes = keys.writes + 1 })

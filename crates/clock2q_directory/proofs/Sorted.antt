@@ -4,7 +4,7 @@ use Rattle.std.specs.List.{list_any}
 use Rattle.std.proofs.lemmas.Bool.{both_ways, cases_Bool}
 use Rattle.std.proofs.lemmas.List.{length-map, length-replicate}
 use Rattle.std.proofs.lemmas.List.Sums.{sum_by-cons}
-use Rattle.clock2q_handles.specs.Homes.{top, listed, no_entries, capacity, total, candidates, with_handle, removed, is_entry_of}
+use Rattle.clock2q_handles.specs.Homes.{top, listed, no_entries, capacity, total, candidates, with_handle, without_handle, is_entry_of}
 use Rattle.clock2q_handles.specs.TableStep.{made_for, HasSpare}
 use Rattle.clock2q_handles.proofs.FewerEntries.{total-no_entries}
 use Rattle.clock2q_directory.specs.Index.{IndexState, index_state, IsSorted, HasSlotRoom, first_remembered, index_room, is_shared, slots, places, beside, slot_entries, place_entries, slots_in, places_in}
@@ -71,10 +71,10 @@ sorted v w s shared own others = grind arith
 pub sorted-entered : {v : IndexState} (x s : ℕ) → s < first_remembered → IsSorted v → IsSorted (index_state (with_handle v.shared x s) v.own)
 sorted-entered {v} x s below sorts = sorted v (index_state (with_handle v.shared x s) v.own) sorts (length-put v.shared x s) refl (λ _. others-entered v.shared x s below)
 
-pub sorted-left : {v : IndexState} (x s : ℕ) → s < first_remembered → IsSorted v → IsSorted (index_state (removed eqb v.shared x s) v.own)
-sorted-left {v} x s below sorts = sorted v (index_state (removed eqb v.shared x s) v.own) sorts (length-taken v.shared x s) refl (λ _. others-left v.shared x s below)
+pub sorted-left : {v : IndexState} (x s : ℕ) → s < first_remembered → IsSorted v → IsSorted (index_state (without_handle eqb v.shared x s) v.own)
+sorted-left {v} x s below sorts = sorted v (index_state (without_handle eqb v.shared x s) v.own) sorts (length-taken v.shared x s) refl (λ _. others-left v.shared x s below)
 
-pub sorted-remembered : {v : IndexState} (x s p : ℕ) → s < first_remembered → IsSorted v → IsSorted (index_state (removed eqb v.shared x s) (with_handle v.own x p))
+pub sorted-remembered : {v : IndexState} (x s p : ℕ) → s < first_remembered → IsSorted v → IsSorted (index_state (without_handle eqb v.shared x s) (with_handle v.own x p))
 sorted-remembered {v} x s p below sorts = grind (arith, sorted, length-taken, length-put, others-left)
 
 -- if slots and places share a table, only its number of lists matters

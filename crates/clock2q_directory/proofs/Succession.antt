@@ -2,7 +2,7 @@
 use Rattle.std.proofs.Common.{◌≡◌, ℕ, ◌+◌, ◌-◌, ◌^◌, ◌<◌, ◌≤◌, eqb, true, false, List, length, Option, Some, None, if◌then◌else◌, refl, sym, ap, ◌∙◌, arith}
 use Rattle.std.specs.List.{list_any}
 use Rattle.clock2q_handles.specs.Changes.{ChangesAtMost, ReadsAtMost, RisesAtMost, WritesAtMost}
-use Rattle.clock2q_handles.specs.Homes.{candidates, is_entry_of, listed, removed, total, with_handle}
+use Rattle.clock2q_handles.specs.Homes.{candidates, is_entry_of, listed, without_handle, total, with_handle}
 use Rattle.clock2q_handles.specs.Layout.{layout, run, walk}
 use Rattle.clock2q_handles.specs.Positions.{handle_replaced}
 use Rattle.clock2q_handles.specs.TableStep.{TableValue}
@@ -10,7 +10,7 @@ use Rattle.clock2q_handles.proofs.Changes.{length-with_list}
 use Rattle.clock2q_handles.proofs.MoreEntries.{walk-more}
 use Rattle.clock2q_handles.proofs.Removals.{held-still, replaced-homes}
 use Rattle.clock2q_directory.specs.Accesses.{most_changed}
-use Rattle.clock2q_directory.specs.Index.{IndexState, IsIndexed, index_of, is_shared, slots, places, beside, entered_from, remembered_at, first_remembered, forgotten_if}
+use Rattle.clock2q_directory.specs.Index.{IndexState, AreLaidOut, index_of, is_shared, slots, places, beside, entered_from, remembered_at, first_remembered, forgotten_if}
 use Rattle.clock2q_directory.proofs.Indexes.{length-put, length-taken}
 use Rattle.clock2q_directory.proofs.Sorted.{sorted-shared}
 use Rattle.clock2q_directory.proofs.Views.{held_entry, slots-forgotten, forgotten-like}
@@ -62,18 +62,18 @@ module _ (o : Option ℕ) (p x s : ℕ) (t own : TableValue ℕ) (n : ℕ) where
     pub from : n ≤ fewer.accesses
     pub counted : t'.reads + t'.writes + n ≤ t.reads + t.writes + fewer.accesses + most_changed t.homes x
 
-module _ (p x s : ℕ) (t own : TableValue ℕ) (n : ℕ) (i : IsIndexed t own n) {t' : TableValue ℕ} where
+module _ (p x s : ℕ) (t own : TableValue ℕ) (n : ℕ) (i : AreLaidOut t own n) {t' : TableValue ℕ} where
   pub beside-free : WritesAtMost (run t.slots x + 1) t t' → ReadsAtMost (walk t.homes x) t t' → t'.homes ≡ with_handle t.homes x s → IsBeside None p x s t own n t'
   beside-free writes reads put = record { homes = put; from = omega arith; counted = omega (arith, writes.1, reads.1, ap (λ z. run z x) i.shared_laid) }
 
-  pub beside-past : (o : ℕ) → is_shared (index_of t own n) ≡ true → ChangesAtMost x o t t' → t'.homes ≡ with_handle (removed eqb t.homes o (first_remembered + p)) x s → IsBeside (Some o) p x s t own n t'
+  pub beside-past : (o : ℕ) → is_shared (index_of t own n) ≡ true → ChangesAtMost x o t t' → t'.homes ≡ with_handle (without_handle eqb t.homes o (first_remembered + p)) x s → IsBeside (Some o) p x s t own n t'
   beside-past o shared accesses put = record {
     homes = rw shared put;
     from = rw shared (omega arith);
     counted = rw shared (omega (arith, accesses.1, ap (λ z. run z x) i.shared_laid, ap (λ z. run z o) i.shared_laid));
   }
 
-module _ (o : Option ℕ) (p x s y : ℕ) (t own : TableValue ℕ) (n : ℕ) (i : IsIndexed t own n) (shared : is_shared (before o p x s t own n) ≡ true)
+module _ (o : Option ℕ) (p x s y : ℕ) (t own : TableValue ℕ) (n : ℕ) (i : AreLaidOut t own n) (shared : is_shared (before o p x s t own n) ≡ true)
     (held : list_any (eqb s) (candidates (slots (before o p x s t own n)) y) ≡ true) {t' : TableValue ℕ} (b : IsBeside o p x s t own n t') where
   abbrev w : IndexState
   w = fewer o p x s t own n
@@ -103,5 +103,5 @@ module _ (o : Option ℕ) (p x s y : ℕ) (t own : TableValue ℕ) (n : ℕ) (i 
     pub succeeded : index_of t'' own m ≡ entered_from (before o p x s t own n) x s (remembered_at y s p w)
     succeeded = rw w-shared (same-index homes (sym (own-if p (before o p x s t own n) o shared)) (omega (arith, charged, cost, b.from)))
 
-    pub succeeded-indexed : t''.slots ≡ layout t''.homes → RisesAtMost (walk t'.homes y) t'.reads t''.reads → t''.writes ≡ t'.writes + 1 → IsIndexed t'' own m
+    pub succeeded-indexed : t''.slots ≡ layout t''.homes → RisesAtMost (walk t'.homes y) t'.reads t''.reads → t''.writes ≡ t'.writes + 1 → AreLaidOut t'' own m
     succeeded-indexed laid reads writes = grind (arith, length-with_list, sorted-shared, homes, length-put, length-if, cost, walk-more, some)

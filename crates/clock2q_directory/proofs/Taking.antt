@@ -4,7 +4,7 @@ use Rattle.std.proofs.Common.{◌≡◌, ℕ, ◌<◌, Bool, false, Some, None, 
 use Rattle.std.specs.Prelude.{slice_set}
 use Rattle.clock2q_directory.specs.declared.keys.store.Entry.{Entry}
 use Rattle.clock2q_directory.specs.Keys.{entry, written, with_key, hash_at, Writes}
-use Rattle.clock2q_directory.specs.Index.{IsHeld}
+use Rattle.clock2q_directory.specs.Index.{HasSlotUnder}
 use Rattle.clock2q_directory.specs.History.{is_remembered, MayRetire}
 use Rattle.clock2q_directory.specs.Directory.{Known, IsResident}
 use Rattle.clock2q_directory.proofs.Entries.{slice_get_some, set-written, value-there}
@@ -22,7 +22,7 @@ module _ {K V : Type 0} where
       record { held = e.0.value; is = value-there es s ∙ ap (λ z. elim z [ None ↦ None | Some e ↦ Some e.value ]) e.1; becomes = is ∙ keyed ∙ set-written s (entry hash key e.0.value) es there }
 
 -- a resident's slot is in the index under the hash of its key
-pub resident-held : {K V : Type 0} {d : Known K V} {slot old : ℕ} → IsResident slot d → hash_at d.residents.entries slot ≡ Some old → IsHeld old slot d.history.places.index
+pub resident-held : {K V : Type 0} {d : Known K V} {slot old : ℕ} → IsResident slot d → hash_at d.residents.entries slot ≡ Some old → HasSlotUnder old slot d.history.places.index
 resident-held {d = d} {slot} {old} r at = grind (arith, named-own)
 
 -- and its key may be remembered, unless it is

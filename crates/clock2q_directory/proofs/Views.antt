@@ -6,7 +6,7 @@ use Rattle.std.proofs.lemmas.List.{append_assoc, length-append, length-map, map-
 use Rattle.std.proofs.lemmas.List.Elements.{filter-append}
 use Rattle.std.proofs.lemmas.List.Sums.{sum_by-cons}
 use Rattle.std.proofs.lemmas.List.Folds.{list_any-append}
-use Rattle.clock2q_handles.specs.Homes.{top, home, listed, total, candidates, with_list, with_handle, removed, without_first, is_entry_of}
+use Rattle.clock2q_handles.specs.Homes.{top, home, listed, total, candidates, with_list, with_handle, without_handle, without_first, is_entry_of}
 use Rattle.clock2q_handles.specs.Positions.{with_first, handle_replaced}
 use Rattle.clock2q_handles.proofs.Lookups.{with_top}
 use Rattle.clock2q_handles.proofs.Changes.{length-with_list, listed-with_same, listed-with_other, total-with_list}
@@ -178,13 +178,13 @@ places-entered v x s below = ap (λ homes. if is_shared v then homes else v.own)
 
 -- A slot taken out
 
-taken_slots : (homes : List (List (ℕ × ℕ))) (x s : ℕ) → s < first_remembered → slots_in (removed eqb homes x s) ≡ removed eqb (slots_in homes) x s
+taken_slots : (homes : List (List (ℕ × ℕ))) (x s : ℕ) → s < first_remembered → slots_in (without_handle eqb homes x s) ≡ without_handle eqb (slots_in homes) x s
 taken_slots homes x s below = grind (arith, view-with_list, kept-without_first, slot_is_below, listed-view)
 
-pub slots-left : (v : IndexState) (x s : ℕ) → s < first_remembered → slots (left x s v) ≡ removed eqb (slots v) x s
+pub slots-left : (v : IndexState) (x s : ℕ) → s < first_remembered → slots (left x s v) ≡ without_handle eqb (slots v) x s
 slots-left v x s below = taken_slots v.shared x s below
 
-pub others-left : (homes : List (List (ℕ × ℕ))) (x s : ℕ) → s < first_remembered → places_in (removed eqb homes x s) ≡ places_in homes
+pub others-left : (homes : List (List (ℕ × ℕ))) (x s : ℕ) → s < first_remembered → places_in (without_handle eqb homes x s) ≡ places_in homes
 others-left homes x s below = grind (arith, view-unseen, lost-without_first, slot_is_no_place)
 
 pub places-left : (v : IndexState) (x s : ℕ) → s < first_remembered → places (left x s v) ≡ places v
@@ -192,10 +192,10 @@ places-left v x s below = ap (λ homes. if is_shared v then homes else v.own) (o
 
 -- A place put in for a slot
 
-handle_replaced_slots : (homes : List (List (ℕ × ℕ))) (x s p : ℕ) → s < first_remembered → slots_in (handle_replaced eqb homes x s (first_remembered + p)) ≡ removed eqb (slots_in homes) x s
+handle_replaced_slots : (homes : List (List (ℕ × ℕ))) (x s p : ℕ) → s < first_remembered → slots_in (handle_replaced eqb homes x s (first_remembered + p)) ≡ without_handle eqb (slots_in homes) x s
 handle_replaced_slots homes x s p below = grind (arith, view-with_list, kept-with_first, place_is_past, slot_is_below, listed-view)
 
-pub slots-remembered : (v : IndexState) (x s p : ℕ) → s < first_remembered → slots (remembered_at x s p v) ≡ removed eqb (slots v) x s
+pub slots-remembered : (v : IndexState) (x s p : ℕ) → s < first_remembered → slots (remembered_at x s p v) ≡ without_handle eqb (slots v) x s
 slots-remembered v x s p below = grind (arith, handle_replaced_slots, taken_slots)
 
 -- an entry put in somewhere in its home's list
@@ -301,16 +301,16 @@ IsIndex-remembered v keys keys' ps x s p below i some held absent same at =
 
 -- A place taken out
 
-others-forgotten : (homes : List (List (ℕ × ℕ))) (x p : ℕ) → slots_in (removed eqb homes x (first_remembered + p)) ≡ slots_in homes
+others-forgotten : (homes : List (List (ℕ × ℕ))) (x p : ℕ) → slots_in (without_handle eqb homes x (first_remembered + p)) ≡ slots_in homes
 others-forgotten homes x p = grind (arith, view-unseen, lost-without_first, place_is_no_slot)
 
-taken_places : (homes : List (List (ℕ × ℕ))) (x p : ℕ) → places_in (removed eqb homes x (first_remembered + p)) ≡ removed eqb (places_in homes) x p
+taken_places : (homes : List (List (ℕ × ℕ))) (x p : ℕ) → places_in (without_handle eqb homes x (first_remembered + p)) ≡ without_handle eqb (places_in homes) x p
 taken_places homes x p = grind (arith, view-with_list, places-without_first, listed-view)
 
 pub slots-forgotten : (v : IndexState) (x p : ℕ) → slots (forgotten_at x p v) ≡ slots v
 slots-forgotten v x p = grind (arith, others-forgotten)
 
-pub places-forgotten : (v : IndexState) (x p : ℕ) → places (forgotten_at x p v) ≡ removed eqb (places v) x p
+pub places-forgotten : (v : IndexState) (x p : ℕ) → places (forgotten_at x p v) ≡ without_handle eqb (places v) x p
 places-forgotten v x p = grind (arith, taken_places, length-taken)
 
 -- the places are in the same table as before, and each table has as many slots
@@ -336,7 +336,7 @@ remembered-like v x s p = elim (cases_Bool (is_shared v)) [
       subst (λ z. IsLikeBefore v z) (sym is)
       (like v w (length-with_list v.shared x (with_first (is_entry_of eqb x s) (top x, first_remembered + p) (listed v.shared x))) refl)
   | inr h ↦
-      let w = record v { shared = removed eqb v.shared x s; own = with_handle v.own x p; accesses = v.accesses + most_changed v.shared x + most_changed v.own x } in
+      let w = record v { shared = without_handle eqb v.shared x s; own = with_handle v.own x p; accesses = v.accesses + most_changed v.shared x + most_changed v.own x } in
       let is : remembered_at x s p v ≡ w = rw h refl in
       subst (λ z. IsLikeBefore v z) (sym is) (like v w (length-taken v.shared x s) (length-put v.own x p))
 ]
@@ -344,11 +344,11 @@ remembered-like v x s p = elim (cases_Bool (is_shared v)) [
 pub forgotten-like : (v : IndexState) (x p : ℕ) → IsLikeBefore v (forgotten_at x p v)
 forgotten-like v x p = elim (cases_Bool (is_shared v)) [
   | inl h ↦
-      let w = record v { shared = removed eqb v.shared x (first_remembered + p); accesses = v.accesses + most_changed v.shared x } in
+      let w = record v { shared = without_handle eqb v.shared x (first_remembered + p); accesses = v.accesses + most_changed v.shared x } in
       let is : forgotten_at x p v ≡ w = rw h refl in
       subst (λ z. IsLikeBefore v z) (sym is) (like v w (length-taken v.shared x (first_remembered + p)) refl)
   | inr h ↦
-      let w = record v { own = removed eqb v.own x p; accesses = v.accesses + most_changed v.own x } in
+      let w = record v { own = without_handle eqb v.own x p; accesses = v.accesses + most_changed v.own x } in
       let is : forgotten_at x p v ≡ w = rw h refl in
       subst (λ z. IsLikeBefore v z) (sym is) (like v w refl (length-taken v.own x p))
 ]

@@ -8,7 +8,7 @@ use Rattle.clock2q_queues.specs.Cells.{Rises}
 use Rattle.clock2q_directory.specs.Keys.{KeyPlaces, keys_code, key_places, hash_at, key_at}
 use Rattle.clock2q_directory.specs.Indexes.{IsIndex}
 use Rattle.clock2q_directory.specs.Index.{index_for, slots, entered_from, left}
-use Rattle.clock2q_directory.specs.History.{Remembered, HasRoom, remembered, remembered_code, places_with, pushed_places, oldest_hash, most_beside}
+use Rattle.clock2q_directory.specs.History.{Remembered, HasRoomBesideMost, remembered, remembered_code, places_with, pushed_places, oldest_hash, most_beside}
 use mathlib.Core.Path.{refl}
 
 -- the remembered keys with the index of all keys, and the residents' keys and values by slot
@@ -39,7 +39,7 @@ module _ {K V : Type 0} where
     pub room : slot < d.residents.room
     pub few : length d.residents.entries < 2 ^ 32
     pub below : slot < 2 ^ 24
-    pub index_room : HasRoom d.history
+    pub index_room : HasRoomBesideMost d.history
 
   -- a resident is at this slot: the index has the residents' slots, each once, and this one is among them
   pub record IsResident (slot : ℕ) (d : Known K V) : Type 0 where

@@ -7,7 +7,7 @@ use Rattle.clock2q_handles.specs.Homes.{total, capacity}
 use Rattle.clock2q_handles.specs.Positions.{GapValue}
 use Rattle.clock2q_queues.specs.Rings.{without}
 use Rattle.clock2q_directory.specs.Index as known
-use Rattle.clock2q_directory.specs.Index.{IndexState, index_code, first_remembered, is_shared, entered_from, left, looked_up, remembered_at, forgotten_at, IsHeld}
+use Rattle.clock2q_directory.specs.Index.{IndexState, index_code, first_remembered, is_shared, entered_from, left, looked_up, remembered_at, forgotten_at, HasSlotUnder}
 use Rattle.clock2q_directory.specs.declared.found.Found.{Found}
 use Rattle.clock2q_queues.specs.Cells.{Rises}
 use Rattle.clock2q_directory.specs.declared.keys.store.Entry.{Entry}
@@ -109,7 +109,7 @@ abbrev pub most_beside : {K : Type 0} → Remembered K → ℕ
 most_beside h = if is_shared h.places.index then h.limit + 1 else 0
 
 -- one more slot fits beside the most entries that there may be
-pub record HasRoom {K : Type 0} (h : Remembered K) : Type 0 where
+pub record HasRoomBesideMost {K : Type 0} (h : Remembered K) : Type 0 where
   pub room : total (known.slots h.places.index) + most_beside h < capacity (length (known.slots h.places.index))
   pub few : total (known.slots h.places.index) + most_beside h + 1 < 2 ^ 24
 
@@ -124,7 +124,7 @@ module _ {K : Type 0} (eq : K → K → Bool) where
 
   -- a resident that leaves its slot may be remembered: the index has the slot, and the history doesn't have the key yet
   pub record MayRetire (hash slot : ℕ) (key : K) (h : Remembered K) : Type 0 where
-    pub held : IsHeld hash slot h.places.index
+    pub held : HasSlotUnder hash slot h.places.index
     pub absent : is_remembered key h.entries ≡ false
 
 -- the invariant of a history: the keys are distinct, each place that was used has one, the index has the places in

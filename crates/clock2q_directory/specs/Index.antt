@@ -2,7 +2,7 @@
 use Rattle.std.specs.Prelude.{◌≡◌, ℕ, ◌+◌, ◌-◌, ◌*◌, ◌^◌, ◌<◌, ◌≤◌, max, nat_eq, nat_lt, nat_le, Bool, true, false, not, ◌==◌, if◌then◌else◌, List, [], map, length, Option, Some, None, IfSome}
 use Rattle.std.specs.List.{filter, list_any}
 use Rattle.std.specs.Coded.{Coded, code_by, coded×, coded_ℕ, coded_list}
-use Rattle.clock2q_handles.specs.Homes.{candidates, total, capacity, no_entries, with_handle, removed}
+use Rattle.clock2q_handles.specs.Homes.{candidates, total, capacity, no_entries, with_handle, without_handle}
 use Rattle.clock2q_handles.specs.Layout.{layout, walk}
 use Rattle.clock2q_handles.specs.Positions.{GapValue, gap_of, handle_replaced}
 use Rattle.clock2q_handles.specs.TableStep.{TableValue, made_for}
@@ -100,14 +100,14 @@ entered_from base hash slot v = record v { shared = with_handle v.shared hash sl
 
 -- the resident at a slot leaves
 abbrev pub left : (hash slot : ℕ) → IndexState → IndexState
-left hash slot v = record v { shared = removed nat_eq v.shared hash slot; accesses = v.accesses + most_changed v.shared hash }
+left hash slot v = record v { shared = without_handle nat_eq v.shared hash slot; accesses = v.accesses + most_changed v.shared hash }
 
 -- the resident at a slot leaves, and is remembered at a place
 abbrev pub remembered_at : (hash slot place : ℕ) → IndexState → IndexState
 remembered_at hash slot place v =
     if is_shared v then record v { shared = handle_replaced nat_eq v.shared hash slot (first_remembered + place); accesses = v.accesses + most_changed v.shared hash }
     else record {
-      shared = removed nat_eq v.shared hash slot;
+      shared = without_handle nat_eq v.shared hash slot;
       own = with_handle v.own hash place;
       accesses = v.accesses + most_changed v.shared hash + most_changed v.own hash;
     }
@@ -115,8 +115,8 @@ remembered_at hash slot place v =
 -- the key at a place is forgotten
 abbrev pub forgotten_at : (hash place : ℕ) → IndexState → IndexState
 forgotten_at hash place v =
-    if is_shared v then record v { shared = removed nat_eq v.shared hash (first_remembered + place); accesses = v.accesses + most_changed v.shared hash }
-    else record v { own = removed nat_eq v.own hash place; accesses = v.accesses + most_changed v.own hash }
+    if is_shared v then record v { shared = without_handle nat_eq v.shared hash (first_remembered + place); accesses = v.accesses + most_changed v.shared hash }
+    else record v { own = without_handle nat_eq v.own hash place; accesses = v.accesses + most_changed v.own hash }
 
 -- the oldest key, whose hash this is, is forgotten, if one is
 abbrev pub forgotten_if : Option ℕ → ℕ → IndexState → IndexState
@@ -180,7 +180,7 @@ pub record IsSorted (v : IndexState) : Type 0 where
   pub takes : is_shared v ≡ false → 0 < capacity (length v.own)
 
 -- two tables have such lists, and each has its entries laid out in its slots; all slots that were read and written are charged
-pub record IsIndexed (shared own : TableValue ℕ) (charged : ℕ) : Type 0 where
+pub record AreLaidOut (shared own : TableValue ℕ) (charged : ℕ) : Type 0 where
   pub sorted : IsSorted (index_state shared.homes own.homes)
   pub shared_laid : shared.slots ≡ layout shared.homes
   pub own_laid : own.slots ≡ layout own.homes
@@ -203,7 +203,7 @@ pub record HasRoomBeside (v : IndexState) : Type 0 where
   pub spare : is_shared v ≡ true → HasSlotRoom v
 
 -- the index has a resident's slot under the hash of its key
-pub record IsHeld (hash slot : ℕ) (v : IndexState) : Type 0 where
+pub record HasSlotUnder (hash slot : ℕ) (v : IndexState) : Type 0 where
   pub below : slot < 2 ^ 31
   pub there : list_any (nat_eq slot) (candidates (slots v) hash) ≡ true
 
@@ -214,6 +214,6 @@ IsGapFor gap hash v = IfSome gap (λ g. g ≡ gap_of v.shared hash)
 -- a key may take a slot, whose old key is remembered at a place: one that has no key, or that of the oldest key, whose
 -- hash this is
 pub record MaySucceed (slot old_hash place : ℕ) (oldest : Option ℕ) (v : IndexState) : Type 0 where
-  pub held : IsHeld old_hash slot v
+  pub held : HasSlotUnder old_hash slot v
   pub short : place < 2 ^ 31
   pub held_place : IfSome oldest (λ o. list_any (nat_eq place) (candidates (places v) o) ≡ true)

@@ -4,7 +4,7 @@ ghost use Rattle.std.specs.List.{list_any};
 ghost use Rattle.clock2q_handles.specs.Homes.{candidates};
 ghost use Rattle.clock2q_handles.specs.Layout.{walk};
 ghost use Rattle.clock2q_handles.specs.Positions.{gap_of};
-ghost use Rattle.clock2q_directory.specs.Index.{emptied, index_for, index_room, is_shared, places, places_among, entered, entered_from, left, looked_up, remembered_at, HasSlotRoom, HasPlaceRoom, HasRoomBeside, IsGapFor, IsHeld, IsWithinCapacity, forgotten_if};
+ghost use Rattle.clock2q_directory.specs.Index.{emptied, index_for, index_room, is_shared, places, places_among, entered, entered_from, left, looked_up, remembered_at, HasSlotRoom, HasPlaceRoom, HasRoomBeside, IsGapFor, HasSlotUnder, IsWithinCapacity, forgotten_if};
 
 mod succession;
 
@@ -70,7 +70,7 @@ pub struct Index<A: Allocator = Global> {
 }
 
 impl<A: Allocator> Model for Index<A> {
-    ghost use Rattle.clock2q_directory.specs.Index.{IndexState, IsIndexed, index_code, index_of};
+    ghost use Rattle.clock2q_directory.specs.Index.{IndexState, AreLaidOut, index_code, index_of};
 
     ghost Value = { IndexState };
 
@@ -78,7 +78,7 @@ impl<A: Allocator> Model for Index<A> {
 
     ghost view = { λ i. index_of i.shared i.own i.charged.total };
 
-    ghost invariant = { λ i. IsIndexed i.shared i.own i.charged.total };
+    ghost invariant = { λ i. AreLaidOut i.shared i.own i.charged.total };
 }
 
 impl<A: Allocator + Copy> Index<A> {
@@ -165,7 +165,7 @@ impl<A: Allocator> Index<A> {
     /// Adds the slot of a key that becomes resident in place of another, which leaves.
     #[inline(always)]
     pub fn renew(&mut self, gap: Option<Gap>, hash: u64, slot: u32, old_hash: u64)
-        requires held { IsHeld old_hash slot self.old }
+        requires held { HasSlotUnder old_hash slot self.old }
         requires gap { IsGapFor gap hash self.old }
         requires room { HasRoomBeside self.old }
         ensures renewed { self.new ≡ entered_from self.old hash slot (left old_hash slot self.old) }
@@ -183,7 +183,7 @@ impl<A: Allocator> Index<A> {
     /// Removes the slot of a resident that leaves.
     #[inline(always)]
     pub fn remove_slot(&mut self, hash: u64, slot: u32)
-        requires held { IsHeld hash slot self.old }
+        requires held { HasSlotUnder hash slot self.old }
         ensures left { self.new ≡ left hash slot self.old }
     {
         charge(&self.shared, &self.own, &mut self.charged, &hash);
@@ -193,7 +193,7 @@ impl<A: Allocator> Index<A> {
     /// Replaces the slot of a resident that leaves with the place at which it is remembered.
     #[inline(always)]
     pub fn remember(&mut self, hash: u64, slot: u32, place: Place)
-        requires held { IsHeld hash slot self.old }
+        requires held { HasSlotUnder hash slot self.old }
         requires short { place < 2 ^ 31 }
         requires room { HasPlaceRoom self.old }
         ensures remembered { self.new ≡ remembered_at hash slot place self.old }

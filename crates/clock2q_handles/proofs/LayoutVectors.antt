@@ -1,7 +1,7 @@
 -- Tables whose slots are known independently, and groups of hashes, computed.
 use Rattle.std.proofs.Common.{◌≡◌, ℕ, suc, ◌+◌, ◌*◌, ◌%◌, true, false, eqb, List, [], ◌∷◌, ◌++◌, length, get_or, take, lit<, refl, Option, Some, None, replicate, map, option_map, Ok}
 use Rattle.std.specs.List.{list_any}
-use Rattle.clock2q_handles.specs.Homes.{capacity, total, no_entries, listed, with_handle, is_entry_of, removed, candidates}
+use Rattle.clock2q_handles.specs.Homes.{capacity, total, no_entries, listed, with_handle, is_entry_of, without_handle, candidates}
 use Rattle.clock2q_handles.specs.Layout.{Placed, placed, layout, spill, walk, homes_of}
 use Rattle.clock2q_handles.specs.Offers.{Settles}
 use Rattle.clock2q_handles.specs.Partition.{IsGroupOf}
@@ -37,17 +37,17 @@ four = sixteen (0xAB00000000000005 ∷ 0xAB00010000000005 ∷ 0xAB00000000000006
 four-tables : Shows four (vacant 5 ++ (at 0xAB 0 0 ∷ at 0xAB 1 1 ∷ at 0xCD 3 2 ∷ at 0xAB 2 2 ∷ []) ++ vacant 7)
     ((0xAB00000000000005, 0 ∷ 1 ∷ [], 4) ∷ (0xAB00000000000006, 2 ∷ [], 4) ∷ (0xCD00000000000005, 3 ∷ [], 4) ∷ (6, [], 4) ∷ [])
     × (homes_of (layout four) ≡ four) × (list_any (is_entry_of eqb 0xAB00010000000005 0) (listed four 0xAB00010000000005) ≡ true)
-    × Shows (removed eqb four 0xAB00010000000005 0) (vacant 5 ++ (at 0xAB 1 0 ∷ at 0xCD 3 1 ∷ at 0xAB 2 1 ∷ []) ++ vacant 8)
+    × Shows (without_handle eqb four 0xAB00010000000005 0) (vacant 5 ++ (at 0xAB 1 0 ∷ at 0xCD 3 1 ∷ at 0xAB 2 1 ∷ []) ++ vacant 8)
     ((0xAB00000000000005, 1 ∷ [], 3) ∷ (0xAB00000000000006, 2 ∷ [], 3) ∷ (0xCD00000000000005, 3 ∷ [], 3) ∷ [])
     × Shows (with_handle four 0xAB00000000000005 4) (vacant 5 ++ (at 0xAB 0 0 ∷ at 0xAB 1 1 ∷ at 0xCD 3 2 ∷ at 0xAB 4 3 ∷ at 0xAB 2 3 ∷ []) ++ vacant 6)
     ((0xAB00000000000005, 0 ∷ 1 ∷ 4 ∷ [], 5) ∷ (5, [], 5) ∷ (6, [], 5) ∷ [])
-    × (layout (removed eqb (with_handle four 0xAB00000000000005 4) 0xAB00000000000005 4) ≡ layout four)
+    × (layout (without_handle eqb (with_handle four 0xAB00000000000005 4) 0xAB00000000000005 4) ≡ layout four)
 unfolding layout spill homes_of
 four-tables = ((refl, refl), refl, refl, (refl, refl), (refl, refl), refl)
 
 -- handles under 4, 4, 5, 7 and 7, and with one of the first home removed
 figure-tables : Shows (sixteen (4 ∷ 4 ∷ 5 ∷ 7 ∷ 7 ∷ [])) (vacant 4 ++ (at 0 0 0 ∷ at 0 1 1 ∷ at 0 2 1 ∷ at 0 3 0 ∷ at 0 4 1 ∷ []) ++ vacant 7) ((5, 2 ∷ [], 3) ∷ [])
-    × Shows (removed eqb (sixteen (4 ∷ 4 ∷ 5 ∷ 7 ∷ 7 ∷ [])) 4 1) (vacant 4 ++ (at 0 0 0 ∷ at 0 2 0 ∷ None ∷ at 0 3 0 ∷ at 0 4 1 ∷ []) ++ vacant 7) ((5, 2 ∷ [], 2) ∷ [])
+    × Shows (without_handle eqb (sixteen (4 ∷ 4 ∷ 5 ∷ 7 ∷ 7 ∷ [])) 4 1) (vacant 4 ++ (at 0 0 0 ∷ at 0 2 0 ∷ None ∷ at 0 3 0 ∷ at 0 4 1 ∷ []) ++ vacant 7) ((5, 2 ∷ [], 2) ∷ [])
 unfolding layout spill
 figure-tables = ((refl, refl), (refl, refl))
 
@@ -61,7 +61,7 @@ full = sixteen (map hash_of (0 ∷ 1 ∷ 2 ∷ 3 ∷ 4 ∷ 5 ∷ 6 ∷ 7 ∷ 8 �
 
 -- one removed under the other hash
 abbrev full_less : List (List (ℕ × ℕ))
-full_less = removed eqb full 0xAB0000000000001F 5
+full_less = without_handle eqb full 0xAB0000000000001F 5
 
 -- another put in, for which the table doesn't grow
 abbrev full_again : List (List (ℕ × ℕ))
@@ -91,7 +91,7 @@ roomy = reserved (λ v. get_or (14 ∷ 14 ∷ 15 ∷ 0 ∷ 0 ∷ []) v 0) round 
 round-tables : Shows round ((at 0 2 1 ∷ at 0 3 1 ∷ at 0 4 2 ∷ []) ++ vacant 11 ++ (at 0 0 0 ∷ at 0 1 1 ∷ []))
     ((14, 0 ∷ 1 ∷ [], 3) ∷ (15, 2 ∷ [], 3) ∷ (0, 3 ∷ 4 ∷ [], 4) ∷ [])
     × (homes_of (layout round) ≡ round) × (held_handles round ≡ 2 ∷ 3 ∷ 4 ∷ 0 ∷ 1 ∷ [])
-    × Shows (removed eqb round 14 0) ((at 0 3 0 ∷ at 0 4 1 ∷ []) ++ vacant 12 ++ (at 0 1 0 ∷ at 0 2 0 ∷ [])) ((14, 1 ∷ [], 2) ∷ (15, 2 ∷ [], 2) ∷ (0, 3 ∷ 4 ∷ [], 3) ∷ [])
+    × Shows (without_handle eqb round 14 0) ((at 0 3 0 ∷ at 0 4 1 ∷ []) ++ vacant 12 ++ (at 0 1 0 ∷ at 0 2 0 ∷ [])) ((14, 1 ∷ [], 2) ∷ (15, 2 ∷ [], 2) ∷ (0, 3 ∷ 4 ∷ [], 3) ∷ [])
     × (length roomy ≡ 64) × (capacity (length roomy) ≡ 48) × (map (candidates roomy) (14 ∷ 15 ∷ 0 ∷ []) ≡ (0 ∷ 1 ∷ []) ∷ (2 ∷ []) ∷ (3 ∷ 4 ∷ []) ∷ [])
     × (map (option_map (λ s. s.displacement)) (layout (sixteen (0 ∷ 15 ∷ 14 ∷ 0 ∷ 14 ∷ []))) ≡ map (option_map (λ s. s.displacement)) (layout round))
 unfolding layout spill homes_of fit

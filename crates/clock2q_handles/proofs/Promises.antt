@@ -1,9 +1,9 @@
 -- What users of a table rely on over single insertions: few entries are never refused, and removing an entry again restores the slots.
 use Rattle.std.proofs.Common.{◌≡◌, ℕ, ◌+◌, ◌^◌, ◌<◌, subst, arith, Bool, true, List, length, Option, Result, Ok, Err, IsOk, OnOk, OnErr, IfOk, IfErr}
-use Rattle.clock2q_handles.specs.Homes.{total, capacity, with_handle, removed, IsNew}
+use Rattle.clock2q_handles.specs.Homes.{total, capacity, with_handle, without_handle, IsNew}
 use Rattle.clock2q_handles.specs.Layout.{Placed, layout, homes_of, IsTidy, IsTooLong}
 use Rattle.clock2q_handles.specs.TableStep.{TableValue}
-use Rattle.clock2q_handles.specs.Table.{IsWhole}
+use Rattle.clock2q_handles.specs.Table.{IsWholeTable}
 use Rattle.clock2q_handles.specs.Changes.{IsLaidOut}
 use Rattle.clock2q_handles.proofs.layout.TidyLayout.{length-homes_of}
 use Rattle.clock2q_handles.proofs.shifts.Changes.{length-with_list}
@@ -35,7 +35,7 @@ no_error r e ok is = let no = subst IsOk is ok in cc
 
 module _ {H : Type 0} where
   -- what callers may rely on of every table includes where the entries are
-  pub whole_laid : (t : TableValue H) → IsWhole t → IsLaidOut t
+  pub whole_laid : (t : TableValue H) → IsWholeTable t → IsLaidOut t
   whole_laid t whole = record { laid = whole.laid; best = best-placed t.homes whole.room }
 
   -- a table below capacity with fewer than 2^24 - 1 entries takes one more
@@ -45,5 +45,5 @@ module _ {H : Type 0} where
   -- with the lists that an insertion results in, removing the entry again restores the slots
   pub restored_by : (eq : H → H → Bool) (slots : List (Option (Placed (ℕ × H)))) (homes new : List (List (ℕ × H))) (x : ℕ) (v : H)
       → homes_of slots ≡ homes → IsTidy slots → total homes < capacity (length homes)
-      → eq v v ≡ true → new ≡ with_handle homes x v → IsNew eq homes x v → layout (removed eq new x v) ≡ slots
+      → eq v v ≡ true → new ≡ with_handle homes x v → IsNew eq homes x v → layout (without_handle eq new x v) ≡ slots
   restored_by eq slots homes new x v are tidy room same is fresh = grind (arith, length-homes_of, restored-slots)

@@ -1,6 +1,6 @@
 -- What a call that changes a table results in, and how many slots it reads and writes.
 use Rattle.std.specs.Prelude.{◌≡◌, ℕ, ◌+◌, ◌*◌, ◌^◌, ◌<◌, ◌≤◌, Bool, List, Result, MatchResult, IsOk, OnOk, OnErr}
-use Rattle.clock2q_handles.specs.Homes.{with_handle, removed, count, total, IsNew}
+use Rattle.clock2q_handles.specs.Homes.{with_handle, without_handle, count, total, IsNew}
 use Rattle.clock2q_handles.specs.Layout.{layout, run, walk, spill_of, IsTooLong, IsBestPlaced}
 use Rattle.clock2q_handles.specs.TableStep.{TableValue}
 use Rattle.clock2q_handles.specs.declared.error.TableError.{TableError}
@@ -37,7 +37,7 @@ module _ {H : Type 0} where
 
   -- removing v again restores the slots, if there was no such entry before
   abbrev pub Restores : (H → H → Bool) → ℕ → H → TableValue H → TableValue H → Type 0
-  Restores eq x v old new = IsNew eq old.homes x v → layout (removed eq new.homes x v) ≡ old.slots
+  Restores eq x v old new = IsNew eq old.homes x v → layout (without_handle eq new.homes x v) ≡ old.slots
 
   -- the slots are the layout of the lists, and no placement of the entries does better
   pub record IsLaidOut (t : TableValue H) : Type 0 where
@@ -55,7 +55,7 @@ module _ {H : Type 0} where
 
   -- v is put in under x, and w is taken out under y
   pub record Exchanges (eq : H → H → Bool) (x : ℕ) (v : H) (y : ℕ) (w : H) (old new : TableValue H) : Type 0 where
-    pub exchanged : new.homes ≡ with_handle (removed eq old.homes y w) x v
+    pub exchanged : new.homes ≡ with_handle (without_handle eq old.homes y w) x v
     pub accesses : ChangesAtMost x y old new
     pub longer : (z : ℕ) → walk new.homes z ≤ walk old.homes z + 1
     pub laid : IsLaidOut new

@@ -60,8 +60,8 @@ abbrev pub is_entry_of : {H : Type 0} → (H → H → Bool) → ℕ → H → �
 is_entry_of eq x v e = (e.0 == top x) && eq e.1 v
 
 -- the lists without the first such entry of x's home
-abbrev pub removed : {H : Type 0} → (H → H → Bool) → List (List (ℕ × H)) → ℕ → H → List (List (ℕ × H))
-removed eq homes x v = with_list homes x (without_first (is_entry_of eq x v) (listed homes x))
+abbrev pub without_handle : {H : Type 0} → (H → H → Bool) → List (List (ℕ × H)) → ℕ → H → List (List (ℕ × H))
+without_handle eq homes x v = with_list homes x (without_first (is_entry_of eq x v) (listed homes x))
 
 -- no entry of x's home with its fingerprint has a handle equal to v
 abbrev pub IsNew : {H : Type 0} → (H → H → Bool) → List (List (ℕ × H)) → ℕ → H → Type 0

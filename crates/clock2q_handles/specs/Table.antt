@@ -13,7 +13,7 @@ pub record IsTable {H : Type 0} (slots : List (Option (Placed (ℕ × H)))) (len
   pub near : AreNear slots
 
 -- what callers may rely on of every table: its slots are the layout of its lists, they are a power of two or none, at least a quarter of them is empty, and no run is too long
-pub record IsWhole {H : Type 0} (t : TableValue H) : Type 0 where
+pub record IsWholeTable {H : Type 0} (t : TableValue H) : Type 0 where
   pub laid : t.slots ≡ layout t.homes
   pub slot_count : IsSlotCount (length t.homes)
   pub room : total t.homes ≤ capacity (length t.homes)

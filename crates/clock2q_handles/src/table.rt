@@ -108,13 +108,13 @@ impl<H: Copy + Eq + Default, A: Allocator + Copy> Table<H, A> {
 impl<H: Copy + Eq + Default, A: Allocator> Table<H, A> {
     ghost use Rattle.clock2q_handles.specs.Layout.{walk};
     ghost use Rattle.clock2q_handles.specs.Positions.{gap_of};
-    ghost use Rattle.clock2q_handles.specs.Table.{IsWhole};
+    ghost use Rattle.clock2q_handles.specs.Table.{IsWholeTable};
 
     /// Returns the number of entries.
     #[tactic(auto, using(crate::proofs::layout::TidyLayout::homes_length))]
     pub fn len(&self) -> usize
         ensures len { result ≡ total self.now.homes }
-        ensures whole { IsWhole self.now }
+        ensures whole { IsWholeTable self.now }
     {
         self.len
     }

@@ -6,7 +6,7 @@ use Rattle.std.specs.Cmp.{IsEquivalence}
 use Rattle.std.specs.List.{list_any, last_or, filter, AllByRecursion}
 use Rattle.std.proofs.lemmas.List.{length-map}
 use Rattle.clock2q_machine.specs.Shares.{main_share, history_share}
-use Rattle.clock2q_machine.specs.Ages.{touched, grown, is_promoted}
+use Rattle.clock2q_machine.specs.Ages.{touched, grown_older, is_promoted}
 use Rattle.clock2q_machine.specs.Entries.{SmallEntry, MainEntry, small_admitted, from_victim, with_age}
 use Rattle.clock2q_machine.specs.Calls.{Call, Put, Get, Peek, Contains, GetAt, Set, With, Try, SlotFor, Remove, Retain, Clear, Evict, Prefill, Len, IsEmpty, Capacity}
 use Rattle.clock2q_machine.specs.Machine.{Machine, hit, forgotten, stored, placement, inserted, reused, goes_to_main, into_main, into_small, into_small_at, evicting_tail, promoting_tail, replacing_victim, joining_main, slot_of, vacancy, vacated, vacated_all, victim_leaves, victim_evicted, tail_evicted, removed_at, by_slot}
@@ -72,7 +72,7 @@ module _ {K V : Type 0} (is : K → Bool) where
   stays_admitted : (a : ℕ) (key : K) (slot : ℕ) (m : Machine K V) (small : List (SmallEntry K)) → there is small ≡ true → a ≤ older is small
       → (there is (small_admitted m.shares.window key slot small) ≡ true) × (a ≤ older is (small_admitted m.shares.window key slot small))
   stays_admitted a key slot m small in_it enough =
-      let grow : SmallEntry K → SmallEntry K = λ e. with_age e (grown m.shares.window e.age) in
+      let grow : SmallEntry K → SmallEntry K = λ e. with_age e (grown_older m.shares.window e.age) in
       let rest : List (SmallEntry K) = map grow small in (
         or_right (is key) (there is rest) (there-map is grow (λ e. refl) small ∙ in_it),
         elim (is key) as (λ b. a ≤ (if b then length rest else older is rest))

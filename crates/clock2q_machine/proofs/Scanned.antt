@@ -6,13 +6,13 @@ use Rattle.std.specs.List.{sum_by, count_by, list_any, last_or, AllByRecursion}
 use Rattle.std.proofs.lemmas.Bool.{lt-ltb}
 use Rattle.std.proofs.lemmas.List.Sums.{sum_by-cons, count_by-le-length}
 use Rattle.std.proofs.Math.ListN.{length-set}
-use Rattle.clock2q_machine.specs.Ages.{Age, Young, Old, grown, is_promoted}
+use Rattle.clock2q_machine.specs.Ages.{Age, Young, Old, grown_older, is_promoted}
 use Rattle.clock2q_machine.specs.Entries.{SmallEntry, MainEntry, small_admitted, from_victim, behind_hand, with_age}
 use Rattle.clock2q_machine.specs.Calls.{Put}
 use Rattle.clock2q_machine.specs.Machine.{Machine, Placement, forgotten, stored, placement, inserted, goes_to_main, into_main, into_small, into_small_at, evicting_tail, promoting_tail, slot_of, vacancy, vacant_slot}
 use Rattle.clock2q_machine.specs.Steps.{replaced_at, after, after_all}
 use Rattle.clock2q_machine.specs.Whole.{IsWhole, known_count}
-use Rattle.clock2q_machine.specs.Scans.{scan, IsFull, set_in_small, IsScan, left_main}
+use Rattle.clock2q_machine.specs.Scans.{scan, IsFullCache, set_in_small, IsScan, left_main}
 use Rattle.clock2q_machine.proofs.Weights.{sum_by-same, sum_by-filter-le, weight-from_victim, weight-behind, weight-last}
 use Rattle.clock2q_machine.proofs.Whole.{one_if, last_some, no_vacancy, all_resident}
 use Rattle.clock2q_machine.proofs.MachineInvariant.{placed-key, lasting-after, lasting-run}
@@ -44,7 +44,7 @@ share_some share some = ne_eqb share 0 (λ e. omega (arith, e, some))
 
 -- Small's keys that are promoted: an admission adds none and removes none.
 
-grown_alike : (window : ℕ) (age : Age) → is_promoted (grown window age) ≡ is_promoted age
+grown_alike : (window : ℕ) (age : Age) → is_promoted (grown_older window age) ≡ is_promoted age
 grown_alike window (Young age) = elim (nat_lt (age + 1) window) as (λ b. is_promoted (if b then Young (age + 1) else Old false) ≡ false) [ true ↦ refl | false ↦ refl ]
 grown_alike window (Old bit) = refl
 
@@ -52,12 +52,12 @@ module _ {K : Type 0} where
   abbrev set_old : List (SmallEntry K) → ℕ
   set_old small = count_by (λ e. is_promoted e.age) small
 
-  set_grown : (window : ℕ) (small : List (SmallEntry K)) → set_old (map (λ e. with_age e (grown window e.age)) small) ≡ set_old small
+  set_grown : (window : ℕ) (small : List (SmallEntry K)) → set_old (map (λ e. with_age e (grown_older window e.age)) small) ≡ set_old small
   set_grown window [] = refl
   set_grown window (e ∷ small) =
       omega (
         arith,
-        sum_by-cons (λ x. one_if (is_promoted x.age)) (with_age e (grown window e.age)) (map (λ x. with_age x (grown window x.age)) small),
+        sum_by-cons (λ x. one_if (is_promoted x.age)) (with_age e (grown_older window e.age)) (map (λ x. with_age x (grown_older window x.age)) small),
         sum_by-cons (λ x. one_if (is_promoted x.age)) e small,
         ap one_if (grown_alike window e.age),
         set_grown window small,
@@ -67,7 +67,7 @@ module _ {K : Type 0} where
   set_admitted window key slot small =
       omega (
         arith,
-        sum_by-cons (λ x. one_if (is_promoted x.age)) (record { key = key; slot = slot; age = Young 0 }) (map (λ x. with_age x (grown window x.age)) small),
+        sum_by-cons (λ x. one_if (is_promoted x.age)) (record { key = key; slot = slot; age = Young 0 }) (map (λ x. with_age x (grown_older window x.age)) small),
         set_grown window small,
       )
 
@@ -154,7 +154,7 @@ module _ {K V : Type 0} (eq : K → K → Bool) where
       shares_same = q.shares_same ∙ p.shares_same;
     }
 
-    module _ (laws : IsEquivalence eq) (key : K) (m : Machine K V) (h : IsWhole eq m) (full : IsFull m) (unknown : known_count (eq key) m ≡ 0) where
+    module _ (laws : IsEquivalence eq) (key : K) (m : Machine K V) (h : IsWhole eq m) (full : IsFullCache m) (unknown : known_count (eq key) m ≡ 0) where
       abbrev rest : Machine K V
       rest = forgotten (eq key) m
 
@@ -223,7 +223,7 @@ module _ {K V : Type 0} (eq : K → K → Bool) where
       scan_goes_on value [] differ scans = tt
       scan_goes_on value (q ∷ puts) differ scans = (still_unknown value q.0 differ.0 scans.0, (scans.1.0, scan_goes_on value puts differ.1 scans.1.1))
 
-      full_still : (value : V) → IsFull (after eq (Put key value) m)
+      full_still : (value : V) → IsFullCache (after eq (Put key value) m)
       full_still value =
           let n = after eq (Put key value) m in
           let p = passes_put value in
@@ -236,7 +236,7 @@ module _ {K V : Type 0} (eq : K → K → Bool) where
                 ∙ full.no_vacancy;
           }
 
-    passes_scan : IsEquivalence eq → (puts : List (K × V)) (m : Machine K V) → IsWhole eq m → IsFull m → IsScan eq puts m → Passes entries m (after_all eq (scan puts) m)
+    passes_scan : IsEquivalence eq → (puts : List (K × V)) (m : Machine K V) → IsWhole eq m → IsFullCache m → IsScan eq puts m → Passes entries m (after_all eq (scan puts) m)
     passes_scan laws [] m h full scans = record { main_kept = omega arith; main_same = λ none. (refl, none); free_same = refl; made_same = refl; shares_same = refl }
     passes_scan laws (p ∷ puts) m h full scans =
         let n = after eq (Put p.0 p.1) m in
@@ -271,7 +271,7 @@ module _ {K V : Type 0} (eq : K → K → Bool) where
       by_slot None gone = omega (arith, none_counted (eq k) n gone)
       by_slot (Some slot) found = omega (arith, whole.keys_once k)
 
-    module _ (full : IsFull m) (puts : List (K × V)) (scans : IsScan eq puts m) where
+    module _ (full : IsFullCache m) (puts : List (K × V)) (scans : IsScan eq puts m) where
       abbrev scanned : Machine K V
       scanned = after_all eq (scan puts) m
 

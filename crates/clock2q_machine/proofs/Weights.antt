@@ -4,7 +4,7 @@ use Rattle.std.specs.Prelude.{if◌then◌else◌}
 use Rattle.std.specs.List.{sum_by, count_by, filter, find, last_or}
 use Rattle.std.proofs.lemmas.List.{length-map, length-take}
 use Rattle.std.proofs.lemmas.List.Sums.{sum_by-cons, sum_by-append, sum_by_push, sum_by-take-drop, prefix_len-le-length}
-use Rattle.clock2q_machine.specs.Ages.{Age, Young, touched, grown}
+use Rattle.clock2q_machine.specs.Ages.{Age, Young, touched, grown_older}
 use Rattle.clock2q_machine.specs.Entries.{SmallEntry, MainEntry, small_hit, main_hit, small_admitted, from_victim, behind_hand, set_front, with_age, with_bit}
 
 -- a change of each element that keeps its weight keeps the sum
@@ -50,8 +50,8 @@ module _ {K : Type 0} where
     pub weight-admitted : (window : ℕ) (key : K) (slot : ℕ) (small : List (SmallEntry K))
         → sum_by g (small_admitted window key slot small) ≡ g (record { key = key; slot = slot; age = Young 0 }) + sum_by g small
     weight-admitted window key slot small =
-        sum_by-cons g _ (map (λ e. with_age e (grown window e.age)) small)
-        ∙ ap (λ n. g (record { key = key; slot = slot; age = Young 0 }) + n) (sum_by-kept g _ (λ e. ageless e (grown window e.age)) small)
+        sum_by-cons g _ (map (λ e. with_age e (grown_older window e.age)) small)
+        ∙ ap (λ n. g (record { key = key; slot = slot; age = Young 0 }) + n) (sum_by-kept g _ (λ e. ageless e (grown_older window e.age)) small)
 
   module _ (g : MainEntry K → ℕ) (bitless : (e : MainEntry K) (bit : Bool) → g (with_bit e bit) ≡ g e) where
     pub weight-main_hit : (is : K → Bool) (main : List (MainEntry K)) → sum_by g (main_hit is main) ≡ sum_by g main

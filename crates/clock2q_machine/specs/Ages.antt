@@ -14,9 +14,9 @@ touched (Young age) = Young age
 touched (Old bit) = Old true
 
 -- after one more admission a young entry is older by one, and at the window's end it is old with a clear bit
-abbrev pub grown : ℕ → Age → Age
-grown window (Young age) = if nat_lt (age + 1) window then Young (age + 1) else Old false
-grown window (Old bit) = Old bit
+abbrev pub grown_older : ℕ → Age → Age
+grown_older window (Young age) = if nat_lt (age + 1) window then Young (age + 1) else Old false
+grown_older window (Old bit) = Old bit
 
 -- whether an entry of Small is promoted to Main rather than evicted
 abbrev pub is_promoted : Age → Bool

@@ -3,7 +3,7 @@
 use Rattle.std.specs.Prelude.{ℕ, Bool, true, false, if◌then◌else◌, List, [], ◌∷◌, ◌++◌, map, Option, Some, None, refl}
 use Rattle.clock2q_machine.specs.Hand as hand
 use Rattle.std.specs.Coded.{Coded, code_by, coded×, coded_ℕ, coded_bool}
-use Rattle.clock2q_machine.specs.Ages.{Age, Young, touched, grown, age_code}
+use Rattle.clock2q_machine.specs.Ages.{Age, Young, touched, grown_older, age_code}
 
 -- a resident of Small
 pub record SmallEntry (K : Type 0) : Type 0 where
@@ -34,7 +34,7 @@ module _ {K : Type 0} where
 
   -- the new entry is in front, and all young ones grow older
   abbrev pub small_admitted : ℕ → K → ℕ → List (SmallEntry K) → List (SmallEntry K)
-  small_admitted window key slot small = record { key = key; slot = slot; age = Young 0 } ∷ map (λ e. with_age e (grown window e.age)) small
+  small_admitted window key slot small = record { key = key; slot = slot; age = Young 0 } ∷ map (λ e. with_age e (grown_older window e.age)) small
 
   -- the number of entries that the hand passes and of its inspections, and Main from its victim
   abbrev pub set_front : List (MainEntry K) → ℕ

@@ -12,7 +12,7 @@ module _ {K V : Type 0} where
   scan puts = map (λ p. Put p.0 p.1) puts
 
   -- Small has a share of the cache, and every slot is a resident's
-  pub record IsFull (m : Machine K V) : Type 0 where
+  pub record IsFullCache (m : Machine K V) : Type 0 where
     pub small_share : 0 < m.shares.small
     pub no_vacancy : vacancy m ≡ None
 

@@ -14,7 +14,7 @@ use Rattle.clock2q_machine.proofs.Residents.{hit-absent}
 use Rattle.clock2q_machine.proofs.Standing.{get-within}
 use Rattle.clock2q_machine.proofs.Entering.{weight-hit, same_slots, others_entered}
 use Rattle.clock2q_machine.proofs.Laws.{inserted_there}
-use Rattle.clock2q_memo.specs.Memo.{Remembers, evaluations_for, looked_up}
+use Rattle.clock2q_memo.specs.Memo.{HoldsValues, evaluations_for, looked_up}
 
 -- tests that agree find the same element
 find_agree : {X : Type 0} (p q : X → Bool) → ((x : X) → p x ≡ q x) → (xs : List X) → find p xs ≡ find q xs
@@ -30,11 +30,11 @@ module _ {K V : Type 0} (eq : K → K → Bool) (laws : IsEquivalence eq) where
     absent_put : (key : K) → slot_of (eq key) m ≡ None → (v : V) → put (eq key) key v m ≡ inserted (eq key) key v m
     absent_put key absent v = rw absent refl
 
-    module _ (returns : K → V → Type 0) (h : Remembers eq returns m) where
-      pub kept-hit : (is : K → Bool) → Remembers eq returns (hit is m)
+    module _ (returns : K → V → Type 0) (h : HoldsValues eq returns m) where
+      pub kept-hit : (is : K → Bool) → HoldsValues eq returns (hit is m)
       kept-hit is value c key v found = h value c key v (sym (ap (option_and_then (slice_get m.values)) (same_slots eq (hit is m) m whole (λ w. weight-hit w is m) key)) ∙ found)
 
-      pub kept-inserted : (key : K) → slot_of (eq key) m ≡ None → (v : V) → returns key v → Remembers eq returns (inserted (eq key) key v m)
+      pub kept-inserted : (key : K) → slot_of (eq key) m ≡ None → (v : V) → returns key v → HoldsValues eq returns (inserted (eq key) key v m)
       kept-inserted key absent v given value c k w found = (elim (eq k key) as (λ b. eq k key ≡ b → w ≡ value k) [
         | true ↦ λ e. some_is w v (sym found ∙ value_agree k key e (inserted (eq key) key v m) ∙ inserted_there eq laws m whole key absent v) ∙ c.one key v given ∙ sym (c.equal k key e)
         | false ↦ λ other. elim (others_entered eq laws m whole key absent v false (lasting-inserted eq laws key m whole absent v) k other) [
@@ -43,8 +43,8 @@ module _ {K V : Type 0} (eq : K → K → Bool) (laws : IsEquivalence eq) where
         ]
       ]) refl
 
-      pub kept-put : (key : K) → slot_of (eq key) m ≡ None → (v : V) → returns key v → (n : Machine K V) → n ≡ put (eq key) key v m → Remembers eq returns n
-      kept-put key absent v given n e = subst (Remembers eq returns) (sym (e ∙ absent_put key absent v)) (kept-inserted key absent v given)
+      pub kept-put : (key : K) → slot_of (eq key) m ≡ None → (v : V) → returns key v → (n : Machine K V) → n ≡ put (eq key) key v m → HoldsValues eq returns n
+      kept-put key absent v given n e = subst (HoldsValues eq returns) (sym (e ∙ absent_put key absent v)) (kept-inserted key absent v given)
 
     pub whole-put : (key : K) → slot_of (eq key) m ≡ None → (v : V) → (n : Machine K V) → n ≡ put (eq key) key v m → IsWhole eq n
     whole-put key absent v n e = subst (IsWhole eq) (sym (e ∙ absent_put key absent v)) (lasting-inserted eq laws key m whole absent v)
@@ -76,7 +76,7 @@ module _ {K V : Type 0} (eq : K → K → Bool) (laws : IsEquivalence eq) where
     hit_value is key = ap (option_and_then (slice_get m.values)) (same_slots eq (hit is m) m whole (λ w. weight-hit w is m) key)
 
 -- nothing is remembered if nothing is resident
-pub kept-empty : {K V : Type 0} (eq : K → K → Bool) (returns : K → V → Type 0) (shares : Shares) → Remembers {V = V} eq returns (empty shares)
+pub kept-empty : {K V : Type 0} (eq : K → K → Bool) (returns : K → V → Type 0) (shares : Shares) → HoldsValues {V = V} eq returns (empty shares)
 kept-empty eq returns shares value c key v found = cc
 
 -- Small's default share leaves Main a slot

@@ -42,12 +42,12 @@ module _ {K V : Type 0} (eq : K → K → Bool) where
     pub equal : (key other : K) → eq key other ≡ true → value key ≡ value other
 
   -- each resident has its key's value, for any values that the function computes
-  abbrev pub Remembers : (K → V → Type 0) → Machine K V → Type 0
-  Remembers returns m = (value : K → V) → Computes returns value → (key : K) (v : V) → value_of (eq key) m ≡ Some v → v ≡ value key
+  abbrev pub HoldsValues : (K → V → Type 0) → Machine K V → Type 0
+  HoldsValues returns m = (value : K → V) → Computes returns value → (key : K) (v : V) → value_of (eq key) m ≡ Some v → v ≡ value key
 
   -- this is the key's value, for any values that the function computes, if each resident has its own key's value
   abbrev pub IsValueAt : (K → V → Type 0) → Machine K V → K → V → Type 0
-  IsValueAt returns m key v = Remembers returns m → (value : K → V) → Computes returns value → v ≡ value key
+  IsValueAt returns m key v = HoldsValues returns m → (value : K → V) → Computes returns value → v ≡ value key
 
   -- a key that is not resident is inserted with the value, and nothing else changes
   abbrev pub looked_up : K → V → Machine K V → Machine K V

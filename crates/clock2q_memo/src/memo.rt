@@ -54,7 +54,7 @@ where
     ghost use Rattle.clock2q_machine.specs.Shares.{usual_shares};
     ghost use Rattle.clock2q_machine.specs.Machine.{empty};
     ghost use Rattle.std.specs.Fn.{FnReturnsAt};
-    ghost use Rattle.clock2q_memo.specs.Memo.{memo_state, Remembers};
+    ghost use Rattle.clock2q_memo.specs.Memo.{memo_state, HoldsValues};
 
     /// Makes a memo of `function` that remembers up to `capacity` values, as
     /// [`Cache::new`](clock2q_cache::Cache::new) makes a cache. Its hasher's seed is fixed too:
@@ -70,7 +70,7 @@ where
     /// That of [`Cache::new`](clock2q_cache::Cache::new). The function isn't called.
     pub fn new(alloc: A, capacity: NonZeroUsize, function: F) -> Result<Self, CacheError>
         ensures remembers { IfOk result
-            (λ memo. Remembers K.eq (FnReturnsAt F.Fn memo.function) memo.machine) }
+            (λ memo. HoldsValues K.eq (FnReturnsAt F.Fn memo.function) memo.machine) }
         ensures made { IfOk result
             (λ memo. memo ≡
             memo_state (empty (usual_shares (non_zero_usize_get capacity))) function 0) }
@@ -95,7 +95,7 @@ where
     ghost use Rattle.clock2q_machine.specs.Shares.{usual_shares};
     ghost use Rattle.clock2q_machine.specs.Machine.{empty};
     ghost use Rattle.std.specs.Fn.{FnReturnsAt};
-    ghost use Rattle.clock2q_memo.specs.Memo.{memo_state, Remembers};
+    ghost use Rattle.clock2q_memo.specs.Memo.{memo_state, HoldsValues};
 
     /// Makes a memo as [`new`](Memo::new) does, whose cache has this hasher.
     ///
@@ -113,7 +113,7 @@ where
         function: F,
     ) -> Result<Self, CacheError>
         ensures remembers { IfOk result
-            (λ memo. Remembers K.eq (FnReturnsAt F.Fn memo.function) memo.machine) }
+            (λ memo. HoldsValues K.eq (FnReturnsAt F.Fn memo.function) memo.machine) }
         ensures made { IfOk result
             (λ memo. memo ≡
             memo_state (empty (usual_shares (non_zero_usize_get capacity))) function 0) }
@@ -179,7 +179,7 @@ where
     ghost use Rattle.clock2q_machine.specs.Machine.{slot_of, value_of, inserted, cleared};
     ghost use Rattle.clock2q_machine.specs.Steps.{fetched};
     ghost use Rattle.std.specs.Fn.{FnReturnsAt};
-    ghost use Rattle.clock2q_memo.specs.Memo.{IsCallableAt, Remembers, IsValueAt, evaluations_for, looked_up};
+    ghost use Rattle.clock2q_memo.specs.Memo.{IsCallableAt, HoldsValues, IsValueAt, evaluations_for, looked_up};
 
     /// Returns the function's value for the key. A remembered value is returned as
     /// [`Cache::peek`](clock2q_cache::Cache::peek) does, and nothing changes; otherwise the
@@ -195,8 +195,8 @@ where
             IsCallableAt F.Fn self.old.function key }
         ensures value { IsValueAt K.eq
             (FnReturnsAt F.Fn self.old.function) self.old.machine key result }
-        ensures remembers { Remembers K.eq (FnReturnsAt F.Fn self.old.function) self.old.machine →
-            Remembers K.eq (FnReturnsAt F.Fn self.new.function) self.new.machine }
+        ensures remembers { HoldsValues K.eq (FnReturnsAt F.Fn self.old.function) self.old.machine →
+            HoldsValues K.eq (FnReturnsAt F.Fn self.new.function) self.new.machine }
         ensures machine { self.new.machine ≡ looked_up K.eq key result self.old.machine }
         ensures resident { value_of (K.eq key) self.new.machine ≡ Some result }
         ensures evaluations { self.new.evaluations ≡
@@ -220,8 +220,8 @@ where
             IsCallableAt F.Fn self.old.function key }
         ensures value { IsValueAt K.eq
             (FnReturnsAt F.Fn self.old.function) self.old.machine key result }
-        ensures remembers { Remembers K.eq (FnReturnsAt F.Fn self.old.function) self.old.machine →
-            Remembers K.eq (FnReturnsAt F.Fn self.new.function) self.new.machine }
+        ensures remembers { HoldsValues K.eq (FnReturnsAt F.Fn self.old.function) self.old.machine →
+            HoldsValues K.eq (FnReturnsAt F.Fn self.new.function) self.new.machine }
         ensures machine { self.new.machine ≡ fetched (K.eq key) key result self.old.machine }
         ensures resident { value_of (K.eq key) self.new.machine ≡ Some result }
         ensures evaluations { self.new.evaluations ≡
@@ -239,8 +239,8 @@ where
         requires callable { IsCallableAt F.Fn self.old.function key }
         requires absent { slot_of (K.eq key) self.old.machine ≡ None }
         ensures value { FnReturnsAt F.Fn self.old.function key result }
-        ensures remembers { Remembers K.eq (FnReturnsAt F.Fn self.old.function) self.old.machine →
-            Remembers K.eq (FnReturnsAt F.Fn self.new.function) self.new.machine }
+        ensures remembers { HoldsValues K.eq (FnReturnsAt F.Fn self.old.function) self.old.machine →
+            HoldsValues K.eq (FnReturnsAt F.Fn self.new.function) self.new.machine }
         ensures machine { self.new.machine ≡ inserted (K.eq key) key result self.old.machine }
         ensures resident { value_of (K.eq key) self.new.machine ≡ Some result }
         ensures evaluations { self.new.evaluations ≡ self.old.evaluations + 1 }
@@ -258,7 +258,7 @@ where
     /// That of [`Cache::clear`](clock2q_cache::Cache::clear). The function isn't called.
     pub fn clear(&mut self)
         ensures machine { self.new.machine ≡ cleared self.old.machine }
-        ensures remembers { Remembers K.eq (FnReturnsAt F.Fn self.new.function) self.new.machine }
+        ensures remembers { HoldsValues K.eq (FnReturnsAt F.Fn self.new.function) self.new.machine }
         ensures evaluations { self.new.evaluations ≡ self.old.evaluations }
         ensures function { self.new.function ≡ self.old.function }
     {
@@ -289,7 +289,7 @@ where
 
 ghost use Rattle.std.specs.Prelude.{◌≡◌, ◌+◌, IfOk, OnErr, map};
 ghost use Rattle.std.specs.Fn.{FnReturnsAt};
-ghost use Rattle.clock2q_memo.specs.Memo.{IsCallableAtEach, Computes, Remembers, recalled, evaluations_of};
+ghost use Rattle.clock2q_memo.specs.Memo.{IsCallableAtEach, Computes, HoldsValues, recalled, evaluations_of};
 
 /// Returns the function's value for each of the keys, looked up by [`Memo::get_recorded`] in turn.
 ///
@@ -313,12 +313,12 @@ where
     S: BuildHasher,
     A: Allocator,
     requires callable { IsCallableAtEach F.Fn memo.old.function keys.items }
-    ensures values { Remembers K.eq (FnReturnsAt F.Fn memo.old.function) memo.old.machine →
+    ensures values { HoldsValues K.eq (FnReturnsAt F.Fn memo.old.function) memo.old.machine →
         IfOk result (λ values. (value : K → V) →
         Computes K.eq (FnReturnsAt F.Fn memo.old.function) value →
         values.items ≡ map value keys.items) }
-    ensures remembers { Remembers K.eq (FnReturnsAt F.Fn memo.old.function) memo.old.machine →
-        Remembers K.eq (FnReturnsAt F.Fn memo.new.function) memo.new.machine }
+    ensures remembers { HoldsValues K.eq (FnReturnsAt F.Fn memo.old.function) memo.old.machine →
+        HoldsValues K.eq (FnReturnsAt F.Fn memo.new.function) memo.new.machine }
     ensures machine { IfOk result
         (λ values. memo.new.machine ≡ recalled K.eq keys.items values.items memo.old.machine) }
     ensures evaluations { IfOk result

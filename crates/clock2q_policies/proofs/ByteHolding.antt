@@ -7,7 +7,7 @@ use Rattle.clock2q_policies.specs.declared.byte_caches.ByteResidents.{ByteReside
 use Rattle.clock2q_policies.specs.ByteCaches.{Entry, entry_of, fitting, holds, others, total}
 use Rattle.clock2q_policies.specs.ByteResidents.{entries_at, entries_by, entry, IsByteHolding}
 use Rattle.clock2q_policies.specs.Policies.{is_in, without}
-use Rattle.clock2q_policies.specs.Stamps.{held_at, AreStamps, AreKnown}
+use Rattle.clock2q_policies.specs.Stamps.{held_at, AreStamps, AreStamped}
 use Rattle.clock2q_policies.proofs.Stamping.{without-absent, once, stamped-front, unstamped, stamps-later, stamps-set, is_in-stamp, held-oldest, held-stale, held-none}
 
 -- The entries of keys.
@@ -129,7 +129,7 @@ module _ {A : Type 0} (trace : List ℕ) (at : ℕ) (old : ByteResidents A) (hol
   front : held_at trace stamps old.left (at + 1) ≡ key ∷ without key keys
   front = rw add-one (stamped-front trace old.stamps.items old.left key at holding.stamped refl (holding.known at before) holding.begun)
 
-  now-known : AreKnown trace stamps
+  now-known : AreStamped trace stamps
   now-known index l = omega (arith, holding.known index l, length-set old.stamps.items key (at + 1))
 
   now-stamped : AreStamps trace stamps (at + 1)
@@ -145,8 +145,8 @@ module _ {A : Type 0} (trace : List ℕ) (at : ℕ) (old : ByteResidents A) (hol
 
     pub byte-holds-moved : (new : ByteResidents A) → new.stamps.items ≡ stamps → new.sizes ≡ old.sizes → new.left ≡ old.left → new.used ≡ old.used → IsByteHolding trace (at + 1) new
     byte-holds-moved new s z l u = record {
-      known = subst (AreKnown trace) (sym s) now-known;
-      sized = subst (λ zs. AreKnown trace zs.items) (sym z) holding.sized;
+      known = subst (AreStamped trace) (sym s) now-known;
+      sized = subst (λ zs. AreStamped trace zs.items) (sym z) holding.sized;
       stamped = subst (λ ss. AreStamps trace ss (at + 1)) (sym s) now-stamped;
       begun = omega (arith, l, holding.begun);
       used = u ∙ holding.used ∙ sym (moved-total old.sizes.items key keys inside (once trace old.stamps.items old.left key at holding.stamped inside))
@@ -171,7 +171,7 @@ module _ {A : Type 0} (trace : List ℕ) (at : ℕ) (old : ByteResidents A) (hol
         → new.sizes.items ≡ set old.sizes.items key size → new.left ≡ old.left
         → new.used ≡ old.used + size → IsByteHolding trace (at + 1) new
     byte-holds-came new s z l u = record {
-      known = subst (AreKnown trace) (sym s) now-known;
+      known = subst (AreStamped trace) (sym s) now-known;
       sized = λ index w. omega (arith, holding.sized index w, ap length z, length-set old.sizes.items key size);
       stamped = subst (λ ss. AreStamps trace ss (at + 1)) (sym s) now-stamped;
       begun = omega (arith, l, holding.begun);
@@ -213,8 +213,8 @@ module _ {A : Type 0} (trace : List ℕ) (at room : ℕ) (old new : ByteResident
 
   goes-on : new.used ≡ total rest → IsByteHolding trace at new
   goes-on used = record {
-    known = subst (λ ss. AreKnown trace ss.items) (sym s) holding.known;
-    sized = subst (λ zs. AreKnown trace zs.items) (sym z) holding.sized;
+    known = subst (λ ss. AreStamped trace ss.items) (sym s) holding.known;
+    sized = subst (λ zs. AreStamped trace zs.items) (sym z) holding.sized;
     stamped = subst (λ ss. AreStamps trace ss.items at) (sym s) holding.stamped;
     begun = omega (arith, l, later);
     used = used ∙ ap total (sym rest-is);

@@ -2,7 +2,7 @@
 use Rattle.std.specs.Prelude.{◌≡◌, ℕ, ◌≤◌, List, get_or, map}
 use Rattle.clock2q_policies.specs.declared.byte_caches.ByteResidents.{ByteResidents}
 use Rattle.clock2q_policies.specs.ByteCaches.{Entry, total}
-use Rattle.clock2q_policies.specs.Stamps.{held_at, AreStamps, AreKnown}
+use Rattle.clock2q_policies.specs.Stamps.{held_at, AreStamps, AreStamped}
 
 abbrev pub entry : List ℕ → ℕ → Entry
 entry sizes key = record { key = key; size = get_or sizes key 0 }
@@ -16,8 +16,8 @@ entries_by trace at residents = entries_at trace residents.stamps.items resident
 
 -- they are given by stamps, and their sizes are added up
 pub record IsByteHolding {A : Type 0} (trace : List ℕ) (at : ℕ) (residents : ByteResidents A) : Type 0 where
-  pub known : AreKnown trace residents.stamps.items
-  pub sized : AreKnown trace residents.sizes.items
+  pub known : AreStamped trace residents.stamps.items
+  pub sized : AreStamped trace residents.sizes.items
   pub stamped : AreStamps trace residents.stamps.items at
   pub begun : residents.left ≤ at
   pub used : residents.used ≡ total (entries_by trace at residents)

@@ -2,7 +2,7 @@
 use Rattle.std.specs.Prelude.{◌≡◌, ℕ, suc, ◌*◌, ◌<◌, ◌≤◌, ◌==◌, if◌then◌else◌, List, get_or, length}
 use Rattle.clock2q_policies.specs.declared.count_tree.CountTree.{CountTree}
 use Rattle.clock2q_policies.specs.declared.last_accesses.LastAccesses.{LastAccesses}
-use Rattle.clock2q_policies.specs.Stamps.{held_at, AreStamps, AreKnown}
+use Rattle.clock2q_policies.specs.Stamps.{held_at, AreStamps, AreStamped}
 use Rattle.clock2q_policies.specs.CountTree.{sum_in, node_of, count_of, IsTree}
 
 -- the keys accessed so far, most recent first
@@ -26,6 +26,6 @@ pub record AreCounts {A : Type 0} (trace : List ℕ) (at : ℕ) (number : ℕ �
   pub few : (node : ℕ) → node_of counts node ≤ at
 
 pub record IsCounting {A : Type 0} (trace : List ℕ) (at : ℕ) (accesses : LastAccesses A) : Type 0 where
-  pub known : AreKnown trace accesses.stamps.items
+  pub known : AreStamped trace accesses.stamps.items
   pub stamped : AreStamps trace accesses.stamps.items at
   pub counts : AreCounts trace at (newest trace accesses.stamps.items) accesses.counts

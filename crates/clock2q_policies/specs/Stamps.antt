@@ -17,5 +17,5 @@ pub record AreStamps (trace stamps : List ℕ) (at : ℕ) : Type 0 where
   pub own : (key index : ℕ) → get_or stamps key 0 ≡ suc index → get_or trace index 0 ≡ key
 
 -- each key of the trace has a stamp
-abbrev pub AreKnown : List ℕ → List ℕ → Type 0
-AreKnown trace stamps = (index : ℕ) → index < length trace → get_or trace index 0 < length stamps
+abbrev pub AreStamped : List ℕ → List ℕ → Type 0
+AreStamped trace stamps = (index : ℕ) → index < length trace → get_or trace index 0 < length stamps

@@ -1,7 +1,7 @@
 //! The last access of each key so far, and the number of keys accessed since then.
 ghost use Rattle.std.specs.Prelude.{◌≡◌, ℕ, ◌+◌, ◌<◌, ◌≤◌, min, IfOk, get_or, length, slice_index};
 ghost use Rattle.clock2q_policies.specs.Policies.{AreBelow};
-ghost use Rattle.clock2q_policies.specs.Stamps.{held_at, AreKnown, AreStamps};
+ghost use Rattle.clock2q_policies.specs.Stamps.{held_at, AreStamped, AreStamps};
 ghost use Rattle.clock2q_policies.specs.StackDistances.{recent_after, stack_distance};
 ghost use Rattle.clock2q_policies.specs.LastAccesses.{recent_by, newest, other_newest, AreCounts, IsCounting};
 
@@ -71,7 +71,7 @@ impl<A: Allocator> LastAccesses<A> {
     /// Makes the access at an index the last one of its key, which has none in the counts.
     fn enter(&mut self, trace: &[u32], at: usize)
         requires at { at < length trace.now }
-        requires known { AreKnown trace.now self.old.stamps.items }
+        requires known { AreStamped trace.now self.old.stamps.items }
         requires stamped { AreStamps trace.now self.old.stamps.items at }
         requires counts { AreCounts trace.now at
             (other_newest trace.now self.old.stamps.items
@@ -103,7 +103,7 @@ impl<A: Allocator> LastAccesses<A> {
     /// Returns 1 if the access at an index is the last one of its key, else 0.
     fn newest(&self, trace: &[u32], index: usize) -> usize
         requires index { index < length trace.now }
-        requires known { AreKnown trace.now self.now.stamps.items }
+        requires known { AreStamped trace.now self.now.stamps.items }
         ensures newest { result ≡ newest trace.now self.now.stamps.items index }
         ensures one { result ≤ 1 }
     {

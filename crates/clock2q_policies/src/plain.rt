@@ -2,7 +2,7 @@
 ghost use Rattle.std.specs.Prelude.{◌≡◌, ◌+◌, ◌-◌, ◌<◌, ◌≤◌, IfOk, false, true, length, take, slice_index};
 ghost use Rattle.std.specs.NonZero.{non_zero_usize_get};
 ghost use Rattle.clock2q_policies.specs.Policies.{is_in, after_hit, brought, plain_after, plain_hits, plain_outcomes, AreBelow};
-ghost use Rattle.clock2q_policies.specs.Stamps.{held_at, AreKnown};
+ghost use Rattle.clock2q_policies.specs.Stamps.{held_at, AreStamped};
 ghost use Rattle.clock2q_policies.specs.Residents.{held_by, IsHolding};
 
 use std::alloc::{AllocError, Allocator};
@@ -100,7 +100,7 @@ impl<A: Allocator> Residents<A> {
 fn after_oldest(trace: &[u32], stamps: &[usize], left: usize, at: usize) -> usize
     requires left { left ≤ at }
     requires at { at ≤ length trace.now }
-    requires known { AreKnown trace.now stamps.now }
+    requires known { AreStamped trace.now stamps.now }
     ensures front { held_at trace.now stamps.now result at
         ≡ take (length (held_at trace.now stamps.now left at) - 1)
         (held_at trace.now stamps.now left at) }

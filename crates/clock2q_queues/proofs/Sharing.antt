@@ -4,7 +4,7 @@ use Rattle.std.specs.List.{filter, list_any}
 use Rattle.std.proofs.lemmas.Bool.{eqb-true, both_ways, cases_Bool}
 use Rattle.std.proofs.lemmas.List.{length-map, length-replicate}
 use Rattle.std.proofs.lemmas.List.Folds.{list_any-append}
-use Rattle.clock2q_machine.specs.Ages.{Age, grown}
+use Rattle.clock2q_machine.specs.Ages.{Age, grown_older}
 use Rattle.clock2q_queues.specs.Cells.{CellsState, accessed, cells_state}
 use Rattle.clock2q_queues.specs.declared.links.Record.{Record}
 use Rattle.clock2q_queues.specs.declared.links.Location.TheVariants.{Free}
@@ -118,7 +118,7 @@ module _ (l : LinkState) (small : Small) (main : MainRing) (q : AreQueues l smal
       → new.made ≡ made_below (slot + 1) l.made → length new.window.items ≡ length l.window.items → new.bits.inspections ≡ l.bits.inspections
       → Becomes new small' main (record (queues_shown l small main) { small = admitted window slot (small_entries l small); made = made_below (slot + 1) l.made; accesses = accesses_of new })
   after_admission new small' slot window n w e s d p i = small_changed (slot ∷ small_slots l small) (clear_of_main slot n) w e s d p i (λ t a.
-      let slots = slots_of-mapped (λ a. grown window a) (small_entries l small) ∙ small_slots-of l small in
+      let slots = slots_of-mapped (λ a. grown_older window a) (small_entries l small) ∙ small_slots-of l small in
       let b : list_any (eqb t) (slot ∷ small_slots l small) ≡ false = ap (λ zs. list_any (eqb t) (slot ∷ zs)) (sym slots) ∙ a in
       inl (b, (or_parts (eqb t slot) (list_any (eqb t) (small_slots l small)) b).1))
 
@@ -135,7 +135,7 @@ module _ (l : LinkState) (small : Small) (main : MainRing) (q : AreQueues l smal
       → new.made ≡ l.made → length new.window.items ≡ length l.window.items → new.bits.inspections ≡ l.bits.inspections
       → Becomes new small' main (record (queues_shown l small main) { small = admitted window slot (without_slot slot (small_entries l small)); accesses = accesses_of new })
   after_reuse new small' slot window w e s d p i = small_changed (small_slots l small) (main_apart l small main q.small q.main) w e s d p i (λ t a.
-      let slots = slots_of-mapped (λ a. grown window a) (without_slot slot (small_entries l small)) ∙ slots_of-filter slot (small_entries l small) ∙ ap (λ z. without slot z) (small_slots-of l small) in
+      let slots = slots_of-mapped (λ a. grown_older window a) (without_slot slot (small_entries l small)) ∙ slots_of-filter slot (small_entries l small) ∙ ap (λ z. without slot z) (small_slots-of l small) in
       let b = or_parts (eqb t slot) (list_any (eqb t) (without slot (small_slots l small))) (ap (λ zs. list_any (eqb t) (slot ∷ zs)) (sym slots) ∙ a) in
       let n = not_among t slot (small_slots l small) b.0 b.1 in
       inl (n, n))

@@ -5,7 +5,7 @@ use Rattle.std.specs.List.{last_or, list_any, AllByRecursion}
 use Rattle.std.proofs.lemmas.Bool.{eqb-true, eq-eqb, ne_eqb, both_ways, cases_Bool, or_cases, lt-ltb, le-ltb, cases_lt}
 use Rattle.std.proofs.lemmas.List.{length-set}
 use Rattle.clock2q_machine.specs.Ages as ages
-use Rattle.clock2q_machine.specs.Ages.{Age, grown}
+use Rattle.clock2q_machine.specs.Ages.{Age, grown_older}
 use Rattle.clock2q_queues.specs.declared.links.Location.{Location}
 use Rattle.clock2q_queues.specs.declared.links.Location.TheVariants.{Free, SmallYoung, SmallOld, Main}
 use Rattle.clock2q_queues.specs.declared.small.Small.{Small}
@@ -46,7 +46,7 @@ is_there-own o t e = subst (λ z. is_there z t ≡ true) (sym e) (eqb_self t)
 
 aged_location : (window cursor : ℕ) (location : Location) (bit : Bool) → cursor < window
     → ((position : ℕ) → location ≡ SmallYoung position → (position < window) × (position ≢ cursor))
-    → age_of window (next_cursor window cursor) location bit ≡ grown window (age_of window cursor location bit)
+    → age_of window (next_cursor window cursor) location bit ≡ grown_older window (age_of window cursor location bit)
 aged_location window cursor Free bit h y = refl
 aged_location window cursor SmallOld bit h y = refl
 aged_location window cursor Main bit h y = refl
@@ -55,7 +55,7 @@ aged_location window cursor (SmallYoung position) bit h y =
     let a = admissions_since-other window cursor position h p.0 p.1 in
     rw (lt-ltb (admissions_since window cursor position + 1) window a.1) (ap (λ z. ages.Young z) a.0)
 
-grown-at_cursor : (window cursor : ℕ) (bit : Bool) → cursor < window → grown window (age_of window cursor (SmallYoung cursor) bit) ≡ ages.Old false
+grown-at_cursor : (window cursor : ℕ) (bit : Bool) → cursor < window → grown_older window (age_of window cursor (SmallYoung cursor) bit) ≡ ages.Old false
 grown-at_cursor window cursor bit h =
     let a = admissions_since-cursor window cursor h in
     rw (le-ltb (admissions_since window cursor cursor + 1) window (omega arith)) refl
@@ -157,7 +157,7 @@ module _ {slot : ℕ} {old : LinkState} {cursor : ℕ} {ss : List ℕ} {mid aged
       let p = m.placed t position h y in
       (p.0, λ q. both_ways (is_there (young_at old cursor) t) n (is_there-own _ t (subst (λ z. young_at old z ≡ Some t) q p.1)))
 
-  aged_at : (t : ℕ) → list_any (eqb t) ss ≡ true → age_at new small'.cursor t ≡ grown (length old.window.items) (age_at old cursor t)
+  aged_at : (t : ℕ) → list_any (eqb t) ss ≡ true → age_at new small'.cursor t ≡ grown_older (length old.window.items) (age_at old cursor t)
   aged_at t h =
       let d : eqb t slot ≡ false = differs t slot ss h absent in
       elim (cases_Bool (is_there (young_at old cursor) t)) [
@@ -210,7 +210,7 @@ module _ {slot : ℕ} {old : LinkState} {cursor : ℕ} {ss : List ℕ} {mid aged
         ∙ ap (λ z. (slot, z) ∷ map {B = ℕ × Age} (λ s. (s, age_at new small'.cursor s)) ss)
         (rw (own_location, window_new, moved) (ap (λ z. ages.Young z) (admissions_since-own (length old.window.items) cursor within)))
         ∙ ap (λ z. (slot, ages.Young 0) ∷ z)
-        (entries-mapped (λ s. age_at new small'.cursor s) (λ s. age_at old cursor s) (λ a. grown (length old.window.items) a) ss aged_at);
+        (entries-mapped (λ s. age_at new small'.cursor s) (λ s. age_at old cursor s) (λ a. grown_older (length old.window.items) a) ss aged_at);
     others = record {
       others = λ t h.
           let d : eqb t slot ≡ false = (or_parts (eqb t slot) (list_any (eqb t) ss) h).0 in

@@ -2,7 +2,7 @@
 use Rattle.std.specs.Prelude.{◌≡◌, ℕ, ◌+◌, ◌-◌, ◌^◌, ◌<◌, Bool, true, false, nat_lt, ◌==◌, if◌then◌else◌, List, ◌∷◌, map, length, Option, Some, None, nat_eq}
 use Rattle.std.specs.List.{last_or, list_any}
 use Rattle.clock2q_machine.specs.Ages as ages
-use Rattle.clock2q_machine.specs.Ages.{Age, grown, touched}
+use Rattle.clock2q_machine.specs.Ages.{Age, grown_older, touched}
 use Rattle.clock2q_queues.specs.Links.{LinkState, IsQueue, end_of, slots_from, next_at, previous_at, location_at, bit_at, young_at}
 use Rattle.clock2q_queues.specs.declared.links.Location.{Location}
 use Rattle.clock2q_queues.specs.declared.links.Location.TheVariants.{Free, SmallYoung, SmallOld, Main}
@@ -57,7 +57,7 @@ IsSmallQueue l small = IsSmall l small (small_slots l small)
 
 -- a new slot is first, and all young ones grow older
 abbrev pub admitted : ℕ → ℕ → List (ℕ × Age) → List (ℕ × Age)
-admitted window slot small = (slot, ages.Young 0) ∷ map (λ e. (e.0, grown window e.1)) small
+admitted window slot small = (slot, ages.Young 0) ∷ map (λ e. (e.0, grown_older window e.1)) small
 
 -- after a hit on a slot
 abbrev pub small_hit_at : ℕ → List (ℕ × Age) → List (ℕ × Age)

@@ -18,7 +18,7 @@ use Rattle.clock2q_handles.proofs.Hashes.{hashes-put_last}
 use Rattle.clock2q_handles.proofs.HashOfHandle.{keyed_grown}
 use Rattle.clock2q_handles.proofs.Held.{entry_held, held_entry, entry_kept, entry_new, entry_from, grown_kept, grown_from, candidate_held, held_candidate}
 use Rattle.clock2q_handles.proofs.Offering.{IsFound}
-use Rattle.clock2q_simulation.specs.KnownKeys.{AreApart, IsIndexed, IsNumbered}
+use Rattle.clock2q_simulation.specs.KnownKeys.{AreApart, HasNumbers, IsNumbered}
 
 -- the key of a number
 abbrev pub key_of : List (List ℕ) → ℕ → List ℕ
@@ -43,7 +43,7 @@ last_or_old (y ∷ xs) x held (suc number) at = elim (last_or_old xs x held numb
 ]
 
 -- a growth of the table
-grown_index : (hash : List ℕ → ℕ) (known : List (List ℕ)) (homes : List (List (ℕ × ℕ))) → IsIndexed hash known homes → IsIndexed hash known (grown (hash_at hash known) homes)
+grown_index : (hash : List ℕ → ℕ) (known : List (List ℕ)) (homes : List (List (ℕ × ℕ))) → HasNumbers hash known homes → HasNumbers hash known (grown (hash_at hash known) homes)
 grown_index hash known homes is = record {
   hashes = (keyed_grown (hash_at hash known) homes is.hashes).1;
   held = λ at. ((λ held. (is.held at).0 (grown_from (hash_at hash known) homes at held)), (λ l. grown_kept (hash_at hash known) homes at ((is.held at).1 l)));
@@ -85,7 +85,7 @@ module _ (hash : List ℕ → ℕ) (known : List (List ℕ)) (key : List ℕ) wh
     ];
   }
 
-  module _ (homes : List (List (ℕ × ℕ))) (some : 0 < length homes) (is : IsIndexed hash known homes) where
+  module _ (homes : List (List (ℕ × ℕ))) (some : 0 < length homes) (is : HasNumbers hash known homes) where
     hashes_still : IsHashOf (hash_at hash more) homes
     hashes_still h i e l at =
         let same : key_of more e.1 ≡ key_of known e.1 = more_old e.1 ((is.held e.1).0 (h, i, e, at, refl)) in
@@ -112,7 +112,7 @@ module _ (hash : List ℕ → ℕ) (known : List (List ℕ)) (key : List ℕ) wh
           entry_held now (top (hash key), length known) at last (entry_new homes (hash key) (top (hash key), length known) (top (hash key), length known) some)
     ]
 
-    index_more : length known < 2 ^ 32 → IsNew → IsIndexed hash more now
+    index_more : length known < 2 ^ 32 → IsNew → HasNumbers hash more now
     index_more few new = record {
       hashes =
           hashes-put_last (hash_at hash more) homes (hash key) (top (hash key), length known) some hashes_still
@@ -122,7 +122,7 @@ module _ (hash : List ℕ → ℕ) (known : List (List ℕ)) (key : List ℕ) wh
     }
 
 -- what a lookup leaves if it inserts a key's number when it finds none
-module _ (hash : List ℕ → ℕ) (known : List (List ℕ)) (homes : List (List (ℕ × ℕ))) (key : List ℕ) (is : IsIndexed hash known homes) where
+module _ (hash : List ℕ → ℕ) (known : List (List ℕ)) (homes : List (List (ℕ × ℕ))) (key : List ℕ) (is : HasNumbers hash known homes) where
   abbrev grew : List (List (ℕ × ℕ))
   grew = grown (hash_at hash known) homes
 
@@ -142,7 +142,7 @@ module _ (hash : List ℕ → ℕ) (known : List (List ℕ)) (homes : List (List
 
   abbrev pub IsDone : Result (ℕ × Bool) TableError → List (List (ℕ × ℕ)) → Type 0
   IsDone (Ok r) new = IsNumbered hash known key r.0 r.1 new
-  IsDone (Err e) new = IsIndexed hash known new
+  IsDone (Err e) new = HasNumbers hash known new
 
   pub numbered : (found : Option ℕ) (result : Result (ℕ × Bool) TableError) (new : List (List (ℕ × ℕ))) → length known < 2 ^ 32
       → Settles grew (hash key) (length known) found result new → IsFound (is_key known key) (candidates grew (hash key)) found → IsDone result new
@@ -150,20 +150,20 @@ module _ (hash : List ℕ → ℕ) (known : List (List ℕ)) (homes : List (List
       let held = candidate_held grew (hash key) f.1 c f.2 in
       let within : c < length known = (is.held c).0 (grown_from (hash_at hash known) homes c held) in
       let same : key_of known c ≡ key = (bytes_eq-Decides (key_of known c) key).0 f.0 in
-      subst (λ r. IsDone r new) (sym s.0) (slice_get-get_or known c [] within ∙ ap Some same, subst (IsIndexed hash known) (sym s.1) (grown_index hash known homes is))
+      subst (λ r. IsDone r new) (sym s.0) (slice_get-get_or known c [] within ∙ ap Some same, subst (HasNumbers hash known) (sym s.1) (grown_index hash known homes is))
   numbered None (Ok r) new few s f =
       subst (λ r. IsDone (Ok r) new) (sym s.0) (
         refl,
-        subst (IsIndexed hash (known ++ key ∷ [])) (sym s.1)
+        subst (HasNumbers hash (known ++ key ∷ [])) (sym s.1)
             (index_more hash known key grew (keyed_grown (hash_at hash known) homes is.hashes).0
             (grown_index hash known homes is) few (none_equal f)),
       )
-  numbered None (Err e) new few s f = subst (IsIndexed hash known) (sym s.1) (grown_index hash known homes is)
+  numbered None (Err e) new few s f = subst (HasNumbers hash known) (sym s.1) (grown_index hash known homes is)
 
   -- however the lookup ends
   pub settled : (result : Result (ℕ × Bool) TableError) (new : List (List (ℕ × ℕ))) → (result ≢ Err Memory → IsDone result new) → (result ≡ Err Memory → new ≡ homes)
-      → IfOk result (λ found. IsNumbered hash known key found.0 found.1 new) × OnErr result (IsIndexed hash known new)
+      → IfOk result (λ found. IsNumbered hash known key found.0 found.1 new) × OnErr result (HasNumbers hash known new)
   settled (Ok r) new known_as memory = (known_as (λ e. absurd (cc)), tt)
-  settled (Err Memory) new known_as memory = (tt, subst (IsIndexed hash known) (sym (memory refl)) is)
+  settled (Err Memory) new known_as memory = (tt, subst (HasNumbers hash known) (sym (memory refl)) is)
   settled (Err Size) new known_as memory = (tt, known_as (λ e. absurd (cc)))
   settled (Err RunTooLong) new known_as memory = (tt, known_as (λ e. absurd (cc)))

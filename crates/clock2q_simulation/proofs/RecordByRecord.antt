@@ -18,7 +18,7 @@ use Rattle.clock2q_simulation.specs.declared.error.SimulationError.TheVariants.{
 use Rattle.clock2q_simulation.specs.declared.format.TraceFormat.{TraceFormat}
 use Rattle.clock2q_simulation.specs.declared.format.TraceFormat.TheVariants.{Lines, Csv, OracleGeneral}
 use Rattle.clock2q_simulation.specs.Formats.{Access, access_in, accesses_after, accesses_in, accesses_of, consed, record_of, unsized}
-use Rattle.clock2q_simulation.specs.Reading.{AreRead, HasNoEnd, IsBad, IsBegun, IsGivenUp, IsNoTrace, IsOfLines, IsWhole, ReadsTrace, Takes, between, joined}
+use Rattle.clock2q_simulation.specs.Reading.{AreRead, HasNoEnd, IsBad, IsBegun, IsGivenUp, IsNoTrace, IsOfLines, IsWholeRecord, ReadsTrace, TakesBytes, between, joined}
 
 -- a line and its end come first of the lines
 pub ended-lines : (line next : List ℕ) → HasNoEnd line → lines_of (line ++ 10 ∷ next) ≡ line ∷ lines_of next
@@ -114,14 +114,14 @@ module _ (keys more : List Access) (count counted : ℕ) (part : List ℕ) where
   abbrev pub Ends : TraceFormat → Type 0
   Ends format = (next : List ℕ) → joined keys (accesses_after format count (part ++ (between format ++ next))) ≡ joined more (accesses_after format counted next)
 
-  pub line-ends : (format : TraceFormat) → format ≡ Lines → IsWhole format part → more ≡ keys ++ unsized part ∷ [] → Ends format
+  pub line-ends : (format : TraceFormat) → format ≡ Lines → IsWholeRecord format part → more ≡ keys ++ unsized part ∷ [] → Ends format
   line-ends Lines e whole m next =
       ap (λ ls. joined keys (Some (map unsized ls))) (ended-lines part next whole) ∙ joined-more keys (unsized part) (Some (map unsized (lines_of next)))
       ∙ ap (λ ks. joined ks (Some (map unsized (lines_of next)))) (sym m)
   line-ends (Csv column sizes) e whole m next = absurd (cc)
   line-ends OracleGeneral e whole m next = absurd (cc)
 
-  pub header-ends : (format : TraceFormat) (column : ℕ) (sizes : Option ℕ) → IsCsv column sizes format → IsWhole format part → count ≡ 0 → 0 < counted → more ≡ keys → Ends format
+  pub header-ends : (format : TraceFormat) (column : ℕ) (sizes : Option ℕ) → IsCsv column sizes format → IsWholeRecord format part → count ≡ 0 → 0 < counted → more ≡ keys → Ends format
   header-ends Lines column sizes e whole z some m next = absurd e
   header-ends OracleGeneral column sizes e whole z some m next = absurd e
   header-ends (Csv other others) column sizes e whole z some m next =
@@ -129,7 +129,7 @@ module _ (keys more : List Access) (count counted : ℕ) (part : List ℕ) where
       let none : 1 - counted ≡ 0 = omega arith in
       ap (λ ls. joined keys (accesses_of (non_zero_usize_get other) (option_map non_zero_usize_get others) ls)) first ∙ rw (m, none) refl
 
-  pub fields-end : (format : TraceFormat) (column : ℕ) (sizes : Option ℕ) (key : Access) → IsCsv column sizes format → IsWhole format part → 0 < count → 0 < counted
+  pub fields-end : (format : TraceFormat) (column : ℕ) (sizes : Option ℕ) (key : Access) → IsCsv column sizes format → IsWholeRecord format part → 0 < count → 0 < counted
       → access_in column sizes part ≡ Some key → more ≡ keys ++ key ∷ [] → Ends format
   fields-end Lines column sizes key e whole so some f m next = absurd e
   fields-end OracleGeneral column sizes key e whole so some f m next = absurd e
@@ -145,7 +145,7 @@ module _ (keys more : List Access) (count counted : ℕ) (part : List ℕ) where
       ∙ joined-more keys key (accesses_of c s (lines_of next))
       ∙ rw (m, after) refl
 
-  pub no-field-ends : (format : TraceFormat) (column : ℕ) (sizes : Option ℕ) → IsCsv column sizes format → IsWhole format part → 0 < count → access_in column sizes part ≡ None
+  pub no-field-ends : (format : TraceFormat) (column : ℕ) (sizes : Option ℕ) → IsCsv column sizes format → IsWholeRecord format part → 0 < count → access_in column sizes part ≡ None
       → (next : List ℕ) → accesses_after format count (part ++ (between format ++ next)) ≡ None
   no-field-ends Lines column sizes e whole so f next = absurd e
   no-field-ends OracleGeneral column sizes e whole so f next = absurd e
@@ -158,13 +158,13 @@ module _ (keys more : List Access) (count counted : ℕ) (part : List ℕ) where
       ∙ ap (accesses_of c s) (ended-lines part next whole)
       ∙ ap (λ k. consed k (accesses_of c s (lines_of next))) at
 
-  pub piece-ends : (format : TraceFormat) → format ≡ OracleGeneral → IsWhole format part → more ≡ keys ++ record_of part ∷ [] → Ends format
+  pub piece-ends : (format : TraceFormat) → format ≡ OracleGeneral → IsWholeRecord format part → more ≡ keys ++ record_of part ∷ [] → Ends format
   piece-ends Lines e whole m next = absurd (cc)
   piece-ends (Csv column sizes) e whole m next = absurd (cc)
   piece-ends OracleGeneral e whole m next = piece-first part next whole keys count counted ∙ ap (λ ks. joined ks (accesses_after OracleGeneral counted next)) (sym m)
 
 -- a whole record is begun, and one of 24 bytes isn't of lines
-pub whole-line : (format : TraceFormat) (part : List ℕ) → IsOfLines format → IsBegun format part → IsWhole format part
+pub whole-line : (format : TraceFormat) (part : List ℕ) → IsOfLines format → IsBegun format part → IsWholeRecord format part
 whole-line Lines part l h = h
 whole-line (Csv column sizes) part l h = h
 whole-line OracleGeneral part l h = absurd l
@@ -267,7 +267,7 @@ module _ (old mid new : Traffic) (left some remain : Option (List ℕ)) (format 
     (keys : List Access) (count : ℕ) (line bytes : List ℕ)
     (is : IsReadUpTo old mid left some format keys count line) where
   -- the bytes of one more read
-  pub read-more : (more : List Access) (counted : ℕ) (rest : List ℕ) → new ≡ traffic_after mid bytes false false → Consumes some remain bytes → Takes format keys count line bytes more counted rest
+  pub read-more : (more : List Access) (counted : ℕ) (rest : List ℕ) → new ≡ traffic_after mid bytes false false → Consumes some remain bytes → TakesBytes format keys count line bytes more counted rest
       → IsReadUpTo old new left remain format more counted rest
   read-more more counted rest given consumed takes = record {
     begun = takes.begun;

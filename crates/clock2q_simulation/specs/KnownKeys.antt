@@ -41,11 +41,11 @@ pub record AreApart (known : List (List ℕ)) : Type 0 where
   pub apart : (number other : ℕ) (key : List ℕ) → slice_get known number ≡ Some key → slice_get known other ≡ Some key → number ≡ other
 
 -- the table holds exactly the numbers of the keys, each under its key's hash
-pub record IsIndexed (hash : List ℕ → ℕ) (known : List (List ℕ)) (homes : List (List (ℕ × ℕ))) : Type 0 where
+pub record HasNumbers (hash : List ℕ → ℕ) (known : List (List ℕ)) (homes : List (List (ℕ × ℕ))) : Type 0 where
   pub hashes : IsHashOf (λ number. hash (get_or known number [])) homes
   pub held : (number : ℕ) → IsHeld homes number ↔ (number < length known)
   pub apart : AreApart known
 
 -- a key got the next number or already had one, and the table is that of the keys
 abbrev pub IsNumbered : (List ℕ → ℕ) → List (List ℕ) → List ℕ → ℕ → Bool → List (List (ℕ × ℕ)) → Type 0
-IsNumbered hash known key number is_new homes = MatchBool is_new ((number ≡ length known) × IsIndexed hash (known ++ key ∷ []) homes) ((slice_get known number ≡ Some key) × IsIndexed hash known homes)
+IsNumbered hash known key number is_new homes = MatchBool is_new ((number ≡ length known) × HasNumbers hash (known ++ key ∷ []) homes) ((slice_get known number ≡ Some key) × HasNumbers hash known homes)

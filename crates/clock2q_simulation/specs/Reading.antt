@@ -21,10 +21,10 @@ IsBegun (Csv _ _) part = HasNoEnd part
 IsBegun OracleGeneral part = length part < 24
 
 -- some bytes are a whole record, but for a line end
-abbrev pub IsWhole : TraceFormat → List ℕ → Type 0
-IsWhole Lines part = HasNoEnd part
-IsWhole (Csv _ _) part = HasNoEnd part
-IsWhole OracleGeneral part = length part ≡ 24
+abbrev pub IsWholeRecord : TraceFormat → List ℕ → Type 0
+IsWholeRecord Lines part = HasNoEnd part
+IsWholeRecord (Csv _ _) part = HasNoEnd part
+IsWholeRecord OracleGeneral part = length part ≡ 24
 
 -- what is between two records
 abbrev pub between : TraceFormat → List ℕ
@@ -44,7 +44,7 @@ joined accesses more = option_map (λ rest. accesses ++ rest) more
 
 -- after some bytes, the accesses so far, with those of what has come of the next record and of whatever follows, are those
 -- from before with the bytes
-pub record Takes (format : TraceFormat) (accesses : List Access) (count : ℕ) (part bytes : List ℕ) (more : List Access) (counted : ℕ) (rest : List ℕ) : Type 0 where
+pub record TakesBytes (format : TraceFormat) (accesses : List Access) (count : ℕ) (part bytes : List ℕ) (more : List Access) (counted : ℕ) (rest : List ℕ) : Type 0 where
   pub begun : IsBegun format rest
   pub same : (next : List ℕ) → joined accesses (accesses_after format count (part ++ (bytes ++ next))) ≡ joined more (accesses_after format counted (rest ++ next))
 

@@ -54,7 +54,7 @@ pub record IsNumbering (known : List (List ℕ)) (numbers : List ℕ) (keys : Li
   pub used : AreUsed numbers (length known)
 
 -- the numbers of the keys of accesses, and the sizes that are kept
-pub record IsKept (accesses : List Access) (is_sized : Bool) (numbers sizes : List ℕ) (different : ℕ) : Type 0 where
+pub record IsTraceOf (accesses : List Access) (is_sized : Bool) (numbers sizes : List ℕ) (different : ℕ) : Type 0 where
   pub numbered : AreNumbersOf (keys_of accesses) numbers different
   pub kept : sizes ≡ kept_sizes is_sized accesses
 

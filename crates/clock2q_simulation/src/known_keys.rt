@@ -1,6 +1,6 @@
 //! Different keys, each with a number.
 ghost use Rattle.std.specs.Prelude.{◌≡◌, ◌<◌, ◌≤◌, ◌^◌, ℕ, List, [], Some, IfOk, OnErr, length, slice_get};
-ghost use Rattle.clock2q_simulation.specs.KnownKeys.{AreApart, AreKept, IsIndexed, IsNumbered, hash_of, keys_in};
+ghost use Rattle.clock2q_simulation.specs.KnownKeys.{AreApart, AreKept, HasNumbers, IsNumbered, hash_of, keys_in};
 
 use crate::key_bytes::{add_key, hash_at, hash_of, is_key_at};
 use crate::key_record::KeyRecord;
@@ -27,13 +27,13 @@ pub(crate) struct KnownKeys<S: BuildHasher, A: Allocator> {
 
 impl<S: BuildHasher, A: Allocator> Model for KnownKeys<S, A> {
     ghost use Rattle.std.specs.Prelude.{ℕ, List, length};
-    ghost use Rattle.clock2q_simulation.specs.KnownKeys.{AreKept, IsIndexed, hash_of, keys_in};
+    ghost use Rattle.clock2q_simulation.specs.KnownKeys.{AreKept, HasNumbers, hash_of, keys_in};
 
     ghost Value = { List (List ℕ) };
 
     ghost view = { λ k. keys_in k.others.items k.records.items };
 
-    ghost invariant = { λ k. AreKept (length k.others.items) k.records.items × IsIndexed (hash_of S.BuildHasher S.Hasher.Hasher k.hasher) (keys_in k.others.items k.records.items) k.numbers.homes };
+    ghost invariant = { λ k. AreKept (length k.others.items) k.records.items × HasNumbers (hash_of S.BuildHasher S.Hasher.Hasher k.hasher) (keys_in k.others.items k.records.items) k.numbers.homes };
 }
 
 impl<S: BuildHasher, A: Allocator + Copy> KnownKeys<S, A> {
@@ -96,10 +96,10 @@ fn find_or_number<S: BuildHasher, A: Allocator + Copy>(
     hasher: &S,
 ) -> Result<(u32, bool), TableError>
     requires kept { AreKept (length others.now) records.now }
-    requires indexed { IsIndexed (hash_of S.BuildHasher S.Hasher.Hasher hasher.now) (keys_in others.now records.now) numbers.old.homes }
+    requires indexed { HasNumbers (hash_of S.BuildHasher S.Hasher.Hasher hasher.now) (keys_in others.now records.now) numbers.old.homes }
     requires next { next ≡ length records.now }
     ensures numbered { IfOk result (λ found. IsNumbered (hash_of S.BuildHasher S.Hasher.Hasher hasher.now) (keys_in others.now records.now) key.now found.0 found.1 numbers.new.homes) }
-    ensures refused { OnErr result (IsIndexed (hash_of S.BuildHasher S.Hasher.Hasher hasher.now) (keys_in others.now records.now) numbers.new.homes) }
+    ensures refused { OnErr result (HasNumbers (hash_of S.BuildHasher S.Hasher.Hasher hasher.now) (keys_in others.now records.now) numbers.new.homes) }
 {
     numbers.find_or_insert(
         hash_of(key, hasher),

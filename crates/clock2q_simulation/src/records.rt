@@ -3,7 +3,7 @@ ghost use Rattle.std.specs.NonZero.{non_zero_usize_get};
 ghost use Rattle.std.specs.Option.{option_map};
 ghost use Rattle.std.specs.Prelude.{◌≡◌, ◌<◌, ◌∷◌, ◌++◌, ℕ, List, [], IfErr, IfOk, OnOk, None, Some, length};
 ghost use Rattle.clock2q_simulation.specs.Formats.{Access, access_in, accesses_after, has_sizes, record_of};
-ghost use Rattle.clock2q_simulation.specs.Reading.{HasNoEnd, IsBad, IsBegun, IsOfLines, IsWhole, Takes, between, joined};
+ghost use Rattle.clock2q_simulation.specs.Reading.{HasNoEnd, IsBad, IsBegun, IsOfLines, IsWholeRecord, TakesBytes, between, joined};
 
 use crate::csv::ColumnReader;
 use crate::error::SimulationError;
@@ -64,7 +64,7 @@ impl<S: BuildHasher + Drop, A: Allocator + Copy> Records<S, A> {
         ensures format { self.new.format ≡ self.old.format }
         ensures sample { self.new.trace.sample ≡ self.old.trace.sample }
         ensures sized { self.new.trace.is_sized ≡ self.old.trace.is_sized }
-        ensures taken { OnOk result (Takes self.old.format self.old.trace.accesses self.old.count self.old.begun.items bytes.now self.new.trace.accesses self.new.count self.new.begun.items) }
+        ensures taken { OnOk result (TakesBytes self.old.format self.old.trace.accesses self.old.count self.old.begun.items bytes.now self.new.trace.accesses self.new.count self.new.begun.items) }
         ensures bad { IfErr result (λ refusal. IsBad refusal ((next : List ℕ) → accesses_after self.old.format self.old.count (self.old.begun.items ++ (bytes.now ++ next)) ≡ None)) }
     {
         match self.format {
@@ -80,7 +80,7 @@ impl<S: BuildHasher + Drop, A: Allocator + Copy> Records<S, A> {
         ensures format { self.new.format ≡ self.old.format }
         ensures sample { self.new.trace.sample ≡ self.old.trace.sample }
         ensures sized { self.new.trace.is_sized ≡ self.old.trace.is_sized }
-        ensures taken { OnOk result (Takes self.old.format self.old.trace.accesses self.old.count self.old.begun.items bytes.now self.new.trace.accesses self.new.count self.new.begun.items) }
+        ensures taken { OnOk result (TakesBytes self.old.format self.old.trace.accesses self.old.count self.old.begun.items bytes.now self.new.trace.accesses self.new.count self.new.begun.items) }
         ensures bad { IfErr result (λ refusal. IsBad refusal ((next : List ℕ) → accesses_after self.old.format self.old.count (self.old.begun.items ++ (bytes.now ++ next)) ≡ None)) }
     {
         let mut start = 0;
@@ -128,7 +128,7 @@ impl<S: BuildHasher + Drop, A: Allocator + Copy> Records<S, A> {
         ensures format { self.new.format ≡ self.old.format }
         ensures sample { self.new.trace.sample ≡ self.old.trace.sample }
         ensures sized { self.new.trace.is_sized ≡ self.old.trace.is_sized }
-        ensures taken { OnOk result (Takes self.old.format self.old.trace.accesses self.old.count self.old.begun.items bytes.now self.new.trace.accesses self.new.count self.new.begun.items) }
+        ensures taken { OnOk result (TakesBytes self.old.format self.old.trace.accesses self.old.count self.old.begun.items bytes.now self.new.trace.accesses self.new.count self.new.begun.items) }
         ensures bad { IfErr result (λ refusal. IsBad refusal ((next : List ℕ) → accesses_after self.old.format self.old.count (self.old.begun.items ++ (bytes.now ++ next)) ≡ None)) }
     {
         for byte in bytes {
@@ -170,7 +170,7 @@ impl<S: BuildHasher + Drop, A: Allocator + Copy> Records<S, A> {
 
     /// Ends the record: adds its access, unless it is a header.
     fn end_record(&mut self) -> Result<(), SimulationError>
-        requires whole { IsWhole self.old.format self.old.begun.items }
+        requires whole { IsWholeRecord self.old.format self.old.begun.items }
         ensures format { self.new.format ≡ self.old.format }
         ensures sample { self.new.trace.sample ≡ self.old.trace.sample }
         ensures sized { self.new.trace.is_sized ≡ self.old.trace.is_sized }
@@ -190,7 +190,7 @@ impl<S: BuildHasher + Drop, A: Allocator + Copy> Records<S, A> {
 
     /// Adds the access of the record, unless it is a header.
     fn add_access(&mut self) -> Result<(), SimulationError>
-        requires whole { IsWhole self.old.format self.old.begun.items }
+        requires whole { IsWholeRecord self.old.format self.old.begun.items }
         ensures format { self.new.format ≡ self.old.format }
         ensures sample { self.new.trace.sample ≡ self.old.trace.sample }
         ensures sized { self.new.trace.is_sized ≡ self.old.trace.is_sized }

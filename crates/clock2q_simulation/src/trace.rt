@@ -55,13 +55,13 @@ pub struct Trace<A: Allocator> {
 
 impl<A: Allocator> Model for Trace<A> {
     ghost use Rattle.clock2q_simulation.specs.Sample.{sampled};
-    ghost use Rattle.clock2q_simulation.specs.Trace.{Numbered, IsKept};
+    ghost use Rattle.clock2q_simulation.specs.Trace.{Numbered, IsTraceOf};
 
     ghost Value = { Numbered };
 
     ghost view = { λ t. record { accesses = t.accesses.value; sample = t.sample; is_sized = t.is_sized; numbers = t.numbers.items; different = t.different } };
 
-    ghost invariant = { λ t. IsKept (sampled t.sample t.accesses.value) t.is_sized t.numbers.items t.sizes.items t.different };
+    ghost invariant = { λ t. IsTraceOf (sampled t.sample t.accesses.value) t.is_sized t.numbers.items t.sizes.items t.different };
 }
 
 impl<A: Allocator> Trace<A> {

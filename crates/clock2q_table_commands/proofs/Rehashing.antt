@@ -8,7 +8,7 @@ use Rattle.clock2q_handles.specs.TableStep.{IsHashOf, rebuilt, reserved, fit}
 use Rattle.clock2q_handles.specs.declared.error.TableError.TheVariants.{Memory, Size, RunTooLong}
 use Rattle.clock2q_handles.proofs.Hashes.{entries-from, hash-at, hashes-none, hashes-put_all}
 use Rattle.clock2q_handles.proofs.HashOfHandle.{fit_some, keyed_grown, keyed_inserted, keyed_removed}
-use Rattle.clock2q_table_commands.specs.TableCommands.{IsReplied, AreReplied, Inserts}
+use Rattle.clock2q_table_commands.specs.TableCommands.{IsReplied, AreReplied, RepliesToInsert}
 use Rattle.clock2q_table_commands.specs.declared.table_commands.TableCommand.{TableCommand}
 use Rattle.clock2q_table_commands.specs.declared.table_commands.TableCommand.TheVariants.{Insert, Remove, Find, Reserve, Get}
 use Rattle.clock2q_table_commands.specs.declared.table_commands.TableReply.{TableReply}
@@ -76,7 +76,7 @@ module _ {H : Type 0} (A : Type 0) (eq : H → H → Bool) (key : H → ℕ) whe
   abbrev kept : (homes new : List (List (ℕ × H))) → new ≡ homes → IsHashOf key homes → IsHashOf key new
   kept homes new same hashes = subst (IsHashOf key) (sym same) hashes
 
-  hashes-inserts : (v : H) (old : List (List (ℕ × H))) (reply : TableReply H (Vec H A)) (new : List (List (ℕ × H))) → Inserts eq key v old reply new → IsHashOf key old → IsHashOf key new
+  hashes-inserts : (v : H) (old : List (List (ℕ × H))) (reply : TableReply H (Vec H A)) (new : List (List (ℕ × H))) → RepliesToInsert eq key v old reply new → IsHashOf key old → IsHashOf key new
   hashes-inserts v old Done new r hashes = kept _ new r.0 (keyed_inserted key old v hashes)
   hashes-inserts v old (Removed was) new r hashes = absurd r
   hashes-inserts v old (Found c is_new) new r hashes = absurd r

@@ -13,7 +13,7 @@ use Rattle.clock2q_handles.specs.Rehash.{GivesHashes}
 use Rattle.clock2q_handles.specs.TableStep.{TableValue, grown, reserved, IsFull, IsShortOf, IsPastSize}
 use Rattle.clock2q_handles.specs.declared.error.TableError.{TableError}
 use Rattle.clock2q_handles.specs.declared.error.TableError.TheVariants.{Memory, Size, RunTooLong}
-use Rattle.clock2q_table_commands.specs.TableCommands.{reply_of, reply_of_found, first_accepted, Inserts, Finds, Reserves}
+use Rattle.clock2q_table_commands.specs.TableCommands.{reply_of, reply_of_found, first_accepted, RepliesToInsert, RepliesToFind, RepliesToReserve}
 
 -- handles offered up to the first that is accepted
 module _ {M H : Type 0} (m : Mut M (H × Unit {0}) Bool) (test : H → Bool) (f : M) (asks : (h : H) (b : Bool) (next : M) → Called m f (h, tt) b next → (next ≡ f) × (b ≡ test h)) where
@@ -33,7 +33,7 @@ module _ {H : Type 0} (A : Type 0) (eq : H → H → Bool) (key : H → ℕ) whe
   -- an insertion under the hash of a handle
   pub Inserts-put : (old new : List (List (ℕ × H))) (x : ℕ) (v : H) (result : Result (Unit {0}) TableError) → x ≡ key v →
       (result ≢ Err Memory → PutIn (grown key old) x v result new) → (result ≡ Err Memory → IsFull old × (new ≡ old)) →
-      Inserts {A = A} eq key v old (reply_of result) new
+      RepliesToInsert {A = A} eq key v old (reply_of result) new
   Inserts-put old new x v (Ok done) is put memory =
       let p = subst (λ h. PutIn (grown key old) h v (Ok done) new) is (put (λ e. absurd (cc))) in
       (p.0, λ long. p.1 (subst IsTooLong p.0 long))
@@ -46,10 +46,10 @@ module _ {H : Type 0} (A : Type 0) (eq : H → H → Bool) (key : H → ℕ) whe
   -- a lookup with insertion under the hash of a handle
   Finds-settled : (old new : List (List (ℕ × H))) (v : H) (accepted : List H) (found : Option H)
       (result : Result (H × Bool) TableError) → found ≡ first_accepted eq accepted (candidates (grown key old) (key v)) →
-      Settles (grown key old) (key v) v found result new → Finds {A = A} eq key v accepted old (reply_of_found result) new
-  Finds-settled old new v accepted (Some c) result is s = subst (λ r. Finds {A = A} eq key v accepted old (reply_of_found r) new) (sym s.0) (sym is, s.1)
+      Settles (grown key old) (key v) v found result new → RepliesToFind {A = A} eq key v accepted old (reply_of_found result) new
+  Finds-settled old new v accepted (Some c) result is s = subst (λ r. RepliesToFind {A = A} eq key v accepted old (reply_of_found r) new) (sym s.0) (sym is, s.1)
   Finds-settled old new v accepted None (Ok r) is s =
-      subst (λ r. Finds {A = A} eq key v accepted old (reply_of_found (Ok r)) new) (sym s.0)
+      subst (λ r. RepliesToFind {A = A} eq key v accepted old (reply_of_found (Ok r)) new) (sym s.0)
       (sym is, refl, (s.1, λ long. s.2 (subst IsTooLong s.1 long)))
   Finds-settled old new v accepted None (Err RunTooLong) is s = (sym is, (s.1, s.2))
   Finds-settled old new v accepted None (Err Memory) is s = let e = s.0 in absurd (cc)
@@ -58,7 +58,7 @@ module _ {H : Type 0} (A : Type 0) (eq : H → H → Bool) (key : H → ℕ) whe
   -- if memory is refused, too
   pub Finds-replied : (old new : List (List (ℕ × H))) (x : ℕ) (v : H) (accepted : List H) (result : Result (H × Bool) TableError) → x ≡ key v
       → (result ≢ Err Memory → (found : Option H) × (found ≡ first_accepted eq accepted (candidates (grown key old) x)) × Settles (grown key old) x v found result new)
-      → (result ≡ Err Memory → IsFull old × (new ≡ old)) → Finds {A = A} eq key v accepted old (reply_of_found result) new
+      → (result ≡ Err Memory → IsFull old × (new ≡ old)) → RepliesToFind {A = A} eq key v accepted old (reply_of_found result) new
   Finds-replied old new x v accepted (Err Memory) is settles memory = let m = memory refl in (m.1, m.0)
   Finds-replied old new x v accepted (Err Size) is settles memory =
       let s = subst (λ y. (found : Option H) × (found ≡ first_accepted eq accepted (candidates (grown key old) y)) ×
@@ -76,7 +76,7 @@ module _ {H : Type 0} (A : Type 0) (eq : H → H → Bool) (key : H → ℕ) whe
   pub Reserves-reserved : {F : Type 0} (g : Mut F (H × Unit {0}) ℕ) (f : F) (old new : TableValue H) (n : ℕ) (result : Result (Unit {0}) TableError)
       → OnOk result ((k : H → ℕ) → (IsShortOf old.homes n → GivesHashes g k old.homes f) → new.homes ≡ reserved k old.homes n) → OnErr result (new ≡ old)
       → (IsPastSize old.homes n → result ≡ Err Size) → (result ≡ Err Size → IsPastSize old.homes n) → (result ≡ Err Memory → IsShortOf old.homes n) → (result ≢ Err RunTooLong)
-      → GivesHashes g key old.homes f → Reserves {A = A} eq key n old.homes (reply_of result) new.homes
+      → GivesHashes g key old.homes f → RepliesToReserve {A = A} eq key n old.homes (reply_of result) new.homes
   Reserves-reserved g f old new n (Ok done) ok err past size memory only gives = (ok key (λ _. gives), λ p. let e = past p in absurd (cc))
   Reserves-reserved g f old new n (Err Size) ok err past size memory only gives = (ap (λ t. t.homes) err, size refl)
   Reserves-reserved g f old new n (Err Memory) ok err past size memory only gives = (ap (λ t. t.homes) err, memory refl)

@@ -1,7 +1,7 @@
 //! Commands to a handle table as data, their replies, and the run of a list of commands.
 ghost use Rattle.std.specs.Prelude.{◌≡◌, ℕ, Bool, IfOk, IfErr, OnErr};
 ghost use Rattle.clock2q_handles.specs.Changes.{IsLaidOut};
-ghost use Rattle.clock2q_table_commands.specs.TableCommands.{IsHashing, reply_of, reply_of_found, Inserts, Finds, Reserves, Gets, IsReplied, AreReplied};
+ghost use Rattle.clock2q_table_commands.specs.TableCommands.{IsHashing, reply_of, reply_of_found, RepliesToInsert, RepliesToFind, RepliesToReserve, RepliesToGet, IsReplied, AreReplied};
 
 use clock2q_handles::{Table, TableError};
 use std::alloc::Allocator;
@@ -149,7 +149,7 @@ where
     requires callable { F.IsAlwaysCallable hash_of.now }
     requires hashes { (key : H → ℕ) × IsHashing (F.post hash_of.now) key table.old.homes }
     ensures reply { (key : H → ℕ) → IsHashing (F.post hash_of.now) key table.old.homes →
-        Inserts H.PartialEq.eq key handle table.old.homes result table.new.homes }
+        RepliesToInsert H.PartialEq.eq key handle table.old.homes result table.new.homes }
     ensures laid { IsLaidOut table.new }
 {
     reply_of(table.insert(hash_of(handle), handle, |held| hash_of(held)))
@@ -169,7 +169,7 @@ where
     requires callable { F.IsAlwaysCallable hash_of.now }
     requires hashes { (key : H → ℕ) × IsHashing (F.post hash_of.now) key table.old.homes }
     ensures reply { (key : H → ℕ) → IsHashing (F.post hash_of.now) key table.old.homes →
-        Finds H.PartialEq.eq key handle accepted.now table.old.homes result table.new.homes }
+        RepliesToFind H.PartialEq.eq key handle accepted.now table.old.homes result table.new.homes }
     ensures laid { IsLaidOut table.new }
 {
     reply_of_found(table.find_or_insert(
@@ -193,7 +193,7 @@ where
     requires callable { F.IsAlwaysCallable hash_of.now }
     requires hashes { (key : H → ℕ) × IsHashing (F.post hash_of.now) key table.old.homes }
     ensures reply { (key : H → ℕ) → IsHashing (F.post hash_of.now) key table.old.homes →
-        Reserves H.PartialEq.eq key additional table.old.homes result table.new.homes }
+        RepliesToReserve H.PartialEq.eq key additional table.old.homes result table.new.homes }
     ensures laid { IsLaidOut table.new }
 {
     reply_of(table.reserve(additional, |held| hash_of(held)))
@@ -205,7 +205,7 @@ where
     H: Copy + Eq + Default,
     A: Allocator + Copy,
     ensures { (eq : H → H → Bool) (key : H → ℕ) →
-        Gets eq key hash table.now.homes result table.now.homes }
+        RepliesToGet eq key hash table.now.homes result table.now.homes }
 {
     match table.get(hash).collect(alloc) {
         Ok(handles) => TableReply::Handles(handles),

@@ -10,7 +10,7 @@ use Rattle.clock2q_machine.specs.Steps.{fetched, fetched_value}
 use Rattle.clock2q_machine.specs.Whole.{IsWhole}
 use Rattle.clock2q_machine.proofs.Whole.{some_is}
 use Rattle.clock2q_machine.proofs.Laws.{others_had, fetched_there}
-use Rattle.clock2q_uses.specs.Records.{AreRecords}
+use Rattle.clock2q_uses.specs.Records.{HoldsRecords}
 
 module _ {T : Type 0} (file : List T) (m : Machine ℕ T) (number : ℕ) where
   -- a record is missing if reading it failed
@@ -18,7 +18,7 @@ module _ {T : Type 0} (file : List T) (m : Machine ℕ T) (number : ℕ) where
   record_missing (Ok kept) failure fails = tt
   record_missing (Err e) failure fails = fails e failure
 
-  module _ (had : AreRecords file m) {made : T → Type 0} where
+  module _ (had : HoldsRecords file m) {made : T → Type 0} where
     by_had : (kept : T) (o : Option T) → value_of (eqb number) m ≡ o → UnwrapsOrElse o made kept → ((v : T) → made v → slice_get file number ≡ Some v)
         → (slice_get file number ≡ Some kept) × (fetched_value o kept ≡ kept)
     by_had kept None absent gave gives = (gives kept gave, refl)
@@ -31,7 +31,7 @@ module _ {T : Type 0} (file : List T) (m : Machine ℕ T) (number : ℕ) where
     record_read (Err e) gave gives = tt
 
     module _ (whole : IsWhole eqb m) where
-      records_fetched : (kept : T) → UnwrapsOrElse (value_of (eqb number) m) made kept → ((v : T) → made v → slice_get file number ≡ Some v) → AreRecords file (fetched (eqb number) number kept m)
+      records_fetched : (kept : T) → UnwrapsOrElse (value_of (eqb number) m) made kept → ((v : T) → made v → slice_get file number ≡ Some v) → HoldsRecords file (fetched (eqb number) number kept m)
       records_fetched kept gave gives other v found = elim (cases_eq other number) [
         | inl same ↦
             let now = fetched (eqb number) number kept m in
@@ -45,6 +45,6 @@ module _ {T : Type 0} (file : List T) (m : Machine ℕ T) (number : ℕ) where
       -- and the cache has only records
       pub records_read : {E : Type 0} (n : Machine ℕ T) (read : Result T E) → IfOk read (λ kept. n ≡ fetched (eqb number) number kept m)
           → IfOk read (λ kept. UnwrapsOrElse (value_of (eqb number) m) made kept) → OnErr read (n ≡ m)
-          → ((v : T) → made v → slice_get file number ≡ Some v) → AreRecords file n
-      records_read n (Ok kept) is gave same gives = subst (AreRecords file) (sym is) (records_fetched kept gave gives)
-      records_read n (Err e) is gave same gives = subst (AreRecords file) (sym same) had
+          → ((v : T) → made v → slice_get file number ≡ Some v) → HoldsRecords file n
+      records_read n (Ok kept) is gave same gives = subst (HoldsRecords file) (sym is) (records_fetched kept gave gives)
+      records_read n (Err e) is gave same gives = subst (HoldsRecords file) (sym same) had

@@ -1,6 +1,6 @@
 //! A memo of a costly function: the checksums of documents, which depend on every byte.
 ghost use Rattle.clock2q_uses.specs.Checksums.{adler32, document_checksum};
-ghost use Rattle.clock2q_memo.specs.Memo.{Computes, IsCallableAt, Remembers};
+ghost use Rattle.clock2q_memo.specs.Memo.{Computes, IsCallableAt, HoldsValues};
 ghost use Rattle.clock2q_machine.specs.Machine.{slot_of};
 ghost use Rattle.std.specs.Fn.{FnReturnsAt};
 ghost use Rattle.std.specs.NonZero.{non_zero_usize_get};
@@ -51,11 +51,11 @@ where
     F: Fn(&usize) -> Option<u32>,
     S: BuildHasher,
     requires callable { IsCallableAt F.Fn memo.old.function number }
-    ensures unchanged { Remembers eqb (FnReturnsAt F.Fn memo.old.function) memo.old.machine →
+    ensures unchanged { HoldsValues eqb (FnReturnsAt F.Fn memo.old.function) memo.old.machine →
         (value : ℕ → Option ℕ) → Computes eqb (FnReturnsAt F.Fn memo.old.function) value →
         IsTrue result ↔ (value number ≡ Some checksum) }
-    ensures remembers { Remembers eqb (FnReturnsAt F.Fn memo.old.function) memo.old.machine →
-        Remembers eqb (FnReturnsAt F.Fn memo.new.function) memo.new.machine }
+    ensures remembers { HoldsValues eqb (FnReturnsAt F.Fn memo.old.function) memo.old.machine →
+        HoldsValues eqb (FnReturnsAt F.Fn memo.new.function) memo.new.machine }
     ensures unread { IsSome (slot_of (eqb number) memo.old.machine) →
         memo.new.evaluations ≡ memo.old.evaluations }
     ensures once { memo.new.evaluations ≤ memo.old.evaluations + 1 }

@@ -1,7 +1,7 @@
 //! Values that are read if a cache doesn't have them, when reading may fail.
 ghost use Rattle.clock2q_machine.specs.Machine.{slot_of, value_of};
 ghost use Rattle.clock2q_machine.specs.Steps.{fetched};
-ghost use Rattle.clock2q_uses.specs.Records.{AreRecords};
+ghost use Rattle.clock2q_uses.specs.Records.{HoldsRecords};
 ghost use Rattle.std.specs.Option.{UnwrapsOrElse};
 ghost use Rattle.std.specs.Prelude.{◌≡◌, None, Some, Ok, Err, IfOk, IfErr, OnErr, MatchResult, slice_get};
 
@@ -65,11 +65,11 @@ pub fn record_of<T: Copy, S: BuildHasher>(
     file: &[T],
     number: usize,
 ) -> Result<T, NoRecord>
-    ensures found { AreRecords file.now records.old.machine →
+    ensures found { HoldsRecords file.now records.old.machine →
         IfOk result (λ found. slice_get file.now number ≡ Some found) }
     ensures missing { OnErr result (slice_get file.now number ≡ None) }
-    ensures keeps { AreRecords file.now records.old.machine →
-        AreRecords file.now records.new.machine }
+    ensures keeps { HoldsRecords file.now records.old.machine →
+        HoldsRecords file.now records.new.machine }
     ensures unchanged { OnErr result (records.new.machine ≡ records.old.machine) }
 {
     let _ = records.len(); // whose contract says that the cache is whole

@@ -1,5 +1,5 @@
 //! Keys that are read once, as by a backup or a full search: how many other keys they evict.
-ghost use Rattle.clock2q_machine.specs.Scans.{IsFull, IsScan, left_main, set_in_small};
+ghost use Rattle.clock2q_machine.specs.Scans.{IsFullCache, IsScan, left_main, set_in_small};
 ghost use Rattle.clock2q_machine.specs.Steps.{after_all};
 ghost use Rattle.clock2q_uses.specs.Scanning.{LeavesOrStays, calls_of, puts_of};
 ghost use Rattle.std.specs.Prelude.{◌≡◌, ◌≤◌, eqb};
@@ -14,11 +14,11 @@ use clock2q::Cache;
 /// and its value.
 pub fn put_all(cache: &mut Cache<u64, u64>, keys: &[u64])
     ensures machine { cache.new.machine ≡ after_all eqb (calls_of keys.now) cache.old.machine }
-    ensures left { IsFull cache.old.machine → IsScan eqb (puts_of keys.now) cache.old.machine
+    ensures left { IsFullCache cache.old.machine → IsScan eqb (puts_of keys.now) cache.old.machine
         → left_main eqb cache.old.machine cache.new.machine ≤ set_in_small cache.old.machine }
-    ensures share { IsFull cache.old.machine → IsScan eqb (puts_of keys.now) cache.old.machine
+    ensures share { IsFullCache cache.old.machine → IsScan eqb (puts_of keys.now) cache.old.machine
         → left_main eqb cache.old.machine cache.new.machine ≤ cache.old.machine.shares.small }
-    ensures untouched { IsFull cache.old.machine → IsScan eqb (puts_of keys.now) cache.old.machine
+    ensures untouched { IsFullCache cache.old.machine → IsScan eqb (puts_of keys.now) cache.old.machine
         → set_in_small cache.old.machine ≡ 0 → cache.new.machine.main ≡ cache.old.machine.main }
     ensures keeps { IsScan eqb (puts_of keys.now) cache.old.machine →
         LeavesOrStays cache.old.machine cache.new.machine }

@@ -3,13 +3,13 @@ use Rattle.std.proofs.Common.{◌≡◌, ℕ, ◌+◌, ◌%◌, ◌^◌, ◌<◌
 use Rattle.std.specs.Prelude.{IfSome, if◌then◌else◌}
 use Rattle.std.specs.List.{find, AllByRecursion, list_any}
 use Rattle.std.proofs.lemmas.Bool.{both_ways}
-use Rattle.clock2q_handles.specs.Homes.{candidates, with_handle, removed}
+use Rattle.clock2q_handles.specs.Homes.{candidates, with_handle, without_handle}
 use Rattle.clock2q_directory.specs.declared.keys.store.Entry.{Entry}
 use Rattle.clock2q_directory.specs.Index.{IndexState, emptied, index_for, is_shared, slots, entered_from, left}
 use Rattle.clock2q_directory.specs.Indexes.{IsIndex}
 use Rattle.clock2q_directory.specs.Keys.{KeyPlaces, key_places, entry, written, hash_at, key_at, Writes}
 use Rattle.clock2q_directory.specs.Directory.{Known, IsResident, IsWithinRoom, Remembers}
-use Rattle.clock2q_directory.specs.History.{Remembered, Places, HasRoom, remembered, places_with, most_beside, pushed_places, oldest_hash, places_looked_up}
+use Rattle.clock2q_directory.specs.History.{Remembered, Places, HasRoomBesideMost, remembered, places_with, most_beside, pushed_places, oldest_hash, places_looked_up}
 use Rattle.clock2q_directory.proofs.Emptied.{for-new, new-none, emptied-slots, cleared_like}
 use Rattle.clock2q_directory.proofs.Entries.{length-written, slice_get-written}
 use Rattle.clock2q_directory.proofs.Hashed.{all-take}
@@ -52,7 +52,7 @@ module _ {hashes : ℕ} {h : Remembered ℕ} {r : KeyPlaces ℕ (Unit {0})} (k :
   finds_none test x (Some slot) f = absurd (none_some slot (ap (λ z. find test z) (sym (no_candidates x)) ∙ f))
 
   -- one more slot fits
-  pub fits : HasRoom h
+  pub fits : HasRoomBesideMost h
   fits = record { room = omega (arith, k.indexed.counted, k.room); few = omega (arith, k.indexed.counted, k.few) }
 
   -- a key is written to the first place, and takes slot 0
@@ -136,7 +136,7 @@ module _ {key hashes : ℕ} {h : Remembered ℕ} {r : KeyPlaces ℕ (Unit {0})} 
   -- the resident leaves, and is remembered
   module _ (h' : Remembered ℕ) (r' : KeyPlaces ℕ (Unit {0})) (oldest : ℕ) (hashed : AllByRecursion (λ e. e.0 ≡ e.1 % hashes) h'.entries)
       (places : h'.places ≡ pushed_places h.limit (key % hashes) 0 oldest h.places) (limit : h'.limit ≡ h.limit) (keys : r'.entries ≡ r.entries) (room : r'.room ≡ r.room) where
-    now_left : slots h'.places.index ≡ removed eqb (slots h.places.index) (key % hashes) 0
+    now_left : slots h'.places.index ≡ without_handle eqb (slots h.places.index) (key % hashes) 0
     now_left = ap (λ (z : Places). slots z.index) places ∙ slots-pushed h.limit (key % hashes) 0 oldest h.places (omega arith)
 
     as_many_left : length (slots h'.places.index) ≡ length (slots h.places.index)
@@ -161,7 +161,7 @@ module _ {key hashes : ℕ} {h : Remembered ℕ} {r : KeyPlaces ℕ (Unit {0})} 
   -- the resident leaves, and is not remembered
   pub withdrawn-alone : (h' : Remembered ℕ) → h' ≡ record h { places = record h.places { index = left (key % hashes) 0 h.places.index } } → IsAlone hashes h' r
   withdrawn-alone h' is =
-      let slots_now : slots h'.places.index ≡ removed eqb (slots h.places.index) (key % hashes) 0 =
+      let slots_now : slots h'.places.index ≡ without_handle eqb (slots h.places.index) (key % hashes) 0 =
       ap (λ (z : Remembered ℕ). slots z.places.index) is ∙ slots-left h.places.index (key % hashes) 0 (omega arith) in
       let count : length (slots h'.places.index) ≡ length (slots h.places.index) =
       ap (λ (z : List (List (ℕ × ℕ))). length z) slots_now ∙ length-taken (slots h.places.index) (key % hashes) 0 in

@@ -16,7 +16,7 @@ impl<K: Hash + Eq + Drop, V: Drop, S: BuildHasher, A: Allocator> Cache<K, V, S, 
     ghost use Rattle.clock2q_cache.specs.Charged.{with_slot};
     ghost use Rattle.clock2q_cache.specs.CacheLends.{LeavesMachine, LeavesTried, LendsPut, LendsTaken};
     ghost use Rattle.clock2q_cache.specs.Hashes.{hash_of};
-    ghost use Rattle.clock2q_cache.specs.Closures.{Fetches, Takes};
+    ghost use Rattle.clock2q_cache.specs.Closures.{Fetches, TakesSlot};
     ghost use Rattle.clock2q_cache.specs.Costs.{Costs, Reaches, Spends, accesses_for, alike, slots_for, walked};
     ghost use Rattle.clock2q_cache.specs.Places.{known_taken};
     ghost use Rattle.clock2q_machine.specs.Machine.{slot_of, value_of};
@@ -226,7 +226,7 @@ impl<K: Hash + Eq + Drop, V: Drop, S: BuildHasher, A: Allocator> Cache<K, V, S, 
         requires make { slice_get self.old.machine.values
             (slotted_at (slot_of (K.eq key) self.old.machine) (K.eq key) key self.old.machine) ≡
             None → F.pre make }
-        ensures taken { Takes (K.eq key) key
+        ensures taken { TakesSlot (K.eq key) key
             (F.post make) self.old.machine result.0 self.new.machine }
         ensures made { result.0 < length self.new.machine.values }
         ensures hit { result.1.is_hit ≡ is_some (slot_of (K.eq key) self.old.machine) }

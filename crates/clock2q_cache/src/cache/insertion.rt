@@ -21,7 +21,7 @@ impl<K: Hash + Eq + Drop, V: Drop, S: BuildHasher, A: Allocator> Cache<K, V, S, 
     ghost use Rattle.clock2q_machine.specs.Entries.{inspections};
     ghost use Rattle.clock2q_cache.specs.Closures.{Reuses};
     ghost use Rattle.clock2q_cache.specs.Places.{known_at, looked_for};
-    ghost use Rattle.clock2q_cache.specs.Insertions.{Enters, EntersMain, EntersQueue, EntersSmall, IsAbsent, IsFoundFor, IsUnknown, Notes, Sends, placed, makes_slot, next_is_vacant, leaves_placed};
+    ghost use Rattle.clock2q_cache.specs.Insertions.{Enters, EntersMain, EntersQueue, EntersSmall, IsAbsent, IsFoundFor, IsUnknown, Notes, Admits, into_queue, makes_slot, next_is_vacant, leaves_placed};
     ghost use Rattle.clock2q_machine.specs.Leaving.{leaves_for, leaves_for_main};
     ghost use Rattle.clock2q_machine.specs.Machine.{vacancy, goes_to_main, placement, inserted};
 
@@ -93,7 +93,7 @@ impl<K: Hash + Eq + Drop, V: Drop, S: BuildHasher, A: Allocator> Cache<K, V, S, 
         requires unknown { IsUnknown K.Hash S.BuildHasher S.Hasher.Hasher key hash gap self.old }
         requires small { main ≡ false → goes_to_main false self.old.machine ≡ false }
         requires had { IfNone value
-            ((placed main key self.old.machine).slot < length self.old.machine.values) }
+            ((into_queue main key self.old.machine).slot < length self.old.machine.values) }
         ensures entered { EntersQueue K.Hash S.BuildHasher S.Hasher.Hasher main key value result.0 self.old self.new }
         ensures left { Notes F.FnOnce leaves
             (leaves_placed main self.old.machine) result.0 result.1 }
@@ -151,7 +151,7 @@ impl<K: Hash + Eq + Drop, V: Drop, S: BuildHasher, A: Allocator> Cache<K, V, S, 
     pub(super) fn choose_queue(&mut self, hash: u64, key: &K, found: &Found) -> bool
         requires found { IsFoundFor K.eq found.now key.now hash self.old }
         requires absent { IsAbsent K.Hash S.BuildHasher S.Hasher.Hasher key.now hash self.old }
-        ensures sent { Sends K.Hash S.BuildHasher S.Hasher.Hasher key.now hash result self.old self.new }
+        ensures sent { Admits K.Hash S.BuildHasher S.Hasher.Hasher key.now hash result self.old self.new }
         ensures unknown { IsUnknown K.Hash S.BuildHasher S.Hasher.Hasher key.now hash
             (found_gap found.now) self.new }
         ensures small { result ≡ false → goes_to_main false self.new.machine ≡ false }
@@ -196,9 +196,9 @@ impl<K: Hash + Eq + Drop, V: Drop, S: BuildHasher, A: Allocator> Cache<K, V, S, 
         requires small { main ≡ false →
             length self.old.machine.small < self.old.machine.shares.small }
         requires had { IfNone value
-            ((placed main key self.old.machine).slot < length self.old.machine.values) }
+            ((into_queue main key self.old.machine).slot < length self.old.machine.values) }
         ensures entered { Enters K.Hash S.BuildHasher S.Hasher.Hasher key value
-            (placed main key self.old.machine) None 0 28 result self.old self.new }
+            (into_queue main key self.old.machine) None 0 28 result self.old self.new }
     {
         let slot = take_vacancy(&mut self.free, self.directory.made());
         self.directory.enter(gap, slot, hash, key, value);

@@ -7,7 +7,7 @@ use Rattle.clock2q_handles.specs.Homes.{capacity, listed, count, total, no_entri
 use Rattle.clock2q_handles.specs.Layout.{Placed, spill, reach, layout, layout_upto, homes_of, IsTidy, IsTooLong}
 use Rattle.clock2q_handles.specs.TableStep.{table_value, made_for, fit}
 use Rattle.clock2q_handles.specs.Slots.{IsSlotCount}
-use Rattle.clock2q_handles.specs.Table.{IsTable, IsWhole}
+use Rattle.clock2q_handles.specs.Table.{IsTable, IsWholeTable}
 use Rattle.std.proofs.lemmas.Option.{slice_get_cases}
 use Rattle.clock2q_handles.proofs.layout.Reading.{get_or-same}
 use Rattle.clock2q_handles.proofs.layout.TidyLayout.{length-homes_of, tidy-layout, tidy-room, read-laid, layout-tidy, layout-read}
@@ -62,7 +62,7 @@ module _ {H : Type 0} (slots : List (Option (Placed (ℕ × H)))) (len : ℕ) (t
       grind (arith, long, length-homes_of slots, read-laid slots table.tidy, slice_get_cases (listed (homes_of slots) h) i, table.near (h + spill (count (homes_of slots)) (length slots) h + i))
 
   -- so callers may rely on all of it
-  pub table-whole : (writes reads : ℕ) → IsWhole (table_value (homes_of slots) slots writes reads)
+  pub table-whole : (writes reads : ℕ) → IsWholeTable (table_value (homes_of slots) slots writes reads)
   table-whole writes reads = grind (arith, tidy-layout, length-homes_of, tidy-room, table-short)
 
 -- 0 is a slot count

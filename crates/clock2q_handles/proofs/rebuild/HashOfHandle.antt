@@ -6,7 +6,7 @@ use Rattle.clock2q_handles.specs.Offers.{Settles, FindsOrPuts}
 use Rattle.clock2q_handles.specs.Changes.{PutIn}
 use Rattle.std.proofs.lemmas.Bool.Decides.{leb_tells}
 use Rattle.std.specs.Fn.{Called, Takes, Mut}
-use Rattle.clock2q_handles.specs.Homes.{top, capacity, total, with_handle, removed}
+use Rattle.clock2q_handles.specs.Homes.{top, capacity, total, with_handle, without_handle}
 use Rattle.clock2q_handles.specs.TableStep.{TableValue, IsHashOf, IsFull, IsShortOf, doubled_until, grown, reserved, doubled, fit}
 use Rattle.clock2q_handles.specs.Rehash.{GivesHashes, AnswersInTurn, AfterGrowth, IsHeld, held_handles}
 use Rattle.clock2q_handles.proofs.rebuild.Held.{by_slot_held}
@@ -77,7 +77,7 @@ module _ {H : Type 0} (key : H → ℕ) where
     keyed_reserved before after n (Err e) ok err to from room hashes gives = rw (to ∙ ap (λ t. t.homes) err ∙ from) hashes
 
   -- one handle less
-  pub keyed_removed : (eq : H → H → Bool) (homes : List (List (ℕ × H))) (x : ℕ) (v : H) → IsHashOf key homes → IsHashOf key (removed eq homes x v)
+  pub keyed_removed : (eq : H → H → Bool) (homes : List (List (ℕ × H))) (x : ℕ) (v : H) → IsHashOf key homes → IsHashOf key (without_handle eq homes x v)
   keyed_removed eq [] x v hashes = hashes
   keyed_removed eq (es ∷ homes) x v hashes = hashes-removed key eq (es ∷ homes) x v (omega arith) hashes
 

@@ -7,7 +7,7 @@ use Rattle.std.proofs.lemmas.List.{length-replicate}
 use Rattle.std.proofs.lemmas.List.Elements.{filter_map-append, All-head, All-tail, All-set, All-replicate, All-same}
 use Rattle.std.proofs.lemmas.Option.{slice_get_within, slice_get-get_or, get_or_from_slice_get}
 use Rattle.std.proofs.Math.Seq.{split_at}
-use Rattle.clock2q_handles.specs.Homes.{top, capacity, home, listed, total, no_entries, with_list, put_last, without_first, is_entry_of, removed}
+use Rattle.clock2q_handles.specs.Homes.{top, capacity, home, listed, total, no_entries, with_list, put_last, without_first, is_entry_of, without_handle}
 use Rattle.clock2q_handles.specs.Layout.{Placed, placed, slot_at, layout, layout_upto, put_from, spill_of, entries, homes_of, IsTidy}
 use Rattle.clock2q_handles.specs.TableStep.{put_all, rebuilt, grown, doubled, IsFull, IsHashOf}
 use Rattle.clock2q_handles.proofs.layout.Walk.{slice_get-append}
@@ -132,7 +132,7 @@ module _ {H : Type 0} (key : H → ℕ) where
       hashes-with_list homes x (listed homes x ++ e ∷ []) hashes (λ i f is. grind (arith, slice_get-push (listed homes x) e f i is, hash-at homes hashes some x i f, into, fingerprint))
 
   -- an entry removed
-  pub hashes-removed : (eq : H → H → Bool) (homes : List (List (ℕ × H))) (x : ℕ) (v : H) → 0 < length homes → IsHashOf key homes → IsHashOf key (removed eq homes x v)
+  pub hashes-removed : (eq : H → H → Bool) (homes : List (List (ℕ × H))) (x : ℕ) (v : H) → 0 < length homes → IsHashOf key homes → IsHashOf key (without_handle eq homes x v)
   hashes-removed eq homes x v some hashes =
       hashes-with_list homes x (without_first (is_entry_of eq x v) (listed homes x)) hashes
       (λ i e is. let r = without_first-from (is_entry_of eq x v) (listed homes x) e i is in hash-at homes hashes some x r.0 e r.1)

@@ -5,7 +5,7 @@ use Rattle.clock2q_handles.specs.declared.error.TableError.TheVariants.{RunTooLo
 use Rattle.clock2q_handles.specs.Candidates.{EndsAt}
 use Rattle.clock2q_handles.specs.Changes.{Exchanges, Inserts, IsLaidOut, PutsUnder, ReadsAtMost, RisesAtMost, WritesAtMost}
 use Rattle.clock2q_handles.specs.Found.{FindsAt, TakesOutAt, TakesOut}
-use Rattle.clock2q_handles.specs.Homes.{top, capacity, is_entry_of, listed, removed, total}
+use Rattle.clock2q_handles.specs.Homes.{top, capacity, is_entry_of, listed, without_handle, total}
 use Rattle.clock2q_handles.specs.Layout.{Placed, homes_of, run, walk, slot_at, reach, IsTidy}
 use Rattle.clock2q_handles.specs.Positions.{GapValue, gap_of}
 use Rattle.clock2q_handles.specs.Shifts.{HasRoomAt, LacksRoomAt, PutsAt}
@@ -41,7 +41,7 @@ module _ {E : Type 0} {slots more : List (Option (Placed E))} (tidy : IsTidy slo
 
 -- v is taken out under x
 pub record TakesUnder {H : Type 0} (eq : H → H → Bool) (x : ℕ) (v : H) (old new : TableValue H) : Type 0 where
-  pub removed : new.homes ≡ removed eq old.homes x v
+  pub removed : new.homes ≡ without_handle eq old.homes x v
   pub held : list_any (is_entry_of eq x v) (listed old.homes x) ≡ true
   pub writes : WritesAtMost (run old.slots x) old new
   pub reads : ReadsAtMost (walk old.homes x) old new
@@ -112,7 +112,7 @@ module _ {H : Type 0} {slots : List (Option (Placed (ℕ × H)))} {len w r : ℕ
             let on = opened-on (puts.opens x end.ends.walk.distance (top x) come end.ends.walk.mark).2 (slot-again slots) (slots_again more (length slots) puts.len) table.tidy.ordered come.passed in
             let within = taken_within table.tidy done.table.tidy puts.len (omega (arith, end.fits)) on y (found_taken found taken) in
             let longer : (z : ℕ) → walk (homes_of more) z ≤ walk (homes_of slots) z + 1 = λ z. omega (arith, ap (λ hs. walk hs z) done.homes, walk-more (homes_of slots) x (top x, v) some z) in
-            let homes = out.homes ∙ ap (λ hs. removed eq hs y v') done.homes ∙ exchanged-homes eq (homes_of slots) x y v v' some was_held in
+            let homes = out.homes ∙ ap (λ hs. without_handle eq hs y v') done.homes ∙ exchanged-homes eq (homes_of slots) x y v v' some was_held in
             let shorter = removed-walk eq (homes_of more) y v' (tidy-room more done.table.tidy) in
             let laid = table-laid less len exchanged_table w'' r'' in
             subst (λ t. Exchanges eq x v y v' t (table_value (homes_of less) less w'' r'')) is

@@ -4,7 +4,7 @@ use Rattle.std.proofs.lemmas.List.{set_comm}
 use Rattle.std.proofs.lemmas.List.Folds.{list_any-append}
 use Rattle.std.specs.List.{list_any}
 use Rattle.std.proofs.Math.Seq.{set-get_or}
-use Rattle.clock2q_handles.specs.Homes.{top, capacity, listed, total, with_list, put_last, without_first, with_handle, is_entry_of, removed, IsNew}
+use Rattle.clock2q_handles.specs.Homes.{top, capacity, listed, total, with_list, put_last, without_first, with_handle, is_entry_of, without_handle, IsNew}
 use Rattle.clock2q_handles.specs.Positions.{with_first, handle_replaced}
 use Rattle.clock2q_handles.specs.Layout.{Placed, walk, layout, homes_of, IsTidy}
 use Rattle.clock2q_handles.proofs.layout.TidyLayout.{tidy-layout, length-homes_of}
@@ -46,7 +46,7 @@ changed-after {E} f homes x y e some kept = grind (arith, length-with_list, list
 
 module _ {H : Type 0} (eq : H → H → Bool) where
   -- if there is no such entry, nothing changes
-  pub removed-none : (homes : List (List (ℕ × H))) (x : ℕ) (v : H) → IsNew eq homes x v → removed eq homes x v ≡ homes
+  pub removed-none : (homes : List (List (ℕ × H))) (x : ℕ) (v : H) → IsNew eq homes x v → without_handle eq homes x v ≡ homes
   removed-none homes x v none = grind (arith, without_first-none, set-get_or)
 
   -- an entry that is held is held once another is put in
@@ -56,7 +56,7 @@ module _ {H : Type 0} (eq : H → H → Bool) where
 
   -- an entry may be removed after another is put in
   pub exchanged-homes : (homes : List (List (ℕ × H))) (x y : ℕ) (v w : H) → 0 < length homes → list_any (is_entry_of eq y w) (listed homes y) ≡ true
-      → removed eq (with_handle homes x v) y w ≡ with_handle (removed eq homes y w) x v
+      → without_handle eq (with_handle homes x v) y w ≡ with_handle (without_handle eq homes y w) x v
   exchanged-homes homes x y v w some held = changed-after (without_first (is_entry_of eq y w)) homes x y (top x, v) some (grind (arith, without_first-append))
 
   -- or get another handle
@@ -65,20 +65,20 @@ module _ {H : Type 0} (eq : H → H → Bool) where
   replaced-homes homes x y v w w' some held = changed-after (with_first (is_entry_of eq y w) (top y, w')) homes x y (top x, v) some (grind (arith, with_first-append))
 
   -- one entry fewer is left
-  pub removed-fewer : (homes : List (List (ℕ × H))) (x : ℕ) (v : H) → list_any (is_entry_of eq x v) (listed homes x) ≡ true → suc (total (removed eq homes x v)) ≡ total homes
+  pub removed-fewer : (homes : List (List (ℕ × H))) (x : ℕ) (v : H) → list_any (is_entry_of eq x v) (listed homes x) ≡ true → suc (total (without_handle eq homes x v)) ≡ total homes
   removed-fewer [] x v held = absurd (cc)
   removed-fewer (es ∷ homes) x v held =
       let less = without_first (is_entry_of eq x v) (listed (es ∷ homes) x) in
       omega (arith, total-with_list (es ∷ homes) x less (omega arith), length-without_some (is_entry_of eq x v) (listed (es ∷ homes) x) held)
 
   -- no walk becomes longer
-  pub removed-walk : (homes : List (List (ℕ × H))) (x : ℕ) (v : H) → total homes ≤ capacity (length homes) → (y : ℕ) → walk (removed eq homes x v) y ≤ walk homes y
+  pub removed-walk : (homes : List (List (ℕ × H))) (x : ℕ) (v : H) → total homes ≤ capacity (length homes) → (y : ℕ) → walk (without_handle eq homes x v) y ≤ walk homes y
   removed-walk homes x v room y = shorter-walk homes x y (without_first (is_entry_of eq x v) (listed homes x)) room (length-without_first (is_entry_of eq x v) (listed homes x))
 
   -- removing an entry that was put in restores the slots
   pub restored-slots : (slots : List (Option (Placed (ℕ × H)))) (x : ℕ) (v : H) → IsTidy slots → 0 < length slots
-      → eq v v ≡ true → IsNew eq (homes_of slots) x v → layout (removed eq (with_handle (homes_of slots) x v) x v) ≡ slots
+      → eq v v ≡ true → IsNew eq (homes_of slots) x v → layout (without_handle eq (with_handle (homes_of slots) x v) x v) ≡ slots
   restored-slots slots x v tidy some same new =
-      let homes : removed eq (with_handle (homes_of slots) x v) x v ≡ homes_of slots =
+      let homes : without_handle eq (with_handle (homes_of slots) x v) x v ≡ homes_of slots =
       grind (arith, length-homes_of, length-with_list, listed-with_same, eq-eqb, without_first-at, append-nil, set-set, set-get_or) in
       ap layout homes ∙ sym (tidy-layout slots tidy)

@@ -3,7 +3,7 @@ use Rattle.std.proofs.Common.{◌≡◌, ℕ, suc, ◌+◌, ◌-◌, ◌%◌, �
 use Rattle.std.proofs.lemmas.List.Folds.{list_any-append}
 use Rattle.std.specs.List.{list_any}
 use Rattle.clock2q_handles.specs.Found.{FindsAt, TakesOut, TakesOutAt}
-use Rattle.clock2q_handles.specs.Homes.{capacity, listed, total, is_entry_of, removed, without_first}
+use Rattle.clock2q_handles.specs.Homes.{capacity, listed, total, is_entry_of, without_handle, without_first}
 use Rattle.clock2q_handles.specs.Layout.{Placed, slot_at, reach, longest_reach, homes_of, met, run, IsTidy}
 use Rattle.clock2q_handles.specs.Table.{IsTable}
 use Rattle.clock2q_handles.proofs.layout.Laid.{met-same}
@@ -36,7 +36,7 @@ module _ {E : Type 0} {test : E → Bool} {slots : List (Option (Placed E))} whe
 
 -- what a removal results in: the lists without the entry, which was there, and the writes
 pub record Removal {H : Type 0} (eq : H → H → Bool) (x : ℕ) (v : H) (others slots : List (Option (Placed (ℕ × H)))) (len before after : ℕ) : Type 0 where
-  pub homes : homes_of slots ≡ removed eq (homes_of others) x v
+  pub homes : homes_of slots ≡ without_handle eq (homes_of others) x v
   pub found : list_any (is_entry_of eq x v) (listed (homes_of others) x) ≡ true
   pub total_less : suc (total (homes_of slots)) ≡ len
   pub table : IsTable slots (len - 1)

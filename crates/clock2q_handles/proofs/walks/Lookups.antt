@@ -3,7 +3,7 @@ use Rattle.std.proofs.Common.{◌≡◌, ℕ, ◌<◌, refl, arith, Bool, ◌==�
 use Rattle.std.proofs.lemmas.Bool.{cases_eq, cases_Bool}
 use Rattle.std.proofs.lemmas.List.{map-append}
 use Rattle.std.proofs.lemmas.List.Elements.{filter-append}
-use Rattle.clock2q_handles.specs.Homes.{top, home, listed, without_first, with_handle, is_entry_of, removed, candidates}
+use Rattle.clock2q_handles.specs.Homes.{top, home, listed, without_first, with_handle, is_entry_of, without_handle, candidates}
 use Rattle.clock2q_handles.proofs.layout.FewerEntries.{listed-put_last}
 use Rattle.clock2q_handles.proofs.shifts.Changes.{listed-with_same, listed-with_other}
 
@@ -35,7 +35,7 @@ module _ {H : Type 0} where
 
   module _ (eq : H → H → Bool) where
     listed-removed : (homes : List (List (ℕ × H))) (x y : ℕ) (v : H) → 0 < length homes → home homes y ≡ home homes x
-        → listed (removed eq homes x v) y ≡ without_first (is_entry_of eq x v) (listed homes y)
+        → listed (without_handle eq homes x v) y ≡ without_first (is_entry_of eq x v) (listed homes y)
     listed-removed homes x y v some same = grind (arith, listed-with_same homes x y (without_first (is_entry_of eq x v) (listed homes x)) some same)
 
     with_top-taken : (x : ℕ) (v : H) (es : List (ℕ × H)) → with_top x (without_first (is_entry_of eq x v) es) ≡ without_first (λ w. eq w v) (with_top x es)
@@ -48,12 +48,12 @@ module _ {H : Type 0} where
 
     -- the hash of a removal yields the handles without the first that equals the removed one
     pub candidates-removed : (homes : List (List (ℕ × H))) (x y : ℕ) (v : H) → 0 < length homes → home homes y ≡ home homes x
-        → top y ≡ top x → candidates (removed eq homes x v) y ≡ without_first (λ w. eq w v) (candidates homes y)
+        → top y ≡ top x → candidates (without_handle eq homes x v) y ≡ without_first (λ w. eq w v) (candidates homes y)
     candidates-removed homes x y v some same fingerprint = grind (arith, fingerprint, listed-removed homes x y v some same, with_top-taken x v (listed homes y))
 
     -- every other hash yields what it did
     pub candidates-removed_other : (homes : List (List (ℕ × H))) (x y : ℕ) (v : H) → 0 < length homes
-        → ((home homes y ≡ home homes x) × (top y ≡ top x) → ⊥) → candidates (removed eq homes x v) y ≡ candidates homes y
+        → ((home homes y ≡ home homes x) × (top y ≡ top x) → ⊥) → candidates (without_handle eq homes x v) y ≡ candidates homes y
     candidates-removed_other homes x y v some other = grind (
       arith,
       cases_eq (home homes y) (home homes x),

@@ -1,6 +1,6 @@
 -- Runs of occupied slots: a removal leaves room and lengthens none.
 use Rattle.std.proofs.Common.{◌≡◌, ℕ, zero, suc, ◌+◌, ◌<◌, ◌≤◌, ◌∙◌, arith, Bool, List, length, Option, None}
-use Rattle.clock2q_handles.specs.Homes.{capacity, listed, count, total, without_first, is_entry_of, removed}
+use Rattle.clock2q_handles.specs.Homes.{capacity, listed, count, total, without_first, is_entry_of, without_handle}
 use Rattle.clock2q_handles.specs.Layout.{Placed, slot_at, layout, occupied, run}
 use Rattle.clock2q_handles.proofs.layout.Spill.{window-le, spill-lt}
 use Rattle.clock2q_handles.proofs.layout.Laid.{none-gap}
@@ -17,7 +17,7 @@ occupied-fewer A B still n (suc k) = grind (arith, still n, occupied-fewer A B s
 
 module _ {H : Type 0} (eq : H → H → Bool) (homes : List (List (ℕ × H))) (x : ℕ) (v : H) (room : total homes ≤ capacity (length homes)) where
   abbrev fewer : List (List (ℕ × H))
-  fewer = removed eq homes x v
+  fewer = without_handle eq homes x v
 
   as_many : length fewer ≡ length homes
   as_many = length-with_list homes x (without_first (is_entry_of eq x v) (listed homes x))
@@ -26,7 +26,7 @@ module _ {H : Type 0} (eq : H → H → Bool) (homes : List (List (ℕ × H))) (
   below some n = count-with_list homes x n (without_first (is_entry_of eq x v) (listed homes x)) some (length-without_first (is_entry_of eq x v) (listed homes x))
 
   -- removing an entry leaves room
-  pub removed-room : total (removed eq homes x v) ≤ capacity (length (removed eq homes x v))
+  pub removed-room : total (without_handle eq homes x v) ≤ capacity (length (without_handle eq homes x v))
   removed-room = grind (arith, room, as_many, sum-window length homes, sum-window length fewer, window-le (count fewer) (count homes) 0 (length homes), below)
 
   still_empty : 0 < length homes → (n : ℕ) → slot_at (layout homes) n ≡ None → slot_at (layout fewer) n ≡ None
@@ -47,5 +47,5 @@ module _ {H : Type 0} (eq : H → H → Bool) (homes : List (List (ℕ × H))) (
       )
 
   -- and lengthens no run
-  pub removed-run : (y : ℕ) → run (layout (removed eq homes x v)) y ≤ run (layout homes) y
+  pub removed-run : (y : ℕ) → run (layout (without_handle eq homes x v)) y ≤ run (layout homes) y
   removed-run y = grind (arith, length-layout, occupied-fewer, still_empty, as_many)

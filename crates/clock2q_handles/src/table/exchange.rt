@@ -1,7 +1,7 @@
 //! Insertion at a gap that a lookup found, and the exchange of an entry for another.
 ghost use Rattle.clock2q_handles.specs.Candidates.{EndsAt};
 ghost use Rattle.clock2q_handles.specs.Changes.{ChangesAtMost, Exchanges, IsLaidOut, ReadsAtMost, WritesAtMost};
-ghost use Rattle.clock2q_handles.specs.Homes.{is_entry_of, listed, removed, total, with_handle};
+ghost use Rattle.clock2q_handles.specs.Homes.{is_entry_of, listed, without_handle, total, with_handle};
 ghost use Rattle.clock2q_handles.specs.Layout.{homes_of, run, walk, IsTidy};
 ghost use Rattle.clock2q_handles.specs.Positions.{gap_of};
 ghost use Rattle.clock2q_handles.specs.Shifts.{HasRoomAt};
@@ -50,7 +50,7 @@ impl<H: Copy + Eq + Default, A: Allocator> Table<H, A> {
         requires held { list_any (is_entry_of H.PartialEq.eq old_hash old)
             (listed self.old.homes old_hash) ≡ true }
         ensures exchanged { self.new.homes
-            ≡ with_handle (removed H.PartialEq.eq self.old.homes old_hash old) hash handle }
+            ≡ with_handle (without_handle H.PartialEq.eq self.old.homes old_hash old) hash handle }
         ensures accesses { ChangesAtMost hash old_hash self.old self.new }
         ensures longer { (x : ℕ) → walk self.new.homes x ≤ walk self.old.homes x + 1 }
         ensures laid { IsLaidOut self.new }

@@ -1,6 +1,6 @@
 //! Removal of entries from a table.
 ghost use Rattle.clock2q_handles.specs.Changes.{WritesAtMost, ReadsAtMost, OnlyReads, IsLaidOut};
-ghost use Rattle.clock2q_handles.specs.Homes.{listed, removed, is_entry_of};
+ghost use Rattle.clock2q_handles.specs.Homes.{listed, without_handle, is_entry_of};
 ghost use Rattle.clock2q_handles.specs.Layout.{run, walk};
 ghost use Rattle.std.specs.Bool.{OnFalse};
 ghost use Rattle.std.specs.List.{list_any};
@@ -20,7 +20,7 @@ impl<H: Copy + Eq + Default, A: Allocator> Table<H, A> {
     /// last entry that moves back, and reads as many more.
     #[tactic(auto, using(crate::proofs::shifts::Taking::found_occupied, crate::proofs::shifts::Steps::home_lists, crate::proofs::Attributes::laid_out, crate::proofs::Attributes::absent))]
     pub fn remove(&mut self, hash: u64, handle: H) -> bool
-        ensures removed { self.new.homes ≡ removed H.PartialEq.eq self.old.homes hash handle }
+        ensures removed { self.new.homes ≡ without_handle H.PartialEq.eq self.old.homes hash handle }
         ensures found { result ≡ list_any (is_entry_of H.PartialEq.eq hash handle)
             (listed self.old.homes hash) }
         ensures none { OnFalse result (OnlyReads (walk self.old.homes hash) self.old self.new) }
@@ -48,7 +48,7 @@ impl<H: Copy + Eq + Default, A: Allocator> Table<H, A> {
     pub fn remove_existing(&mut self, hash: u64, handle: H)
         requires held { list_any (is_entry_of H.PartialEq.eq hash handle)
             (listed self.old.homes hash) ≡ true }
-        ensures removed { self.new.homes ≡ removed H.PartialEq.eq self.old.homes hash handle }
+        ensures removed { self.new.homes ≡ without_handle H.PartialEq.eq self.old.homes hash handle }
         ensures writes { WritesAtMost (run self.old.slots hash) self.old self.new }
         ensures reads { ReadsAtMost (walk self.old.homes hash) self.old self.new }
         ensures laid { IsLaidOut self.new }

@@ -18,7 +18,7 @@ where
     ghost use Rattle.std.specs.NonZero.{non_zero_usize_get};
     ghost use Rattle.clock2q_machine.specs.Shares.{usual_shares};
     ghost use Rattle.clock2q_machine.specs.Machine.{empty};
-    ghost use Rattle.clock2q_memo.specs.Memo.{memo_state, GivesOk, Remembers};
+    ghost use Rattle.clock2q_memo.specs.Memo.{memo_state, GivesOk, HoldsValues};
 
     /// Makes a memo as [`new`](Memo::new) does, of a function that may fail. Its values are looked
     /// up by [`get_or_try`](Memo::get_or_try).
@@ -42,7 +42,7 @@ where
     where
         F: Fn(&K) -> Result<V, E>,
         ensures remembers { IfOk result
-            (λ memo. Remembers K.eq (GivesOk F.Fn memo.function) memo.machine) }
+            (λ memo. HoldsValues K.eq (GivesOk F.Fn memo.function) memo.machine) }
         ensures made { IfOk result
             (λ memo. memo ≡
             memo_state (empty (usual_shares (non_zero_usize_get capacity))) function 0) }
@@ -66,7 +66,7 @@ where
     ghost use Rattle.std.specs.NonZero.{non_zero_usize_get};
     ghost use Rattle.clock2q_machine.specs.Shares.{usual_shares};
     ghost use Rattle.clock2q_machine.specs.Machine.{empty};
-    ghost use Rattle.clock2q_memo.specs.Memo.{memo_state, GivesOk, Remembers};
+    ghost use Rattle.clock2q_memo.specs.Memo.{memo_state, GivesOk, HoldsValues};
 
     /// Makes a memo as [`fallible`](Memo::fallible) does, whose cache has this hasher.
     ///
@@ -86,7 +86,7 @@ where
     where
         F: Fn(&K) -> Result<V, E>,
         ensures remembers { IfOk result
-            (λ memo. Remembers K.eq (GivesOk F.Fn memo.function) memo.machine) }
+            (λ memo. HoldsValues K.eq (GivesOk F.Fn memo.function) memo.machine) }
         ensures made { IfOk result
             (λ memo. memo ≡
             memo_state (empty (usual_shares (non_zero_usize_get capacity))) function 0) }
@@ -113,7 +113,7 @@ where
     ghost use Rattle.clock2q_machine.specs.Machine.{slot_of, value_of, inserted};
     ghost use Rattle.clock2q_machine.specs.Steps.{fetched};
     ghost use Rattle.std.specs.Fn.{FnReturnsAt};
-    ghost use Rattle.clock2q_memo.specs.Memo.{IsCallableAt, GivesOk, Remembers, IsValueAt, evaluations_for};
+    ghost use Rattle.clock2q_memo.specs.Memo.{IsCallableAt, GivesOk, HoldsValues, IsValueAt, evaluations_for};
 
     /// Returns the function's value for the key. A remembered value is hit, which may save it from
     /// a later eviction; otherwise the function is called once, and the value is remembered.
@@ -135,8 +135,8 @@ where
             (IsValueAt K.eq (GivesOk F.Fn self.old.function) self.old.machine key) }
         ensures err { IfErr result (λ e. FnReturnsAt F.Fn self.old.function key (Err e)) }
         ensures absent { OnErr result (slot_of (K.eq key) self.old.machine ≡ None) }
-        ensures remembers { Remembers K.eq (GivesOk F.Fn self.old.function) self.old.machine →
-            Remembers K.eq (GivesOk F.Fn self.new.function) self.new.machine }
+        ensures remembers { HoldsValues K.eq (GivesOk F.Fn self.old.function) self.old.machine →
+            HoldsValues K.eq (GivesOk F.Fn self.new.function) self.new.machine }
         ensures machine { IfOk result
             (λ v. self.new.machine ≡ fetched (K.eq key) key v self.old.machine) }
         ensures unchanged { OnErr result (self.new.machine ≡ self.old.machine) }
@@ -159,8 +159,8 @@ where
         requires absent { slot_of (K.eq key) self.old.machine ≡ None }
         ensures value { IfOk result (GivesOk F.Fn self.old.function key) }
         ensures err { IfErr result (λ e. FnReturnsAt F.Fn self.old.function key (Err e)) }
-        ensures remembers { Remembers K.eq (GivesOk F.Fn self.old.function) self.old.machine →
-            Remembers K.eq (GivesOk F.Fn self.new.function) self.new.machine }
+        ensures remembers { HoldsValues K.eq (GivesOk F.Fn self.old.function) self.old.machine →
+            HoldsValues K.eq (GivesOk F.Fn self.new.function) self.new.machine }
         ensures machine { IfOk result
             (λ v. self.new.machine ≡ inserted (K.eq key) key v self.old.machine) }
         ensures unchanged { OnErr result (self.new.machine ≡ self.old.machine) }

@@ -4,7 +4,7 @@
 use Rattle.std.proofs.Common.{◌≡◌, ◌+◌, ◌≤◌, ◌++◌, List, map, length, vec_len, vec_capacity}
 use Rattle.std.specs.Vec.Iter.{into_iter_items, into_iter_len}
 use Rattle.std.specs.Fn.{FnReturnsAt}
-use Rattle.clock2q_memo.specs.Memo.{IsCallableAtEach, Computes, Remembers, recalled, evaluations_of}
+use Rattle.clock2q_memo.specs.Memo.{IsCallableAtEach, Computes, HoldsValues, recalled, evaluations_of}
 use Rattle.clock2q_memo.proofs.memo.recall.Given as goal
 
 abbrev pub invariant-loop-key : goal.invariant-loop-key
@@ -12,8 +12,8 @@ invariant-loop-key g l = record {
   can : (goal.iterator-loop-key g).can_next l.key-iterator;
   ends : (goal.iterator-loop-key g).is_finite l.key-iterator;
   callable : IsCallableAtEach (g.F.Fn) l.memo.function (into_iter_items l.key-iterator);
-  remembers : Remembers g.K.PartialEq.eq (FnReturnsAt (g.F.Fn) l.fn.memo.function) l.fn.memo.machine → Remembers g.K.PartialEq.eq (FnReturnsAt (g.F.Fn) l.memo.function) l.memo.machine;
-  remembered : Remembers g.K.PartialEq.eq (FnReturnsAt (g.F.Fn) l.fn.memo.function) l.fn.memo.machine →
+  remembers : HoldsValues g.K.PartialEq.eq (FnReturnsAt (g.F.Fn) l.fn.memo.function) l.fn.memo.machine → HoldsValues g.K.PartialEq.eq (FnReturnsAt (g.F.Fn) l.memo.function) l.memo.machine;
+  remembered : HoldsValues g.K.PartialEq.eq (FnReturnsAt (g.F.Fn) l.fn.memo.function) l.fn.memo.machine →
       (value : g.row.K.Denot → g.row.V.Denot) → Computes g.K.PartialEq.eq (FnReturnsAt (g.F.Fn) l.fn.memo.function) value →
       l.values.items ++ map value (into_iter_items l.key-iterator) ≡ map value l.fn.keys.items;
   machine : (more : List g.row.V.Denot) →

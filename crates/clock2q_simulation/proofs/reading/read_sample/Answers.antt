@@ -4,7 +4,7 @@ use Rattle.std.proofs.lemmas.Result.{err_from_is_err_and}
 use Rattle.clock2q_ports.specs.Ports.{traffic_after}
 use Rattle.std.specs.Prelude.{IfOk}
 use Rattle.clock2q_simulation.specs.Formats.{accesses_after}
-use Rattle.clock2q_simulation.specs.Reading.{Takes}
+use Rattle.clock2q_simulation.specs.Reading.{TakesBytes}
 use Rattle.clock2q_simulation.proofs.RecordByRecord.{finished, given-up, read-bad, read-given, read-more, read-new}
 use Rattle.clock2q_simulation.proofs.reading.read_sample.Goals as goal
 
@@ -35,8 +35,8 @@ loop-index-preserved g c =
     let some = g.R.Source.remaining c.loop-index.reader in
     let remain = g.R.Source.remaining c.read.new.self in
     let given : new ≡ traffic_after mid bytes false false = c.in-Ok.ensures.given ∙ ap (λ b. traffic_after mid bytes b false) (ne_eqb c.in-Ok.count 0 c.if-count-eq0.false) in
-    let taken : Takes format records.trace.accesses records.count records.begun.items bytes next.trace.accesses next.count next.begun.items =
-    subst (λ f. Takes f records.trace.accesses records.count records.begun.items bytes next.trace.accesses next.count next.begun.items) c.loop-index.invariant.format c.in_ok-take.ensures.taken in
+    let taken : TakesBytes format records.trace.accesses records.count records.begun.items bytes next.trace.accesses next.count next.begun.items =
+    subst (λ f. TakesBytes f records.trace.accesses records.count records.begun.items bytes next.trace.accesses next.count next.begun.items) c.loop-index.invariant.format c.in_ok-take.ensures.taken in
     record {
       format = c.in_ok-take.ensures.format ∙ c.loop-index.invariant.format;
       sample = c.in_ok-take.ensures.sample ∙ c.loop-index.invariant.sample;

@@ -3,7 +3,7 @@ use Rattle.std.specs.List.{list_any}
 use Rattle.clock2q_handles.proofs.Offering.{offered_always}
 use Rattle.clock2q_table_commands.proofs.Hashing.{given-same}
 use Rattle.clock2q_table_commands.proofs.TableReplies.{offered, Finds-replied}
-use Rattle.clock2q_table_commands.specs.TableCommands.{Finds}
+use Rattle.clock2q_table_commands.specs.TableCommands.{RepliesToFind}
 use Rattle.clock2q_table_commands.proofs.table_commands.find.Goals as goal
 
 pub find_or_insert-requires-clause-rehash : goal.find_or_insert-requires-clause-rehash
@@ -19,7 +19,7 @@ find_or_insert-requires-clause-callable g c = offered_always _ (search (rules, o
 
 pub returns-clause-reply : goal.returns-clause-reply
 returns-clause-reply g c = λ key h.
-    subst (λ reply. Finds g.H.PartialEq.eq key c.args.handle c.args.accepted.now c.args.table.now.homes reply c.find_or_insert.new.self.homes) (sym c.reply_of_found.ensures)
+    subst (λ reply. RepliesToFind g.H.PartialEq.eq key c.args.handle c.args.accepted.now c.args.table.now.homes reply c.find_or_insert.new.self.homes) (sym c.reply_of_found.ensures)
     (Finds-replied _ g.H.PartialEq.eq key c.args.table.now.homes c.find_or_insert.new.self.homes c.hash_of.result c.args.handle
     c.args.accepted.now c.find_or_insert.result (h.one c.args.handle c.hash_of.result c.hash_of.ensures)
     (λ e. let s = (c.find_or_insert.ensures.settles e).1 key (λ _. given-same _ (λ f v r next called. search rules) _ key _ _ h (λ v. search rules) (λ v r next called. search rules)) in

@@ -1,6 +1,6 @@
 -- The tail's key goes into the history, and the new key takes its slot.
 use Rattle.std.proofs.Common.{◌+◌, ◌≡◌, ℕ, eqb, false, Some, refl, ap, ◌∙◌, arith, vec_capacity}
-use Rattle.clock2q_cache.proofs.Names.{oldest_hash, pushed_places, if◌then◌else◌, with_handle, removed, is_shared, slots, Remembered, Places, most_beside, slots-pushed, shared-pushed, slots-entered, into_small}
+use Rattle.clock2q_cache.proofs.Names.{oldest_hash, pushed_places, if◌then◌else◌, with_handle, without_handle, is_shared, slots, Remembered, Places, most_beside, slots-pushed, shared-pushed, slots-entered, into_small}
 use Rattle.clock2q_cache.proofs.CacheInvariant.{m, IsDone}
 use Rattle.clock2q_cache.proofs.Renewed.{is-resident, within-room, slot-below, tail-in, tail-unremembered, tail_is, leaves-by, evicted-done}
 use Rattle.clock2q_cache.proofs.Insertions.{evicted-spends}
@@ -36,7 +36,7 @@ done g c =
     let below = (slot-below g.met.K.Eq.laws c.self.invariant c.reuse_tail-tail.result there).2 in
     let oldest = oldest_hash (λ (e : ℕ × _). e.0) h.entries in
     let p : Places = pushed_places h.limit r.old_hash c.reuse_tail-tail.result oldest h.places in
-    let indexed : slots c.remember.new.self.history.places.index ≡ with_handle (removed eqb (slots h.places.index) r.old_hash c.reuse_tail-tail.result) c.args.hash c.reuse_tail-tail.result =
+    let indexed : slots c.remember.new.self.history.places.index ≡ with_handle (without_handle eqb (slots h.places.index) r.old_hash c.reuse_tail-tail.result) c.args.hash c.reuse_tail-tail.result =
     ap (λ (z : Places). slots z.index) r.places ∙ slots-entered p.index c.args.hash c.reuse_tail-tail.result (omega (arith, below))
     ∙ ap (λ z. with_handle z c.args.hash c.reuse_tail-tail.result) (slots-pushed h.limit r.old_hash c.reuse_tail-tail.result oldest h.places (omega (arith, below))) in
     let beside : most_beside c.remember.new.self.history ≡ most_beside h =

@@ -1,6 +1,6 @@
 -- The victim's slot is free, and Small's tail moves on.
 use Rattle.std.proofs.Common.{◌≡◌, ◌+◌, Some, None, length, eqb, refl, sym, ap, ◌∙◌, arith, vec_capacity}
-use Rattle.clock2q_cache.proofs.Names.{made_below, QueueState, CacheState, last_or, slots_of, slots, slots-left, removed}
+use Rattle.clock2q_cache.proofs.Names.{made_below, QueueState, CacheState, last_or, slots_of, slots, slots-left, without_handle}
 use Rattle.clock2q_cache.proofs.CacheInvariant.{made-still, kept-reindexed, reindexed, now-slots, length_in_main}
 use Rattle.clock2q_cache.proofs.Insertions.{victim-spends}
 use Rattle.clock2q_cache.proofs.Renewed.{is-resident, slot-below, victim-in, tail-in, tail-not_in_front, tail-not_in_rest}
@@ -26,7 +26,7 @@ leave-requires g c =
     }
 
 -- the victim's slot leaves the index
-left : (g : Over) (c : After-leave g) → slots c.leave.new.self.history.places.index ≡ removed eqb (slots c.self.inside.directory.history.places.index) c.leave.ensures.left.hash c.take_victim-slot.result
+left : (g : Over) (c : After-leave g) → slots c.leave.new.self.history.places.index ≡ without_handle eqb (slots c.self.inside.directory.history.places.index) c.leave.ensures.left.hash c.take_victim-slot.result
 left g c =
     let slot = c.take_victim-slot.result in
     let below = (slot-below g.met.K.Eq.laws c.self.invariant slot (victim-in g.met.K.Eq.laws c.self.invariant slot c.take_victim-slot.ensures.victim)).2 in
@@ -50,14 +50,14 @@ append-requires g c =
     })
 
 -- the fields afterwards, with a tail and without one
-moved : (g : Over) (c : After-append g) → slots c.leave.new.self.history.places.index ≡ removed eqb (slots c.self.inside.directory.history.places.index) c.leave.ensures.left.hash c.take_victim-slot.result
+moved : (g : Over) (c : After-append g) → slots c.leave.new.self.history.places.index ≡ without_handle eqb (slots c.self.inside.directory.history.places.index) c.leave.ensures.left.hash c.take_victim-slot.result
     → last_or None (slots_of c.self.inside.queues.small) ≡ Some c.in-Some.tail → made_below (c.in-Some.tail + 1) c.self.inside.queues.made ≡ c.self.inside.queues.made
     → IsGone g.met.K.Eq.laws c.self.invariant c.append.new.self (slots c.leave.new.self.history.places.index) c.free_slot.new.free.items (vec_capacity c.free_slot.new.free)
 moved g c left tail still =
     gone-promoting g.met.K.Eq.laws c.self.invariant c.take_victim-slot.result c.take_victim-slot.ensures.victim c.leave.ensures.left.had left c.free_slot.ensures.top c.free_slot.ensures.capacity
     (rw (← c.self.view_is) at c.requires.leaves) c.in-Some.tail tail (rw (c.in-Some.ensures.queues, c.take_victim-slot.ensures.queues, still) at c.append.ensures.queues)
 
-alone : (g : Over) (c : In_default g) → slots c.leave.new.self.history.places.index ≡ removed eqb (slots c.self.inside.directory.history.places.index) c.leave.ensures.left.hash c.take_victim-slot.result
+alone : (g : Over) (c : In_default g) → slots c.leave.new.self.history.places.index ≡ without_handle eqb (slots c.self.inside.directory.history.places.index) c.leave.ensures.left.hash c.take_victim-slot.result
     → IsGone g.met.K.Eq.laws c.self.invariant c.take_tail.new.self (slots c.leave.new.self.history.places.index) c.free_slot.new.free.items (vec_capacity c.free_slot.new.free)
 alone g c left =
     gone-alone g.met.K.Eq.laws c.self.invariant c.take_victim-slot.result c.take_victim-slot.ensures.victim c.leave.ensures.left.had left c.free_slot.ensures.top c.free_slot.ensures.capacity

@@ -3,7 +3,7 @@ use Rattle.std.proofs.lemmas.Result.{IfOk-weaker, on_err_weaker}
 use Rattle.clock2q_machine.specs.Machine.{hit, slot_of, value_of}
 use Rattle.clock2q_machine.specs.Whole.{IsWhole}
 use Rattle.clock2q_machine.proofs.MachineInvariant.{lasting-hit}
-use Rattle.clock2q_memo.specs.Memo.{IsCallableAt, GivesOk, Remembers}
+use Rattle.clock2q_memo.specs.Memo.{IsCallableAt, GivesOk, HoldsValues}
 use Rattle.clock2q_memo.proofs.Keeping.{kept-hit, absent_if, missed_hit, fetched_anew, evaluated_once, hit_value}
 use Rattle.clock2q_memo.proofs.memo.Memo.get_or_try.Goals as goal
 
@@ -67,7 +67,7 @@ returns-in-Some-clause-value g c = rw (← c.self.view_is) (λ h value computes.
 pub returns-in-Some-clause-remembers : goal.returns-in-Some-clause-remembers
 returns-in-Some-clause-remembers g c =
     let after : c.get.follows.lender-at-none.machine ≡ hit (g.K.PartialEq.eq c.args.key) c.self.inside.cache.machine = search rules in
-    rw (← c.self.view_is) (λ h. subst (Remembers g.K.PartialEq.eq (GivesOk g.F.Fn c.self.inside.evaluator.function)) (sym after) (kept-hit g.K.PartialEq.eq g.met.K.Eq.laws _ c.self.invariant _ h (g.K.PartialEq.eq c.args.key)))
+    rw (← c.self.view_is) (λ h. subst (HoldsValues g.K.PartialEq.eq (GivesOk g.F.Fn c.self.inside.evaluator.function)) (sym after) (kept-hit g.K.PartialEq.eq g.met.K.Eq.laws _ c.self.invariant _ h (g.K.PartialEq.eq c.args.key)))
 
 pub returns-in-None-clause-value : goal.returns-in-None-clause-value
 returns-in-None-clause-value g c = rw (← c.self.view_is) (IfOk-weaker c.try_remember.result _ _ (λ v gives h value computes. computes.one c.args.key v gives) c.try_remember.ensures.value)
@@ -75,4 +75,4 @@ returns-in-None-clause-value g c = rw (← c.self.view_is) (IfOk-weaker c.try_re
 pub returns-in-None-clause-remembers : goal.returns-in-None-clause-remembers
 returns-in-None-clause-remembers g c =
     let after : c.get.follows.lender-at-none.machine ≡ hit (g.K.PartialEq.eq c.args.key) c.self.inside.cache.machine = search rules in
-    rw (← c.self.view_is) (λ h. c.try_remember.ensures.remembers (subst (Remembers g.K.PartialEq.eq (GivesOk g.F.Fn c.self.inside.evaluator.function)) (sym after) (kept-hit g.K.PartialEq.eq g.met.K.Eq.laws _ c.self.invariant _ h (g.K.PartialEq.eq c.args.key))))
+    rw (← c.self.view_is) (λ h. c.try_remember.ensures.remembers (subst (HoldsValues g.K.PartialEq.eq (GivesOk g.F.Fn c.self.inside.evaluator.function)) (sym after) (kept-hit g.K.PartialEq.eq g.met.K.Eq.laws _ c.self.invariant _ h (g.K.PartialEq.eq c.args.key))))

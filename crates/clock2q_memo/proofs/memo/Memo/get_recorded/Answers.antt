@@ -3,7 +3,7 @@ use Rattle.clock2q_machine.specs.Machine.{hit, slot_of, value_of}
 use Rattle.clock2q_machine.specs.Whole.{IsWhole}
 use Rattle.clock2q_machine.proofs.MachineInvariant.{lasting-hit}
 use Rattle.std.specs.Fn.{FnReturnsAt}
-use Rattle.clock2q_memo.specs.Memo.{IsCallableAt, Remembers}
+use Rattle.clock2q_memo.specs.Memo.{IsCallableAt, HoldsValues}
 use Rattle.clock2q_memo.proofs.Keeping.{kept-hit, absent_if, missed_hit, fetched_anew, evaluated_once, hit_value}
 use Rattle.clock2q_memo.proofs.memo.Memo.get_recorded.Goals as goal
 
@@ -53,7 +53,7 @@ returns-in-Some-clause-value g c = rw (← c.self.view_is) (λ h value computes.
 pub returns-in-Some-clause-remembers : goal.returns-in-Some-clause-remembers
 returns-in-Some-clause-remembers g c =
     let after : c.get.follows.lender-at-none.machine ≡ hit (g.K.PartialEq.eq c.args.key) c.self.inside.cache.machine = search rules in
-    rw (← c.self.view_is) (λ h. subst (Remembers g.K.PartialEq.eq (FnReturnsAt g.F.Fn c.self.inside.evaluator.function)) (sym after) (kept-hit g.K.PartialEq.eq g.met.K.Eq.laws _ c.self.invariant _ h (g.K.PartialEq.eq c.args.key)))
+    rw (← c.self.view_is) (λ h. subst (HoldsValues g.K.PartialEq.eq (FnReturnsAt g.F.Fn c.self.inside.evaluator.function)) (sym after) (kept-hit g.K.PartialEq.eq g.met.K.Eq.laws _ c.self.invariant _ h (g.K.PartialEq.eq c.args.key)))
 
 pub returns-in-None-clause-value : goal.returns-in-None-clause-value
 returns-in-None-clause-value g c = rw (← c.self.view_is) (λ h value computes. computes.one c.args.key c.remember.result c.remember.ensures.value)
@@ -61,4 +61,4 @@ returns-in-None-clause-value g c = rw (← c.self.view_is) (λ h value computes.
 pub returns-in-None-clause-remembers : goal.returns-in-None-clause-remembers
 returns-in-None-clause-remembers g c =
     let after : c.get.follows.lender-at-none.machine ≡ hit (g.K.PartialEq.eq c.args.key) c.self.inside.cache.machine = search rules in
-    rw (← c.self.view_is) (λ h. c.remember.ensures.remembers (subst (Remembers g.K.PartialEq.eq (FnReturnsAt g.F.Fn c.self.inside.evaluator.function)) (sym after) (kept-hit g.K.PartialEq.eq g.met.K.Eq.laws _ c.self.invariant _ h (g.K.PartialEq.eq c.args.key))))
+    rw (← c.self.view_is) (λ h. c.remember.ensures.remembers (subst (HoldsValues g.K.PartialEq.eq (FnReturnsAt g.F.Fn c.self.inside.evaluator.function)) (sym after) (kept-hit g.K.PartialEq.eq g.met.K.Eq.laws _ c.self.invariant _ h (g.K.PartialEq.eq c.args.key))))
