@@ -57,9 +57,6 @@ fn first(table: &Table<usize>, hash: u64) -> Option<usize>
     ensures held { IfSome result
         (λ first. list_any (is_entry_of nat_eq hash first) (listed table.now.homes hash) ≡ true) }
 {
-    if table.capacity() == 0 {
-        return None;
-    }
     let Ok((handle, _)) = table.search(hash, |_| true) else {
         return None;
     };

@@ -17,9 +17,6 @@ fn candidate<H: Copy + Eq + Default>(
     hash: u64,
     number: usize,
 ) -> Option<(H, usize)> {
-    if table.capacity() == 0 {
-        return None;
-    }
     let mut passed = 0usize;
     let found = table.search(hash, |_| {
         let is_wanted = passed == number;

@@ -15,9 +15,6 @@ enum Led {
 
 /// Returns the position of a handle, if there is one.
 fn position_of(table: &Table<u32>, hash: u64, handle: u32) -> Option<usize> {
-    if table.capacity() == 0 {
-        return None;
-    }
     let (_, position) = table.search(hash, |held| held == handle).ok()?;
     Some(position)
 }

@@ -2,7 +2,7 @@
 ghost use Rattle.clock2q_handles.specs.Homes.{top, candidates, candidates_before};
 ghost use Rattle.clock2q_handles.specs.Offers.{Offers, AcceptsNext, MayBeOffered, handle_in};
 ghost use Rattle.clock2q_handles.specs.Positions.{IsEntryAt, gap_of};
-ghost use Rattle.std.specs.Prelude.{◌≡◌, ◌<◌, ℕ, IfOk, IfErr, length};
+ghost use Rattle.std.specs.Prelude.{◌≡◌, ◌<◌, ℕ, IfOk, IfErr, IfNone, IfSome, length};
 
 use crate::gap::Gap;
 use crate::table::Table;
@@ -11,7 +11,7 @@ use std::alloc::Allocator;
 impl<H: Copy + Eq + Default, A: Allocator> Table<H, A> {
     /// Returns the first candidate of `hash` that `matches` accepts, with its position, which is
     /// its slot: among equal handles, the slot of the one that was accepted. If it accepts none,
-    /// returns the gap where an entry of `hash` would be inserted.
+    /// returns the gap where an entry of `hash` would be inserted, unless the table has no slots.
     ///
     /// A position stays valid until an entry is inserted or removed, or the table grows.
     ///
@@ -20,17 +20,27 @@ impl<H: Copy + Eq + Default, A: Allocator> Table<H, A> {
     /// That of [get](Table::get).
     #[inline(always)]
     #[tactic(auto, using(crate::proofs::layout::TidyLayout::homes_length, crate::proofs::walks::Yields::left_at_start))]
-    pub fn search<M: FnMut(H) -> bool>(&self, hash: u64, mut matches: M) -> Result<(H, usize), Gap>
-        requires slots { 0 < length self.now.homes }
+    pub fn search<M: FnMut(H) -> bool>(
+        &self,
+        hash: u64,
+        mut matches: M,
+    ) -> Result<(H, usize), Option<Gap>>
         requires callable { MayBeOffered M.FnMut matches (candidates self.now.homes hash) }
         ensures offers { (last : M) × Offers M.FnMut matches (candidates self.now.homes hash)
             (handle_in result) last }
         ensures found { IfOk result
             (λ found. (i : ℕ) × IsEntryAt self.now.homes hash i (top hash, found.0) found.1
             × AcceptsNext M.FnMut matches (candidates_before self.now.homes hash i) found.0) }
-        ensures gap { IfErr result (λ gap. gap ≡ gap_of self.now.homes hash) }
+        ensures gap { IfErr result (λ gap. IfSome gap (λ gap. gap ≡ gap_of self.now.homes hash)) }
+        ensures no_gap { IfErr result (λ gap. IfNone gap (length self.now.homes ≡ 0)) }
     {
+        if self.slots.count() == 0 {
+            return Err(None);
+        }
         let mut reader = self.slots.reader();
-        reader.offer(hash, &mut matches)
+        match reader.offer(hash, &mut matches) {
+            Ok(found) => Ok(found),
+            Err(gap) => Err(Some(gap)),
+        }
     }
 }

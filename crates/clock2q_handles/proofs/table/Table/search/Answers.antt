@@ -1,28 +1,34 @@
-use Rattle.std.proofs.Common.{◌<◌, ℕ, length, ap, ◌∙◌, subst, arith}
+use Rattle.std.proofs.Common.{◌≡◌, ◌<◌, ℕ, None, List, [], length, ap, refl, ◌∙◌, subst, arith}
 use Rattle.clock2q_handles.specs.Candidates.{EndsAt, IsAcceptedAt}
-use Rattle.clock2q_handles.specs.Homes.{top, candidates_before}
-use Rattle.clock2q_handles.specs.Offers.{AcceptsNext}
+use Rattle.clock2q_handles.specs.Homes.{top, candidates, candidates_before}
+use Rattle.clock2q_handles.specs.Offers.{AcceptsNext, Offers}
 use Rattle.clock2q_handles.specs.Positions.{IsEntryAt, gap_of}
-use Rattle.clock2q_handles.proofs.layout.TidyLayout.{length-homes_of}
-use Rattle.clock2q_handles.proofs.Promises.{if_ok, if_err}
+use Rattle.clock2q_handles.proofs.walks.Cursors.{begins_empty}
 use Rattle.clock2q_handles.proofs.walks.Positions.{ends_gap}
+use Rattle.clock2q_handles.proofs.walks.Yields.{left_at_start}
 use Rattle.clock2q_handles.proofs.offers.Accepting.{accepted_entry}
 use Rattle.clock2q_handles.proofs.table.Table.search.Goals as goal
 
-pub returns-clause-found : goal.returns-clause-found
-returns-clause-found g c =
+pub returns-then-count-eq0-clause-offers : goal.returns-then-count-eq0-clause-offers
+returns-then-count-eq0-clause-offers g c =
+    let none : [] ≡ candidates c.args.self.now.homes c.args.hash =
+    grind (arith, begins_empty c.self.inside.slots.slots c.args.hash c.self.invariant.tidy, left_at_start c.self.inside.slots.slots c.args.hash) in
+    (c.args.matches, subst (λ hs. Offers g.M.FnMut c.args.matches hs None c.args.matches) none (refl, refl))
+
+pub returns-in-Ok-clause-found : goal.returns-in-Ok-clause-found
+returns-in-Ok-clause-found g c =
     let slots = c.self.inside.slots.slots in
-    let there : 0 < length slots = omega (arith, c.requires.slots, length-homes_of slots, ap (λ t. length t.homes) c.self.view_is) in
-    if_ok c.offer.result (λ r at.
-    let found = subst (λ u. IsAcceptedAt g.M.FnMut c.args.matches u.slots c.args.hash r.0 r.1) c.reader-reader.ensures at in
+    let r = c.in-Ok.found in
+    let there : 0 < length slots = omega (arith, c.if-count-eq0.false, c.count.ensures.count) in
+    let found = subst (λ u. IsAcceptedAt g.M.FnMut c.args.matches u.slots c.args.hash r.0 r.1) c.reader-reader.ensures c.in-Ok.ensures.at in
     let entry_at = accepted_entry slots c.self.invariant.tidy c.args.hash there r.1 r.0 found.at in
     subst (λ t. (i : ℕ) × IsEntryAt t.homes c.args.hash i (top c.args.hash, r.0) r.1 × AcceptsNext g.M.FnMut c.args.matches (candidates_before t.homes c.args.hash i) r.0) c.self.view_is
-    (entry_at.0, entry_at.1, subst (λ hs. AcceptsNext g.M.FnMut c.args.matches hs r.0) entry_at.2 found.accepts)) c.offer.ensures.at
+    (entry_at.0, entry_at.1, subst (λ hs. AcceptsNext g.M.FnMut c.args.matches hs r.0) entry_at.2 found.accepts)
 
 pub returns-clause-gap : goal.returns-clause-gap
 returns-clause-gap g c =
     let slots = c.self.inside.slots.slots in
-    let there : 0 < length slots = omega (arith, c.requires.slots, length-homes_of slots, ap (λ t. length t.homes) c.self.view_is) in
-    if_err c.offer.result (λ e ends.
-    ends_gap slots c.self.invariant.tidy there c.args.hash e.position e.mark (subst (λ u. EndsAt u.slots c.args.hash e.mark e.position) c.reader-reader.ensures ends)
-    ∙ ap (λ t. gap_of t.homes c.args.hash) c.self.view_is) c.offer.ensures.ends
+    let e = c.in-Err.gap in
+    let there : 0 < length slots = omega (arith, c.if-count-eq0.false, c.count.ensures.count) in
+    ends_gap slots c.self.invariant.tidy there c.args.hash e.position e.mark (subst (λ u. EndsAt u.slots c.args.hash e.mark e.position) c.reader-reader.ensures c.in-Err.ensures.ends)
+    ∙ ap (λ t. gap_of t.homes c.args.hash) c.self.view_is
