@@ -4,8 +4,7 @@ use Rattle.std.specs.Borrow.{Bor}
 use Rattle.std.specs.Option.{IsSomeAnd}
 use Rattle.std.specs.Prelude.{IfSome, MatchOption}
 use Rattle.std.specs.Fn.{Once, FnOnceReturnsAt}
-use Rattle.clock2q_cache.proofs.Names.{if◌then◌else◌, is_some, slice_get, list_any, option_and_then, option_map, slice_get_within, last_or, main_share, Machine, Placement, slot_of, value_of, vacancy, stored, inserted, IsWhole, Fills, into_queue, stored_same}
-use Rattle.clock2q_machine.specs.Calls.{Put}
+use Rattle.clock2q_cache.proofs.Names.{if◌then◌else◌, is_some, slice_get, list_any, option_and_then, option_map, slice_get_within, last_or, main_share, Machine, Placement, slot_of, value_of, vacancy, stored, inserted, IsWhole, Fills, into_queue, stored_same, Put}
 use Rattle.clock2q_machine.specs.Entries.{first_of, from_victim}
 use Rattle.clock2q_machine.specs.Leaving.{leaves_for, leaves_for_main, leaves_for_small, victim_of, with_value}
 use Rattle.clock2q_cache.specs.Insertions.{IsAdmitted, leaves_placed, Notes}

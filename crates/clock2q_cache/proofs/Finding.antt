@@ -112,6 +112,9 @@ module _ {K V : Type 0} {eq : K → K → Bool} {hash : K → ℕ} {shares : Sha
     pub found-there : (slot : ℕ) → slot_of (eq key) m ≡ Some slot → (list_any (eqb slot) (queued_slots q) ≡ true) × (is_key_at eq key keys.entries slot ≡ true)
     found-there slot is = found_there (is_key_at eq key keys.entries) (queued_slots q) slot (sym is ∙ slot-among)
 
+    pub found-queued : (slot : ℕ) → slot_of (eq key) m ≡ Some slot → (list_any (eqb slot) (slots_of q.small) ≡ true) ⊎ (list_any (eqb slot) (slots_of q.main) ≡ true)
+    found-queued slot is = either-queue q slot (found-there slot is).0
+
     -- a key in the history is not a resident
     unresident : list_any (eq key) m.history ≡ true → None ≡ slot_of (eq key) m
     unresident remembered = of (slot_of (eq key) m) refl

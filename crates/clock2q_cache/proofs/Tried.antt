@@ -5,10 +5,8 @@ use Rattle.std.specs.Borrow.{RattleType, Bor}
 use Rattle.std.specs.declared.alloc.Allocator as alloc
 use Rattle.std.specs.declared.hash.Hasher as hasher
 use Rattle.std.specs.declared.hash.BuildHasher as builder
-use Rattle.clock2q_machine.specs.Bounds.{inspections_for}
-use Rattle.clock2q_cache.proofs.Names.{HashMembers, slice_get, UnwrapsOrElse, CacheState, Reaches, Spends, Fetches, hit-absent, slot_of, value_of, some_is}
+use Rattle.clock2q_cache.proofs.Names.{HashMembers, slice_get, UnwrapsOrElse, CacheState, Reaches, Spends, Fetches, hit-absent, slot_of, value_of, some_is, inspections_for, accesses_for, alike, slots_for, walked}
 use Rattle.clock2q_cache.proofs.Spent.{costs-of}
-use Rattle.clock2q_cache.specs.Costs.{accesses_for, alike, slots_for, walked}
 use Rattle.clock2q_cache.specs.CacheLends.{Tries}
 
 module _ (K V S A H : RattleType) (key : HashMembers K.Denot) (build : builder.Ghosts S.Denot H.Denot) (hash : hasher.Ghosts H.Denot) (heap : alloc.Ghosts A.Denot)

@@ -1,10 +1,8 @@
 -- The value is read where the key was found, and then the key is hit; a key that is not resident is not hit.
-use Rattle.std.proofs.Common.{arith, ◌≡◌, Some, slice_get, rules, refl, sym, ap, ◌∙◌}
-use Rattle.std.specs.Option.{option_and_then}
-use Rattle.clock2q_machine.specs.Machine.{Machine, slot_of}
-use Rattle.clock2q_cache.proofs.Names.{CacheState, hit, value-there}
+use Rattle.std.proofs.Common.{arith, ◌≡◌, Some, rules, refl, sym, ap, ◌∙◌}
+use Rattle.clock2q_cache.proofs.Names.{CacheState, hit, value-there, slot_of}
 use Rattle.clock2q_cache.proofs.CacheInvariant.{m}
-use Rattle.clock2q_cache.proofs.Finding.{found-there, either-queue, hit-machine, kept-hit}
+use Rattle.clock2q_cache.proofs.Finding.{found-queued, hit-machine, kept-hit}
 use Rattle.clock2q_cache.proofs.Spent.{missed-becomes, hit-becomes}
 use Rattle.clock2q_cache.proofs.cache.Cache.get.Given.{Over}
 use Rattle.clock2q_cache.proofs.cache.Cache.get.Goals.{After-value-value}
@@ -15,12 +13,7 @@ there : (g : Over) (c : After-value-value g) → slot_of (g.K.PartialEq.eq c.arg
 there g c = grind (arith, slot_of, c.self.view_is, c.find.ensures.machine, c.in_ok-slot.ensures.slot)
 
 pub hit-requires : goal.hit-requires
-hit-requires g c =
-    record {
-      resident = either-queue c.self.inside.queues c.in_ok-slot.slot
-          (found-there g.met.K.Eq.laws c.self.invariant c.args.key.now c.in_ok-slot.slot
-          (there g (goal.at.hit-requires g c).After-value-value)).0;
-    }
+hit-requires g c = record { resident = found-queued g.met.K.Eq.laws c.self.invariant c.args.key.now c.in_ok-slot.slot (there g (goal.at.hit-requires g c).After-value-value) }
 
 pub invariant_of-self : goal.invariant_of-self
 invariant_of-self g c =
@@ -37,8 +30,4 @@ returns g c =
     let now =
     hit-machine g.met.K.Eq.laws c.self.invariant c.args.key.now c.in_ok-slot.slot at c.hit.ensures.queues
     ∙ ap (λ (z : CacheState _ _ _). hit (g.K.PartialEq.eq c.args.key.now) z.machine) c.self.view_is in
-    let value =
-    sym c.value-value.ensures.value ∙ sym (value-there c.self.inside.directory.residents.entries c.in_ok-slot.slot)
-    ∙ ap (λ (z : CacheState _ _ _). slice_get z.machine.values c.in_ok-slot.slot) c.self.view_is
-    ∙ ap (λ (z : Machine _ _). slice_get z.values c.in_ok-slot.slot) c.find.ensures.machine ∙ ap (λ o. option_and_then (slice_get c.args.self.now.machine.values) o) c.in_ok-slot.ensures.slot in
-    ((refl, λ _. tt, hit-becomes c.hash-hash.ensures c.find.ensures.kept c.find.ensures.counts (search rules) now), record { machine = tt; value = value })
+    ((refl, λ _. tt, hit-becomes c.hash-hash.ensures c.find.ensures.kept c.find.ensures.counts (search rules) now), record { machine = tt; value = grind (arith, c.value-value.ensures.value, value-there c.self.inside.directory.residents.entries c.in_ok-slot.slot, c.self.view_is, c.find.ensures.machine, c.in_ok-slot.ensures.slot) })

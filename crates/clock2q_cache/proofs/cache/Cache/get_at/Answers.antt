@@ -1,29 +1,19 @@
 -- The value is read where the key was found, and then the key is hit; a key that is not resident at the slot is not hit.
-use Rattle.std.proofs.Common.{arith, ℕ, Bool, Option, ◌≡◌, Some, None, slice_get, if◌then◌else◌, rules, refl, sym, ap, ◌∙◌}
-use Rattle.clock2q_machine.specs.Machine.{Machine, slot_of}
-use Rattle.clock2q_cache.proofs.Names.{CacheState, hit, then_some, value-there}
+use Rattle.std.proofs.Common.{arith, ◌≡◌, Some, rules, refl, ap, ◌∙◌}
+use Rattle.clock2q_cache.proofs.Names.{CacheState, hit, value-there, slot_of}
 use Rattle.clock2q_cache.proofs.CacheInvariant.{m}
-use Rattle.clock2q_cache.proofs.Finding.{found-there, either-queue, hit-machine, kept-hit}
+use Rattle.clock2q_cache.proofs.Finding.{found-queued, hit-machine, kept-hit}
 use Rattle.clock2q_cache.proofs.Spent.{missed_at-becomes, hit_at-becomes}
 use Rattle.clock2q_cache.proofs.cache.Cache.get_at.Given.{Over}
 use Rattle.clock2q_cache.proofs.cache.Cache.get_at.Goals.{After-value-stored}
 use Rattle.clock2q_cache.proofs.cache.Cache.get_at.Goals as goal
-
--- what a function has at the slot that was found is what it has at the asked one
-at-slot : {V : Type 0} {found : ℕ} (b : Bool) (slot : ℕ) (f : ℕ → Option V) → Some found ≡ then_some b slot → f found ≡ (if b then f slot else None)
-at-slot b slot f e = grind arith
 
 -- the key is resident at the slot, in terms of the fields
 there : (g : Over) (c : After-value-stored g) → slot_of (g.K.PartialEq.eq c.args.key.now) (m g.met.K.Eq.laws c.self.invariant) ≡ Some c.in_ok-found.found
 there g c = grind (arith, slot_of, c.self.view_is, c.find_at.ensures.machine, c.in_ok-found.ensures.found)
 
 pub hit-requires : goal.hit-requires
-hit-requires g c =
-    record {
-      resident = either-queue c.self.inside.queues c.in_ok-found.found
-          (found-there g.met.K.Eq.laws c.self.invariant c.args.key.now c.in_ok-found.found
-          (there g (goal.at.hit-requires g c).After-value-stored)).0;
-    }
+hit-requires g c = record { resident = found-queued g.met.K.Eq.laws c.self.invariant c.args.key.now c.in_ok-found.found (there g (goal.at.hit-requires g c).After-value-stored) }
 
 pub invariant_of-self : goal.invariant_of-self
 invariant_of-self g c =
@@ -38,8 +28,4 @@ returns g c =
     let now =
     hit-machine g.met.K.Eq.laws c.self.invariant c.args.key.now c.in_ok-found.found at c.hit.ensures.queues
     ∙ ap (λ (z : CacheState _ _ _). hit (g.K.PartialEq.eq c.args.key.now) z.machine) c.self.view_is in
-    let value =
-    sym c.value-stored.ensures.value ∙ sym (value-there c.self.inside.directory.residents.entries c.in_ok-found.found)
-    ∙ ap (λ (z : CacheState _ _ _). slice_get z.machine.values c.in_ok-found.found) c.self.view_is
-    ∙ ap (λ (z : Machine _ _). slice_get z.values c.in_ok-found.found) c.find_at.ensures.machine ∙ at-slot _ _ (slice_get c.args.self.now.machine.values) c.in_ok-found.ensures.slot in
-    ((refl, λ _. tt, hit_at-becomes c.in_ok-found.ensures.slot c.find_at.ensures.kept c.find_at.ensures.counts (search rules) now), record { machine = tt; value = value })
+    ((refl, λ _. tt, hit_at-becomes c.in_ok-found.ensures.slot c.find_at.ensures.kept c.find_at.ensures.counts (search rules) now), record { machine = tt; value = grind (arith, c.value-stored.ensures.value, value-there c.self.inside.directory.residents.entries c.in_ok-found.found, c.self.view_is, c.find_at.ensures.machine, c.in_ok-found.ensures.slot) })

@@ -1,10 +1,8 @@
 -- The key is at the slot that is returned.
 use Rattle.std.proofs.Common.{◌≡◌, ℕ, ◌<◌, Bool, false, Some, sym, ap, ◌∙◌, subst, arith}
-use Rattle.clock2q_machine.specs.Calls.{Put}
-use Rattle.clock2q_machine.specs.Steps.{put}
 use Rattle.clock2q_machine.proofs.MachineInvariant.{lasting-inserted, lasting-after, resident_made}
 use Rattle.clock2q_machine.proofs.Entering.{weight-replaced, same_slots, entered_there}
-use Rattle.clock2q_cache.proofs.Names.{IsEquivalence, IsWhole, Machine, hit, slot_of, stored, inserted, CacheState, replaced_at}
+use Rattle.clock2q_cache.proofs.Names.{IsEquivalence, IsWhole, Machine, hit, slot_of, stored, inserted, CacheState, replaced_at, Put, put}
 use Rattle.clock2q_cache.proofs.Insertions.{hit-spends, insert-spends}
 use Rattle.clock2q_cache.proofs.Reaching.{reaches-taken}
 use Rattle.clock2q_cache.proofs.Spent.{put-costs}

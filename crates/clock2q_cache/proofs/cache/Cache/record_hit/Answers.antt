@@ -1,12 +1,12 @@
 -- A hit on a slot is one on the key that is resident there.
 use Rattle.std.proofs.Common.{ap, ◌∙◌}
 use Rattle.clock2q_cache.proofs.Names.{CacheState, hit}
-use Rattle.clock2q_cache.proofs.Finding.{found-there, either-queue, hit-machine, kept-hit}
+use Rattle.clock2q_cache.proofs.Finding.{found-queued, hit-machine, kept-hit}
 use Rattle.clock2q_cache.proofs.cache.Cache.record_hit.Goals as goal
 
 pub hit-requires : goal.hit-requires
 hit-requires g c =
-    record { resident = either-queue c.self.inside.queues c.args.resident (found-there g.met.K.Eq.laws c.self.invariant c.args.key.now c.args.resident (rw (← c.self.view_is) at c.requires)).0 }
+    record { resident = found-queued g.met.K.Eq.laws c.self.invariant c.args.key.now c.args.resident (rw (← c.self.view_is) at c.requires) }
 
 pub invariant_of-self : goal.invariant_of-self
 invariant_of-self g c = kept-hit g.met.K.Eq.laws c.self.invariant c.args.key.now c.args.resident (rw (← c.self.view_is) at c.requires) c.hit.ensures.queues
