@@ -1,4 +1,4 @@
-use Rattle.std.proofs.Common.{◌≡◌, ◌<◌, ℕ, None, List, [], length, ap, refl, ◌∙◌, subst, arith}
+use Rattle.std.proofs.Common.{◌≡◌, ◌<◌, ℕ, None, [], length, ap, refl, ◌∙◌, subst, arith}
 use Rattle.clock2q_handles.specs.Candidates.{EndsAt, IsAcceptedAt}
 use Rattle.clock2q_handles.specs.Homes.{top, candidates, candidates_before}
 use Rattle.clock2q_handles.specs.Offers.{AcceptsNext, Offers}
