@@ -1,6 +1,6 @@
 -- Keys in a list, whose places are in a table: each under its key, once.
 use Rattle.std.proofs.Common.{◌≡◌, ◌≢◌, ◌⊎◌, ℕ, zero, suc, ◌<◌, inl, inr, refl, ap, sym, ◌∙◌, subst, arith, Bool, true, false, eqb, List, [], ◌∷◌, ◌++◌, length, length-append, Option, Some, None, Result, Ok, Err, slice_get}
-use Rattle.std.proofs.lemmas.Option.{slice_get_within, get_or_from_slice_get}
+use Rattle.std.proofs.lemmas.Option.{slice_get_within, get_or_from_slice_get, slice_get-get_or}
 use Rattle.std.proofs.lemmas.Bool.{cases_lt, eqb-true, eqb-false}
 use Rattle.std.proofs.lemmas.List.{get_or_append_left}
 use Rattle.std.proofs.Math.Seq.{get_or-append_seam}
@@ -174,36 +174,23 @@ last_or_old [] key (suc number) held at = absurd (cc)
 last_or_old (k ∷ keys) key zero held at = inl at
 last_or_old (k ∷ keys) key (suc number) held at = last_or_old keys key number held at
 
--- the candidates that are left are places of keys, and the key's place is among them
-pub record IsSought (keys : List ℕ) (key : ℕ) (left : List ℕ) : Type 0 where
-  pub within : (i at : ℕ) → slice_get left i ≡ Some at → at < length keys
-  pub among : (at : ℕ) → at < length keys → key_at keys at ≡ key → (i : ℕ) × (slice_get left i ≡ Some at)
+-- what a lookup of a key finds
+module _ (keys : List ℕ) (homes : List (List (ℕ × ℕ))) (key : ℕ) (is : IsInterned keys homes) where
+  abbrev sought : List ℕ
+  sought = candidates homes (spread key)
 
--- at first all candidates are left
-pub sought_first : (keys : List ℕ) (homes : List (List (ℕ × ℕ))) (key : ℕ) → IsInterned keys homes → IsSought keys key (candidates homes (spread key))
-sought_first keys homes key is = record {
-  within = λ i at there. (is.1 at).0 (candidate_held homes (spread key) i at there);
-  among = λ at l same.
-      let r = held_candidate (hash_at keys) homes at is.0 ((is.1 at).1 l) in
-      (r.0, subst (λ k. slice_get (candidates homes (spread k)) r.0 ≡ Some at) same r.1);
-}
+  -- the candidates are places of keys
+  pub sought_within : (i at : ℕ) → slice_get sought i ≡ Some at → at < length keys
+  sought_within i at there = (is.1 at).0 (candidate_held homes (spread key) i at there)
 
--- a candidate with another key is passed over
-pub sought_next : (keys : List ℕ) (key place : ℕ) (left : List ℕ) → IsSought keys key (place ∷ left) → key_at keys place ≢ key → IsSought keys key left
-sought_next keys key place left s other = record {
-  within = λ i at there. s.within (suc i) at there;
-  among = λ at l same.
-      let r = s.among at l same in
-      later at same r.0 r.1;
-}
-  where
-    later : (at : ℕ) → key_at keys at ≡ key → (i : ℕ) → slice_get (place ∷ left) i ≡ Some at → (i : ℕ) × (slice_get left i ≡ Some at)
-    later at same zero is =
-        let q : place ≡ at = cc in
-        absurd (other (ap (key_at keys) q ∙ same))
-    later at same (suc i) is = (i, is)
+  -- what it accepts is the key's number
+  pub number_found : (number : ℕ) → IsFound (λ at. eqb (key_at keys at) key) sought (Some number) → slice_get keys number ≡ Some key
+  number_found number f = slice_get-get_or keys number 0 (sought_within f.1 number f.2) ∙ ap (λ k. Some k) (eqb-true (key_at keys number) key f.0)
 
-pub sought_none : (keys : List ℕ) (key : ℕ) → IsSought keys key [] → (number : ℕ) → slice_get keys number ≡ Some key → ⊥
-sought_none keys key s number is =
-    let r = s.among number (slice_get_within keys number key is) (get_or_from_slice_get keys number key 0 is) in
-    absurd (cc)
+  -- if it accepts none, the key has no number
+  pub no_number_found : IsFound (λ at. eqb (key_at keys at) key) sought None → (number : ℕ) → slice_get keys number ≢ Some key
+  no_number_found f number there =
+      let same : key_at keys number ≡ key = get_or_from_slice_get keys number key 0 there in
+      let r = held_candidate (hash_at keys) homes number is.0 ((is.1 number).1 (slice_get_within keys number key there)) in
+      let yields : slice_get sought r.0 ≡ Some number = subst (λ x. slice_get (candidates homes (spread x)) r.0 ≡ Some number) same r.1 in
+      eqb-false (key_at keys number) key (f r.0 number yields) same

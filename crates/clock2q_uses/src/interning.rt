@@ -50,13 +50,10 @@ impl Interner {
         ensures found { IfSome result (λ number. slice_get self.now number ≡ Some key) }
         ensures none { IfNone result ((number : ℕ) → slice_get self.now number ≢ Some key) }
     {
-        let mut candidates = self.numbers.get(hash_of(key));
-        while let Some(number) = candidates.next() {
-            if self.keys[number] == key {
-                return Some(number);
-            }
-        }
-        None
+        let keys = &self.keys;
+        let found = self.numbers.search(hash_of(key), |at| keys[at] == key);
+        let (number, _) = found.ok()?;
+        Some(number)
     }
 
     /// Returns the key's number. A key that has none gets the next one.

@@ -15,22 +15,23 @@ IsFound test hs (Some c) = (test c ≡ true) × (i : ℕ) × (slice_get hs i ≡
 module _ {M H : Type 0} (m : Mut M (H × Unit {0}) Bool) where
   module _ (I : M → Type 0) (allowed : H → Type 0) (takes : (f : M) (h : H) → I f → allowed h → Takes m f (h, tt))
       (keeps : (f : M) (h : H) (next : M) → I f → allowed h → Called m f (h, tt) false next → I next) where
+    in_turn_by : (hs : List H) (f : M) → I f → ((i : ℕ) (h : H) → slice_get hs i ≡ Some h → allowed h) → TakesInTurn m f hs
+    in_turn_by [] f i all = tt
+    in_turn_by (h ∷ hs) f i all = (takes f h i (all 0 h refl), λ next called. in_turn_by hs next (keeps f h next i (all 0 h refl) called) (λ k v is. all (suc k) v is))
+
     -- if what a closure needs survives its rejections, it may be offered handles that it takes
-    pub offered_by : (hs : List H) (f : M) → I f → ((i : ℕ) (h : H) → slice_get hs i ≡ Some h → allowed h) → TakesInTurn m f hs
-    offered_by [] f i all = tt
-    offered_by (h ∷ hs) f i all = (takes f h i (all 0 h refl), λ next called. offered_by hs next (keeps f h next i (all 0 h refl) called) (λ k v is. all (suc k) v is))
+    pub offered_by : (hs : List H) (f : M) → I f → ((i : ℕ) (h : H) → slice_get hs i ≡ Some h → allowed h) → MayBeOffered m f hs
+    offered_by hs f i all = record { in_turn = in_turn_by hs f i all }
 
   -- a closure that may always be called may be offered any handles, as those of a search
   pub offered_any : (hs : List H) (f : M) → always_mut m f → MayBeOffered m f hs
-  offered_any hs f always = record {
-    in_turn = offered_by (always_mut m) (λ _. Unit {0}) (λ f h a _. (a.at ((h, tt) ∷ [])).0) (λ f h next a _ called. mut_next m f (h, tt) false next next called refl a) hs f always (λ _ _ _. tt);
-  }
+  offered_any hs f always = offered_by (always_mut m) (λ _. Unit {0}) (λ f h a _. (a.at ((h, tt) ∷ [])).0) (λ f h next a _ called. mut_next m f (h, tt) false next next called refl a) hs f always (λ _ _ _. tt)
 
   -- one that may be called on held handles, and keeps what it needs when it rejects one, may be offered the candidates
   module _ {F : Type 0} (g : Mut F (H × Unit {0}) ℕ) (rehash : F) (homes : List (List (ℕ × H))) (x : ℕ) (I : M → Type 0) (takes : (f : M) (h : H) → I f → IsHeld homes h → Takes m f (h, tt))
       (keeps : (f : M) (h : H) (next : M) → I f → IsHeld homes h → Called m f (h, tt) false next → I next) where
     pub offered_held_by : (f : M) → I f → AfterGrowth g rehash homes (λ hs. MayBeOffered m f (candidates hs x))
-    offered_held_by f i key gives = record { in_turn = offered_by I (IsHeld homes) takes keeps (candidates _ x) f i (λ k h is. grown_from key homes h (candidate_held _ x k h is)) }
+    offered_held_by f i key gives = offered_by I (IsHeld homes) takes keeps (candidates _ x) f i (λ k h is. grown_from key homes h (candidate_held _ x k h is))
 
   -- a closure that agrees with a test on what it is offered finds what the test does
   module _ (I : M → Type 0) (allowed : H → Type 0) (test : H → Bool) (says : (f : M) (h : H) (b : Bool) (next : M) → I f → allowed h → Called m f (h, tt) b next → (b ≡ test h) × I next) where

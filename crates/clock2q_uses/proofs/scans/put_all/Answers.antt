@@ -1,7 +1,7 @@
 use Rattle.std.proofs.Common.{◌≡◌, arith, ◌≤◌, eqb, inl, inr, sym, ap, ◌∙◌, subst}
 use Rattle.std.specs.Cmp.{nat_eq_equiv}
 use Rattle.std.proofs.lemmas.List.{at_drop_all}
-use Rattle.clock2q_machine.specs.Scans.{IsFullCache, IsScan, left_main, set_in_small}
+use Rattle.clock2q_machine.specs.Scans.{left_main, set_in_small}
 use Rattle.clock2q_machine.specs.Steps.{after_all}
 use Rattle.clock2q_machine.proofs.Scanned.{scan_left, scan_left_share, scan_untouched, scan_keeps, scan_differs}
 use Rattle.clock2q_uses.specs.Scanning.{LeavesOrStays, calls_of, puts_of}
