@@ -1,4 +1,4 @@
-use Rattle.std.proofs.Common.{rules, ◌≡◌, None, Result, Ok, Err, OnErr, refl, subst, ap, sym, ◌∙◌}
+use Rattle.std.proofs.Common.{rules, ◌≡◌, None, Result, Ok, Err, OnErr, subst, ap, sym, ◌∙◌}
 use Rattle.std.proofs.lemmas.Result.{IfOk-weaker, on_err_weaker}
 use Rattle.clock2q_machine.specs.Machine.{hit, slot_of, value_of}
 use Rattle.clock2q_machine.specs.Whole.{IsWhole}
