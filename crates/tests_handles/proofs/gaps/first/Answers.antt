@@ -5,8 +5,8 @@ use Rattle.clock2q_handles.specs.Homes.{top, listed, is_entry_of}
 use Rattle.clock2q_handles.proofs.Offering.{offered_any}
 use Rattle.tests_handles.proofs.gaps.first.Goals as goal
 
-pub search-requires-clause-callable : goal.search-requires-clause-callable
-search-requires-clause-callable c = offered_any _ _ _ (mut_total _ _ (λ f a. search rules))
+pub search-requires : goal.search-requires
+search-requires c = record { callable = offered_any _ _ _ (mut_total _ _ (λ f a. search rules)) }
 
 pub returns : goal.returns
 returns c =

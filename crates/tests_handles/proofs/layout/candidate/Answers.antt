@@ -3,5 +3,5 @@ use denote.Param.Always.{mut_total}
 use Rattle.clock2q_handles.proofs.Offering.{offered_any}
 use Rattle.tests_handles.proofs.layout.candidate.Goals as goal
 
-pub search-found-requires-clause-callable : goal.search-found-requires-clause-callable
-search-found-requires-clause-callable g c = offered_any _ _ _ (mut_total _ _ (λ f a. search rules))
+pub search-found-requires : goal.search-found-requires
+search-found-requires g c = record { callable = offered_any _ _ _ (mut_total _ _ (λ f a. search rules)) }
