@@ -108,3 +108,14 @@ fn removed_where_they_are(rt: HostRuntime) -> Result<(), Fail> {
     loses_two(&mut wrapped(rt.alloc())?)?;
     take_each(&mut Table::new(rt.alloc()), &[(0, 3, None)])
 }
+
+/// Whether a search that accepts any candidate finds none, and has no gap either.
+fn has_no_gap(table: &Table<u32>, hash: u64) -> bool {
+    matches!(table.search(hash, |_| true), Err(None))
+}
+
+#[test]
+fn no_gap_without_slots(rt: HostRuntime) -> Result<(), Fail> {
+    same(has_no_gap(&Table::new(rt.alloc()), A), true)?;
+    same(has_no_gap(&wrapped(rt.alloc())?, A), false)
+}
