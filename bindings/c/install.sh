@@ -5,12 +5,14 @@
 #   lib/libclock2q_sqlite.so, if SQLite's header and library are there; else an earlier one is removed
 #   share/clock2q/pcache_clock2q.c
 # DESTDIR goes before PREFIX. Either may begin at the folder where this is called. CC is the C compiler.
-# With CLOCK2Q_ARCHIVES, LIBRARY:KIT, two archives in place of what is built here, nothing is proved.
+# With CLOCK2Q_ARCHIVES, LIBRARY:KIT, two archives in place of what is built here, nothing is proved. A proof leaves its
+# archive's sum, the kit's, that of the sources and the version of rt beside it, in crates/clock2q_c/out/libclock2q_c.a.proved.
 set -eu
 self=$(readlink -f "$0")
 here=${self%/*}
 bindings=${here%/*}
-crate=${bindings%/*}/crates/clock2q_c
+top=${bindings%/*}
+crate=$top/crates/clock2q_c
 soname=libclock2q.so.1 # counted up when a name of the library goes or changes
 archives=${CLOCK2Q_ARCHIVES:-}
 CC=${CC:-cc}
@@ -81,9 +83,12 @@ show_progress() {
     printf '\r%s min%s\033[K' "$((($(date +%s) - began) / 60))" "${name:+, proving $name}" >&2
 }
 
-# Proves and builds the library, and shows what rt said if that fails.
+# Proves and builds the library, and shows what rt said if that fails. The sums are left only if the sources stayed
+# as they were.
 prove() {
     say "proving and building the library: up to 20 minutes on 4 cores, seconds if it was proved before"
+    rm -f "$proved.proved"
+    sources=$("$top/.bin/sums" clock2q_c)
     began=$(date +%s) is_proving=yes
     (cd "$crate" && exec rt lib) </dev/null >"$work/log" 2>&1 &
     while kill -0 "$!" 2>/dev/null; do
@@ -96,6 +101,9 @@ prove() {
         cat "$work/log" >&2
         give_up "the library isn't proved: rt says why above"
     }
+    [ "$("$top/.bin/sums" clock2q_c)" = "$sources" ] || give_up "sources were changed while they were proved: start again"
+    { rt version && "$top/.bin/sums" clock2q_c "$proved" "$kit"; } >"$work/proved"
+    cp "$work/proved" "$proved.proved"
 }
 
 # Ends what runs, leaves nothing behind, and ends as the signal does.
@@ -174,7 +182,7 @@ case ${1-} in
 -*) show_help >&2; exit 2 ;;
 esac
 [ $# -le 1 ] || { show_help >&2; exit 2; }
-version=$(cat "${bindings%/*}/VERSION")
+version=$(cat "$top/VERSION")
 prefix=$(absolute "${1:-/usr/local}")
 to=${DESTDIR:+$(absolute "$DESTDIR")}$prefix
 is_proving='' has_sqlite=''
@@ -198,6 +206,9 @@ else
 fi
 if [ "$archives" ]; then
     proved=$(absolute "${archives%%:*}") kit=$(absolute "${archives#*:}")
+    for file in "$proved" "$kit"; do
+        [ -f "$file" ] || give_up "CLOCK2Q_ARCHIVES names $file, which isn't there"
+    done
 else
     proved=$crate/out/libclock2q_c.a kit=$(dirname "$(rt doc)")/c/liblibc_c.a
     prove
