@@ -122,6 +122,8 @@ class Checks:
     """The runs of rt that are under way, so that all of them can be ended."""
 
     def __init__(self):
+        if not shutil.which("rt"):
+            stop("rt isn't there, the command of the Rattle kit, which tries the edits")
         self.running = set()
         self.is_ended = False
 
