@@ -37,20 +37,27 @@ absolute() {
     esac
 }
 
-# Says whether the compiler builds a program that includes a header; the words after it go to the compiler.
+# Says whether the compiler builds a program that includes a header, and keeps what it said; the words after it go to
+# the compiler.
 builds() {
-    printf '#include <%s>\nint main(void) { return 0; }\n' "$1" >"$work/none.c"
+    printf '#include <%s>\nint main(void) { return 0; }\n' "$1" >"$work/none.c" || give_up "$work can't be written to: see TMPDIR"
     shift
     # shellcheck disable=SC2086 # CC may have options
-    $CC "$work/none.c" -o "$work/none" "$@" >/dev/null 2>&1
+    said=$($CC "$work/none.c" -o "$work/none" "$@" 2>&1)
 }
 
 check_tools() {
     missing=''
     [ "$archives" ] || command -v rt >/dev/null || missing="$missing
   rt, the command of the Rattle kit"
-    builds stdlib.h || missing="$missing
-  $CC that builds a C program: apt-get install gcc libc6-dev"
+    if ! command -v "${CC%% *}" >/dev/null; then
+        missing="$missing
+  $CC, the C compiler: apt-get install gcc libc6-dev"
+    elif ! builds stdlib.h; then
+        case $said in *'No space left'*) give_up "$work is full: see TMPDIR" ;; esac
+        missing="$missing
+  $CC that builds a C program (apt-get install gcc libc6-dev): it says $(printf '%s\n' "$said" | head -n 1)"
+    fi
     for tool in ar ld objcopy; do
         command -v "$tool" >/dev/null || missing="$missing
   $tool: apt-get install binutils"
@@ -76,11 +83,16 @@ check_prefix() {
     done
 }
 
-# Shows the minutes so far and the crate that is proved, in one line, if a person is there to read it.
+# Shows the minutes so far and the crate that is proved, in one line on a terminal, and else in one every five minutes.
 show_progress() {
-    [ -t 2 ] || return 0
+    minutes=$((($(date +%s) - began) / 60))
     name=$(sed -n 's/^rt: chose .* for //p' "$work/log" | tail -n 1)
-    printf '\r%s min%s\033[K' "$((($(date +%s) - began) / 60))" "${name:+, proving $name}" >&2
+    if [ -t 2 ]; then
+        printf '\r%s min%s\033[K' "$minutes" "${name:+, proving $name}" >&2
+    elif [ "$minutes" -ge "$shown_at" ]; then
+        shown_at=$((minutes + 5))
+        say "$minutes min${name:+, proving $name}"
+    fi
 }
 
 # Proves and builds the library, and shows what rt said if that fails. The sums are left only if the sources stayed
@@ -89,7 +101,7 @@ prove() {
     say "proving and building the library: up to 20 minutes on 4 cores, seconds if it was proved before"
     rm -f "$proved.proved"
     sources=$("$top/.bin/sums" clock2q_c)
-    began=$(date +%s) is_proving=yes
+    began=$(date +%s) shown_at=5 is_proving=yes
     (cd "$crate" && exec rt lib) </dev/null >"$work/log" 2>&1 &
     while kill -0 "$!" 2>/dev/null; do
         sleep 1
@@ -185,7 +197,7 @@ esac
 version=$(cat "$top/VERSION")
 prefix=$(absolute "${1:-/usr/local}")
 to=${DESTDIR:+$(absolute "$DESTDIR")}$prefix
-is_proving='' has_sqlite=''
+is_proving='' has_sqlite='' said=''
 case $archives in
 *:* | '') ;;
 *' '*) archives=${archives%% *}:${archives##* } ;; # as two words, neither with a space
