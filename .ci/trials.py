@@ -123,7 +123,7 @@ class Checks:
 
     def __init__(self):
         if not shutil.which("rt"):
-            stop("rt isn't there, the command of the Rattle kit, which tries the edits")
+            stop("rt isn't there, the command of the Rattle kit: README.md, Install")
         self.running = set()
         self.is_ended = False
 

@@ -49,7 +49,7 @@ builds() {
 check_tools() {
     missing=''
     [ "$archives" ] || command -v rt >/dev/null || missing="$missing
-  rt, the command of the Rattle kit"
+  rt, the command of the Rattle kit: README.md, Install"
     if ! command -v "${CC%% *}" >/dev/null; then
         missing="$missing
   $CC, the C compiler: apt-get install gcc libc6-dev"
