@@ -83,15 +83,19 @@ check_prefix() {
     done
 }
 
-# Shows the minutes so far and the crate that is proved, in one line on a terminal, and else in one every five minutes.
+# Shows the minutes so far and the crate that is proved, in one line on a terminal, and else in one every five minutes
+# and as soon as rt waits.
 show_progress() {
     minutes=$((($(date +%s) - began) / 60))
-    name=$(sed -n 's/^rt: chose .* for //p' "$work/log" | tail -n 1)
+    doing=$(sed -n 's/^rt: chose .* for /, proving /p; s/^rt: waiting for/, waiting for/p
+        s/^rt: \(.*\): another copy .*/, waiting for another copy that builds \1/p' "$work/log" | tail -n 1)
+    is_new_wait=''
+    case $doing in "$waited" | *proving* | '') ;; *) is_new_wait=yes waited=$doing ;; esac
     if [ -t 2 ]; then
-        printf '\r%s min%s\033[K' "$minutes" "${name:+, proving $name}" >&2
-    elif [ "$minutes" -ge "$shown_at" ]; then
+        printf '\r%s min%s\033[K' "$minutes" "$doing" >&2
+    elif [ "$minutes" -ge "$shown_at" ] || [ "$is_new_wait" ]; then
         shown_at=$((minutes + 5))
-        say "$minutes min${name:+, proving $name}"
+        say "$minutes min$doing"
     fi
 }
 
@@ -101,7 +105,7 @@ prove() {
     say "proving and building the library: up to 20 minutes on 4 cores, seconds if it was proved before"
     rm -f "$proved.proved"
     sources=$("$top/.bin/sums" clock2q_c)
-    began=$(date +%s) shown_at=5 is_proving=yes
+    began=$(date +%s) shown_at=5 waited='' is_proving=yes
     (cd "$crate" && exec rt lib) </dev/null >"$work/log" 2>&1 &
     while kill -0 "$!" 2>/dev/null; do
         sleep 1
