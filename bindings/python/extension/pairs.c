@@ -113,8 +113,8 @@ void add_pair(Cache *cache, PyObject *key, uint64_t hash, PyObject *value, uint6
 }
 
 int store_pair(Cache *cache, PyObject *key, uint64_t hash, PyObject *value) {
-    if (cache->weigher != NULL || cache->maxsize < cache->capacity) return store_within(cache, key, hash, value);
     for (int tries = 0; tries < MOST_TRIES; tries++) {
+        if (cache->weigher != NULL || cache->maxsize < cache->capacity) return store_within(cache, key, hash, value);
         if (cache->pairs == NULL && make_pairs(cache) < 0) return -1;
         found_pair found = look_at_pairs(cache, key, hash);
         if (found.is == FAILED) return -1;

@@ -30,7 +30,7 @@ typedef struct {
     size_t capacity;  /* how many slots there are; 0 if there are none */
     size_t maxsize;   /* how many pairs there are at most */
     size_t reached;   /* above the highest slot that has had a pair */
-    uint64_t version; /* how often a pair was stored, replaced or removed */
+    uint64_t version; /* how often a pair was stored, replaced or removed, or maxsize set */
     uint64_t hits, misses;
     PyObject *weigher;   /* or NULL; then there are no weights */
     uint64_t *weights;   /* by slot, 0 if there is no pair */
