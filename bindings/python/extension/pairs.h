@@ -79,6 +79,12 @@ static inline found_pair look_at_pairs(Cache *cache, PyObject *key, uint64_t has
 /* Does so after a comparison has changed the cache, until none does. */
 found_pair look_again(Cache *cache, PyObject *key, uint64_t hash);
 
+/* Finds the slot of a key, and records nothing. If PRESENT, the slot's pair stays until other code runs. */
+static inline found_pair peek_pair(Cache *cache, PyObject *key, uint64_t hash) {
+    found_pair found = look_at_pairs(cache, key, hash);
+    return found.is == CHANGED ? look_again(cache, key, hash) : found;
+}
+
 /* Ends a look-up that found this: looks again if the cache has changed, and records a hit in the library if the key has
  * a slot. If PRESENT, the slot's pair stays until other code runs. */
 static inline found_pair hit_if_present(Cache *cache, PyObject *key, uint64_t hash, found_pair found) {

@@ -99,6 +99,20 @@ class MappingTest(unittest.TestCase):
         self.assertEqual((cache.peek("a"), cache.peek("b"), cache.peek("b", 2), "a" in cache), (1, None, 2, True))
         self.assertEqual((cache.hits, cache.misses), (0, 0))
 
+    def test_peek_and_in_do_not_change_who_leaves(self):
+        draws = random.Random(1)
+        plain, peeked = Cache(20), Cache(20)
+        for number in range(5_000):
+            key = draws.randrange(60) & draws.randrange(60)
+            for cache in (plain, peeked):
+                if cache.get(key) is None:
+                    cache[key] = number
+            other = draws.randrange(60)
+            self.assertEqual(peeked.peek(other) is not None, other in peeked)
+            self.assertNotIn((other, None), peeked.items())
+            self.assertEqual(list(plain.items()), list(peeked.items()))
+            self.assertEqual(plain.next_victim(), peeked.next_victim())
+
     def test_repr(self):
         cache = Cache(3)
         cache["a"] = 1

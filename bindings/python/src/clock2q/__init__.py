@@ -68,9 +68,9 @@ class Cache(_extension.Cache, abc.MutableMapping):
     leave until all weigh at most max_weight together. ValueError is raised for a pair that alone is heavier,
     and the cache is as it was.
 
-    [], get and setdefault count hits and misses. `in` and peek count neither, but the replacement takes
-    them for a use of the key. Iteration is over what was there when it began, and uses no key. `cache[key]`
-    of a key that isn't there returns what __missing__ does, if a subclass has it.
+    [], get and setdefault count hits and misses. `in` and peek change nothing. Iteration is over what was
+    there when it began, and uses no key. `cache[key]` of a key that isn't there returns what __missing__ does,
+    if a subclass has it.
     """
 
     __slots__ = ()
