@@ -166,7 +166,7 @@ void clock2q_release(clock2q_cache cache);
  *   left the cache.
  * - Hashes are well spread, in their low bits and in the highest eight: clock2q_spread makes them so.
  *   They choose where a key is looked for, never what is found. If strangers choose keys, hash them
- *   with a secret.
+ *   with a secret, or spread their hashes with clock2q_spread_by.
  * - Few keys of one hash: a walk over them takes time in proportion to the square of their number.
  *   From sixteen on remove one before the next enters.
  * - Between a walk and the call that it leads to, no other call is made on the cache. If a comparison
@@ -372,6 +372,14 @@ static inline void clock2q_tokens_free(clock2q_tokens *cache) {
 /* Spreads the bits of a hash. Different hashes stay different. */
 static inline uint64_t clock2q_spread(uint64_t hash) {
     uint64_t product = hash * UINT64_C(0x9E3779B97F4A7C15);
+    return product ^ product >> 32;
+}
+
+/* Spreads them by a secret, two odd numbers: who chooses hashes without knowing it finds no more of them that are
+ * looked for at one place than chance does. Different hashes stay different. */
+static inline uint64_t clock2q_spread_by(const uint64_t secret[2], uint64_t hash) {
+    uint64_t product = hash * secret[0];
+    product = (product ^ product >> 32) * secret[1];
     return product ^ product >> 32;
 }
 

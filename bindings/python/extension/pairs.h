@@ -56,6 +56,15 @@ enum { MOST_TRIES = 8, MOST_ALIKE = 16 };
 /* Sets the exception after the last try, and returns FAILED. */
 outcome too_many_tries(void);
 
+/* Two odd numbers, drawn with the secret of str's hashes as the process starts: PYTHONHASHSEED sets both. */
+extern uint64_t hash_secret[2];
+
+/* Spreads the bits of a hash by the secret. Those of ints and of others whose hash Python doesn't keep secret are so
+ * looked for where no stranger knows. */
+static inline uint64_t spread(uint64_t hash) {
+    return clock2q_spread_by(hash_secret, hash);
+}
+
 /* Writes a key's hash. Returns -1 with an exception if it has none. */
 static inline int hash_of(PyObject *key, uint64_t *hash) {
     Py_hash_t value = PyUnicode_CheckExact(key) ? ((PyASCIIObject *)key)->hash : -1; /* -1 before it is first asked for */
@@ -70,7 +79,7 @@ found_pair compare_alike(Cache *cache, PyObject *key, uint64_t hash, size_t slot
 /* Finds the slot of a key, if no comparison changes the cache. */
 static inline found_pair look_at_pairs(Cache *cache, PyObject *key, uint64_t hash) {
     if (cache->pairs == NULL) return (found_pair){ABSENT, 0};
-    clock2q_found alike = clock2q_tokens_seek(&cache->slots, clock2q_spread(hash), 0);
+    clock2q_found alike = clock2q_tokens_seek(&cache->slots, spread(hash), 0);
     if (!alike.is_found) return (found_pair){ABSENT, 0};
     if (cache->pairs[alike.slot].key == key) return (found_pair){PRESENT, alike.slot};
     return compare_alike(cache, key, hash, alike.slot);

@@ -4,6 +4,7 @@ import copy
 import inspect
 import pickle
 import random
+import time
 import unittest
 from collections import abc
 
@@ -275,6 +276,24 @@ class ModelTest(unittest.TestCase):
         self.assertEqual((cache.get(-1), cache.get(-2)), ("one", "two"))
         self.assertEqual(cache.pop(-1), "one")
         self.assertEqual(cache.get(-2), "two")
+
+    def test_ints_that_a_stranger_picks(self):
+        """Ints whose hashes, were they spread without a secret, would be looked for at one place take no longer than others."""
+        count, inverse = 20_000, pow(0x9E3779B97F4A7C15, -1, 2**64)
+        spread = ((number << 24) | 0x5A5A5A for number in range(1, 20 * count))
+        picked = ((it ^ it >> 32) * inverse % 2**64 for it in spread)
+        picked = [it for it in picked if it < 2**61 - 1][:count]
+
+        def seconds(keys):
+            cache, begun = Cache(count), time.process_time()
+            for key in keys:
+                cache[key] = key
+            self.assertEqual(sum(map(cache.__contains__, keys)), count)
+            return time.process_time() - begun
+
+        usual, of_picked = (min(seconds(keys) for _ in range(3)) for keys in (range(count), picked))
+        self.assertEqual(len(picked), count)
+        self.assertLess(of_picked, 5 * usual)
 
     def test_thousands_of_one_hash(self):
         cache = Cache(1000)
