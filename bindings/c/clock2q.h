@@ -125,7 +125,7 @@ bool clock2q_remove(clock2q_cache *cache, uint64_t key);
 /* Takes the slot away from the key that leaves next, and returns its place: `slot` was its slot, `last`
  * is the key, `has_last` and `evicted` are true. If no key has a slot, all of them are 0 or false.
  * clock2q_evict below writes that instead. In a full cache it is the key that a new one would make leave;
- * the next key that enters takes its slot. Needs a cache. Costs no hash, at most 21 accesses to the
+ * the next key that takes a free slot takes this one. Needs a cache. Costs no hash, at most 21 accesses to the
  * queues, and one for each key that the hand passes over. */
 clock2q_place clock2q_evict_key(clock2q_cache *cache);
 
