@@ -32,7 +32,12 @@ static int cache_init(Cache *self, PyObject *args, PyObject *keywords) {
     if (!PyArg_ParseTupleAndKeywords(args, keywords, "n|OO:Cache", names, &maxsize, &weigher, &max_weight)) return -1;
     if (read_weights(weigher, max_weight, &most) < 0) return -1;
     if (may_make_slots(self->is_made, maxsize, 0, "maxsize") < 0) return -1;
-    if (maxsize > 0 && made_slots(clock2q_tokens_new(&self->slots, (size_t)maxsize)) < 0) return -1;
+    if (maxsize > 0) {
+        clock2q_memory before = begin_count();
+        uint32_t status = clock2q_tokens_new(&self->slots, (size_t)maxsize);
+        self->slots_size = end_count(before);
+        if (made_slots(status) < 0) return -1;
+    }
     self->is_made = 1;
     self->capacity = self->maxsize = (size_t)maxsize;
     self->weigher = weigher == Py_None ? NULL : Py_NewRef(weigher);
@@ -214,6 +219,15 @@ static PyObject *cache_resize(Cache *self, PyObject *number) {
     Py_RETURN_NONE;
 }
 
+/* As of a dict: without the keys and values. */
+static PyObject *cache_sizeof(Cache *self, PyObject *unused) {
+    (void)unused;
+    size_t size = (size_t)Py_TYPE(self)->tp_basicsize + self->slots_size;
+    if (self->pairs != NULL) size += self->capacity * sizeof *self->pairs;
+    if (self->weights != NULL) size += self->capacity * sizeof *self->weights;
+    return PyLong_FromSize_t(size);
+}
+
 static PyObject *cache_clear(Cache *self, PyObject *unused) {
     (void)unused;
     clear_pairs(self);
@@ -288,6 +302,8 @@ static PyMethodDef cache_methods[] = {
      "clear($self, /)\n--\n\nRemove all pairs and forget their keys; hits and misses stay."},
     {"_pairs", (PyCFunction)cache_pairs, METH_NOARGS, "_pairs($self, /)\n--\n\nReturn a list of all (key, value) pairs."},
     {"__reduce__", refuse_copy, METH_NOARGS, NULL},
+    {"__sizeof__", (PyCFunction)cache_sizeof, METH_NOARGS,
+     "__sizeof__($self, /)\n--\n\nReturn how many bytes the cache takes, without its keys and values."},
     {NULL, NULL, 0, NULL}};
 
 static PyMemberDef cache_members[] = {

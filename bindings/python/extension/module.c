@@ -34,7 +34,12 @@ static int module_exec(PyObject *module) {
     int failed = cached == NULL || pages == NULL;
     Py_XDECREF(cached);
     Py_XDECREF(pages);
-    return failed ? -1 : PyModule_AddIntConstant(module, "MAX_CAPACITY", CLOCK2Q_MAX_CAPACITY);
+    if (failed || PyModule_AddIntConstant(module, "MAX_CAPACITY", CLOCK2Q_MAX_CAPACITY) < 0) return -1;
+    uint32_t version = clock2q_version();
+    PyObject *text = PyUnicode_FromFormat("%u.%u.%u", version / 10000, version / 100 % 100, version % 100);
+    failed = text == NULL || PyModule_AddObjectRef(module, "__version__", text) < 0;
+    Py_XDECREF(text);
+    return failed ? -1 : 0;
 }
 
 static int module_traverse(PyObject *module, visitproc visit, void *arg) {

@@ -45,6 +45,23 @@ int may_make_slots(int is_made, Py_ssize_t capacity, Py_ssize_t least, const cha
     return -1;
 }
 
+static size_t counted;
+
+static void *count_and_take(size_t size) {
+    counted += size;
+    return PyMem_RawMalloc(size);
+}
+
+clock2q_memory begin_count(void) {
+    counted = 0;
+    return clock2q_use_memory(&(clock2q_memory){count_and_take, PyMem_RawFree});
+}
+
+size_t end_count(clock2q_memory before) {
+    clock2q_use_memory(&before);
+    return counted;
+}
+
 int made_slots(uint32_t status) {
     if (status == CLOCK2Q_DONE) return 0;
     PyErr_NoMemory();

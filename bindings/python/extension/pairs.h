@@ -29,6 +29,7 @@ typedef struct {
     pair *pairs;      /* `capacity` of them, each at the slot of its key; NULL until one is stored */
     size_t capacity;  /* how many slots there are; 0 if there are none */
     size_t maxsize;   /* how many pairs there are at most */
+    size_t slots_size; /* how many bytes the library took */
     size_t reached;   /* above the highest slot that has had a pair */
     uint64_t version; /* how often a pair was stored, replaced or removed, or maxsize set */
     uint64_t hits, misses;
@@ -150,6 +151,11 @@ int may_make_slots(int is_made, Py_ssize_t capacity, Py_ssize_t least, const cha
 
 /* Returns 0 if the library made a cache, or -1 with an exception. */
 int made_slots(uint32_t status);
+
+/* Has the library take its memory where tracemalloc sees it, and counts that. The second returns how much it was, and
+ * is given what the first returned. No other code runs between them. */
+clock2q_memory begin_count(void);
+size_t end_count(clock2q_memory before);
 
 /* Raises a KeyError. */
 void set_key_error(PyObject *key);

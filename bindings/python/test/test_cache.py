@@ -8,6 +8,7 @@ import time
 import unittest
 from collections import abc
 
+import clock2q
 from clock2q import MAX_CAPACITY, Cache
 from keys import Key, SameHash, TwoBits
 
@@ -120,6 +121,9 @@ class MappingTest(unittest.TestCase):
         self.assertEqual(repr(cache), "Cache({'a': 1}, maxsize=3, currsize=1)")
         cache["a"] = cache
         self.assertEqual(repr(cache), "Cache({'a': ...}, maxsize=3, currsize=1)")
+
+    def test_version(self):
+        self.assertRegex(clock2q.__version__, r"^\d+\.\d+\.\d+$")
 
     def test_signature(self):
         self.assertEqual(str(inspect.signature(Cache)), "(maxsize, weigher=None, max_weight=None)")

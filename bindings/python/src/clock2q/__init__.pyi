@@ -10,6 +10,7 @@ _R = TypeVar("_R")
 __all__ = ["MAX_CAPACITY", "Cache", "CacheInfo", "PageCache", "Place", "cached"]
 
 MAX_CAPACITY: int
+__version__: str
 
 class CacheInfo(NamedTuple):
     hits: int
