@@ -271,8 +271,8 @@ template <class Node> class nodes {
     std::unique_ptr<Node *[]> chains_;
 };
 
-// Nodes that have left a cache, which are destroyed as the call ends during which they left. Code of users may call the
-// cache while it is working on nodes, as Equal is on keys: nodes that are to be destroyed then, on this thread, come here.
+// Nodes that have left a cache, which are destroyed as the call ends during which they left. Code of users may call
+// the cache while it is working on nodes, as Equal is on keys: those that this thread is to destroy then come here.
 template <class Node> class leaving {
   public:
     // Blocks of nodes are kept at `spare`, if that isn't null and has none.
@@ -359,8 +359,8 @@ template <class Node> class leaving {
 };
 
 // Whether to compare keys calls no code of users.
-template <class Key> struct is_plain : std::is_scalar<Key> {};
-template <class Letter> struct is_plain<std::basic_string<Letter>> : std::is_scalar<Letter> {};
+template <class Key> struct is_plain : std::bool_constant<std::is_arithmetic_v<Key> || std::is_pointer_v<Key>> {};
+template <class Letter> struct is_plain<std::basic_string<Letter>> : std::is_arithmetic<Letter> {};
 template <class Key, class Equal>
 constexpr bool compares_plainly = is_plain<Key>::value && std::is_same_v<Equal, std::equal_to<Key>>;
 
@@ -570,7 +570,8 @@ template <class Key, class Value, class Hash = std::hash<Key>, class Equal = std
     // Does what `put` does, and returns the entry that left: the key's own, another's or none. If two left, it is the
     // one whose slot the key has now.
     template <class Other = Value> node_type push(const Key &key, Other &&value) {
-        return pushed(key, std::forward<Other>(value), [this](node *left, leaving &others) { return first_of(left, others); });
+        return pushed(key, std::forward<Other>(value),
+                      [this](node *left, leaving &others) { return first_of(left, others); });
     }
     template <class Other = Value> node_type push(Key &&key, Other &&value) {
         return pushed(std::move(key), std::forward<Other>(value),

@@ -46,7 +46,7 @@ typedef struct {
 typedef struct {
     size_t slot;            /* below the capacity */
     bool has_entered;       /* whether the key had no slot before */
-    clock2q_bytes_key left; /* the key that lost the slot, until the next one enters or is evicted or the cache is freed; or none */
+    clock2q_bytes_key left; /* the key that lost the slot, until the next one enters or is evicted; or none */
 } clock2q_bytes_place;
 
 /* Returns a hash of a key, which is the same for equal keys. It doesn't call the cache. */
