@@ -280,7 +280,8 @@ impl<K: Eq, V> Store<K, V> {
         found
     }
 
-    /// Stores a pair, after a hit if its key is here, and returns what was replaced or left.
+    /// Stores a pair, after a hit if its key is here, and returns what was replaced or left. A second pair that left is
+    /// dropped.
     #[inline(always)]
     pub(crate) fn push(&mut self, hash: u64, key: K, value: V) -> Before<K, V> {
         if let Some((slot, (_, before))) = self.entries.find_mut(hash, &key) {
@@ -293,7 +294,9 @@ impl<K: Eq, V> Store<K, V> {
                 return Before::evicted(self.entries.put(slot, hash, key, value));
             }
         }
-        Before::evicted(self.admit_with_care(hash, key, value).1)
+        let left = self.admit_with_care(hash, key, value).1;
+        drop(self.take_second());
+        Before::evicted(left)
     }
 
     /// Removes a key, and returns the pair. A key that isn't here is forgotten.
