@@ -2,15 +2,19 @@ pub mod Clock
 pub mod Entering
 pub mod Evicted
 pub mod Laws
+pub mod LeftKeys
 pub mod Lifetimes
 pub mod Linear
 pub mod MachineInvariant
+pub mod NewKeys
+pub mod PromotedKeys
 pub mod Remembered
 pub mod Residents
 pub mod Scanned
 pub mod SecondChance
 pub mod Standing
 pub mod Storing
+pub mod Turnover
 pub mod VictimValues
 pub mod Victims
 pub mod Weights
@@ -23,4 +27,5 @@ pub mod WorkedScans
 pub mod WorkedShares
 pub mod WorkedSlots
 pub mod WorkedStates
+pub mod WorkedTurnover
 pub mod WorkedVictims
