@@ -1,10 +1,12 @@
 pub mod Clock
 pub mod Entering
 pub mod Evicted
+pub mod FarApart
 pub mod Laws
 pub mod LeftKeys
 pub mod Lifetimes
 pub mod Linear
+pub mod Loops
 pub mod MachineInvariant
 pub mod NewKeys
 pub mod PromotedKeys
@@ -22,6 +24,7 @@ pub mod Whole
 pub mod WorkedCounts
 pub mod WorkedEvictions
 pub mod WorkedLifetimes
+pub mod WorkedLoops
 pub mod WorkedRuns
 pub mod WorkedScans
 pub mod WorkedShares

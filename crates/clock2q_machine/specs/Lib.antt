@@ -11,4 +11,5 @@ pub mod Whole
 pub mod Leaving
 pub mod Scans
 pub mod Turnover
+pub mod Loops
 pub mod Lifetimes
