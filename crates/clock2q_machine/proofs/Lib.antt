@@ -8,6 +8,7 @@ pub mod Lifetimes
 pub mod Linear
 pub mod Loops
 pub mod MachineInvariant
+pub mod MainLifetimes
 pub mod NewKeys
 pub mod PromotedKeys
 pub mod Remembered
