@@ -39,7 +39,7 @@ module _ {X : Type 0} where
   sum_take_take g (suc i) (suc j) [] = omega arith
   sum_take_take g (suc i) (suc j) (x ∷ xs) = omega (arith, sum_by-cons g x (take i (take j xs)), sum_by-cons g x (take i xs), sum_take_take g i j xs)
 
-  sum_take_more : (g : X → ℕ) (i j : ℕ) (xs : List X) → i ≤ j → sum_by g (take i xs) ≤ sum_by g (take j xs)
+  pub sum_take_more : (g : X → ℕ) (i j : ℕ) (xs : List X) → i ≤ j → sum_by g (take i xs) ≤ sum_by g (take j xs)
   sum_take_more g i j xs le = omega (arith, ap (sum_by g) (take_take i j xs le), sum_by-take-le g (take j xs) i)
 
 module _ {K : Type 0} (is : K → Bool) (window : ℕ) (key : K) (slot : ℕ) where
@@ -57,15 +57,15 @@ module _ {K : Type 0} (is : K → Bool) (window : ℕ) (key : K) (slot : ℕ) wh
 -- A key that leaves by way of Small and of the history.
 
 module _ {K : Type 0} (is : K → Bool) where
-  abbrev in_small : List (SmallEntry K) → ℕ
+  abbrev pub in_small : List (SmallEntry K) → ℕ
   in_small small = count_by (λ e. is e.key) small
 
 module _ {K V : Type 0} (is : K → Bool) where
   -- it is at this place in Small, and no key up to it is promoted
-  record IsInSmall (place : ℕ) (m : Machine K V) : Type 0 where
-    before : in_small is (take place m.small) ≡ 0
-    there : 0 < in_small is (take (suc place) m.small)
-    unset : promoted_count (take (suc place) m.small) ≡ 0
+  pub record IsInSmall (place : ℕ) (m : Machine K V) : Type 0 where
+    pub before : in_small is (take place m.small) ≡ 0
+    pub there : 0 < in_small is (take (suc place) m.small)
+    pub unset : promoted_count (take (suc place) m.small) ≡ 0
 
   -- it isn't resident, nor among the newest of the history, as many as this, and no key of Small is promoted
   record IsPast (newest : ℕ) (m : Machine K V) : Type 0 where
@@ -136,7 +136,7 @@ module _ {K V : Type 0} (is : K → Bool) where
       by_leaves (inr l) = absurd (omega (arith, promoted_without m.small tail some last, ap one_if l.goes, p.unset))
 
     -- of Small, if the key isn't its tail
-    in_small_still : (place : ℕ) → suc place < length m.small → IsInSmall place m → IsInSmall (suc place) n
+    pub in_small_still : (place : ℕ) → suc place < length m.small → IsInSmall place m → IsInSmall (suc place) n
     in_small_still place inside s = record {
       before = omega (arith, at place (omega (arith, inside)), ap one_if differs, s.before);
       there = omega (arith, at (suc place) (omega (arith, inside)), s.there);
@@ -180,18 +180,18 @@ module _ {K V : Type 0} (is : K → Bool) where
     fades_on a fits once unknown_still (inr (inr f)) = inr (inr (suc f.0, past_still f.0 f.1, omega (arith, f.2, ap history_share same)))
 
   -- the key itself enters Small
+  pub enters_in_front : (key : K) (tail : SmallEntry K) (m n : Machine K V) → is key ≡ true → EntersFor key tail m n → IsInSmall 0 n
+  enters_in_front key tail m n passes e =
+      let front : List (SmallEntry K) = take (length m.small - 1) m.small in
+      record {
+        before = refl;
+        there = omega (arith, ap (λ small. in_small is (take 1 small)) e.small, in_front is m.shares.window key e.slot 0 front, ap one_if passes);
+        unset = ap (λ small. promoted_count (take 1 small)) e.small ∙ promoted_in_front is m.shares.window key e.slot 0 front;
+      }
+
   begins_to_fade : (key : K) (tail : SmallEntry K) (m n : Machine K V) → is key ≡ true → n.shares ≡ m.shares → EntersFor key tail m n → Fades (m.shares.small + history_share m.shares) n
   begins_to_fade key tail m n passes same e =
-      let front : List (SmallEntry K) = take (length m.small - 1) m.small in
-      inr (inl (
-        0,
-        record {
-          before = refl;
-          there = omega (arith, ap (λ small. in_small is (take 1 small)) e.small, in_front is m.shares.window key e.slot 0 front, ap one_if passes);
-          unset = ap (λ small. promoted_count (take 1 small)) e.small ∙ promoted_in_front is m.shares.window key e.slot 0 front;
-        },
-        omega (arith, ap (λ s. s.small) same, ap history_share same),
-      ))
+      inr (inl (0, enters_in_front key tail m n passes e, omega (arith, ap (λ s. s.small) same, ap history_share same)))
 
 -- Lists of keys that are far apart.
 

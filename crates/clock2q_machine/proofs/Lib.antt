@@ -1,7 +1,9 @@
+pub mod Admitted
 pub mod Clock
 pub mod Entering
 pub mod Evicted
 pub mod FarApart
+pub mod FirstRound
 pub mod Laws
 pub mod LeftKeys
 pub mod Lifetimes
@@ -15,6 +17,7 @@ pub mod Remembered
 pub mod Residents
 pub mod Scanned
 pub mod SecondChance
+pub mod SecondRound
 pub mod Standing
 pub mod Storing
 pub mod Turnover

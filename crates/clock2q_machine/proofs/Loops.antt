@@ -28,7 +28,7 @@ module _ {X : Type 0} (P : X → Type 0) where
   all_both [] ys all rest = rest
   all_both (x ∷ xs) ys all rest = (all.0, all_both xs ys all.1 rest)
 
-  all_rounds : (n : ℕ) (xs : List X) → AllByRecursion P xs → AllByRecursion P (rounds n xs)
+  pub all_rounds : (n : ℕ) (xs : List X) → AllByRecursion P xs → AllByRecursion P (rounds n xs)
   all_rounds zero xs all = tt
   all_rounds (suc n) xs all = all_both xs (rounds n xs) all (all_rounds n xs all)
 

@@ -1,17 +1,12 @@
 -- Loops worked out by hand: how long a loop a full cache admits, and that more room may hit less.
-use Rattle.std.proofs.Common.{◌≡◌, ℕ, Bool, true, false, eqb, List, [], ◌∷◌, map, refl}
-use Rattle.std.specs.Prelude.{Some}
+use Rattle.std.proofs.Common.{◌≡◌, ℕ, eqb, List, [], ◌∷◌, map, refl}
 use Rattle.std.specs.List.{range_with_len, count_by}
 use Rattle.clock2q_machine.specs.Shares.{history_share}
 use Rattle.clock2q_machine.specs.Machine.{Machine}
-use Rattle.clock2q_machine.specs.Calls.{Call, Answer, Put, Value}
+use Rattle.clock2q_machine.specs.Calls.{Call, Put}
 use Rattle.clock2q_machine.specs.Steps.{answers, after_all}
-use Rattle.clock2q_machine.specs.Loops.{rounds, AreFarApart}
-use Rattle.clock2q_machine.proofs.WorkedRuns.{puts, state}
-
-abbrev is_hit : Answer ℕ → Bool
-is_hit (Value (Some value)) = true
-is_hit answer = false
+use Rattle.clock2q_machine.specs.Loops.{rounds, is_hit, AreFarApart}
+use Rattle.clock2q_machine.proofs.WorkedRuns.{puts, gets, state}
 
 -- the number of hits of some puts
 abbrev hits_in : List (Call ℕ ℕ) → Machine ℕ ℕ → ℕ
@@ -28,6 +23,13 @@ full = state 20 (puts 1 20)
 -- it admits a loop of twelve keys, and never one of thirteen
 twelve_are_admitted : (full.shares.small ≡ 2) × ((history_share full.shares ≡ 10) × (hits_of_rounds 4 (puts 21 12) full ≡ 0 ∷ 2 ∷ 12 ∷ 12 ∷ []))
 twelve_are_admitted = (refl, (refl, refl))
+
+-- it has room for twelve beside eight keys of Main that were hit, and for nine only after one more round
+beside_eight : hits_of_rounds 3 (puts 21 12) (after_all eqb (gets 5 8) full) ≡ 0 ∷ 2 ∷ 12 ∷ []
+beside_eight = refl
+
+beside_nine : hits_of_rounds 4 (puts 21 12) (after_all eqb (gets 5 9) full) ≡ 0 ∷ 2 ∷ 9 ∷ 12 ∷ []
+beside_nine = refl
 
 thirteen_never_hit : hits_of_rounds 4 (puts 21 13) full ≡ 0 ∷ 0 ∷ 0 ∷ 0 ∷ []
 thirteen_never_hit = refl
