@@ -228,7 +228,7 @@ def judge(edit, log, crate, changed):
     # rt may have proved libraries below the crate first: the crate's own verdict is the last one
     verdicts = [it for it in log if it.startswith("logic=")]
     if not verdicts:
-        errors = [it for it in log if re.search(r"error[\[:]", it)]
+        errors = [it for it in log if re.search(r"\berror[\[:]", it)]
         return False, "it doesn't compile: " + (errors or log or ["nothing was said"])[0][:300]
     if verdicts[-1].startswith("logic=proved"):
         return False, "it is proved, and so not refused"
@@ -254,7 +254,7 @@ def try_on(copy, edits, checks, *flags):
 
 def explain(log):
     """Returns the lines of a check that say what wasn't proved."""
-    refused_at = [it for it in log if re.match(r"(fn|impl|struct|enum) .*: |.*error[\[:]", it)]
+    refused_at = [it for it in log if re.match(r"(fn|impl|struct|enum) .*: |.*\berror[\[:]", it)]
     return [it[:300] for it in refused_at if not it.endswith(": proved")]
 
 
