@@ -1,6 +1,7 @@
 pub mod Emptied
 pub mod Entries
 pub mod Forgetting
+pub mod Gaps
 pub mod Hashed
 pub mod Histories
 pub mod Indexes

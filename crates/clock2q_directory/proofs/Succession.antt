@@ -1,16 +1,17 @@
 -- A key that takes the slot of another, which is remembered at a place: that of the oldest key, if one is forgotten.
 use Rattle.std.proofs.Common.{◌≡◌, ℕ, ◌+◌, ◌-◌, ◌^◌, ◌<◌, ◌≤◌, eqb, true, false, List, length, Option, Some, None, if◌then◌else◌, refl, sym, ap, ◌∙◌, arith}
 use Rattle.std.specs.List.{list_any}
-use Rattle.clock2q_handles.specs.Changes.{ChangesAtMost, ReadsAtMost, RisesAtMost, WritesAtMost}
+use Rattle.clock2q_handles.specs.Changes.{ChangesAtMost, ReadsWalk, RisesAtMost, WritesAtMost}
 use Rattle.clock2q_handles.specs.Homes.{candidates, is_entry_of, listed, without_handle, total, with_handle}
 use Rattle.clock2q_handles.specs.Layout.{layout, run, walk}
-use Rattle.clock2q_handles.specs.Positions.{handle_replaced}
+use Rattle.clock2q_handles.specs.Positions.{GapValue, handle_replaced, walk_to_gap}
 use Rattle.clock2q_handles.specs.TableStep.{TableValue}
 use Rattle.clock2q_handles.proofs.Changes.{length-with_list}
 use Rattle.clock2q_handles.proofs.MoreEntries.{walk-more}
 use Rattle.clock2q_handles.proofs.Removals.{held-still, replaced-homes}
 use Rattle.clock2q_directory.specs.Accesses.{most_changed}
 use Rattle.clock2q_directory.specs.Index.{IndexState, AreLaidOut, index_of, is_shared, slots, places, beside, entered_from, remembered_at, first_remembered, forgotten_if}
+use Rattle.clock2q_directory.proofs.Gaps.{walk-spared}
 use Rattle.clock2q_directory.proofs.Indexes.{length-put, length-taken}
 use Rattle.clock2q_directory.proofs.Sorted.{sorted-shared}
 use Rattle.clock2q_directory.proofs.Views.{held_entry, slots-forgotten, forgotten-like}
@@ -63,14 +64,14 @@ module _ (o : Option ℕ) (p x s : ℕ) (t own : TableValue ℕ) (n : ℕ) where
     pub counted : t'.reads + t'.writes + n ≤ t.reads + t.writes + fewer.accesses + most_changed t.homes x
 
 module _ (p x s : ℕ) (t own : TableValue ℕ) (n : ℕ) (i : AreLaidOut t own n) {t' : TableValue ℕ} where
-  pub beside-free : WritesAtMost (run t.slots x + 1) t t' → ReadsAtMost (walk t.homes x) t t' → t'.homes ≡ with_handle t.homes x s → IsBeside None p x s t own n t'
-  beside-free writes reads put = record { homes = put; from = omega arith; counted = omega (arith, writes.1, reads.1, ap (λ z. run z x) i.shared_laid) }
+  pub beside-free : (gap : Option GapValue) → WritesAtMost (run t.slots x + 1) t t' → ReadsWalk (walk_to_gap gap t.homes x) t t' → t'.homes ≡ with_handle t.homes x s → IsBeside None p x s t own n t'
+  beside-free gap writes reads put = record { homes = put; from = omega arith; counted = omega (arith, writes.1, reads, walk-spared t.homes x gap, ap (λ z. run z x) i.shared_laid) }
 
-  pub beside-past : (o : ℕ) → is_shared (index_of t own n) ≡ true → ChangesAtMost x o t t' → t'.homes ≡ with_handle (without_handle eqb t.homes o (first_remembered + p)) x s → IsBeside (Some o) p x s t own n t'
-  beside-past o shared accesses put = record {
+  pub beside-past : (gap : Option GapValue) (o : ℕ) → is_shared (index_of t own n) ≡ true → ChangesAtMost gap x o t t' → t'.homes ≡ with_handle (without_handle eqb t.homes o (first_remembered + p)) x s → IsBeside (Some o) p x s t own n t'
+  beside-past gap o shared accesses put = record {
     homes = rw shared put;
     from = rw shared (omega arith);
-    counted = rw shared (omega (arith, accesses.1, ap (λ z. run z x) i.shared_laid, ap (λ z. run z o) i.shared_laid));
+    counted = rw shared (omega (arith, accesses.1, walk-spared t.homes x gap, ap (λ z. run z x) i.shared_laid, ap (λ z. run z o) i.shared_laid));
   }
 
 module _ (o : Option ℕ) (p x s y : ℕ) (t own : TableValue ℕ) (n : ℕ) (i : AreLaidOut t own n) (shared : is_shared (before o p x s t own n) ≡ true)

@@ -1,7 +1,8 @@
 -- What a call that changes a table results in, and how many slots it reads and writes.
-use Rattle.std.specs.Prelude.{◌≡◌, ℕ, ◌+◌, ◌*◌, ◌^◌, ◌<◌, ◌≤◌, Bool, List, Result, MatchResult, IsOk, OnOk, OnErr}
+use Rattle.std.specs.Prelude.{◌≡◌, ℕ, ◌+◌, ◌*◌, ◌^◌, ◌<◌, ◌≤◌, Bool, List, Option, Result, MatchResult, IsOk, OnOk, OnErr}
 use Rattle.clock2q_handles.specs.Homes.{with_handle, without_handle, count, total, IsNew}
 use Rattle.clock2q_handles.specs.Layout.{layout, run, walk, spill_of, IsTooLong, IsBestPlaced}
+use Rattle.clock2q_handles.specs.Positions.{GapValue, walk_to_gap}
 use Rattle.clock2q_handles.specs.TableStep.{TableValue}
 use Rattle.clock2q_handles.specs.declared.error.TableError.{TableError}
 use Rattle.clock2q_handles.specs.declared.error.TableError.TheVariants.{RunTooLong}
@@ -31,9 +32,9 @@ module _ {H : Type 0} where
   abbrev pub OnlyReads : ℕ → TableValue H → TableValue H → Type 0
   OnlyReads n old new = (new ≡ record old { reads = new.reads }) × RisesAtMost n old.reads new.reads
 
-  -- the slots read and written by an insertion under x and a removal under y: at most the walk of each, and twice its run with the slot of one more entry
-  abbrev pub ChangesAtMost : ℕ → ℕ → TableValue H → TableValue H → Type 0
-  ChangesAtMost x y old new = RisesAtMost (walk old.homes x + 2 * (run old.slots x + 1) + (walk old.homes y + 2 * (run old.slots y + 1))) (old.reads + old.writes) (new.reads + new.writes)
+  -- the slots read and written by an insertion under x, whose gap may be known, and a removal under y: at most the walk of each, and twice its run with the slot of one more entry
+  abbrev pub ChangesAtMost : Option GapValue → ℕ → ℕ → TableValue H → TableValue H → Type 0
+  ChangesAtMost gap x y old new = RisesAtMost (walk_to_gap gap old.homes x + 2 * (run old.slots x + 1) + (walk old.homes y + 2 * (run old.slots y + 1))) (old.reads + old.writes) (new.reads + new.writes)
 
   -- removing v again restores the slots, if there was no such entry before
   abbrev pub Restores : (H → H → Bool) → ℕ → H → TableValue H → TableValue H → Type 0
@@ -53,10 +54,10 @@ module _ {H : Type 0} where
     pub restores : Restores eq x v old new
     pub laid : IsLaidOut new
 
-  -- v is put in under x, and w is taken out under y
-  pub record Exchanges (eq : H → H → Bool) (x : ℕ) (v : H) (y : ℕ) (w : H) (old new : TableValue H) : Type 0 where
+  -- v is put in under x, whose gap may be known, and w is taken out under y
+  pub record Exchanges (eq : H → H → Bool) (gap : Option GapValue) (x : ℕ) (v : H) (y : ℕ) (w : H) (old new : TableValue H) : Type 0 where
     pub exchanged : new.homes ≡ with_handle (without_handle eq old.homes y w) x v
-    pub accesses : ChangesAtMost x y old new
+    pub accesses : ChangesAtMost gap x y old new
     pub longer : (z : ℕ) → walk new.homes z ≤ walk old.homes z + 1
     pub laid : IsLaidOut new
 

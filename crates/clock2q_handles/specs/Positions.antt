@@ -1,8 +1,8 @@
 -- Positions in a table: the slots where a home's entries are, and those where walks end.
-use Rattle.std.specs.Prelude.{◌≡◌, ℕ, ◌+◌, ◌%◌, Bool, cond, List, [], ◌∷◌, length, set, slice_get, Some}
+use Rattle.std.specs.Prelude.{◌≡◌, ℕ, ◌+◌, ◌%◌, Bool, cond, List, [], ◌∷◌, length, set, slice_get, Option, Some, None}
 use Rattle.std.specs.Coded.{Coded, code_by, coded×, coded_ℕ, coded_option}
 use Rattle.clock2q_handles.specs.Homes.{top, listed, count, with_list, is_entry_of}
-use Rattle.clock2q_handles.specs.Layout.{spill_of}
+use Rattle.clock2q_handles.specs.Layout.{spill_of, walk}
 use Rattle.clock2q_handles.specs.Slots.{Mark}
 use mathlib.Core.Path.{refl}
 
@@ -43,3 +43,8 @@ gap_from homes x f = gap_value ((x + spill_of homes x + count homes x) % length 
 -- where a walk for x ends
 abbrev pub gap_of : {E : Type 0} → List (List E) → ℕ → GapValue
 gap_of homes x = gap_from homes x (top x)
+
+-- the number of slots that are read to find the gap of x: none if a lookup has found it
+abbrev pub walk_to_gap : {E : Type 0} → Option GapValue → List (List E) → ℕ → ℕ
+walk_to_gap None homes x = walk homes x
+walk_to_gap (Some gap) homes x = 0

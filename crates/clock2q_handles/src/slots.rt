@@ -3,7 +3,7 @@ ghost use Rattle.clock2q_handles.specs.Candidates.{EndsAt};
 ghost use Rattle.clock2q_handles.specs.Found.{FindsAt};
 ghost use Rattle.clock2q_handles.specs.Homes.{is_entry_of, listed};
 ghost use Rattle.clock2q_handles.specs.Changes.{RisesAtMost};
-ghost use Rattle.clock2q_handles.specs.Layout.{IsTidy, homes_of, walk, AreNear};
+ghost use Rattle.clock2q_handles.specs.Layout.{IsTidy, homes_of, reach, slot_at, walk, AreNear};
 ghost use Rattle.clock2q_handles.specs.Moves.{MayMove, Moves};
 ghost use Rattle.clock2q_handles.specs.Shifts.{HasRoomAt, LacksRoomAt};
 ghost use Rattle.clock2q_handles.specs.Slots.{mark_reach};
@@ -117,6 +117,7 @@ impl<H: Copy + Default, A: Allocator> Slots<H, A> {
             (hash % length self.now.slots) result }
         ensures reads { RisesAtMost (walk (homes_of self.now.slots) hash) reads.old.total
             reads.new.total }
+        ensures reached { reads.new.total ≡ reads.old.total + reach (slot_at self.now.slots result) }
     {
         let mut slot = self.home(hash);
         let mut wanted = Wanted::new(hash);

@@ -1,3 +1,4 @@
 pub mod Hashing
 pub mod Rehashing
 pub mod TableReplies
+pub mod Spending

@@ -1,1 +1,2 @@
 pub mod TableCommands
+pub mod TableCosts

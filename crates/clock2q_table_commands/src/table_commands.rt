@@ -1,7 +1,11 @@
 //! Commands to a handle table as data, their replies, and the run of a list of commands.
-ghost use Rattle.std.specs.Prelude.{◌≡◌, ℕ, Bool, IfOk, IfErr, OnErr};
-ghost use Rattle.clock2q_handles.specs.Changes.{IsLaidOut};
+ghost use Rattle.std.specs.Prelude.{◌≡◌, ℕ, ◌+◌, ◌≤◌, Bool, IfOk, IfErr, OnErr, length};
+ghost use Rattle.clock2q_handles.specs.Changes.{IsLaidOut, WritesAtMost, ReadsAtMost};
+ghost use Rattle.clock2q_handles.specs.Homes.{capacity, total};
+ghost use Rattle.clock2q_handles.specs.Layout.{layout, run, walk};
+ghost use Rattle.clock2q_handles.specs.TableStep.{HasSpare};
 ghost use Rattle.clock2q_table_commands.specs.TableCommands.{IsHashing, reply_of, reply_of_found, RepliesToInsert, RepliesToFind, RepliesToReserve, RepliesToGet, IsReplied, AreReplied};
+ghost use Rattle.clock2q_table_commands.specs.TableCosts.{HasRoomFor, HaveRoom, Spends, most_walked, most_written, summed};
 
 use clock2q_handles::{Table, TableError};
 use std::alloc::Allocator;
@@ -60,8 +64,10 @@ pub enum TableReply<H, L = Vec<H>> {
 ///
 /// # Cost
 ///
-/// One request for memory, for the list of replies, and the cost of each call. A `Get` also makes
-/// the list of its handles, and a `Find` compares each candidate with the handles of its list.
+/// One request for memory, for the list of replies, and the cost of each call: if no call has to grow
+/// the table, the slots written are at most those of the calls' runs, and as many are read beside the
+/// calls' walks. A `Get` also makes the list of its handles, and a `Find` compares each candidate with
+/// the handles of its list.
 pub fn run_table<H, A, F>(
     alloc: A,
     table: &mut Table<H, A>,
@@ -81,6 +87,14 @@ where
     ensures hashes { (key : H → ℕ) → IsHashing (F.post hash_of) key table.old.homes →
         IsHashing (F.post hash_of) key table.new.homes }
     ensures laid { IsLaidOut table.new }
+
+    // If the table has room for each command, the slots are counted by the sum of the calls' bounds.
+    ensures writes { (key : H → ℕ) → IsHashing (F.post hash_of) key table.old.homes →
+        HaveRoom H.PartialEq.eq key commands.now table.old.homes →
+        WritesAtMost (summed H.PartialEq.eq key (most_written key) commands.now table.old.homes) table.old table.new }
+    ensures reads { (key : H → ℕ) → IsHashing (F.post hash_of) key table.old.homes →
+        HaveRoom H.PartialEq.eq key commands.now table.old.homes →
+        ReadsAtMost (summed H.PartialEq.eq key (most_walked key) commands.now table.old.homes) table.old table.new }
     ensures memory { IfErr result (λ e. e ≡ TableError.Memory) }
     ensures unchanged { OnErr result (table.new ≡ table.old) }
 {
@@ -110,6 +124,9 @@ where
     ensures reply { (key : H → ℕ) → IsHashing (F.post hash_of.now) key table.old.homes →
         IsReplied H.PartialEq.eq key command.now table.old.homes result table.new.homes }
     ensures laid { IsLaidOut table.old → IsLaidOut table.new }
+    ensures spends { (key : H → ℕ) → IsHashing (F.post hash_of.now) key table.old.homes →
+        IsLaidOut table.old → HasRoomFor command.now table.old.homes →
+        Spends (most_written key command.now table.old.homes) (most_walked key command.now table.old.homes) table.old table.new }
 {
     match command {
         TableCommand::Insert(handle) => insert(table, hash_of, *handle),
@@ -151,6 +168,9 @@ where
     ensures reply { (key : H → ℕ) → IsHashing (F.post hash_of.now) key table.old.homes →
         RepliesToInsert H.PartialEq.eq key handle table.old.homes result table.new.homes }
     ensures laid { IsLaidOut table.new }
+    ensures spends { (key : H → ℕ) → IsHashing (F.post hash_of.now) key table.old.homes →
+        IsLaidOut table.old → HasSpare table.old.homes →
+        Spends (run (layout table.old.homes) (key handle) + 1) (walk table.old.homes (key handle)) table.old table.new }
 {
     reply_of(table.insert(hash_of(handle), handle, |held| hash_of(held)))
 }
@@ -171,6 +191,9 @@ where
     ensures reply { (key : H → ℕ) → IsHashing (F.post hash_of.now) key table.old.homes →
         RepliesToFind H.PartialEq.eq key handle accepted.now table.old.homes result table.new.homes }
     ensures laid { IsLaidOut table.new }
+    ensures spends { (key : H → ℕ) → IsHashing (F.post hash_of.now) key table.old.homes →
+        IsLaidOut table.old → HasSpare table.old.homes →
+        Spends (run (layout table.old.homes) (key handle) + 1) (walk table.old.homes (key handle)) table.old table.new }
 {
     reply_of_found(table.find_or_insert(
         hash_of(handle),
@@ -195,6 +218,8 @@ where
     ensures reply { (key : H → ℕ) → IsHashing (F.post hash_of.now) key table.old.homes →
         RepliesToReserve H.PartialEq.eq key additional table.old.homes result table.new.homes }
     ensures laid { IsLaidOut table.new }
+    ensures spends { total table.old.homes + additional ≤ capacity (length table.old.homes) →
+        Spends 0 0 table.old table.new }
 {
     reply_of(table.reserve(additional, |held| hash_of(held)))
 }

@@ -1,5 +1,5 @@
 -- What the calls of a table that put an entry in, take one out or exchange two result in, from what they do to its slots.
-use Rattle.std.proofs.Common.{◌≡◌, ℕ, ◌+◌, ◌^◌, ◌%◌, ◌<◌, ◌≤◌, refl, ap, sym, ◌∙◌, subst, arith, Bool, true, ◌-◌, List, length, Option, suc, Err, Ok}
+use Rattle.std.proofs.Common.{◌≡◌, ℕ, ◌+◌, ◌^◌, ◌%◌, ◌<◌, ◌≤◌, refl, ap, sym, ◌∙◌, subst, arith, Bool, true, ◌-◌, List, length, Option, Some, suc, Err, Ok}
 use Rattle.std.specs.List.{list_any}
 use Rattle.clock2q_handles.specs.declared.error.TableError.TheVariants.{RunTooLong}
 use Rattle.clock2q_handles.specs.Candidates.{EndsAt}
@@ -22,22 +22,32 @@ use Rattle.clock2q_handles.proofs.layout.Walk.{after as after_stop}
 use Rattle.clock2q_handles.proofs.walks.Positions.{gap_ends}
 use Rattle.clock2q_handles.proofs.Promises.{few_fit, restored_by}
 use Rattle.clock2q_handles.proofs.shifts.Insertions.{IsEnd, Insertion, few_room, inserted, refusal}
-use Rattle.clock2q_handles.proofs.shifts.Taking.{Removal, found_taken, removal}
+use Rattle.clock2q_handles.proofs.shifts.Taking.{Removal, found_at, found_occupied, found_taken, removal}
 use Rattle.clock2q_handles.proofs.shifts.Removals.{exchanged-homes, held-still, removed-walk}
 use Rattle.clock2q_handles.proofs.shifts.Steps.{listed-home, table-laid}
-use Rattle.clock2q_handles.proofs.shifts.Carrying.{come_at}
+use Rattle.clock2q_handles.proofs.shifts.Carrying.{come_at, slot_from}
 use Rattle.clock2q_handles.proofs.shifts.Shifts.{opened-on, reach-moved_on}
 
 module _ {E : Type 0} {slots more : List (Option (Placed E))} (tidy : IsTidy slots) (tidy' : IsTidy more) (same : length more ≡ length slots) (some : 0 < length slots)
     (on : (k : ℕ) → reach (slot_at more (suc k)) ≤ suc (reach (slot_at slots k))) where
-  -- a removal after an insertion writes at most one slot more than the run was long before both
-  taken_within : {test : E → Bool} {less : List (Option (Placed E))} (x : ℕ) {before after : ℕ} → TakesOut test more less x before after → after ≤ before + (run slots x + 1)
+  -- a removal after an insertion writes at most the slots from the entry's to the end of what the run was before both, and one more
+  taken_within : {test : E → Bool} {less : List (Option (Placed E))} (x : ℕ) {before after : ℕ} (taken : TakesOut test more less x before after) → after + taken.distance ≤ before + (run slots x + 1)
   taken_within {test} {less} x {before} {after} taken =
       let v = first-vacant slots tidy some x in
       let is : run slots x ≡ v.0 = run-is slots x v.0 v.1 v.2 v.3 in
       let end : reach (slot_at more (x + suc v.0)) ≤ 1 = grind (arith, on (x + v.0), v.2) in
       let stop = after_stop (slot_at more) tidy'.ordered x 0 (suc v.0) (omega (arith, end)) taken.distance in
       grind (arith, is, taken.written, taken.closes.opens.moved v.0, taken.closes.occupied (suc v.0), reach-moved_on (slot_at less (x + v.0)), taken.finds.here, stop)
+
+  -- and a walk from its home reads the slots up to the entry's
+  taken_reached : {test : E → Bool} {less : List (Option (Placed E))} (x : ℕ) {k before after : ℕ} → FindsAt test more (x % length more) k → TakesOutAt more less k before after
+      → after + reach (slot_at more k) ≤ before + (run slots x + 2)
+  taken_reached {test} {less} x {k} {before} {after} found taken =
+      let at = found_at found in
+      let closed = taken.closes x at.distance at.finds.entry (record { slot = at.slot; within = at.within; passed = at.passed }) at.finds.here in
+      let out : TakesOut test more less x before after = record { distance = at.distance; vacancy = closed.0; within = at.within; finds = at.finds; closes = closed.1; written = closed.2; len = taken.len } in
+      let within : after + at.distance ≤ before + (run slots x + 1) = taken_within x out in
+      omega (arith, within, ap reach (slot_from more x at.distance k at.slot), ap reach at.finds.here)
 
 -- v is taken out under x
 pub record TakesUnder {H : Type 0} (eq : H → H → Bool) (x : ℕ) (v : H) (old new : TableValue H) : Type 0 where
@@ -106,17 +116,17 @@ module _ {H : Type 0} {slots : List (Option (Placed (ℕ × H)))} {len w r : ℕ
         pub exchanged_table : IsTable less len
         exchanged_table = grind (arith, out)
 
-        pub exchanging : {r' r'' : ℕ} → (i : ℕ) → i + w ≡ r + w' → RisesAtMost (walk (homes_of more) y) i r' → r'' + w' ≡ r' + w'' → Exchanges eq x v y v' old (table_value (homes_of less) less w'' r'')
-        exchanging {r'} {r''} i put_reads found_reads taken_reads =
+        pub exchanging : (gap : GapValue) {r' r'' : ℕ} → (i : ℕ) → i + w ≡ r + w' → r' ≡ i + reach (slot_at more k) → r'' + w' ≡ r' + w'' → Exchanges eq (Some gap) x v y v' old (table_value (homes_of less) less w'' r'')
+        exchanging gap {r'} {r''} i put_reads found_reads taken_reads =
             let come = come_at slots x end.ends.walk.distance s end.ends.walk.come in
             let on = opened-on (puts.opens x end.ends.walk.distance (top x) come end.ends.walk.mark).2 (slot-again slots) (slots_again more (length slots) puts.len) table.tidy.ordered come.passed in
-            let within = taken_within table.tidy done.table.tidy puts.len (omega (arith, end.fits)) on y (found_taken found taken) in
+            let within = taken_reached table.tidy done.table.tidy puts.len (omega (arith, end.fits)) on y found taken in
             let longer : (z : ℕ) → walk (homes_of more) z ≤ walk (homes_of slots) z + 1 = λ z. omega (arith, ap (λ hs. walk hs z) done.homes, walk-more (homes_of slots) x (top x, v) some z) in
             let homes = out.homes ∙ ap (λ hs. without_handle eq hs y v') done.homes ∙ exchanged-homes eq (homes_of slots) x y v v' some was_held in
             let shorter = removed-walk eq (homes_of more) y v' (tidy-room more done.table.tidy) in
             let laid = table-laid less len exchanged_table w'' r'' in
-            subst (λ t. Exchanges eq x v y v' t (table_value (homes_of less) less w'' r'')) is
-            (grind (arith, homes, put_reads, found_reads, taken_reads, done.counted, done.writes, out.counted, within, longer, walk-is (homes_of slots) x some, shorter, out.homes, laid))
+            subst (λ t. Exchanges eq (Some gap) x v y v' t (table_value (homes_of less) less w'' r'')) is
+            (grind (arith, homes, put_reads, found_reads, found_occupied found, taken_reads, done.counted, done.writes, out.counted, within, longer, walk-is (homes_of slots) x some, shorter, out.homes, laid))
 
   -- an entry that is taken out
   module _ (eq : H → H → Bool) {y : ℕ} {v : H} {k : ℕ} (found : FindsAt (is_entry_of eq y v) slots (y % length slots) k) {less : List (Option (Placed (ℕ × H)))} {w' : ℕ} (taken : TakesOutAt slots less k w w') where

@@ -1,13 +1,13 @@
 //! Insertion at a gap that a lookup found, and the exchange of an entry for another.
 ghost use Rattle.clock2q_handles.specs.Candidates.{EndsAt};
-ghost use Rattle.clock2q_handles.specs.Changes.{ChangesAtMost, Exchanges, IsLaidOut, ReadsAtMost, WritesAtMost};
+ghost use Rattle.clock2q_handles.specs.Changes.{ChangesAtMost, Exchanges, IsLaidOut, ReadsWalk, WritesAtMost};
 ghost use Rattle.clock2q_handles.specs.Homes.{is_entry_of, listed, without_handle, total, with_handle};
 ghost use Rattle.clock2q_handles.specs.Layout.{homes_of, run, walk, IsTidy};
-ghost use Rattle.clock2q_handles.specs.Positions.{gap_of};
+ghost use Rattle.clock2q_handles.specs.Positions.{gap_of, walk_to_gap};
 ghost use Rattle.clock2q_handles.specs.Shifts.{HasRoomAt};
 ghost use Rattle.clock2q_handles.specs.TableStep.{HasSpare};
 ghost use Rattle.std.specs.List.{list_any};
-ghost use Rattle.std.specs.Prelude.{true, ◌≡◌, ℕ, ◌+◌, ◌^◌, ◌<◌, ◌≤◌, IfSome, IsSome};
+ghost use Rattle.std.specs.Prelude.{true, ◌≡◌, ℕ, ◌+◌, ◌^◌, ◌<◌, ◌≤◌, None, IfSome, IsSome};
 
 use crate::gap::Gap;
 use crate::table::Table;
@@ -16,13 +16,17 @@ use std::alloc::Allocator;
 impl<H: Copy + Eq + Default, A: Allocator> Table<H, A> {
     /// Inserts `handle` under `hash` as [`insert_infallible`](Table::insert_infallible) does, at the
     /// gap for it if a lookup found that.
+    ///
+    /// # Cost
+    ///
+    /// That of [`insert_infallible`](Table::insert_infallible), without the walk if there is a gap.
     #[inline(always)]
     pub fn insert_at_gap(&mut self, gap: Option<Gap>, hash: u64, handle: H)
         requires spare { HasSpare self.old.homes }
         requires gap { IfSome gap (λ gap. gap ≡ gap_of self.old.homes hash) }
         ensures put { self.new.homes ≡ with_handle self.old.homes hash handle }
         ensures writes { WritesAtMost (run self.old.slots hash + 1) self.old self.new }
-        ensures reads { ReadsAtMost (walk self.old.homes hash) self.old self.new }
+        ensures reads { ReadsWalk (walk_to_gap gap self.old.homes hash) self.old self.new }
         ensures laid { IsLaidOut self.new }
     {
         let Some(gap) = gap else {
@@ -51,7 +55,7 @@ impl<H: Copy + Eq + Default, A: Allocator> Table<H, A> {
             (listed self.old.homes old_hash) ≡ true }
         ensures exchanged { self.new.homes
             ≡ with_handle (without_handle H.PartialEq.eq self.old.homes old_hash old) hash handle }
-        ensures accesses { ChangesAtMost hash old_hash self.old self.new }
+        ensures accesses { ChangesAtMost gap hash old_hash self.old self.new }
         ensures longer { (x : ℕ) → walk self.new.homes x ≤ walk self.old.homes x + 1 }
         ensures laid { IsLaidOut self.new }
     {
@@ -70,7 +74,7 @@ impl<H: Copy + Eq + Default, A: Allocator> Table<H, A> {
         requires few { total self.old.homes < 2 ^ 24 }
         requires held { list_any (is_entry_of H.PartialEq.eq old_hash old)
             (listed self.old.homes old_hash) ≡ true }
-        ensures { Exchanges H.PartialEq.eq hash handle old_hash old self.old self.new }
+        ensures { Exchanges H.PartialEq.eq None hash handle old_hash old self.old self.new }
     {
         let _ = self.len(); // whose contract says that the table is whole
         self.remove_existing(old_hash, old);

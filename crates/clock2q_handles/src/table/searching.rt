@@ -2,7 +2,7 @@
 ghost use Rattle.clock2q_handles.specs.Homes.{top, candidates, candidates_before};
 ghost use Rattle.clock2q_handles.specs.Offers.{Offers, AcceptsNext, MayBeOffered, handle_in};
 ghost use Rattle.clock2q_handles.specs.Positions.{IsEntryAt, gap_of};
-ghost use Rattle.std.specs.Prelude.{◌≡◌, ◌<◌, ℕ, IfOk, IfErr, IfNone, IfSome, length};
+ghost use Rattle.std.specs.Prelude.{◌≡◌, ◌==◌, if◌then◌else◌, ℕ, Some, None, IfOk, IfErr, length};
 
 use crate::gap::Gap;
 use crate::table::Table;
@@ -31,8 +31,8 @@ impl<H: Copy + Eq + Default, A: Allocator> Table<H, A> {
         ensures found { IfOk result
             (λ found. (i : ℕ) × IsEntryAt self.now.homes hash i (top hash, found.0) found.1
             × AcceptsNext M.FnMut matches (candidates_before self.now.homes hash i) found.0) }
-        ensures gap { IfErr result (λ gap. IfSome gap (λ gap. gap ≡ gap_of self.now.homes hash)) }
-        ensures no_gap { IfErr result (λ gap. IfNone gap (length self.now.homes ≡ 0)) }
+        ensures gap { IfErr result
+            (λ gap. gap ≡ (if length self.now.homes == 0 then None else Some (gap_of self.now.homes hash))) }
     {
         if self.slots.count() == 0 {
             return Err(None);

@@ -3,6 +3,7 @@ use Rattle.std.proofs.lemmas.List.{take_all}
 use Rattle.clock2q_handles.proofs.Promises.{whole_laid}
 use Rattle.clock2q_table_commands.specs.TableCommands.{AreReplied}
 use Rattle.clock2q_table_commands.proofs.Rehashing.{AreReplied-taken, hashes-replied}
+use Rattle.clock2q_table_commands.proofs.Spending.{spent_begins, spent_more, spent_ended}
 use Rattle.clock2q_table_commands.proofs.table_commands.run_table.Goals as goal
 
 pub loop-command-init : goal.loop-command-init
@@ -10,6 +11,7 @@ loop-command-init g c = record {
   replied = search rules;
   hashes = λ key h. h;
   laid = whole_laid _ c.len.ensures.whole;
+  spent = λ key h room. spent_begins _ g.H.PartialEq.eq key c.args.commands.now c.args.table.now room;
   room = search rules;
 }
 
@@ -35,6 +37,10 @@ loop-command-preserved g c = record {
         (c.execute.ensures.reply key (c.loop-command.invariant.hashes key h)) (c.loop-command.invariant.hashes key h).hashes;
   };
   laid = c.execute.ensures.laid c.loop-command.invariant.laid;
+  spent = λ key h room.
+      let hashes = c.loop-command.invariant.hashes key h in
+      spent_more _ g.H.PartialEq.eq key c.args.commands.now c.loop-command.command-index c.command-item.result c.command-item.result c.execute.result c.args.table.now c.loop-command.table c.execute.new.table
+      c.loop-command-test.true c.command-item.is (c.loop-command.invariant.spent key h room) (c.execute.ensures.reply key hashes) (λ here. c.execute.ensures.spends key hashes c.loop-command.invariant.laid here);
   room = search (rules, c.loop-command.invariant.room);
 }
 
@@ -42,6 +48,14 @@ pub returns-clause-replies : goal.returns-clause-replies
 returns-clause-replies g c = λ key h.
     subst (λ commands. AreReplied g.H.PartialEq.eq key commands c.args.table.now.homes c.loop-command.replies.items c.loop-command.table.homes)
     (take_all c.loop-command.command-index c.args.commands.now (search rules)) (c.loop-command.invariant.replied key h)
+
+pub returns-clause-writes : goal.returns-clause-writes
+returns-clause-writes g c = λ key h room.
+    (spent_ended _ g.H.PartialEq.eq key c.args.commands.now c.loop-command.command-index c.args.table.now c.loop-command.table (search rules) (c.loop-command.invariant.spent key h room)).0
+
+pub returns-clause-reads : goal.returns-clause-reads
+returns-clause-reads g c = λ key h room.
+    (spent_ended _ g.H.PartialEq.eq key c.args.commands.now c.loop-command.command-index c.args.table.now c.loop-command.table (search rules) (c.loop-command.invariant.spent key h room)).1
 
 pub returns-in_default-clause-memory : goal.returns-in_default-clause-memory
 returns-in_default-clause-memory g c = search rules

@@ -45,7 +45,7 @@ invariant_of-self-else-is_shared g c =
         rw own at c.charge.ensures.charged,
         s.reads.1,
         s.writes.1,
-        o.reads.1,
+        o.reads,
         o.writes.1,
         ap (λ t. run t c.args.hash) i.shared_laid,
         ap (λ t. run t c.args.hash) i.own_laid,

@@ -2,6 +2,7 @@ use Rattle.std.proofs.Common.{ap, sym, subst, ◌∙◌, arith}
 use Rattle.std.specs.Prelude.{IsSome}
 use Rattle.clock2q_handles.specs.Layout.{run}
 use Rattle.clock2q_directory.specs.Index.{index_of, is_shared}
+use Rattle.clock2q_directory.proofs.Gaps.{walk-spared}
 use Rattle.clock2q_directory.proofs.Views.{held_entry}
 use Rattle.clock2q_directory.proofs.Sorted.{shared-few, spare-there, sorted-entered, sorted-left}
 use Rattle.clock2q_directory.proofs.index.Index.renew.Goals.{then-is_shared, else-is_shared}
@@ -40,6 +41,7 @@ invariant_of-self g c =
         i.counted,
         c.charge.ensures.charged,
         e.accesses.1,
+        walk-spared c.self.inside.shared.homes c.args.hash c.if-is_shared.gap,
         ap (λ s. run s c.args.hash) i.shared_laid,
         ap (λ s. run s c.args.old_hash) i.shared_laid,
       );

@@ -49,7 +49,7 @@ invariant_of-self g c =
         i.counted,
         rw own at c.charge.ensures.charged,
         s.accesses.1,
-        o.reads.1,
+        o.reads,
         o.writes.1,
         ap (λ t. run t c.args.hash) i.shared_laid,
         ap (λ t. run t c.args.old_hash) i.shared_laid,

@@ -23,13 +23,13 @@ past : (g : Over) (c : After-exchange g) → is_shared (index_of c.self.inside.s
 past g c shared =
     let e = c.exchange.ensures in
     beside-past c.args.place c.args.hash c.args.slot c.self.inside.shared c.self.inside.own c.self.inside.charged.total c.self.invariant
-    c.in-Some.oldest shared e.accesses (rw c.pack-handle.ensures.packed at e.exchanged)
+    c.args.gap c.in-Some.oldest shared e.accesses (rw c.pack-handle.ensures.packed at e.exchanged)
 
 free : (g : Over) (c : After-insert_at_gap g)
     → IsBeside None c.args.place c.args.hash c.args.slot c.self.inside.shared c.self.inside.own c.self.inside.charged.total c.insert_at_gap.new.self
 free g c =
     let e = c.insert_at_gap.ensures in
-    beside-free c.args.place c.args.hash c.args.slot c.self.inside.shared c.self.inside.own c.self.inside.charged.total c.self.invariant e.writes e.reads e.put
+    beside-free c.args.place c.args.hash c.args.slot c.self.inside.shared c.self.inside.own c.self.inside.charged.total c.self.invariant c.args.gap e.writes e.reads e.put
 
 pub exchange-requires : goal.exchange-requires
 exchange-requires g c =

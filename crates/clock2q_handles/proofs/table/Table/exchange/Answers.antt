@@ -44,5 +44,5 @@ returns g c =
     let s = there g (goal.at.returns g c).After-self in
     let done =
     exchanging c.self.invariant c.self.view_is g.H.PartialEq.eq s.0 s.1 c.put_at.ensures.puts c.args.old_hash c.args.old c.requires.held
-    c.find_existing-held.ensures.found c.take_out.ensures.taken c.put_at.new.reads.total c.put_at.ensures.reads c.find_existing-held.ensures.reads c.take_out.ensures.reads in
-    record { exchanged = done.exchanged; accesses = done.accesses; longer = done.longer; laid = done.laid }
+    c.find_existing-held.ensures.found c.take_out.ensures.taken c.in-Some.gap c.put_at.new.reads.total c.put_at.ensures.reads c.find_existing-held.ensures.reached c.take_out.ensures.reads in
+    record { exchanged = done.exchanged; accesses = rw c.in-Some.is done.accesses; longer = done.longer; laid = done.laid }

@@ -18,4 +18,4 @@ returns g c =
     let end = end_of_gap c.self.invariant c.self.view_is c.requires.spare.room (rw c.in-Some.is at c.requires.gap) in
     let done = putting c.self.invariant c.self.view_is g.H.PartialEq.eq end (end_room c.self.invariant c.self.view_is c.requires.spare.few end) c.put_at.ensures.puts
     (g.met.H.Eq.laws.refl c.args.handle) c.put_at.new.reads.total 0 (omega (arith, c.put_at.ensures.reads)) in
-    record { put = done.put; writes = done.writes; reads = (omega (arith, done.reads, done.writes), omega (arith, done.reads)); laid = done.laid }
+    record { put = done.put; writes = done.writes; reads = rw c.in-Some.is done.reads; laid = done.laid }

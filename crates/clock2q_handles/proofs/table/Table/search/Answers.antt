@@ -1,8 +1,10 @@
-use Rattle.std.proofs.Common.{◌≡◌, ◌<◌, ℕ, None, [], length, ap, refl, ◌∙◌, subst, arith}
+use Rattle.std.proofs.Common.{◌≡◌, ◌<◌, ◌==◌, ℕ, if◌then◌else◌, Some, None, List, [], length, refl, subst, arith}
 use Rattle.clock2q_handles.specs.Candidates.{EndsAt, IsAcceptedAt}
 use Rattle.clock2q_handles.specs.Homes.{top, candidates, candidates_before}
 use Rattle.clock2q_handles.specs.Offers.{AcceptsNext, Offers}
-use Rattle.clock2q_handles.specs.Positions.{IsEntryAt, gap_of}
+use Rattle.clock2q_handles.specs.Layout.{homes_of}
+use Rattle.clock2q_handles.specs.Positions.{IsEntryAt, GapValue, gap_of}
+use Rattle.clock2q_handles.proofs.layout.TidyLayout.{length-homes_of}
 use Rattle.clock2q_handles.proofs.walks.Cursors.{begins_empty}
 use Rattle.clock2q_handles.proofs.walks.Positions.{ends_gap}
 use Rattle.clock2q_handles.proofs.walks.Yields.{left_at_start}
@@ -25,10 +27,14 @@ returns-in-Ok-clause-found g c =
     subst (λ t. (i : ℕ) × IsEntryAt t.homes c.args.hash i (top c.args.hash, r.0) r.1 × AcceptsNext g.M.FnMut c.args.matches (candidates_before t.homes c.args.hash i) r.0) c.self.view_is
     (entry_at.0, entry_at.1, subst (λ hs. AcceptsNext g.M.FnMut c.args.matches hs r.0) entry_at.2 found.accepts)
 
+-- the gap of a hash, if there are slots
+some_gap : {E : Type 0} (homes : List (List E)) (x : ℕ) (gap : GapValue) → 0 < length homes → gap ≡ gap_of homes x → Some gap ≡ (if length homes == 0 then None else Some (gap_of homes x))
+some_gap homes x gap there is = grind arith
+
 pub returns-clause-gap : goal.returns-clause-gap
 returns-clause-gap g c =
     let slots = c.self.inside.slots.slots in
     let e = c.in-Err.gap in
     let there : 0 < length slots = omega (arith, c.if-count-eq0.false, c.count.ensures.count) in
-    ends_gap slots c.self.invariant.tidy there c.args.hash e.position e.mark (subst (λ u. EndsAt u.slots c.args.hash e.mark e.position) c.reader-reader.ensures c.in-Err.ensures.ends)
-    ∙ ap (λ t. gap_of t.homes c.args.hash) c.self.view_is
+    let ended = ends_gap slots c.self.invariant.tidy there c.args.hash e.position e.mark (subst (λ u. EndsAt u.slots c.args.hash e.mark e.position) c.reader-reader.ensures c.in-Err.ensures.ends) in
+    rw (← c.self.view_is) (some_gap (homes_of slots) c.args.hash e (omega (arith, there, length-homes_of slots)) ended)

@@ -2,7 +2,7 @@ use Rattle.std.proofs.Common.{◌≡◌, ◌%◌, ◌≤◌, suc, length, arith,
 use Rattle.clock2q_handles.specs.Homes.{is_entry_of}
 use Rattle.clock2q_handles.specs.Layout.{slot_at, reach}
 use Rattle.clock2q_handles.specs.Slots.{sought, mark_reach}
-use Rattle.clock2q_handles.proofs.shifts.Moves.{refused}
+use Rattle.clock2q_handles.proofs.shifts.Moves.{refused, reach_of_meaning}
 use Rattle.clock2q_handles.proofs.shifts.Searching.{IsSearching, search_begins, search_reads, search_finds, search_on, other_handle, other_mark}
 use Rattle.clock2q_handles.proofs.walks.Finding.{held_somewhere, held_further}
 use Rattle.clock2q_handles.proofs.slots.vectors.Slots.find_existing.Given.{Over}
@@ -23,6 +23,7 @@ returns-then-eq g c =
     record {
       found = search_finds g.H.PartialEq.eq c.args.handle slots c.requires.tidy c.args.hash search (sym (c.is.ensures.0 c.if-is.true) ∙ c.read-metadata.ensures.meaning) c.handle.ensures (sym c.eq.ensures ∙ c.if-eq.true);
       reads = grind (arith, search_reads g.H.PartialEq.eq c.args.handle slots c.requires.tidy c.args.hash search);
+      reached = omega (arith, c.loop-handle.invariant.reads, c.read-metadata.ensures.counted, ap mark_reach (c.is.ensures.0 c.if-is.true), reach_of_meaning _ (slot_at slots c.loop-handle.slot) c.read-metadata.ensures.meaning);
     }
 
 more : (g : Over) (c : After-next-wanted g)
