@@ -1,5 +1,5 @@
 -- What a handle of tokens owns, and the machine of the cache that it points to.
-use Rattle.std.specs.Prelude.{ℕ, Option, Some, None}
+use Rattle.std.specs.Prelude.{◌≡◌, ℕ, Bool, ◌==◌, ◌&&◌, Option, Some, None}
 use Rattle.std.specs.Coded.{Coded, coded_option}
 use Rattle.std.specs.Option.{option_map}
 use Rattle.std.specs.Borrow.{Fml, RattleType}
@@ -35,3 +35,7 @@ tokens_in held = option_map (λ h. h.cache.machine) held
 -- the token of a hash and a number
 abbrev pub token : ℕ → ℕ → Token
 token hash number = record { hash = hash; number = number }
+
+-- tokens are equal if both their hashes and their numbers are
+abbrev pub AreEqualByBoth : (Token → Token → Bool) → Type 0
+AreEqualByBoth eq = (h n h' n' : ℕ) → eq (token h n) (token h' n') ≡ ((h == h') && (n == n'))

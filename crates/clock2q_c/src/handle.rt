@@ -8,8 +8,7 @@ use std::alloc::Global;
 use std::marker::Model;
 use std::mem;
 
-/// The pointer to a cache, or null if there is none. Nothing drops it, so code that lets go of a
-/// cache without a release isn't proved.
+/// The pointer to a cache, or null if there is none. Nothing drops it.
 #[repr(C)]
 pub struct Handle {
     pointer: *mut u8,

@@ -14,6 +14,7 @@ pub const BAD_POLICY: u32 = 3;
 
 /// Returns the status of a refusal.
 pub(crate) fn status_of(refusal: CacheError) -> u32
+    ensures numbers { (DONE ≡ 0) × (NO_MEMORY ≡ 1) × (BAD_CAPACITY ≡ 2) × (BAD_POLICY ≡ 3) }
     ensures refused { result ≢ DONE }
     ensures memory { (result ≡ NO_MEMORY) ↔ (refusal ≡ CacheError.Memory) }
     ensures capacity { (result ≡ BAD_CAPACITY) ↔ (refusal ≡ CacheError.Capacity) }

@@ -9,6 +9,7 @@ pub mod Indexed
 pub mod IndexPrices
 pub mod Insertions
 pub mod Iteration
+pub mod KnownIndex
 pub mod Listed
 pub mod Makers
 pub mod LinearAccesses

@@ -1,5 +1,6 @@
 pub mod Costs
 pub mod Visits
+pub mod Removals
 pub mod Runs
 pub mod CacheFields
 pub mod CacheState

@@ -91,7 +91,7 @@ impl<K: Hash + Eq, V, S: BuildHasher, A: Allocator> Cache<K, V, S, A> {
     ghost use Rattle.clock2q_directory.specs.Index.{IsGapFor, IsWithinCapacity};
     ghost use Rattle.clock2q_cache.specs.CacheState.{residents_in, remembered_in};
     ghost use Rattle.clock2q_machine.specs.Calls.{Get, GetAt};
-    ghost use Rattle.clock2q_cache.specs.CacheLends.{LeavesMachine, LendsHit, LendsSlot};
+    ghost use Rattle.clock2q_cache.specs.CacheLends.{LeavesKnown, LendsHit, LendsSlot};
     ghost use Rattle.clock2q_cache.specs.Costs.{Becomes, Costs, Spends, alike};
     ghost use Rattle.clock2q_cache.specs.Hashes.{hash_of};
     ghost use Rattle.clock2q_cache.specs.Indexed.{IsIndexed, IsSpacious};
@@ -163,8 +163,9 @@ impl<K: Hash + Eq, V, S: BuildHasher, A: Allocator> Cache<K, V, S, A> {
     /// That of [`contains`](Cache::contains). A hit sets one bit, and accesses no link.
     pub fn get(&mut self, key: &K) -> Option<&V>
         ensures* machine { sem 𝓛
-            (LeavesMachine K.row V.row S.row A.row S.Hasher.row K.Hash S.BuildHasher S.Hasher.Hasher A.Allocator self.entry
-            (Get key.now) (hit (K.eq key.now) self.old.machine)) }
+            (LeavesKnown K.row V.row S.row A.row S.Hasher.row K.Hash S.BuildHasher S.Hasher.Hasher A.Allocator self.entry
+            (Get key.now) (hit (K.eq key.now) self.old.machine)
+            (looked_for K.Hash S.BuildHasher S.Hasher.Hasher key.now self.old).known) }
         ensures value { option_copied result ≡ value_of (K.eq key.now) self.old.machine }
     {
         let hash = self.hash(key);
@@ -187,6 +188,8 @@ impl<K: Hash + Eq, V, S: BuildHasher, A: Allocator> Cache<K, V, S, A> {
     pub fn slot(&mut self, key: &K) -> Option<usize>
         ensures slot { result ≡ slot_of (K.eq key.now) self.old.machine }
         ensures machine { self.new.machine ≡ hit (K.eq key.now) self.old.machine }
+        ensures known { self.new.known ≡
+            (looked_for K.Hash S.BuildHasher S.Hasher.Hasher key.now self.old).known }
         ensures hasher { self.new.hasher ≡ self.old.hasher }
         ensures costs { Costs K.Hash S.BuildHasher S.Hasher.Hasher (Get key.now) self.old self.new }
     {
@@ -203,8 +206,8 @@ impl<K: Hash + Eq, V, S: BuildHasher, A: Allocator> Cache<K, V, S, A> {
     /// No hash, at most one comparison, with the key at that slot, and no access to a link.
     pub fn get_at(&mut self, slot: usize, key: &K) -> Option<&V>
         ensures* machine { sem 𝓛
-            (LeavesMachine K.row V.row S.row A.row S.Hasher.row K.Hash S.BuildHasher S.Hasher.Hasher A.Allocator self.entry
-            (GetAt slot key.now) (hit_at slot (K.eq key.now) self.old.machine)) }
+            (LeavesKnown K.row V.row S.row A.row S.Hasher.row K.Hash S.BuildHasher S.Hasher.Hasher A.Allocator self.entry
+            (GetAt slot key.now) (hit_at slot (K.eq key.now) self.old.machine) self.old.known) }
         ensures value { option_copied result ≡ value_at slot (K.eq key.now) self.old.machine }
     {
         let found = self.find_at(slot, key)?;
@@ -343,6 +346,8 @@ impl<K: Hash + Eq, V, S: BuildHasher, A: Allocator> Cache<K, V, S, A> {
         ensures made { IfSome result (λ slot. slot < length self.new.machine.values) }
         ensures becomes { Becomes K.Hash S.BuildHasher S.Hasher.Hasher (Get key.now)
             (hit (K.eq key.now) self.old.machine) self.old self.new }
+        ensures known { self.new.known ≡
+            (looked_for K.Hash S.BuildHasher S.Hasher.Hasher key.now self.old).known }
     {
         let hash = self.hash(key);
         let slot = self.find(hash, key)?;

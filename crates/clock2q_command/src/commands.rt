@@ -198,6 +198,7 @@ where
     ensures costs { Costs K.Hash S.BuildHasher S.Hasher.Hasher
         (SlotFor key value) cache.old cache.new }
 {
+    let _ = cache.len(); // whose contract says that the cache is whole
     let (slot, found) = cache.get_or_insert_mut(key, || value);
     (slot, *found)
 }

@@ -1,5 +1,5 @@
 //! The calls that give tokens slots, hit them there and free the slots.
-ghost use Rattle.clock2q_c.specs.Tokens.{token, tokens_in};
+ghost use Rattle.clock2q_c.specs.Tokens.{AreEqualByBoth, token, tokens_in};
 ghost use Rattle.clock2q_cache.specs.Costs.{Costs};
 ghost use Rattle.clock2q_cache.specs.SlotsByHash.{hash_in, slots_with_hash};
 ghost use Rattle.clock2q_machine.specs.Calls.{Clear, Get, Put, Remove, SlotFor};
@@ -105,6 +105,10 @@ fn admit(held: &mut HeldTokens<Global>, hash: u64) -> (usize, bool)
 #[unsafe(no_mangle)]
 pub extern "C" fn clock2q_tokens_enter(handle: &mut TokensHandle, hash: u64, number: u64) -> usize
     requires { IsSome handle.old.cache }
+    ensures equality { AreEqualByBoth ⟦<Token as PartialEq>⟧.eq }
+    ensures hash { IfSome handle.old.cache
+        (λ o. hash_in ⟦<Token as Hash>⟧ ⟦<BuildHasherDefault<GivenHash> as BuildHasher>⟧ ⟦<GivenHash as Hasher>⟧ o.cache
+        (token hash number) ≡ hash) }
     ensures resident { IfSome (tokens_in handle.new.cache)
         (λ m. slot_of (⟦<Token as PartialEq>⟧.eq (token hash number)) m ≡ Some result) }
     ensures within { IfSome (tokens_in handle.new.cache) (λ m. result < m.shares.capacity) }
@@ -183,6 +187,9 @@ pub extern "C" fn clock2q_tokens_remove(handle: &mut TokensHandle, slot: usize) 
 #[unsafe(no_mangle)]
 pub extern "C" fn clock2q_tokens_forget(handle: &mut TokensHandle, hash: u64, number: u64) -> bool
     requires { IsSome handle.old.cache }
+    ensures hash { IfSome handle.old.cache
+        (λ o. hash_in ⟦<Token as Hash>⟧ ⟦<BuildHasherDefault<GivenHash> as BuildHasher>⟧ ⟦<GivenHash as Hasher>⟧ o.cache
+        (token hash number) ≡ hash) }
     ensures found { IfSome (tokens_in handle.old.cache)
         (λ m. IsTrue result ↔ IsSome (slot_of (⟦<Token as PartialEq>⟧.eq (token hash number)) m)) }
     ensures machine { tokens_in handle.new.cache ≡

@@ -9,7 +9,7 @@ use std::hash::{BuildHasher, BuildHasherDefault, Hash};
 use std::num::NonZeroUsize;
 
 impl<K: Hash + Eq + Drop, V: Drop, A: Allocator + Copy> Cache<K, V, DefaultHashBuilder, A> {
-    ghost use Rattle.std.specs.Prelude.{◌≡◌, ◌≢◌, ◌<◌, ◌↔◌, Err, IfOk, IsErrOf};
+    ghost use Rattle.std.specs.Prelude.{◌≡◌, ◌≢◌, ◌-◌, ◌^◌, ◌<◌, ◌↔◌, Err, IfOk, IsErrOf};
     ghost use Rattle.std.specs.NonZero.{non_zero_usize_get};
     ghost use Rattle.clock2q_machine.specs.Shares.{usual_shares};
     ghost use Rattle.clock2q_cache.specs.CacheState.{uncounted};
@@ -35,6 +35,7 @@ impl<K: Hash + Eq + Drop, V: Drop, A: Allocator + Copy> Cache<K, V, DefaultHashB
         ensures counts { IfOk result (λ cache. cache.counts ≡ uncounted) }
         ensures capacity { IsErrOf result CacheError.Capacity ↔
             (MAX_CAPACITY < non_zero_usize_get capacity) }
+        ensures most { MAX_CAPACITY ≡ 2 ^ 24 - 1 }
         ensures policy { result ≢ Err CacheError.Policy }
     {
         Cache::with_hasher(alloc, capacity, BuildHasherDefault::new())
@@ -42,7 +43,7 @@ impl<K: Hash + Eq + Drop, V: Drop, A: Allocator + Copy> Cache<K, V, DefaultHashB
 }
 
 impl<K: Hash + Eq + Drop, V: Drop, S: BuildHasher + Drop, A: Allocator + Copy> Cache<K, V, S, A> {
-    ghost use Rattle.std.specs.Prelude.{◌≡◌, ◌≢◌, ◌<◌, ◌≤◌, ◌↔◌, Err, IfOk, IsErrOf, IsOkUnless};
+    ghost use Rattle.std.specs.Prelude.{◌≡◌, ◌≢◌, ◌-◌, ◌^◌, ◌<◌, ◌≤◌, ◌↔◌, Err, IfOk, IsErrOf, IsOkUnless};
     ghost use Rattle.std.specs.NonZero.{non_zero_usize_get};
     ghost use Rattle.clock2q_machine.specs.Shares.{usual_shares};
     ghost use Rattle.clock2q_machine.specs.Policies.{IsPolicy, shares_of};
@@ -66,6 +67,7 @@ impl<K: Hash + Eq + Drop, V: Drop, S: BuildHasher + Drop, A: Allocator + Copy> C
         ensures counts { IfOk result (λ cache. cache.counts ≡ uncounted) }
         ensures capacity { IsErrOf result CacheError.Capacity ↔
             (MAX_CAPACITY < non_zero_usize_get capacity) }
+        ensures most { MAX_CAPACITY ≡ 2 ^ 24 - 1 }
         ensures policy { result ≢ Err CacheError.Policy }
     {
         if capacity.get() > MAX_CAPACITY {
@@ -100,6 +102,7 @@ impl<K: Hash + Eq + Drop, V: Drop, S: BuildHasher + Drop, A: Allocator + Copy> C
         ensures counts { IfOk result (λ cache. cache.counts ≡ uncounted) }
         ensures capacity { IsErrOf result CacheError.Capacity ↔
             (MAX_CAPACITY < non_zero_usize_get capacity) }
+        ensures most { MAX_CAPACITY ≡ 2 ^ 24 - 1 }
         ensures policy { IsErrOf result CacheError.Policy ↔
             ((non_zero_usize_get capacity ≤ MAX_CAPACITY) ×
             ¬ IsPolicy (shares_of (non_zero_usize_get capacity) small window)) }

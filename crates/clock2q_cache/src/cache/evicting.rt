@@ -19,7 +19,7 @@ impl<K: Hash + Eq + Copy, V: Drop, S: BuildHasher, A: Allocator> Cache<K, V, S, 
     ghost use Rattle.clock2q_cache.specs.Costs.{Costs, Spends};
     ghost use Rattle.clock2q_cache.specs.Insertions.{IsAbsent, IsFoundFor};
     ghost use Rattle.clock2q_cache.specs.Occupants.{evicted_from};
-    ghost use Rattle.clock2q_cache.specs.Places.{known_at, known_with, looked_for};
+    ghost use Rattle.clock2q_cache.specs.Places.{known_at, known_taken, known_with, looked_for};
 
     /// Stores a value for a key as [`put`](Cache::put) does, and hands over what it replaces or
     /// evicts: `key` with the value that it had, or the resident that leaves, with its value.
@@ -95,6 +95,8 @@ impl<K: Hash + Eq + Copy, V: Drop, S: BuildHasher, A: Allocator> Cache<K, V, S, 
             leaver K.eq (Put key value) self.old.machine }
         ensures within { result.0 < self.new.machine.shares.capacity }
         ensures machine { self.new.machine ≡ put (K.eq key) key value self.old.machine }
+        ensures known { self.new.known ≡
+            known_taken K.Hash S.BuildHasher S.Hasher.Hasher key self.old }
         ensures hasher { self.new.hasher ≡ self.old.hasher }
         ensures costs { Costs K.Hash S.BuildHasher S.Hasher.Hasher
             (SlotFor key value) self.old self.new }

@@ -11,13 +11,12 @@ impl<K: Hash + Eq + Drop, V: Drop, S: BuildHasher, A: Allocator> Cache<K, V, S, 
     ghost use Rattle.std.specs.Option.{UnwrapsOrElse};
     ghost use Rattle.std.specs.Borrow.{sem};
     ghost use Rattle.clock2q_machine.specs.Bounds.{inspections_for};
-    ghost use Rattle.clock2q_machine.specs.Calls.{SlotFor, With};
+    ghost use Rattle.clock2q_machine.specs.Calls.{With};
     ghost use Rattle.clock2q_machine.specs.Leaving.{leaves_wanted};
-    ghost use Rattle.clock2q_cache.specs.Charged.{with_slot};
     ghost use Rattle.clock2q_cache.specs.CacheLends.{LeavesMachine, LeavesTried, LendsPut, LendsTaken};
     ghost use Rattle.clock2q_cache.specs.Hashes.{hash_of};
     ghost use Rattle.clock2q_cache.specs.Closures.{Fetches, TakesSlot};
-    ghost use Rattle.clock2q_cache.specs.Costs.{Costs, Reaches, Spends, accesses_for, alike, slots_for, walked};
+    ghost use Rattle.clock2q_cache.specs.Costs.{Reaches, Spends, accesses_for, alike, slots_for, walked};
     ghost use Rattle.clock2q_cache.specs.Places.{known_taken};
     ghost use Rattle.clock2q_machine.specs.Machine.{slot_of, value_of};
     ghost use Rattle.clock2q_machine.specs.Steps.{put, fetched, slotted, slotted_at};
@@ -125,9 +124,6 @@ impl<K: Hash + Eq + Drop, V: Drop, S: BuildHasher, A: Allocator> Cache<K, V, S, 
             (F.post make) result.1.now }
         ensures unwritten { put (K.eq key) key result.1.now self.old.machine ≡
             slotted (K.eq key) key result.1.now self.old.machine }
-        ensures costs { (value : V) →
-            Costs K.Hash S.BuildHasher S.Hasher.Hasher (SlotFor key value) self.old
-            (with_slot K.Hash S.BuildHasher S.Hasher.Hasher key value self.old) }
     {
         let (slot, value, _) = self.enter(key, make);
         (slot, value)
@@ -155,11 +151,7 @@ impl<K: Hash + Eq + Drop, V: Drop, S: BuildHasher, A: Allocator> Cache<K, V, S, 
         ensures hit { result.2.is_hit ≡ is_some (slot_of (K.eq key) self.old.machine) }
         ensures evicted { result.2.has_evicted ≡
             is_some (leaves_wanted (K.eq key) self.old.machine) }
-        ensures costs { (value : V) →
-            Costs K.Hash S.BuildHasher S.Hasher.Hasher (SlotFor key value) self.old
-            (with_slot K.Hash S.BuildHasher S.Hasher.Hasher key value self.old) }
     {
-        let _ = self.len(); // whose contract says that the cache is whole
         let hash = self.hash(&key);
         let most = self.most(&key);
         let (slot, entered) = self.find_or_reuse(hash, key, make);

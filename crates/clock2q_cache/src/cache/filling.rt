@@ -23,6 +23,7 @@ impl<K: Hash + Eq + Default, V, S: BuildHasher, A: Allocator> Cache<K, V, S, A> 
     pub fn prefill<F: FnMut() -> V>(&mut self, make: F)
         requires callable { MayMake F.FnMut make self.old.machine }
         ensures made { Prefills F.FnMut make self.old.machine self.new.machine }
+        ensures known { self.new.known ≡ self.old.known }
         ensures hasher { self.new.hasher ≡ self.old.hasher }
         ensures costs { (values : List V) →
             Costs K.Hash S.BuildHasher S.Hasher.Hasher (Prefill values) self.old self.new }

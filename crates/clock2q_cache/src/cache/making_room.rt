@@ -13,7 +13,7 @@ impl<K: Hash + Eq + Copy, V: Drop, S: BuildHasher, A: Allocator> Cache<K, V, S, 
     ghost use Rattle.clock2q_machine.specs.Leaving.{leaver};
     ghost use Rattle.clock2q_machine.specs.Machine.{evicted, tail_evicted, victim_evicted, victim_leaves};
     ghost use Rattle.clock2q_cache.specs.Costs.{Costs, Spends};
-    ghost use Rattle.clock2q_cache.specs.MakingRoom.{retired_from};
+    ghost use Rattle.clock2q_cache.specs.MakingRoom.{known_evicted, retired_from};
     ghost use Rattle.clock2q_cache.specs.Hashes.{hash_of};
     ghost use Rattle.clock2q_cache.specs.Places.{left_by};
 
@@ -32,6 +32,9 @@ impl<K: Hash + Eq + Copy, V: Drop, S: BuildHasher, A: Allocator> Cache<K, V, S, 
     pub fn evict(&mut self) -> Option<(K, usize)>
         ensures left { result ≡ leaver K.eq Evict self.old.machine }
         ensures machine { self.new.machine ≡ evicted self.old.machine }
+        ensures known { self.new.known ≡
+            known_evicted (λ k. hash_of S.BuildHasher S.Hasher.Hasher self.old.hasher (K.hash_input k))
+            result self.old.machine self.old.known }
         ensures hasher { self.new.hasher ≡ self.old.hasher }
         ensures costs { Costs K.Hash S.BuildHasher S.Hasher.Hasher Evict self.old self.new }
     {

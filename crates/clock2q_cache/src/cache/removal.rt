@@ -12,6 +12,7 @@ impl<K: Hash + Eq, V, S: BuildHasher, A: Allocator> Cache<K, V, S, A> {
     ghost use Rattle.clock2q_cache.specs.Costs.{Spends, Costs};
     ghost use Rattle.clock2q_cache.specs.Hashes.{hash_of};
     ghost use Rattle.clock2q_cache.specs.Places.{left_by};
+    ghost use Rattle.clock2q_cache.specs.Removals.{known_without};
     ghost use Rattle.clock2q_machine.specs.Machine.{slot_of, resident_at, resident_count, vacated, removed};
 
     /// Removes a key, and returns true if it was resident.
@@ -28,6 +29,8 @@ impl<K: Hash + Eq, V, S: BuildHasher, A: Allocator> Cache<K, V, S, A> {
     pub fn remove(&mut self, key: &K) -> bool
         ensures found { IsTrue result ↔ IsSome (slot_of (K.eq key.now) self.old.machine) }
         ensures machine { self.new.machine ≡ removed (K.eq key.now) self.old.machine }
+        ensures known { self.new.known ≡
+            known_without K.Hash S.BuildHasher S.Hasher.Hasher key.now self.old }
         ensures hasher { self.new.hasher ≡ self.old.hasher }
         ensures costs { Costs K.Hash S.BuildHasher S.Hasher.Hasher
             (Remove key.now) self.old self.new }

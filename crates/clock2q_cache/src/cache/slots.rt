@@ -9,6 +9,7 @@ impl<K: Hash + Eq, V, S: BuildHasher, A: Allocator> Cache<K, V, S, A> {
     ghost use Rattle.clock2q_machine.specs.Machine.{hit, removed, resident_at, slot_of};
     ghost use Rattle.clock2q_cache.specs.Costs.{Costs, Spends};
     ghost use Rattle.clock2q_cache.specs.Hashes.{hash_of};
+    ghost use Rattle.clock2q_cache.specs.Places.{hash_in, left_by};
     ghost use Rattle.clock2q_cache.specs.SlotsByHash.{ListsOnce, slots_with_hash};
 
     /// Returns the slot of a resident key, or `None`. It records no hit, and so changes no later
@@ -72,6 +73,9 @@ impl<K: Hash + Eq, V, S: BuildHasher, A: Allocator> Cache<K, V, S, A> {
         ensures machine { IfSome (resident_at self.old.machine slot)
             (λ r. self.new.machine ≡ removed (K.eq r.0) self.old.machine) }
         ensures missed { IfNone (resident_at self.old.machine slot) (self.new ≡ self.old) }
+        ensures known { self.new.known ≡
+            left_by (hash_in K.Hash S.BuildHasher S.Hasher.Hasher self.old)
+            (resident_at self.old.machine slot) slot self.old.known }
         ensures hasher { self.new.hasher ≡ self.old.hasher }
         ensures counts { Spends 0 8 0 self.old.counts self.new.counts }
         ensures costs { IfSome (resident_at self.old.machine slot)

@@ -1,4 +1,6 @@
-use Rattle.std.proofs.Common.{rules, ◌≡◌, ◌<◌, Some, eqb, slice_get, sym, ap, ◌∙◌, subst}
+use Rattle.std.proofs.Common.{rules, ◌≡◌, ◌<◌, Some, eqb, eqb-true, slice_get, refl, sym, ap, ◌∙◌, subst}
+use Rattle.std.specs.Cmp.{nat_eq_equiv}
+use Rattle.clock2q_cache.proofs.Charged.{charged-costs}
 use Rattle.clock2q_pages.proofs.Paging.{last_is_loaded, page_there, page_alone, others_keep_frames, frame_within, value_there, values_elsewhere, same_shares}
 use Rattle.clock2q_machine.specs.Steps.{put}
 use Rattle.clock2q_pages.specs.Pages.{last_in}
@@ -37,6 +39,10 @@ returns-clause-keeps g c =
     λ other at differ loaded.
     sym (values_elsewhere c.args.pages.now.machine c.len.ensures.whole c.args.page (Some c.args.page) at
     (λ same. differ (same ∙ sym c.get_or_insert_mut-frame.ensures.slot))) ∙ loaded
+
+pub returns-clause-costs : goal.returns-clause-costs
+returns-clause-costs g c =
+    charged-costs (Some c.args.page) c.args.pages.now nat_eq_equiv (λ x y same. rw (eqb-true x y same) refl) c.len.ensures.whole c.len.ensures.indexed.as_many c.len.ensures.within
 
 pub returns-clause-shares : goal.returns-clause-shares
 returns-clause-shares g c = same_shares c.args.pages.now.machine c.len.ensures.whole c.args.page (Some c.args.page)

@@ -1,7 +1,7 @@
 -- The counts are at their bounds when the value is lent.
 use Rattle.std.proofs.Common.{ℕ, refl, sym, ap, ◌∙◌}
 use Rattle.clock2q_cache.proofs.Names.{slice_get, CacheState, stored, some_is}
-use Rattle.clock2q_cache.proofs.Charged.{lent, charged-costs, unwritten}
+use Rattle.clock2q_cache.proofs.Charged.{lent, unwritten}
 use Rattle.clock2q_cache.proofs.cache.Cache.enter.Goals as goal
 
 pub returns : goal.returns
@@ -24,7 +24,5 @@ returns g c =
         unwritten = rw same at (unwritten t);
         hit = c.find_or_reuse-slot.ensures.hit;
         evicted = c.find_or_reuse-slot.ensures.evicted;
-        costs = λ w. charged-costs w c.args.self.now g.met.K.Eq.laws g.met.K.Hash.respects_eq c.len.ensures.whole
-            c.len.ensures.indexed.as_many c.len.ensures.within;
       },
     )

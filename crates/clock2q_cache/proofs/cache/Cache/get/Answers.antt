@@ -3,6 +3,7 @@ use Rattle.std.proofs.Common.{arith, ◌≡◌, Some, rules, refl, sym, ap, ◌�
 use Rattle.clock2q_cache.proofs.Names.{CacheState, hit, value-there, slot_of}
 use Rattle.clock2q_cache.proofs.CacheInvariant.{m}
 use Rattle.clock2q_cache.proofs.Finding.{found-queued, hit-machine, kept-hit}
+use Rattle.clock2q_cache.proofs.KnownIndex.{becomes-known}
 use Rattle.clock2q_cache.proofs.Spent.{missed-becomes, hit-becomes}
 use Rattle.clock2q_cache.proofs.cache.Cache.get.Given.{Over}
 use Rattle.clock2q_cache.proofs.cache.Cache.get.Goals.{After-value-value}
@@ -22,7 +23,8 @@ invariant_of-self g c =
 pub returns-in_err-slot : goal.returns-in_err-slot
 returns-in_err-slot g c =
     let absent = sym c.in_err-slot.ensures.slot in
-    ((refl, λ _. tt, missed-becomes c.hash-hash.ensures absent c.find.ensures.kept c.find.ensures.counts), record { machine = tt; value = rw absent (search rules) })
+    let b = missed-becomes c.hash-hash.ensures absent c.find.ensures.kept c.find.ensures.counts in
+    ((refl, λ _. tt, becomes-known b (ap (λ (z : CacheState _ _ _). z.known) c.find.ensures.kept)), record { machine = tt; value = rw absent (search rules) })
 
 pub returns : goal.returns
 returns g c =
@@ -30,4 +32,4 @@ returns g c =
     let now =
     hit-machine g.met.K.Eq.laws c.self.invariant c.args.key.now c.in_ok-slot.slot at c.hit.ensures.queues
     ∙ ap (λ (z : CacheState _ _ _). hit (g.K.PartialEq.eq c.args.key.now) z.machine) c.self.view_is in
-    ((refl, λ _. tt, hit-becomes c.hash-hash.ensures c.find.ensures.kept c.find.ensures.counts (search rules) now), record { machine = tt; value = grind (arith, c.value-value.ensures.value, value-there c.self.inside.directory.residents.entries c.in_ok-slot.slot, c.self.view_is, c.find.ensures.machine, c.in_ok-slot.ensures.slot) })
+    ((refl, λ _. tt, becomes-known (hit-becomes c.hash-hash.ensures c.find.ensures.kept c.find.ensures.counts (search rules) now) (search rules)), record { machine = tt; value = grind (arith, c.value-value.ensures.value, value-there c.self.inside.directory.residents.entries c.in_ok-slot.slot, c.self.view_is, c.find.ensures.machine, c.in_ok-slot.ensures.slot) })

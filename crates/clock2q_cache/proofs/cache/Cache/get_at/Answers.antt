@@ -3,6 +3,7 @@ use Rattle.std.proofs.Common.{arith, ◌≡◌, Some, rules, refl, ap, ◌∙◌
 use Rattle.clock2q_cache.proofs.Names.{CacheState, hit, value-there, slot_of}
 use Rattle.clock2q_cache.proofs.CacheInvariant.{m}
 use Rattle.clock2q_cache.proofs.Finding.{found-queued, hit-machine, kept-hit}
+use Rattle.clock2q_cache.proofs.KnownIndex.{becomes-known}
 use Rattle.clock2q_cache.proofs.Spent.{missed_at-becomes, hit_at-becomes}
 use Rattle.clock2q_cache.proofs.cache.Cache.get_at.Given.{Over}
 use Rattle.clock2q_cache.proofs.cache.Cache.get_at.Goals.{After-value-stored}
@@ -28,4 +29,4 @@ returns g c =
     let now =
     hit-machine g.met.K.Eq.laws c.self.invariant c.args.key.now c.in_ok-found.found at c.hit.ensures.queues
     ∙ ap (λ (z : CacheState _ _ _). hit (g.K.PartialEq.eq c.args.key.now) z.machine) c.self.view_is in
-    ((refl, λ _. tt, hit_at-becomes c.in_ok-found.ensures.slot c.find_at.ensures.kept c.find_at.ensures.counts (search rules) now), record { machine = tt; value = grind (arith, c.value-stored.ensures.value, value-there c.self.inside.directory.residents.entries c.in_ok-found.found, c.self.view_is, c.find_at.ensures.machine, c.in_ok-found.ensures.slot) })
+    ((refl, λ _. tt, becomes-known (hit_at-becomes c.in_ok-found.ensures.slot c.find_at.ensures.kept c.find_at.ensures.counts (search rules) now) (search rules)), record { machine = tt; value = grind (arith, c.value-stored.ensures.value, value-there c.self.inside.directory.residents.entries c.in_ok-found.found, c.self.view_is, c.find_at.ensures.machine, c.in_ok-found.ensures.slot) })

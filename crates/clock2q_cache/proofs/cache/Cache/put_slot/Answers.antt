@@ -43,16 +43,22 @@ returns-clause-within g c =
     within g.K.PartialEq.eq g.met.K.Eq.laws c.args.self.now.machine c.len.ensures.whole c.args.key c.args.value c.insert_at_slot-slot.new.self.machine
     (returns-clause-machine g c) c.insert_at_slot-slot.result.0 (returns-clause-slot g c)
 
+pub returns-in-Some-clause-known : goal.returns-in-Some-clause-known
+returns-in-Some-clause-known g c =
+    rw (← c.in-Some.ensures.slot) (ap (λ (z : CacheState _ _ _). z.known) c.replace.ensures.kept ∙ ap (λ (z : CacheState _ _ _). z.known) c.record_hit.ensures.kept
+    ∙ ap (λ (z : CacheState _ _ _). z.known) c.find.ensures.kept)
+
+pub returns-clause-known : goal.returns-clause-known
+returns-clause-known g c = rw (← c.in_default.ensures.slot) (rw (c.insert_at_slot-slot.ensures.slot, c.find.ensures.kept) at c.insert_at_slot-slot.ensures.known)
+
 pub returns-in-Some-clause-costs : goal.returns-in-Some-clause-costs
 returns-in-Some-clause-costs g c =
     let is = g.K.PartialEq.eq c.args.key in
-    let known = ap (λ (z : CacheState _ _ _). z.known) c.replace.ensures.kept ∙ ap (λ (z : CacheState _ _ _). z.known) c.record_hit.ensures.kept
-    ∙ ap (λ (z : CacheState _ _ _). z.known) c.find.ensures.kept in
     let counts = ap (λ (z : CacheState _ _ _). z.counts) c.replace.ensures.kept ∙ ap (λ (z : CacheState _ _ _). z.counts) c.record_hit.ensures.kept in
     put-costs (returns-in-Some-clause-machine g c)
     (reaches-taken (record { eq = g.K.PartialEq.eq; hash_input = g.K.Hash.hash_input }) g.S.BuildHasher g.S.Hasher.Hasher
     c.args.key g.met.K.Eq.laws g.met.K.Hash.respects_eq c.len.ensures.whole c.len.ensures.indexed.as_many
-    c.len.ensures.within (rw (← c.in-Some.ensures.slot) known))
+    c.len.ensures.within (returns-in-Some-clause-known g c))
     (hit-spends is c.args.self.now.machine c.find.ensures.counts c.in-Some.ensures.slot counts (rw c.hash-hash.ensures (omega arith)))
 
 pub returns-clause-costs : goal.returns-clause-costs
@@ -61,6 +67,6 @@ returns-clause-costs g c =
     put-costs (returns-clause-machine g c)
     (reaches-taken (record { eq = g.K.PartialEq.eq; hash_input = g.K.Hash.hash_input }) g.S.BuildHasher g.S.Hasher.Hasher
     c.args.key g.met.K.Eq.laws g.met.K.Hash.respects_eq c.len.ensures.whole c.len.ensures.indexed.as_many
-    c.len.ensures.within (rw (← c.in_default.ensures.slot) (rw (c.insert_at_slot-slot.ensures.slot, c.find.ensures.kept) at c.insert_at_slot-slot.ensures.known)))
+    c.len.ensures.within (returns-clause-known g c))
     (insert-spends is c.args.self.now.machine c.find.ensures.counts c.in_default.ensures.slot c.find.ensures.machine c.insert_at_slot-slot.ensures.counts
     (rw (c.find.ensures.kept, c.hash-hash.ensures) (omega arith)))

@@ -1,6 +1,7 @@
 -- The key that is found is at its slot.
-use Rattle.std.proofs.Common.{sym, arith, rules}
+use Rattle.std.proofs.Common.{◌∙◌, sym, arith, rules}
 use Rattle.clock2q_cache.proofs.Names.{slot_of}
+use Rattle.clock2q_cache.proofs.Finding.{no-slot}
 use Rattle.clock2q_cache.proofs.Vacated.{found-resident}
 use Rattle.clock2q_cache.proofs.Reaching.{reaches-discarded, reaches-left}
 use Rattle.clock2q_cache.proofs.Spent.{costs-of, spends-both, remove-costs}
@@ -14,6 +15,14 @@ returns-in_default-clause-machine g c = search rules
 
 pub returns-clause-machine : goal.returns-clause-machine
 returns-clause-machine g c = search rules
+
+pub returns-in_default-clause-known : goal.returns-in_default-clause-known
+returns-in_default-clause-known g c =
+    let absent = no-slot c.lookup-found.result c.in_default.not-Resident ∙ c.lookup-found.ensures.slot in
+    rw (← absent) (rw (c.lookup-found.ensures.kept, c.hash-hash.ensures) at c.forget.ensures.places)
+
+pub returns-clause-known : goal.returns-clause-known
+returns-clause-known g c = rw (← c.in-Resident.ensures.slot) (rw c.lookup-found.ensures.kept at c.vacate.ensures.known)
 
 pub returns-in_default-clause-costs : goal.returns-in_default-clause-costs
 returns-in_default-clause-costs g c =
