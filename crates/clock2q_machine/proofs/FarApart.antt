@@ -22,7 +22,7 @@ use Rattle.clock2q_machine.proofs.Whole.{one_if}
 use Rattle.clock2q_machine.proofs.MachineInvariant.{lasting-after}
 use Rattle.clock2q_machine.proofs.Standing.{absent_if}
 use Rattle.clock2q_machine.proofs.PromotedKeys.{promoted_count, admitted_count, promoted_without}
-use Rattle.clock2q_machine.proofs.NewKeys.{LeavesForHistory, LeavesForMain, EntersFor, tail_of, small_some, still_unknown, new_shares, new_enters, full_still}
+use Rattle.clock2q_machine.proofs.NewKeys.{LeavesForHistory, LeavesForMain, EntersFor, tail_of, small_some, still_unknown, put_shares, new_enters, full_still}
 
 -- Fronts of lists.
 
@@ -212,7 +212,7 @@ module _ {K V : Type 0} (eq : K → K → Bool) where
       fade_one : (i : ℕ) (q : K × V) → eq q.0 p.0 ≡ false → Fades (eq q.0) (suc i) m → Fades (eq q.0) i put_in
       fade_one i q differs =
           let tail = tail_of eq laws p.0 m h unknown p.1 full in
-          fades_on (eq q.0) p.0 tail.0 m put_in differs tail.1 (small_some eq laws p.0 m h unknown p.1 full) (new_shares eq laws p.0 m h unknown p.1)
+          fades_on (eq q.0) p.0 tail.0 m put_in differs tail.1 (small_some eq laws p.0 m h unknown p.1 full) (put_shares eq laws p.0 p.1 m h)
           (new_enters eq laws p.0 m h unknown p.1 full) i h.small_within (h.keys_once q.0) (still_unknown eq laws p.0 m h unknown p.1 q.0 differs)
 
       -- the same key may come again once this many others have come
@@ -221,7 +221,7 @@ module _ {K V : Type 0} (eq : K → K → Bool) where
           (elim (eq q.0 p.0) as (λ b. eq q.0 p.0 ≡ b → Fades (eq q.0) i put_in) [
             | true ↦ λ same.
                 fades_later (eq q.0) (m.shares.small + history_share m.shares) i put_in late
-                (begins_to_fade (eq q.0) p.0 (tail_of eq laws p.0 m h unknown p.1 full).0 m put_in same (new_shares eq laws p.0 m h unknown p.1) (new_enters eq laws p.0 m h unknown p.1 full))
+                (begins_to_fade (eq q.0) p.0 (tail_of eq laws p.0 m h unknown p.1 full).0 m put_in same (put_shares eq laws p.0 p.1 m h) (new_enters eq laws p.0 m h unknown p.1 full))
             | false ↦ λ differs. fade_one i q differs fades
           ]) refl
 
@@ -234,7 +234,7 @@ module _ {K V : Type 0} (eq : K → K → Bool) where
     far_new n [] m h full enough far fade = tt
     far_new n (p ∷ puts) m h full enough far fade =
         let unknown = faded (eq p.0) m h.small_within h.history_within fade.0 in
-        let same = new_shares eq laws p.0 m h unknown p.1 in (
+        let same = put_shares eq laws p.0 p.1 m h in (
           unknown,
           far_new n puts (after eq (Put p.0 p.1) m) (lasting-after eq laws (Put p.0 p.1) m h) (full_still eq laws p.0 m h unknown p.1 full)
               (omega (arith, enough, ap (λ s. s.small) same, ap history_share same)) far.1 (fade_on p m h full unknown n 0 (omega (arith, enough)) puts far.0 fade.1),

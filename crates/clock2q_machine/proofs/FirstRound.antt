@@ -20,7 +20,7 @@ use Rattle.clock2q_machine.proofs.Whole.{one_if}
 use Rattle.clock2q_machine.proofs.MachineInvariant.{lasting-after}
 use Rattle.clock2q_machine.proofs.Lifetimes.{remembered_still}
 use Rattle.clock2q_machine.proofs.PromotedKeys.{promoted_count, promoted_without}
-use Rattle.clock2q_machine.proofs.NewKeys.{LeavesForHistory, LeavesForMain, EntersFor, full_small, tail_of, small_some, new_shares, new_enters, full_still}
+use Rattle.clock2q_machine.proofs.NewKeys.{LeavesForHistory, LeavesForMain, EntersFor, full_small, tail_of, small_some, put_shares, new_enters, full_still}
 use Rattle.clock2q_machine.proofs.FarApart.{in_small, IsInSmall, Differ, sum_take_more, in_small_still, enters_in_front}
 
 pub any_counted : {X : Type 0} (p : X → Bool) (xs : List X) → 0 < count_by p xs → list_any p xs ≡ true
@@ -106,7 +106,7 @@ module _ {K V : Type 0} (eq : K → K → Bool) (laws : IsEquivalence eq) where
         let tail = tail_of eq laws q.0 m h new.0 q.1 full in
         let some = small_some eq laws q.0 m h new.0 q.1 full in
         let enters = new_enters eq laws q.0 m h new.0 q.1 full in
-        let same = new_shares eq laws q.0 m h new.0 q.1 in
+        let same = put_shares eq laws q.0 q.1 m h in
         let whole = lasting-after eq laws (Put q.0 q.1) m h in
         let long = full_small eq laws m h full in
         elim (cases_lt (suc place) m.shares.small) [
@@ -132,7 +132,7 @@ module _ {K V : Type 0} (eq : K → K → Bool) (laws : IsEquivalence eq) where
   first_round [] p back m h full new differ fits =
       let n = after eq (Put p.0 p.1) m in
       let enters = new_enters eq laws p.0 m h new.0 p.1 full in
-      let same = new_shares eq laws p.0 m h new.0 p.1 in
+      let same = put_shares eq laws p.0 p.1 m h in
       elim (kept_after p.0 back 0 n (lasting-after eq laws (Put p.0 p.1) m h) (full_still eq laws p.0 m h new.0 p.1 full) new.1 differ
       (enters_in_front (eq p.0) p.0 (tail_of eq laws p.0 m h new.0 p.1 full).0 m n (laws.refl p.0) enters)
       (omega (arith, full.small_share, ap (λ t. t.small) same)) (omega (arith, fits, ap (λ t. t.small) same, ap history_share same))) [
@@ -140,7 +140,7 @@ module _ {K V : Type 0} (eq : K → K → Bool) (laws : IsEquivalence eq) where
         | inr gone ↦ inr (omega (arith, gone.0, ap (λ t. t.small) same), gone.1)
       ]
   first_round (q ∷ front) p back m h full new differ fits =
-      let same = new_shares eq laws q.0 m h new.0 q.1 in
+      let same = put_shares eq laws q.0 q.1 m h in
       elim (first_round front p back (after eq (Put q.0 q.1) m) (lasting-after eq laws (Put q.0 q.1) m h) (full_still eq laws q.0 m h new.0 q.1 full) new.1 differ
       (omega (arith, fits, ap (λ t. t.small) same, ap history_share same))) [
         | inl there ↦ inl there

@@ -1,5 +1,5 @@
 -- A key that a full cache doesn't know is put: it enters Small, whose tail leaves for the history or is promoted to Main.
-use Rattle.std.proofs.Common.{◌≡◌, ◌⊎◌, ℕ, ◌-◌, ◌<◌, ◌==◌, Bool, true, false, not, ◌||◌, ◌&&◌, cond, List, [], ◌∷◌, length, take, inl, inr, Some, None, refl, sym, ap, ◌∙◌, subst, arith, ne_eqb}
+use Rattle.std.proofs.Common.{◌≡◌, ◌⊎◌, ℕ, ◌-◌, ◌<◌, ◌==◌, Bool, true, false, not, ◌||◌, ◌&&◌, cond, List, [], ◌∷◌, length, take, inl, inr, Option, Some, None, refl, sym, ap, ◌∙◌, subst, arith, ne_eqb}
 use Rattle.std.specs.Prelude.{if◌then◌else◌, is_some, nat_le}
 use Rattle.std.specs.Cmp.{IsEquivalence}
 use Rattle.std.specs.List.{count_by, filter, list_any, last_or, AllByRecursion}
@@ -78,6 +78,13 @@ module _ {K V : Type 0} where
         }
 
 module _ {K V : Type 0} (eq : K → K → Bool) (laws : IsEquivalence eq) where
+  -- a put keeps the shares
+  pub put_shares : (key : K) (value : V) (m : Machine K V) → IsWhole eq m → (after eq (Put key value) m).shares ≡ m.shares
+  put_shares key value m h = by_slot (slot_of (eq key) m) refl where
+    by_slot : (o : Option ℕ) → slot_of (eq key) m ≡ o → (if is_some o then replaced_at (eq key) value o m else inserted (eq key) key value m).shares ≡ m.shares
+    by_slot None absent = (placed-key eq laws key m h absent).shares
+    by_slot (Some slot) found = refl
+
   -- a full cache has as many entries in Small and in Main as their shares
   module _ (m : Machine K V) (h : IsWhole eq m) (full : IsFullCache m) where
     pub full_small : length m.small ≡ m.shares.small
@@ -92,10 +99,6 @@ module _ {K V : Type 0} (eq : K → K → Bool) (laws : IsEquivalence eq) where
 
     put_inserts : inserted (eq key) key value m ≡ after eq (Put key value) m
     put_inserts = ap (λ o. if is_some o then replaced_at (eq key) value o m else inserted (eq key) key value m) (sym absent)
-
-    -- the shares are the same
-    pub new_shares : (after eq (Put key value) m).shares ≡ m.shares
-    new_shares = ap (λ n. n.shares) (sym put_inserts) ∙ (placed-key eq laws key m h absent).shares
 
     -- only its own key becomes known
     pub still_unknown : (other : K) → eq other key ≡ false → known_count (eq other) m ≡ 0 → known_count (eq other) (after eq (Put key value) m) ≡ 0
@@ -168,18 +171,18 @@ module _ {K V : Type 0} (eq : K → K → Bool) (laws : IsEquivalence eq) where
       full_still =
           let n = after eq (Put key value) m in
           record {
-            small_share = subst (λ s. 0 < s.small) (sym new_shares) full.small_share;
+            small_share = subst (λ s. 0 < s.small) (sym (put_shares key value m h)) full.small_share;
             no_vacancy =
                 ap (λ free. vacant_slot free (length n.values) n.shares.capacity) new_enters.free
                 ∙ ap (λ made. vacant_slot m.free made n.shares.capacity) made_same
-                ∙ ap (λ s. vacant_slot m.free (length m.values) s.capacity) new_shares
+                ∙ ap (λ s. vacant_slot m.free (length m.values) s.capacity) (put_shares key value m h)
                 ∙ full.no_vacancy;
           }
 
   -- through a list of keys each of which is new when its turn comes
   pub shares_run : (puts : List (K × V)) (m : Machine K V) → IsWhole eq m → AreNew eq puts m → (after_all eq (scan puts) m).shares ≡ m.shares
   shares_run [] m h new = refl
-  shares_run (p ∷ puts) m h new = shares_run puts (after eq (Put p.0 p.1) m) (lasting-after eq laws (Put p.0 p.1) m h) new.1 ∙ new_shares p.0 m h new.0 p.1
+  shares_run (p ∷ puts) m h new = shares_run puts (after eq (Put p.0 p.1) m) (lasting-after eq laws (Put p.0 p.1) m h) new.1 ∙ put_shares p.0 p.1 m h
 
   pub full_run : (puts : List (K × V)) (m : Machine K V) → IsWhole eq m → IsFullCache m → AreNew eq puts m → IsFullCache (after_all eq (scan puts) m)
   full_run [] m h full new = full

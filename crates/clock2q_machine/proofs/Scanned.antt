@@ -23,7 +23,7 @@ use Rattle.clock2q_machine.proofs.Victims.{counted_residents}
 use Rattle.clock2q_machine.proofs.Laws.{others_keep}
 use Rattle.clock2q_machine.proofs.LeftKeys.{gone_or_there}
 use Rattle.clock2q_machine.proofs.PromotedKeys.{promoted_count, promoted_of, admitted_count, promoted_admitted, promoted_without}
-use Rattle.clock2q_machine.proofs.NewKeys.{LeavesForHistory, LeavesForMain, EntersFor, none_passes, share_some, full_main, tail_of, small_some, new_shares, new_enters, full_still, shares_run, full_run, scan_new}
+use Rattle.clock2q_machine.proofs.NewKeys.{LeavesForHistory, LeavesForMain, EntersFor, none_passes, share_some, full_main, tail_of, small_some, put_shares, new_enters, full_still, shares_run, full_run, scan_new}
 use Rattle.clock2q_machine.proofs.Turnover.{main_turnover}
 
 ones : {X : Type 0} (xs : List X) → sum_by (λ x. 1) xs ≡ length xs
@@ -109,7 +109,7 @@ module _ {K V : Type 0} (eq : K → K → Bool) (laws : IsEquivalence eq) where
         ap (λ o. if is_some o then settings_in_small (eq p.0) m else belongs_in_main (eq p.0) m) (absent_if (eq p.0) m (omega (arith, new.0))),
         ap (λ b. one_if (b || (m.shares.small == 0))) (none_passes (eq p.0) m.history (omega (arith, new.0))),
         ap (λ b. one_if (false || b)) (share_some m.shares.small some),
-        none_earned puts n (lasting-after eq laws (Put p.0 p.1) m h) (subst (λ s. 0 < s.small) (sym (new_shares eq laws p.0 m h new.0 p.1)) some) new.1,
+        none_earned puts n (lasting-after eq laws (Put p.0 p.1) m h) (subst (λ s. 0 < s.small) (sym (put_shares eq laws p.0 p.1 m h)) some) new.1,
       )
 
   none_taken_out : (puts : List (K × V)) → AllByRecursion (λ call. takes_out call ≡ false) (scan puts)

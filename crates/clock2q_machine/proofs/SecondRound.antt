@@ -16,11 +16,12 @@ use Rattle.clock2q_machine.specs.Whole.{IsWhole}
 use Rattle.clock2q_machine.specs.Scans.{scan}
 use Rattle.clock2q_machine.proofs.Weights.{weight-from_victim, length-from_victim}
 use Rattle.clock2q_machine.proofs.Whole.{one_if}
-use Rattle.clock2q_machine.proofs.MachineInvariant.{placed-key, lasting-after}
+use Rattle.clock2q_machine.proofs.MachineInvariant.{lasting-after}
 use Rattle.clock2q_machine.proofs.Standing.{none_counted, absent_if, key_count, fewer}
 use Rattle.clock2q_machine.proofs.Clock.{clock_bounded}
 use Rattle.clock2q_machine.proofs.Lifetimes.{stays_after, in_small_still, remembered_still}
 use Rattle.clock2q_machine.proofs.MainLifetimes.{victims_pass}
+use Rattle.clock2q_machine.proofs.NewKeys.{put_shares}
 use Rattle.clock2q_machine.proofs.FarApart.{Differ}
 
 -- Tests of lists, by counting.
@@ -77,12 +78,6 @@ module _ {K V : Type 0} (eq : K → K → Bool) (laws : IsEquivalence eq) where
 
   pub main_resident : (is : K → Bool) (m : Machine K V) → is_in_main is m ≡ true → is_some (slot_of is m) ≡ true
   main_resident is m there = resident_if is m (omega (arith, counted_in_main is m.main there))
-
-  pub put_shares : (key : K) (value : V) (m : Machine K V) → IsWhole eq m → (after eq (Put key value) m).shares ≡ m.shares
-  put_shares key value m h = by_slot (slot_of (eq key) m) refl where
-    by_slot : (o : Option ℕ) → slot_of (eq key) m ≡ o → (if is_some o then replaced_at (eq key) value o m else inserted (eq key) key value m).shares ≡ m.shares
-    by_slot None absent = (placed-key eq laws key m h absent).shares
-    by_slot (Some slot) found = refl
 
   -- A key that is in Small or remembered is put.
 
@@ -163,7 +158,7 @@ module _ {K V : Type 0} (eq : K → K → Bool) (laws : IsEquivalence eq) where
           (enters (from_victim m.main) refl)))
 
     pub main_full_still : IsMainFull m → IsKept → IsMainFull put_in
-    main_full_still full kept = by_kept_here kept ∙ ap main_share (sym (put_shares key value m h)) where
+    main_full_still full kept = by_kept_here kept ∙ ap main_share (sym (put_shares eq laws key value m h)) where
       by_slot : (o : Option ℕ) → is_some o ≡ true → length (if is_some o then replaced_at (eq key) value o m else inserted (eq key) key value m).main ≡ main_share m.shares
       by_slot None there = cc
       by_slot (Some slot) there = length-map m.main _ ∙ full
@@ -199,7 +194,7 @@ module _ {K V : Type 0} (eq : K → K → Bool) (laws : IsEquivalence eq) where
   remain_on p m h is_kept (q ∷ puts) differ remain = (
     elim remain.0 [
       | inl there ↦ inl (small_stays p.0 p.1 m h is_kept q.0 there)
-      | inr known ↦ inr (omega (arith, known.0, ap (λ s. s.small) (put_shares p.0 p.1 m h)), remembered_stays p.0 p.1 m h is_kept q.0 differ.0 known.1)
+      | inr known ↦ inr (omega (arith, known.0, ap (λ s. s.small) (put_shares eq laws p.0 p.1 m h)), remembered_stays p.0 p.1 m h is_kept q.0 differ.0 known.1)
     ],
     remain_on p m h is_kept puts differ.1 remain.1,
   )
@@ -226,7 +221,7 @@ module _ {K V : Type 0} (eq : K → K → Bool) (laws : IsEquivalence eq) where
   few_victims [] m h apart remain = omega arith
   few_victims (p ∷ puts) m h apart remain =
       let rest = few_victims puts (after eq (Put p.0 p.1) m) (next_whole p puts m h apart remain) apart.1 (next_remain p puts m h apart remain) in
-      let same = ap (λ s. s.small) (put_shares p.0 p.1 m h) in
+      let same = ap (λ s. s.small) (put_shares eq laws p.0 p.1 m h) in
       elim remain.0 [
         | inl there ↦ omega (arith, victims_small p.0 p.1 m h there, rest, same)
         | inr known ↦ omega (arith, victims_one p.0 p.1 m h, known.0, rest, same)
@@ -262,7 +257,7 @@ module _ {K V : Type 0} (eq : K → K → Bool) (laws : IsEquivalence eq) where
           few_victims back n later.0 apart.1 later.1,
           none_set back n later.0 apart.1 later.1,
           bits_fall p.0 p.1 m h (sets_none p.0 p.1 m h is_kept),
-          ap (λ s. s.small) (put_shares p.0 p.1 m h),
+          ap (λ s. s.small) (put_shares eq laws p.0 p.1 m h),
           enters.1.1,
           full,
           known.0,
@@ -272,4 +267,4 @@ module _ {K V : Type 0} (eq : K → K → Bool) (laws : IsEquivalence eq) where
       let rest : List (K × V) = front ++ p ∷ back in
       let is_kept = kept q rest m h remain in
       second_round front p back (after eq (Put q.0 q.1) m) (next_whole q rest m h apart remain) (main_full_still q.0 q.1 m h full is_kept) apart.1 (next_remain q rest m h apart remain)
-      (omega (arith, fits, bits_fall q.0 q.1 m h (sets_none q.0 q.1 m h is_kept), ap (λ s. s.capacity) (put_shares q.0 q.1 m h)))
+      (omega (arith, fits, bits_fall q.0 q.1 m h (sets_none q.0 q.1 m h is_kept), ap (λ s. s.capacity) (put_shares eq laws q.0 q.1 m h)))

@@ -11,6 +11,7 @@ pub mod DemandPolicies
 pub mod MachineOptimum
 pub mod WorkedClock
 pub mod WorkedFlushing
+pub mod WorkedLoops
 pub mod WorkedOptimum
 pub mod WorkedDistances
 pub mod Sums

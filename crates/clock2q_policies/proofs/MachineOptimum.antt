@@ -1,7 +1,7 @@
 -- Clock2Q+ is a demand policy, whatever its shares: it hits no more keys of a trace than the optimum.
 use Rattle.std.proofs.Common.{◌≡◌, ◌⊎◌, inl, inr, ℕ, ◌<◌, ◌≤◌, ◌==◌, Bool, true, false, ◌||◌, cond, eqb, List, [], ◌∷◌, map, length, length-append, Option, Some, None, refl, sym, ap, ◌∙◌}
 use Rattle.std.proofs.Common.{arith, eqb-true}
-use Rattle.std.specs.Prelude.{if◌then◌else◌, is_some, slice_get}
+use Rattle.std.specs.Prelude.{is_some, slice_get}
 use Rattle.std.specs.Cmp.{nat_eq_equiv}
 use Rattle.std.specs.List.{find}
 use Rattle.std.specs.Option.{option_map, option_and_then}
@@ -9,22 +9,23 @@ use Rattle.std.proofs.lemmas.Bool.{cases_Bool}
 use Rattle.std.proofs.lemmas.List.{length-map}
 use Rattle.clock2q_machine.specs.Shares.{Shares}
 use Rattle.clock2q_machine.specs.Calls.{Put}
-use Rattle.clock2q_machine.specs.Machine.{Machine, empty, residents, inserted, slot_of, value_of}
-use Rattle.clock2q_machine.specs.Steps.{put, replaced_at}
+use Rattle.clock2q_machine.specs.Machine.{Machine, empty, residents, slot_of, value_of}
+use Rattle.clock2q_machine.specs.Steps.{put}
 use Rattle.clock2q_machine.specs.Whole.{IsWhole}
-use Rattle.clock2q_machine.proofs.MachineInvariant.{lasting-after, lasting-empty, placed-key, resident_made}
+use Rattle.clock2q_machine.proofs.MachineInvariant.{lasting-after, lasting-empty, resident_made}
 use Rattle.clock2q_machine.proofs.Standing.{get-within}
 use Rattle.clock2q_machine.proofs.Laws.{put_there, others_had}
+use Rattle.clock2q_machine.proofs.NewKeys.{put_shares}
 use Rattle.clock2q_policies.specs.Policies.{hits, is_in}
 use Rattle.clock2q_policies.specs.Optimum.{optimal_hits, IsDemandPolicy}
 use Rattle.clock2q_policies.proofs.Optimum.{optimum}
 use Rattle.clock2q_policies.proofs.DemandPolicies.{same_turned}
 
 -- every key is put, and hits if it has a value
-abbrev machine_holds : ℕ → Machine ℕ (Unit {0}) → Bool
+abbrev pub machine_holds : ℕ → Machine ℕ (Unit {0}) → Bool
 machine_holds key m = is_some (value_of (λ held. key == held) m)
 
-abbrev machine_after : ℕ → Machine ℕ (Unit {0}) → Machine ℕ (Unit {0})
+abbrev pub machine_after : ℕ → Machine ℕ (Unit {0}) → Machine ℕ (Unit {0})
 machine_after key m = put (λ held. key == held) key tt m
 
 abbrev resident_keys : Machine ℕ (Unit {0}) → List ℕ
@@ -56,10 +57,6 @@ module _ (key : ℕ) (m : Machine ℕ (Unit {0})) (h : IsWhole eqb m) where
   has_keys : machine_holds key m ≡ is_in key (resident_keys m)
   has_keys = with_value (slot_of (eqb key) m) refl ∙ found_is_in key (residents m)
 
-  shares_stay : (o : Option ℕ) → slot_of (eqb key) m ≡ o → (if is_some o then replaced_at (eqb key) tt o m else inserted (eqb key) key tt m).shares ≡ m.shares
-  shares_stay None absent = (placed-key eqb nat_eq_equiv key m h absent).shares
-  shares_stay (Some slot) found = refl
-
   others_before : (other : ℕ) → machine_holds other (machine_after key m) ≡ true → (key ≡ other) ⊎ (machine_holds other m ≡ true)
   others_before other there = elim (cases_Bool (other == key)) [
     | inl same ↦ inl (sym (eqb-true other key same))
@@ -84,7 +81,7 @@ module _ (shares : Shares) where
   machine_is_demand = record {
     goes_on = λ key m is. record {
       whole = lasting-after eqb nat_eq_equiv (Put key tt) m is.whole;
-      same_shares = shares_stay key m is.whole (slot_of (eqb key) m) refl ∙ is.same_shares;
+      same_shares = put_shares eqb nat_eq_equiv key tt m is.whole ∙ is.same_shares;
     };
     comes = λ key m is. ap {B = Bool} is_some (put_there eqb nat_eq_equiv m is.whole key tt);
     on_demand = λ key other m is there. others_before key m is.whole other there;
