@@ -271,11 +271,23 @@ template <class Node> class nodes {
     std::unique_ptr<Node *[]> chains_;
 };
 
+// Whether to compare, assign and destroy keys or values of this type calls no code of users.
+template <class T> struct is_plain : std::bool_constant<std::is_arithmetic_v<T> || std::is_pointer_v<T>> {};
+template <class Letter> struct is_plain<std::basic_string<Letter>> : std::is_arithmetic<Letter> {};
+template <class Key, class Equal>
+constexpr bool compares_plainly = is_plain<Key>::value && std::is_same_v<Equal, std::equal_to<Key>>;
+
+// Destroys a node, and keeps its block at `spare`, if that isn't null and has none.
+template <class Node> void destroy_now(Node *left, Node **spare) noexcept {
+    left->~Node();
+    if (spare != nullptr && *spare == nullptr) *spare = left;
+    else std::allocator<Node>().deallocate(left, 1);
+}
+
 // Nodes that have left a cache, which are destroyed as the call ends during which they left. Code of users may call
 // the cache while it is working on nodes, as Equal is on keys: those that this thread is to destroy then come here.
-template <class Node> class leaving {
+template <class Node, bool is_quiet> class leaving {
   public:
-    // Blocks of nodes are kept at `spare`, if that isn't null and has none.
     leaving(const void *cache, Node **spare) noexcept : cache_(cache), spare_(spare) {}
     leaving(const leaving &) = delete;
     leaving &operator=(const leaving &) = delete;
@@ -320,7 +332,7 @@ template <class Node> class leaving {
     static void destroy(const void *cache, Node *left) noexcept {
         leaving *outer = of(cache);
         if (outer != nullptr) outer->append(left);
-        else destroy_now(left, nullptr);
+        else destroy_now<Node>(left, nullptr);
     }
 
   private:
@@ -346,11 +358,6 @@ template <class Node> class leaving {
         if (first_ == nullptr) end_ = &first_;
         return left;
     }
-    static void destroy_now(Node *left, Node **spare) noexcept {
-        left->~Node();
-        if (spare != nullptr && *spare == nullptr) *spare = left;
-        else std::allocator<Node>().deallocate(left, 1);
-    }
 
     const void *cache_;
     Node **spare_;
@@ -358,11 +365,24 @@ template <class Node> class leaving {
     Node *first_ = nullptr, **end_ = &first_;
 };
 
-// Whether to compare keys calls no code of users.
-template <class Key> struct is_plain : std::bool_constant<std::is_arithmetic_v<Key> || std::is_pointer_v<Key>> {};
-template <class Letter> struct is_plain<std::basic_string<Letter>> : std::is_arithmetic<Letter> {};
-template <class Key, class Equal>
-constexpr bool compares_plainly = is_plain<Key>::value && std::is_same_v<Equal, std::equal_to<Key>>;
+// The same if no code of users runs while nodes are worked on or destroyed: they are destroyed at once.
+template <class Node> class leaving<Node, true> {
+  public:
+    leaving(const void *, Node **spare) noexcept : spare_(spare) {}
+    leaving(const leaving &) = delete;
+    leaving &operator=(const leaving &) = delete;
+    struct working {
+        explicit working(leaving &) noexcept {}
+    };
+    void add(Node *left) noexcept {
+        while (left != nullptr) destroy_now(std::exchange(left, left->next), spare_);
+    }
+    bool end(const Node *) noexcept { return true; }
+    static void destroy(const void *, Node *left) noexcept { destroy_now<Node>(left, nullptr); }
+
+  private:
+    Node **spare_;
+};
 
 template <class T, class = void> struct is_transparent : std::false_type {};
 template <class T> struct is_transparent<T, std::void_t<typename T::is_transparent>> : std::true_type {};
@@ -410,7 +430,7 @@ template <class Key, class Value, class Hash = std::hash<Key>, class Equal = std
             : hash(own_hash), entry(std::piecewise_construct, std::forward_as_tuple(std::forward<K>(key)),
                                     std::forward_as_tuple(std::forward<Args>(args)...)) {}
     };
-    using leaving = detail::leaving<node>;
+    using leaving = detail::leaving<node, detail::compares_plainly<Key, Equal> && detail::is_plain<Value>::value>;
     template <class Other>
     using argument = typename detail::argument<detail::is_transparent<Hash>::value &&
                                                detail::is_transparent<Equal>::value>::template type<Other, Key>;
