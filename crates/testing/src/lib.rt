@@ -4,6 +4,7 @@
 
 mod comparing;
 mod linear_hash;
+mod playing;
 mod refusing;
 mod spelling;
 mod split_mix;
@@ -11,6 +12,7 @@ mod trying;
 
 pub use comparing::{same, same_at};
 pub use linear_hash::{LinearHashBuilder, LinearHasher};
+pub use playing::play_cases;
 pub use refusing::Refusing;
 pub use spelling::{SpellingError, spelled, spelling_of};
 pub use split_mix::SplitMix64;

@@ -35,9 +35,15 @@ impl Read for Slow<'_> {
     }
 }
 
+/// Returns what a line gives in place of what it should, if it does.
+pub(crate) fn other_outcome(alloc: Global, line: &str) -> Result<Option<Vec<u8>>, SpellingError> {
+    let case = Case::from_line(alloc, line)?;
+    Ok(case.other_outcome(alloc)?)
+}
+
 /// Arguments, a trace, and what is written, to standard output and then to standard error.
 #[derive(Drop)]
-pub(crate) struct Case {
+struct Case {
     words: Vec<String>,
     trace: Vec<u8>,
     wanted: Vec<u8>,
@@ -45,7 +51,7 @@ pub(crate) struct Case {
 
 impl Case {
     /// Reads a line, whose parts end at bars.
-    pub(crate) fn from_line(alloc: Global, line: &str) -> Result<Case, SpellingError> {
+    fn from_line(alloc: Global, line: &str) -> Result<Case, SpellingError> {
         let (words, rest) = line.split_once('|').unwrap_or((line, ""));
         let (trace, wanted) = rest.split_once('|').unwrap_or((rest, "no bar"));
         Ok(Case {
@@ -56,7 +62,7 @@ impl Case {
     }
 
     /// Returns what the case gives in place of what it should, if it does.
-    pub(crate) fn other_outcome(&self, alloc: Global) -> Result<Option<Vec<u8>>, AllocError> {
+    fn other_outcome(&self, alloc: Global) -> Result<Option<Vec<u8>>, AllocError> {
         let got = self.outcome(alloc, DefaultHashBuilder::new(), SHORT)?;
         if got != self.wanted {
             return Ok(Some(got));

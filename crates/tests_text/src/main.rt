@@ -16,51 +16,24 @@ mod refused_texts;
 mod texts;
 
 use clock2q_command::{Device, serve, serve_standard};
-use player::Case;
-use std::alloc::Global;
-use std::fs::{self, File};
+use player::other_outcome;
+use std::fs::File;
 use std::hash::RandomState;
 use std::io;
 use std::process::ExitCode;
-use testing::{SpellingError, spelling_of};
+use testing::play_cases;
 
 fn main(rt: HostRuntime) -> ExitCode {
-    if play_file(&rt, "cases").is_err() || serve_file(&rt, ".").is_err() {
+    if play(&rt).is_err() || serve_file(&rt, ".").is_err() {
         return ExitCode::FAILURE;
     }
     serve_standard(rt)
 }
 
-/// Plays the cases of a file, and prints each line whose outcome isn't the one that it has, and at
-/// the end how many cases there are.
-fn play_file(rt: &HostRuntime, name: &str) -> io::Result<()> {
-    let text = fs::read_to_string(rt, name)?;
-    let mut cases = 0u64;
-    for line in text.lines() {
-        if !line.starts_with('#') {
-            cases = cases.saturating_add(1);
-            play_line(rt, line)?;
-        }
-    }
-    println!(rt; "{name}: {cases} played")
-}
-
-/// Plays a line, and prints it if its outcome is another.
-fn play_line(rt: &HostRuntime, line: &str) -> io::Result<()> {
-    match play(rt.alloc(), line, RandomState::new(rt)?) {
-        Ok(None) => Ok(()),
-        Ok(Some(got)) => println!(rt; "{line}\n  gave {got}"),
-        Err(error) => println!(rt; "{line}\n  {error}"),
-    }
-}
-
-/// Returns the spelling of another outcome than the one that a line has, if there is one.
-fn play(alloc: Global, line: &str, random: RandomState) -> Result<Option<String>, SpellingError> {
-    let case = Case::from_line(alloc, line)?;
-    match case.other_outcome(alloc, random)? {
-        Some(got) => Ok(Some(spelling_of(alloc, &got)?)),
-        None => Ok(None),
-    }
+/// Plays the cases, all under one hasher by random numbers.
+fn play(rt: &HostRuntime) -> io::Result<()> {
+    let random = RandomState::new(rt)?;
+    play_cases(rt, "cases", |line| other_outcome(rt.alloc(), line, random))
 }
 
 /// Serves a file, and prints its refusal and the status.

@@ -55,16 +55,26 @@ fn served_under<S: BuildHasher + Drop>(
     shown(alloc, outcome, writer.into_inner())
 }
 
+/// Returns what a line gives in place of what it should, if it does.
+pub(crate) fn other_outcome(
+    alloc: Global,
+    line: &str,
+    random: RandomState,
+) -> Result<Option<Vec<u8>>, SpellingError> {
+    let case = Case::from_line(alloc, line)?;
+    Ok(case.other_outcome(alloc, random)?)
+}
+
 /// A text, and what serving it gives.
 #[derive(Drop)]
-pub(crate) struct Case {
+struct Case {
     text: Vec<u8>,
     wanted: Vec<u8>,
 }
 
 impl Case {
     /// Reads a line, in which the text ends at the bar.
-    pub(crate) fn from_line(alloc: Global, line: &str) -> Result<Case, SpellingError> {
+    fn from_line(alloc: Global, line: &str) -> Result<Case, SpellingError> {
         let (text, wanted) = line.split_once('|').unwrap_or((line, "no bar"));
         Ok(Case {
             text: spelled(alloc, text)?,
@@ -73,7 +83,7 @@ impl Case {
     }
 
     /// Returns what the case gives in place of what it should, if it does.
-    pub(crate) fn other_outcome(
+    fn other_outcome(
         &self,
         alloc: Global,
         random: RandomState,
