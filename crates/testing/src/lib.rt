@@ -1,15 +1,19 @@
-//! What the test crates share: comparisons, an allocator that refuses chosen requests for memory,
-//! numbers determined by a seed, and hashers that spread keys badly.
+//! What the test crates share: comparisons, bytes that lines of data spell, an allocator that refuses
+//! chosen requests for memory, numbers determined by a seed, and hashers that spread keys badly.
 #![tactic(auto)]
 
 mod comparing;
 mod linear_hash;
+mod playing;
 mod refusing;
+mod spelling;
 mod split_mix;
 mod trying;
 
 pub use comparing::{same, same_at};
 pub use linear_hash::{LinearHashBuilder, LinearHasher};
+pub use playing::play_cases;
 pub use refusing::Refusing;
+pub use spelling::{SpellingError, spelled, spelling_of};
 pub use split_mix::SplitMix64;
 pub use trying::{Tried, try_in_turn};

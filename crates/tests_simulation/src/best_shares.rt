@@ -1,8 +1,6 @@
 //! The shares that hit most, of those that are tried.
 
-use crate::lru_curve::trace_with;
-use crate::queues::{non_zero, trace_of};
-use crate::texts::writes;
+use crate::traces::{non_zero, trace_of, trace_with};
 use clock2q_cache::MAX_CAPACITY;
 use clock2q_simulation::{ChosenShares, Policy, TRIED_SHARES, Trace, best_shares_of, replay};
 use std::alloc::Global;
@@ -11,7 +9,7 @@ use std::test::Fail;
 use testing::same_at;
 
 /// Returns the hits of Clock2Q+ with some shares.
-pub(crate) fn hits_of(
+fn hits_of(
     alloc: Global,
     capacity: NonZeroUsize,
     shares: Option<ChosenShares>,
@@ -65,22 +63,4 @@ fn none_of_the_tried_hits_more(rt: HostRuntime) -> Result<(), Fail> {
         best_are_best(rt.alloc(), &trace, skipped)?;
     }
     Ok(())
-}
-
-/// A cache for one key has no other shares than the usual ones.
-#[test]
-fn usual_shares_are_best_for_one_key(rt: HostRuntime) -> Result<(), Fail> {
-    let input = b"a\na\nb\n";
-    let table = "3 accesses, 2 keys, 1 asked for once, hits in percent, the best of a row with *
-capacity Clock2Q+     best     gain  shares
-       1    33.33    33.33     0.00  usual
-";
-    let line = "1 --policies=clock2q --best-shares";
-    writes(rt.alloc(), line, input, table)?;
-    let lines = "\
-capacity,accesses,clock2q_hits,clock2q_ratio,best_hits,best_ratio,best_shares
-1,3,1,0.3333,1,0.3333,\"usual\"
-";
-    let line = "--best-shares 1 --csv --policies=clock2q";
-    writes(rt.alloc(), line, input, lines)
 }

@@ -1,6 +1,6 @@
 //! Traces in each format, and those that aren't in it.
 
-use crate::arguments::{has_message, options_of, words_of};
+use crate::arguments::options_of;
 use clock2q_cache::DefaultHashBuilder;
 use clock2q_ports::Device;
 use clock2q_simulation::{Progress, SimulationError, Trace, read_trace, simulate};
@@ -49,20 +49,6 @@ fn has_numbers(alloc: Global, line: &str, bytes: &[u8], wanted: &[u32]) -> Resul
     Ok(())
 }
 
-/// Checks how a trace is refused, read in pieces of several lengths.
-fn is_refused(
-    alloc: Global,
-    line: &str,
-    bytes: &[u8],
-    wanted: SimulationError,
-) -> Result<(), Fail> {
-    for step in [1, 2, 5, 23, 24, 1000] {
-        let refusal = read(alloc, line, bytes, step)?.err();
-        same_at(refusal, Some(wanted), step)?;
-    }
-    Ok(())
-}
-
 const FIRST: &str = "5 --format=csv --column=1";
 
 const SECOND: &str = "5 --format=csv --column=2";
@@ -97,27 +83,6 @@ fn values(rt: HostRuntime) -> Result<(), Fail> {
     Ok(())
 }
 
-/// A line with fewer values than the column, and quotes that aren't around a value.
-#[test]
-fn refused_lines(rt: HostRuntime) -> Result<(), Fail> {
-    let cases: [(&[u8], usize); 8] = [
-        (b"t,k\n1\n", 2),
-        (b"t,k\n1,a\n\n3,a\n", 3),
-        (b"t,k\n1,a\n2,b\n3", 4),
-        (b"t,k\n1,\"a\n", 2),
-        (b"t,k\n1,\"a\"b\n", 2),
-        (b"t,k\n1,a\"\n", 2),
-        (b"t,k\n1,a,\"\n", 2),
-        (b"t,k\n1,a\n2,\"a\"\"\n", 3),
-    ];
-    for (bytes, number) in cases {
-        let wanted = SimulationError::Line(number, 2);
-        is_refused(rt.alloc(), SECOND, bytes, wanted)?;
-        same(wanted.status(), 2)?;
-    }
-    Ok(())
-}
-
 const ORACLE: &str = "5 --format=oracleGeneral";
 
 /// Adds a record with an id, whose other bytes are all the same.
@@ -138,7 +103,7 @@ fn records_of(alloc: Global, ids: &[u64]) -> Result<Vec<u8>, Fail> {
     Ok(bytes)
 }
 
-/// Ids that differ in one byte alone, among them a line end, and a record that isn't whole.
+/// Ids that differ in one byte alone, among them a line end.
 #[test]
 fn oracle_general(rt: HostRuntime) -> Result<(), Fail> {
     let ids = [
@@ -155,37 +120,10 @@ fn oracle_general(rt: HostRuntime) -> Result<(), Fail> {
     let wanted = [0, 1, 0, 2, 3, 2, 4, 5];
     has_numbers(rt.alloc(), ORACLE, &bytes, &wanted)?;
     has_numbers(rt.alloc(), ORACLE, b"", &[])?;
-    for left in [1usize, 12, 23] {
-        let wanted = SimulationError::Record(24 * 7);
-        let part = &bytes[..bytes.len().min(24 * 7 + left)];
-        is_refused(rt.alloc(), ORACLE, part, wanted)?;
-        same(wanted.status(), 2)?;
-    }
     Ok(())
 }
 
-/// The lines that report bad records, of a file and of standard input.
-#[test]
-fn reports(rt: HostRuntime) -> Result<(), Fail> {
-    let words = words_of(rt.alloc(), "5 a.csv")?;
-    for (refusal, trace, wanted) in [
-        (
-            SimulationError::Line(3, 2),
-            Some(1),
-            "clock2q-simulate: a.csv: line 3: not comma-separated values with a column 2",
-        ),
-        (
-            SimulationError::Record(48),
-            None,
-            "clock2q-simulate: -: offset 48: less than the 24 bytes of a record",
-        ),
-    ] {
-        has_message(rt.alloc(), &words, refusal, trace, wanted)?;
-    }
-    Ok(())
-}
-
-/// What is written for a trace with a bad record, and the warnings.
+/// Returns how much is written for a trace, and the warnings.
 fn written(alloc: Global, line: &str, bytes: &[u8]) -> Result<(usize, Vec<u8>), Fail> {
     let options = options_of(alloc, line)?;
     let mut output = Device::new(Vec::new(alloc));
@@ -204,16 +142,6 @@ fn written(alloc: Global, line: &str, bytes: &[u8]) -> Result<(usize, Vec<u8>), 
         );
     }
     Ok((output.into_inner().len(), errors))
-}
-
-/// Nothing is written for a bad record after good ones.
-#[test]
-fn nothing_before_a_refusal(rt: HostRuntime) -> Result<(), Fail> {
-    let (count, errors) = written(rt.alloc(), SECOND, b"t,k\n1,a\n2,a\n3\n")?;
-    same((count, errors.len()), (0, 0))?;
-    let (count, _) = written(rt.alloc(), SECOND, b"t,k\n1,a\n2,a\n")?;
-    same(count > 0, true)?;
-    Ok(())
 }
 
 /// The first bytes of compressed files, and some that only resemble them.

@@ -102,30 +102,3 @@ fn time_left(rt: HostRuntime) -> Result<(), Fail> {
         "\r\x1b[Kclock2q-simulate: 47% read, 11 s left\r\x1b[Kclock2q-simulate: 50% read, 20 s left";
     same(shown.as_slice(), lines.as_bytes())
 }
-
-/// A hundred keys, each asked for once, and then one of them once more.
-#[test]
-fn warns_of_keys_asked_for_once(rt: HostRuntime) -> Result<(), Fail> {
-    let mut trace = Vec::new(rt.alloc());
-    for key in 33u8..133 {
-        trace.extend_from_slice(&[key, b'\n'])?;
-    }
-    let warning =
-        "clock2q-simulate: -: warning: more than 99 of 100 keys are asked for once: is each line a key?\n";
-    shows(rt.alloc(), "5", &trace, (None, false), warning)?;
-    trace.push(b'!')?;
-    shows(rt.alloc(), "5", &trace, (None, false), "")
-}
-
-#[test]
-fn warns_of_skipped_traces(rt: HostRuntime) -> Result<(), Fail> {
-    let warning = "clock2q-simulate: -: warning: --skip=3 leaves none of 3 accesses to count\n";
-    for (line, wanted) in [
-        ("5 --skip=3", warning),
-        ("5 --skip=2", ""),
-        ("5 --skip=0", ""),
-    ] {
-        shows(rt.alloc(), line, b"a\nb\na\n", (None, false), wanted)?;
-    }
-    Ok(())
-}

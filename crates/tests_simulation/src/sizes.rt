@@ -1,7 +1,6 @@
 //! Traces with sizes: which sizes are read, which are refused, and how they are summed and shown.
 
 use crate::arguments::options_of;
-use crate::texts::writes;
 use clock2q_cache::DefaultHashBuilder;
 use clock2q_ports::Device;
 use clock2q_simulation::{
@@ -100,37 +99,6 @@ fn sizes_of_records(rt: HostRuntime) -> Result<(), Fail> {
     same((trace.sizes(), trace.key_count()), (wanted.as_slice(), 2))
 }
 
-/// Checks how a trace is refused.
-fn is_refused(alloc: Global, bytes: &[u8], wanted: SimulationError) -> Result<(), Fail> {
-    let refusal = read(alloc, CSV, bytes)?.err();
-    same_at((refusal, wanted.status()), (Some(wanted), 2), bytes.len())
-}
-
-/// Values that aren't sizes, and lines without one.
-#[test]
-fn refused_sizes(rt: HostRuntime) -> Result<(), Fail> {
-    let size = SimulationError::Size(3, 3);
-    let line = SimulationError::Line(3, 3);
-    let cases: [(&[u8], SimulationError); 8] = [
-        (b"t,k,s\n1,a,7\n2,b,\n", size),
-        (b"t,k,s\n1,a,7\n2,b,-1\n", size),
-        (b"t,k,s\n1,a,7\n2,b,1.5\n", size),
-        (b"t,k,s\n1,a,7\n2,b, 1\n", size),
-        (b"t,k,s\n1,a,7\n2,b,1k\n3,c,x\n", size),
-        (b"t,k,s\n1,a,7\n2,b\n", line),
-        (b"t,k,s\n1,a,7\n2,b,\"1\n", SimulationError::Line(3, 2)),
-        (b"t,k,s\n1,a,7\n2", SimulationError::Line(3, 2)),
-    ];
-    for (bytes, wanted) in cases {
-        is_refused(rt.alloc(), bytes, wanted)?;
-    }
-    let text = format!(in rt.alloc(); "{size}")?;
-    same(
-        text.as_str(),
-        "line 3: not a size in bytes, as 4096, in column 3",
-    )
-}
-
 /// Adds a line with a number as its size, and returns true if its key is in the sample.
 fn push_line(
     alloc: Global,
@@ -206,44 +174,4 @@ fn sums(_rt: HostRuntime) -> Result<(), Fail> {
     same(hit_bytes(&outcomes, &large, 1, 2), 0)?;
     same(asked_bytes(&large, 1, 3), usize::MAX)?;
     Ok(())
-}
-
-const SIZED: &[u8] = b"t,k,s\n1,a,100\n2,b,10\n3,a,100\n4,c,40\n5,b,10\n6,d,30\n7,a,100\n8,b,10\n";
-
-/// The byte hit ratios as a table, as CSV and as JSON.
-#[test]
-fn texts(rt: HostRuntime) -> Result<(), Fail> {
-    let table =
-        "8 accesses of 400 bytes, 4 keys, 2 asked for once, hits and their bytes in percent, the best of a row with *
-capacity      LRU    bytes     FIFO    bytes      OPT    bytes
-       3   *37.50   *30.00    25.00    27.50    50.00    55.00
-";
-    let line = "3 --format=csv --column=2 --size-column=3 --policies=lru,fifo,opt";
-    writes(rt.alloc(), line, SIZED, table)?;
-    let lines = "\
-capacity,first,accesses,bytes,lru_hits,lru_ratio,lru_hit_bytes,lru_byte_ratio
-3,0,4,250,1,0.2500,100,0.4000
-3,4,4,150,2,0.5000,20,0.1333
-";
-    let line = "3 --csv --window=4 --policies=lru --format=csv --column=2 --size-column=3";
-    writes(rt.alloc(), line, SIZED, lines)?;
-    let json = "{\"traces\": [
-  {\"trace\": \"-\", \"accesses\": 8, \"bytes\": 400, \"keys\": 4, \"keys_once\": 2, \"skipped\": 0, \"rows\": [
-    {\"capacity\": 3, \"bytes\": 400, \"policies\": {\"lru\": {\"hits\": 3, \"ratio\": 0.3750, \"hit_bytes\": 120, \"byte_ratio\": 0.3000}}}
-  ]}
-]}
-";
-    let line = "3 --json --policies=lru --format=csv --column=2 --size-column=3";
-    writes(rt.alloc(), line, SIZED, json)
-}
-
-/// Sizes that are all 0 have no ratio.
-#[test]
-fn no_bytes(rt: HostRuntime) -> Result<(), Fail> {
-    let lines = "\
-capacity,accesses,bytes,lru_hits,lru_ratio,lru_hit_bytes,lru_byte_ratio
-3,2,0,1,0.5000,0,0.0000
-";
-    let line = "3 --csv --policies=lru --format=csv --column=2 --size-column=3";
-    writes(rt.alloc(), line, b"t,k,s\n1,a,0\n1,a,0\n", lines)
 }

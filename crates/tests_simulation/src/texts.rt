@@ -51,87 +51,6 @@ pub(crate) fn replayed<S: BuildHasher + Drop, P: Write, C: Clock>(
 }
 
 #[test]
-fn texts(rt: HostRuntime) -> Result<(), Fail> {
-    let table = "0 accesses, 0 keys, 0 asked for once, hits in percent, the best of a row with *
-capacity Clock2Q+    SIEVE  S3-FIFO      LRU      OPT
-       1     0.00     0.00     0.00     0.00     0.00
-";
-    writes(rt.alloc(), "1", b"", table)?;
-    let lines = "\
-capacity,accesses,clock2q_hits,clock2q_ratio,lru_hits,lru_ratio,fifo_hits,fifo_ratio
-3,8,3,0.3750,3,0.3750,2,0.2500
-1,8,0,0.0000,0,0.0000,0,0.0000
-";
-    let line = "3 1 --csv --policies clock2q,lru,fifo";
-    writes(rt.alloc(), line, b"a\nb\na\nc\nb\nd\na\nb\n", lines)
-}
-
-/// Two thirds and one third, whose decimals don't end.
-#[test]
-fn rounded_ratios(rt: HostRuntime) -> Result<(), Fail> {
-    let table = "3 accesses, 1 key, 0 asked for once, hits in percent, the best of a row with *
-capacity      LRU
-       1    66.67
-";
-    writes(rt.alloc(), "1 --policies lru", b"a\na\na\n", table)?;
-    let lines = "capacity,accesses,lru_hits,lru_ratio\n1,3,1,0.3333\n";
-    writes(rt.alloc(), "1 --csv --policies lru", b"a\na\nb\n", lines)?;
-    let lines = "capacity,accesses,lru_hits,lru_ratio\n1,3,2,0.6667\n";
-    writes(rt.alloc(), "1 --csv --policies lru", b"a\na\na\n", lines)
-}
-
-/// More than ten capacities, one of them three times, in the order of the arguments.
-#[test]
-fn many_capacities(rt: HostRuntime) -> Result<(), Fail> {
-    let lines = "\
-capacity,accesses,lru_hits,lru_ratio
-2,4,1,0.2500
-1,4,0,0.0000
-2,4,1,0.2500
-5,4,1,0.2500
-10,4,1,0.2500
-20,4,1,0.2500
-50,4,1,0.2500
-100,4,1,0.2500
-200,4,1,0.2500
-500,4,1,0.2500
-700,4,1,0.2500
-2,4,1,0.2500
-1,4,0,0.0000
-3,4,1,0.2500
-";
-    let line = "2 1..700 67% --csv 33% 100% --policies lru";
-    writes(rt.alloc(), line, b"a\nb\na\nc\n", lines)
-}
-
-/// The capacities of a range, and then those from 1 to 60, some of them twice.
-#[test]
-fn more_than_fifty_capacities(rt: HostRuntime) -> Result<(), Fail> {
-    let mut line = String::from_str(rt.alloc(), "--csv --policies fifo 1..16777215")?;
-    let mut lines = String::from_str(rt.alloc(), "capacity,accesses,fifo_hits,fifo_ratio\n")?;
-    for capacity in ROUND {
-        lines.push_str(&row_of_two(rt.alloc(), capacity)?)?;
-    }
-    for capacity in 1..=60 {
-        line.push_str(&format!(in rt.alloc(); " {capacity}")?)?;
-        lines.push_str(&row_of_two(rt.alloc(), capacity)?)?;
-    }
-    writes(rt.alloc(), &line, b"a\nb\na\n", &lines)
-}
-
-/// The numbers from 1 to the largest capacity that a range has.
-const ROUND: [usize; 23] = [
-    1, 2, 5, 10, 20, 50, 100, 200, 500, 1_000, 2_000, 5_000, 10_000, 20_000, 50_000, 100_000,
-    200_000, 500_000, 1_000_000, 2_000_000, 5_000_000, 10_000_000, 16_777_215,
-];
-
-/// Returns the row of a trace of two keys, one of them twice.
-fn row_of_two(alloc: Global, capacity: usize) -> Result<String, Fail> {
-    let hits = if capacity > 1 { "1,0.3333" } else { "0,0.0000" };
-    Ok(format!(in alloc; "{capacity},3,{hits}\n")?)
-}
-
-#[test]
 fn largest_capacity(rt: HostRuntime) -> Result<(), Fail> {
     let line = "16777215 --policies clock2q,sieve,s3fifo,lru,opt,fifo,clock,arc";
     let table = "4 accesses, 2 keys, 0 asked for once, hits in percent, the best of a row with *
@@ -168,39 +87,11 @@ fn other_hashers(rt: HostRuntime) -> Result<(), Fail> {
     Ok(())
 }
 
+/// A trace that others are written for, too.
 pub(crate) const TRACE: &[u8] = b"a\nb\na\nc\nb\nd\na\nb\n";
 
-/// The best of a row is marked, except for the optimum, but not if all are equal.
-#[test]
-fn best_of_a_row(rt: HostRuntime) -> Result<(), Fail> {
-    let table = "8 accesses, 4 keys, 2 asked for once, hits in percent, the best of a row with *
-capacity Clock2Q+    SIEVE  S3-FIFO      LRU      OPT
-       1     0.00     0.00     0.00     0.00     0.00
-       2   *37.50    12.50    25.00    12.50    37.50
-       3    37.50   *50.00    25.00    37.50    50.00
-";
-    writes(rt.alloc(), "1..3", TRACE, table)
-}
-
-#[test]
-fn json(rt: HostRuntime) -> Result<(), Fail> {
-    let wanted = r#"{"traces": [
-  {"trace": "-", "accesses": 8, "keys": 4, "keys_once": 2, "skipped": 3, "rows": [
-    {"capacity": 2, "policies": {"lru": {"hits": 0, "ratio": 0.0000}, "opt": {"hits": 2, "ratio": 0.4000}}},
-    {"capacity": 3, "policies": {"lru": {"hits": 2, "ratio": 0.4000}, "opt": {"hits": 3, "ratio": 0.6000}}}
-  ]}
-]}
-"#;
-    writes(
-        rt.alloc(),
-        "2 3 --json --policies=lru,opt --skip 3",
-        TRACE,
-        wanted,
-    )
-}
-
 /// Checks what is written for two traces.
-pub(crate) fn writes_of_two(alloc: Global, line: &str, wanted: &str) -> Result<(), Fail> {
+fn writes_of_two(alloc: Global, line: &str, wanted: &str) -> Result<(), Fail> {
     let text = of_two(alloc, line)?;
     same_at(text.as_slice(), wanted.as_bytes(), line)
 }
@@ -235,5 +126,11 @@ capacity     FIFO      LRU  trace
 3,8,3,0.3750,\"a \"\"b\"\"\"
 3,1,0,0.0000,\"c\"
 ";
-    writes_of_two(rt.alloc(), "3 --policies=lru --csv", lines)
+    writes_of_two(rt.alloc(), "3 --policies=lru --csv", lines)?;
+    let lines = "capacity,first,accesses,lru_hits,lru_ratio,trace
+3,0,5,2,0.4000,\"a \"\"b\"\"\"
+3,5,3,1,0.3333,\"a \"\"b\"\"\"
+3,0,1,0,0.0000,\"c\"
+";
+    writes_of_two(rt.alloc(), "3 --window 5 --policies=lru --csv", lines)
 }

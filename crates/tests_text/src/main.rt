@@ -1,41 +1,39 @@
-//! Tests of texts of commands, over `serve`, over devices that fail, over hashers that spread keys
-//! badly and over memory that is refused. Each table has its expected values from worked examples.
+//! Tests of texts of commands: cases over `serve`, and over devices that fail and memory that is refused.
 //!
-//! As a program it serves files that are refused, and then standard input as `clock2q` does, where
-//! a bad line is refused. The status of that refusal is the program's.
+//! The program plays the cases of the file `cases`, each under six hashers, and prints those whose
+//! outcome is another. Then it serves a directory, which can't be read, and standard input as
+//! `clock2q` does, where a bad line is refused. The status of that refusal is the program's.
 #![tactic(auto)]
 
 #[cfg(test)]
 mod devices;
-#[cfg(test)]
-mod hashers;
+mod player;
 #[cfg(test)]
 mod refused_runs;
 #[cfg(test)]
 mod refused_texts;
 #[cfg(test)]
-mod text_edges;
-#[cfg(test)]
-mod text_lines;
-#[cfg(test)]
 mod texts;
 
 use clock2q_command::{Device, serve, serve_standard};
+use player::other_outcome;
 use std::fs::File;
+use std::hash::RandomState;
 use std::io;
 use std::process::ExitCode;
-
-/// A capacity that no cache can have, shares that don't fit together, and a directory, which can be
-/// opened but not read.
-const REFUSED: [&str; 3] = ["bad_capacity", "bad_shares", "."];
+use testing::play_cases;
 
 fn main(rt: HostRuntime) -> ExitCode {
-    for name in REFUSED {
-        if serve_file(&rt, name).is_err() {
-            return ExitCode::FAILURE;
-        }
+    if play(&rt).is_err() || serve_file(&rt, ".").is_err() {
+        return ExitCode::FAILURE;
     }
     serve_standard(rt)
+}
+
+/// Plays the cases, all under one hasher by random numbers.
+fn play(rt: &HostRuntime) -> io::Result<()> {
+    let random = RandomState::new(rt)?;
+    play_cases(rt, "cases", |line| other_outcome(rt.alloc(), line, random))
 }
 
 /// Serves a file, and prints its refusal and the status.

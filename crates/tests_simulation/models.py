@@ -1,0 +1,490 @@
+#!/usr/bin/env python3
+"""models.py: prints data/modelled, cases of simulations whose hits policies over lists work out here, which are
+searched and shifted. `./models.py >data/modelled` writes it anew, and .ci/models compares the two.
+"""
+
+
+def evict_unmarked(queue):
+    """Evicts the first key without a mark. The keys before it go to the end, with one mark less."""
+    while queue:
+        key, mark = queue.pop(0)
+        if mark == 0:
+            return
+        queue.append([key, mark - 1])
+
+
+def marked(queue, key, most):
+    """Marks a key if it is there, and returns whether it is."""
+    for entry in queue:
+        if entry[0] == key:
+            entry[1] = min(entry[1] + 1, most)
+            return True
+    return False
+
+
+def taken(keys, key):
+    """Removes a key from a list, and returns whether it was there."""
+    there = key in keys
+    if there:
+        keys.remove(key)
+    return there
+
+
+class Lru:
+    def __init__(self, room):
+        self.room, self.keys = room, []
+
+    def access(self, key):
+        hit = taken(self.keys, key)
+        self.keys.append(key)
+        del self.keys[: -self.room]
+        return hit
+
+
+class Fifo:
+    def __init__(self, room):
+        self.room, self.keys = room, []
+
+    def access(self, key):
+        hit = key in self.keys
+        if not hit:
+            self.keys.append(key)
+            del self.keys[: -self.room]
+        return hit
+
+
+class Clock:
+    def __init__(self, room):
+        self.room, self.queue = room, []
+
+    def access(self, key):
+        if marked(self.queue, key, 1):
+            return True
+        if len(self.queue) >= self.room:
+            evict_unmarked(self.queue)
+        self.queue.append([key, 0])
+        return False
+
+
+class Sieve:
+    def __init__(self, room):
+        self.room, self.queue, self.hand = room, [], 0
+
+    def access(self, key):
+        if marked(self.queue, key, 1):
+            return True
+        if len(self.queue) >= self.room:
+            self.evict()
+        self.queue.append([key, 0])
+        return False
+
+    def evict(self):
+        while self.queue[self.hand][1]:
+            self.queue[self.hand][1] = 0
+            self.hand = (self.hand + 1) % len(self.queue)
+        del self.queue[self.hand]
+        if self.hand == len(self.queue):
+            self.hand = 0
+
+
+class S3Fifo:
+    def __init__(self, room):
+        self.room, self.small, self.main, self.left = room, [], [], []
+        self.tenth = max(room // 10, 1)
+
+    def access(self, key):
+        if marked(self.small, key, 3) or marked(self.main, key, 3):
+            return True
+        while len(self.small) + len(self.main) >= self.room:
+            self.evict()
+        (self.main if taken(self.left, key) else self.small).append([key, 0])
+        return False
+
+    def evict(self):
+        """Evicts a key of the small queue if it has its tenth and not all its keys move on."""
+        rest = self.room - self.tenth
+        if len(self.small) < self.tenth:
+            evict_unmarked(self.main)
+            return
+        while self.small:
+            key, mark = self.small.pop(0)
+            if mark <= 1:
+                self.left = (self.left + [key])[-rest:] if rest else []
+                return
+            if len(self.main) >= rest:
+                evict_unmarked(self.main)
+            self.main.append([key, 0])
+
+
+class Arc:
+    """The lists of ARC, as in its authors' figure."""
+
+    def __init__(self, room):
+        self.room, self.target = room, 0.0
+        self.once, self.again, self.left_once, self.left_again = [], [], [], []
+
+    def access(self, key):
+        if taken(self.once, key) or taken(self.again, key):
+            self.again.append(key)
+            return True
+        if not self.comes_back(key):
+            self.make_room()
+            self.once.append(key)
+        return False
+
+    def replace(self, came_from_again):
+        once = len(self.once)
+        if once >= 1 and (once > self.target or (came_from_again and once == self.target)):
+            self.left_once.append(self.once.pop(0))
+        elif self.again:
+            self.left_again.append(self.again.pop(0))
+
+    def comes_back(self, key):
+        """Accesses a key again that was evicted from one of the lists."""
+        once, again = len(self.left_once), len(self.left_again)
+        if taken(self.left_once, key):
+            self.target = min(self.target + max(again / once, 1.0), self.room)
+            self.replace(False)
+        elif taken(self.left_again, key):
+            self.target = max(self.target - max(once / again, 1.0), 0.0)
+            self.replace(True)
+        else:
+            return False
+        self.again.append(key)
+        return True
+
+    def make_room(self):
+        """Makes room for a key that no list has."""
+        known_once = len(self.once) + len(self.left_once)
+        known = known_once + len(self.again) + len(self.left_again)
+        if known_once == self.room and not self.left_once:
+            self.once.pop(0)
+            return
+        if known_once == self.room:
+            self.left_once.pop(0)
+        elif known == 2 * self.room:
+            self.left_again.pop(0)
+        if known >= self.room:
+            self.replace(False)
+
+
+class TwoQ:
+    def __init__(self, room):
+        self.room, self.came, self.left, self.main = room, [], [], []
+
+    def access(self, key):
+        if taken(self.main, key):
+            self.main.append(key)
+            return True
+        if key in self.came:
+            return True
+        came_again = key in self.left
+        if len(self.came) + len(self.main) >= self.room:
+            self.evict()
+        taken(self.left, key)
+        (self.main if came_again else self.came).append(key)
+        return False
+
+    def evict(self):
+        if len(self.came) <= self.room // 4:
+            self.main.pop(0)
+            return
+        self.left.append(self.came.pop(0))
+        if len(self.left) > self.room // 2:
+            self.left.pop(0)
+
+
+class Lirs:
+    """The stack, from its bottom, of keys that are low or not, and the queue of residents that are high."""
+
+    def __init__(self, room):
+        self.room, self.stack, self.queue = room, [], []
+        self.most_low = room - max(room // 100, 1)
+
+    def low(self):
+        return sum(low for _, low in self.stack)
+
+    def prune(self):
+        while self.stack and not self.stack[0][1]:
+            self.stack.pop(0)
+
+    def demote(self):
+        """Moves the lowest of the low keys to the end of the queue."""
+        self.prune()
+        if self.stack:
+            self.queue.append(self.stack.pop(0)[0])
+        self.prune()
+
+    def access(self, key):
+        if taken(self.stack, (key, True)):
+            self.stack.append((key, True))
+            self.prune()
+            return True
+        came_again = taken(self.stack, (key, False))
+        hit = taken(self.queue, key)
+        if not hit and self.low() + len(self.queue) >= self.room:
+            del self.queue[:1]
+        if not came_again and self.low() >= self.most_low:
+            self.stack.append((key, False))
+            self.queue.append(key)
+            return hit
+        self.stack.append((key, True))
+        if self.low() > self.most_low:
+            self.demote()
+        return hit
+
+
+class Lru2:
+    """Evicts the resident whose last access but one is oldest; 0 if there was none."""
+
+    def __init__(self, room):
+        self.room, self.residents, self.last, self.before, self.now = room, [], {}, {}, 0
+
+    def access(self, key):
+        hit = key in self.residents
+        if not hit:
+            if len(self.residents) >= self.room:
+                self.residents.remove(min(self.residents, key=lambda it: (self.before.get(it, 0), self.last[it])))
+            self.residents.append(key)
+        self.now += 1
+        self.before[key] = self.last.get(key, 0)
+        self.last[key] = self.now
+        return hit
+
+
+class Counters:
+    """Four rows of counters up to 15, which are halved after ten accesses for each key that the cache can hold."""
+
+    FACTORS = (0x9E3779B97F4A7C15, 0xBF58476D1CE4E5B9, 0x94D049BB133111EB, 0xD6E8FEB86659FD93)
+
+    def __init__(self, room):
+        self.width, self.most, self.added = 1 << (room - 1).bit_length(), 10 * room, 0
+        self.rows = [[0] * self.width for _ in self.FACTORS]
+
+    def places(self, key):
+        for row, factor in zip(self.rows, self.FACTORS):
+            yield row, ((key + 1) * factor % (1 << 64) >> 32) % self.width
+
+    def add(self, key):
+        for row, place in self.places(key):
+            row[place] = min(row[place] + 1, 15)
+        self.added += 1
+        if self.added == self.most:
+            self.added //= 2
+            self.rows = [[it // 2 for it in row] for row in self.rows]
+
+    def count(self, key):
+        return min(row[place] for row, place in self.places(key))
+
+
+class WTinyLfu:
+    def __init__(self, room):
+        self.window, self.probation, self.protected, self.counters = [], [], [], Counters(room)
+        self.most_in_window = max(room // 100, 1)
+        self.main = room - self.most_in_window
+
+    def slide(self):
+        """Moves a key out of the window: it is admitted if there is room, or if it was accessed more often than the
+        key that would be evicted for it."""
+        candidate = self.window.pop(0)
+        held = self.probation + self.protected
+        if len(held) < self.main:
+            self.probation.append(candidate)
+        elif held and self.counters.count(candidate) > self.counters.count(held[0]):
+            _ = taken(self.probation, held[0]) or taken(self.protected, held[0])
+            self.probation.append(candidate)
+
+    def access(self, key):
+        self.counters.add(key)
+        in_window = taken(self.window, key)
+        hit = in_window or key in self.probation or key in self.protected
+        if in_window or not hit:
+            self.window.append(key)
+            if len(self.window) > self.most_in_window:
+                self.slide()
+            return hit
+        _ = taken(self.probation, key) or taken(self.protected, key)
+        self.protected.append(key)
+        if len(self.protected) > self.main * 4 // 5:
+            self.probation.append(self.protected.pop(0))
+        return True
+
+
+def optimal(room, trace):
+    """The outcomes of Belady's optimum, which evicts the key that is accessed last or not at all."""
+    held, outcomes = [], []
+    for at, key in enumerate(trace):
+        outcomes.append(key in held)
+        if key not in held:
+            if len(held) >= room:
+                rest = trace[at:]
+                held.remove(max(held, key=lambda it: rest.index(it) if it in rest else len(rest)))
+            held.append(key)
+    return outcomes
+
+
+class OfBytes:
+    """LRU or FIFO in a number of bytes, over keys and sizes, newest first. A hit has the size that it came with, and a
+    key with a larger size than the cache isn't held."""
+
+    def __init__(self, room, moves):
+        self.room, self.moves, self.held = room, moves, []
+
+    def access(self, key, size):
+        for entry in self.held:
+            if entry[0] == key:
+                if self.moves:
+                    self.held.remove(entry)
+                    self.held.insert(0, entry)
+                return True
+        if size <= self.room:
+            self.held.insert(0, (key, size))
+            while sum(size for _, size in self.held) > self.room:
+                self.held.pop()
+        return False
+
+
+POLICIES = {
+    "clock": Clock,
+    "sieve": Sieve,
+    "s3fifo": S3Fifo,
+    "arc": Arc,
+    "2q": TwoQ,
+    "lirs": Lirs,
+    "lru2": Lru2,
+    "wtinylfu": WTinyLfu,
+    "lru": Lru,
+    "fifo": Fifo,
+}
+
+
+def outcomes_of(policy, room, trace):
+    """The outcomes of a policy, over keys that are numbered as they come."""
+    numbers = {}
+    for key in trace:
+        numbers.setdefault(key, len(numbers))
+    keys = [numbers[key] for key in trace]
+    if policy == "opt":
+        return optimal(room, keys)
+    cache = POLICIES[policy](room)
+    return [cache.access(key) for key in keys]
+
+
+def ratio(part, whole):
+    return f"{part / whole if whole else 0:.4f}"
+
+
+def hits(outcomes, sizes, first, last):
+    """The columns of a policy for the accesses from one to another."""
+    part = outcomes[first:last]
+    columns = f",{sum(part)},{ratio(sum(part), len(part))}"
+    if sizes:
+        found = sum(size for hit, size in zip(part, sizes[first:last]) if hit)
+        columns += f",{found},{ratio(found, sum(sizes[first:last]))}"
+    return columns
+
+
+def parts(length, skipped, window):
+    """The first and the last access of each window, or of all that are counted."""
+    step = window or max(length - skipped, 1)
+    starts = range(skipped, length, step) if window else [min(skipped, length)]
+    return [(first, min(first + step, length)) for first in starts]
+
+
+def case(policies, rooms, trace, sizes=(), skipped=0, window=None):
+    """Prints the case of a trace in caches for numbers of keys."""
+    words = [*map(str, rooms), "--csv", "--policies=" + ",".join(policies), f"--skip={skipped}"]
+    head = "capacity" + ",first" * bool(window) + ",accesses" + ",bytes" * bool(sizes)
+    for policy in policies:
+        head += f",{policy}_hits,{policy}_ratio" + f",{policy}_hit_bytes,{policy}_byte_ratio" * bool(sizes)
+    rows = [head]
+    for room in rooms:
+        outcomes = [outcomes_of(policy, room, trace) for policy in policies]
+        for first, last in parts(len(trace), skipped, window):
+            row = f"{room}" + f",{first}" * bool(window) + f",{last - first}"
+            row += f",{sum(sizes[first:last])}" * bool(sizes)
+            rows.append(row + "".join(hits(it, sizes, first, last) for it in outcomes))
+    if window:
+        words.append(f"--window={window}")
+    show(words, trace, sizes, rows, skipped)
+
+
+def show(words, trace, sizes, rows, skipped):
+    """Prints a line of the file."""
+    text = "".join(f"{key};" for key in trace)
+    if sizes:
+        words += ["--format=csv", "--column=1", "--size-column=2"]
+        text = "key,size;" + "".join(f"{key},{size};" for key, size in zip(trace, sizes))
+    warning = ""
+    if skipped >= len(trace):
+        warning = f"clock2q-simulate: -: warning: --skip={skipped} leaves none of {len(trace)} accesses to count;"
+    print(" ".join(words), text, "".join(row + ";" for row in rows) + warning, sep="|")
+
+
+def case_of_bytes(rooms, trace, sizes, skipped=0):
+    """Prints the case of LRU and FIFO in caches for numbers of bytes, beside a policy that isn't defined there."""
+    policies = ("lru", "sieve", "fifo")
+    rows = ["capacity,accesses,bytes"]
+    rows[0] += "".join(f",{it}_hits,{it}_ratio,{it}_hit_bytes,{it}_byte_ratio" for it in policies)
+    for room in rooms:
+        row = f"{room}B,{len(trace) - skipped},{sum(sizes[skipped:])}"
+        for policy in policies:
+            if policy == "sieve":
+                row += ",,,,"
+                continue
+            cache = OfBytes(room, policy == "lru")
+            outcomes = [cache.access(key, size) for key, size in zip(trace, sizes)]
+            row += hits(outcomes, sizes, skipped, len(trace))
+        rows.append(row)
+    words = [*(f"{room}B" for room in rooms), "--csv", "--policies=" + ",".join(policies), f"--skip={skipped}"]
+    show(words, trace, sizes, rows, skipped)
+
+
+def drawn(seed):
+    """Numbers of 64 bits that a seed determines."""
+    while True:
+        seed = (seed * 6364136223846793005 + 1442695040888963407) % (1 << 64)
+        yield seed
+
+
+def mixed(seed, length, keys):
+    """A trace of keys below a number: a third random, a third skewed, and the rest a loop over half of them."""
+    states = [state for _, state in zip(range(length), drawn(seed))]
+    third = length // 3
+    random = [(state >> 33) % keys for state in states]
+    skewed = [chance * ((state >> 17) % keys) // keys for chance, state in zip(random, states)]
+    return [*random[:third], *skewed[third : 2 * third], *(at % (keys // 2 + 3) for at in range(2 * third, length))]
+
+
+def sized(seed, length, most):
+    """A skewed trace of keys, and their sizes, which differ from one access to the next."""
+    states = [state for _, state in zip(range(length), drawn(seed))]
+    keys = [(state >> 33) % ((state >> 50) % most + 1) for state in states]
+    return keys, [(key * 37 % 500 + (state >> 44) % 3) for key, state in zip(keys, states)]
+
+
+def main():
+    print("# Cases as in the file `cases`, whose hits models.py works out.")
+    others = ["clock", "sieve", "s3fifo", "arc", "2q", "lirs", "lru2", "wtinylfu", "opt"]
+    for seed in (1, 2, 3):
+        case(others, [1, 2, 3, 7, 10, 20, 22, 30, 41], mixed(seed, 600, 40))
+    case(others[4:8], [99, 201, 333], mixed(5, 4_000, 400))
+    case(["opt"], [1, 2, 5, 20], mixed(4, 9_000, 40))
+    for skipped in (0, 1, 300, 899, 900, 1_000):
+        case(["fifo", "lru", "opt"], range(1, 45), mixed(6, 900, 40), (), skipped)
+    trace = [*"abacbdabeafbcabda"]
+    for window in (None, 5):
+        case([*others, "lru", "fifo"], [2, 3], trace, (), 1, window)
+    for seed in (1, 7, 99):
+        keys, sizes = sized(seed, 300, 90)
+        for room, skipped in ((1, 0), (7, 0), (30, 100), (90, 300), (90, 400)):
+            case([*others, "lru", "fifo"], [room], keys, sizes, skipped)
+    keys, sizes = sized(3, 300, 90)
+    case([*others, "lru", "fifo"], [20], keys, sizes, 20, 40)
+    for seed in (2, 5, 11):
+        case_of_bytes([1, 400, 501, 3_000, 100_000], *sized(seed, 500, 60))
+    case_of_bytes([3_000, 800], *sized(4, 500, 60), 100)
+
+
+if __name__ == "__main__":
+    main()
