@@ -407,12 +407,12 @@ template <> struct argument<false> {
 //   Moving or swapping a cache keeps them all, moves no key or value, and leaves an empty cache of capacity 0,
 //   in which what would insert throws std::length_error.
 // - Hash, Equal, constructors, assignments and destructors of keys and values run while the cache is whole.
-//   They may call it, and insert and erase, but not destroy, move or assign it, or have an entry leave to which
-//   an argument of the call refers. Entries that leave are destroyed last, as the outermost call ends. If that
-//   has the call's own entry leave, it enters again, and get and find return none. std::logic_error is thrown
-//   if so it is at nine tries, or if Equal changes the cache at eight.
-// - If a call throws, the cache has the entries that it had; `insert_or_assign` leaves of a value what its
-//   assignment does. Destructors don't throw.
+//   They may call it, insert and erase, but not destroy, move or assign it, or remove an entry to which an
+//   argument of the call refers. Entries that leave are destroyed last, as the outermost call ends. If their
+//   destructors make the call's own entry leave, it enters again, or `get`, `peek` and `find` return none.
+//   std::logic_error is thrown if they do so nine times, or if Equal changes the cache at eight tries.
+// - If a call throws, the cache has the entries that it had, unless users' code changed them;
+//   `insert_or_assign` leaves of a value what its assignment does. Destructors don't throw.
 // - Calls of const members may overlap, as those of std's containers; others are one thread's at a time.
 template <class Key, class Value, class Hash = std::hash<Key>, class Equal = std::equal_to<Key>> class cache {
     template <class, class, class, class, class> friend class weighted_cache;
