@@ -2,7 +2,7 @@
 ghost use Rattle.clock2q_handles.specs.Changes.{PutIn, Inserts, WritesAtMost, ReadsWalk, ReadsAtMost, OnlyReads, Restores, IsLaidOut};
 ghost use Rattle.clock2q_handles.specs.Candidates.{EndsAt};
 ghost use Rattle.clock2q_handles.specs.Homes.{candidates, total, with_handle};
-ghost use Rattle.clock2q_handles.specs.Layout.{run, walk, IsTooLong};
+ghost use Rattle.clock2q_handles.specs.Layout.{run, walk};
 ghost use Rattle.clock2q_handles.specs.Offers.{FindsOrPuts, MayBeOffered, Offers, handle_in};
 ghost use Rattle.clock2q_handles.specs.TableStep.{IsBelowCapacity};
 ghost use Rattle.std.specs.Prelude.{false, ◌≡◌, ◌≢◌, Err, ◌^◌, ◌<◌, ◌≤◌, ◌+◌, IsTrue, IsOk, OnOk, OnErr, IfOk, IfErr, length};
@@ -158,7 +158,6 @@ impl<H: Copy + Eq + Default, A: Allocator> Table<H, A> {
         requires room { IsBelowCapacity self.old.homes }
         requires few { total self.old.homes + 1 < 2 ^ 24 }
         ensures put { self.new.homes ≡ with_handle self.old.homes hash handle }
-        ensures short { IsTooLong (with_handle self.old.homes hash handle) → ⊥ }
         ensures writes { WritesAtMost (run self.old.slots hash + 1) self.old self.new }
         ensures reads { ReadsWalk (walk self.old.homes hash) self.old self.new }
         ensures restores { Restores H.PartialEq.eq hash handle self.old self.new }

@@ -19,4 +19,4 @@ returns g c =
     let read = ends_reads c.self.inside.slots.slots c.self.invariant.tidy c.args.hash c.gap-gap.result.position c.gap-gap.result.mark c.gap-gap.ensures.ends in
     let done = putting c.self.invariant c.self.view_is g.H.PartialEq.eq end (end_room c.self.invariant c.self.view_is c.requires.few end) c.put_at.ensures.puts (g.met.H.Eq.laws.refl c.args.handle)
     c.put_at.new.reads.total (walk c.args.self.now.homes c.args.hash) (omega (arith, read, ap (λ t. walk t.homes c.args.hash) c.self.view_is, c.gap-gap.ensures.reads, c.put_at.ensures.reads)) in
-    record { put = done.put; short = done.short; writes = done.writes; reads = done.reads; restores = done.restores; laid = done.laid }
+    record { put = done.put; writes = done.writes; reads = done.reads; restores = done.restores; laid = done.laid }
