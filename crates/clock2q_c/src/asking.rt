@@ -1,5 +1,6 @@
-//! The calls that change nothing.
+//! The calls that change no key's slot and record no hit.
 ghost use Rattle.clock2q_c.specs.Handle.{machine_in};
+ghost use Rattle.clock2q_cache.specs.Costs.{LooksAhead};
 ghost use Rattle.clock2q_machine.specs.Calls.{Evict};
 ghost use Rattle.clock2q_machine.specs.Leaving.{leaver, next_victim};
 ghost use Rattle.clock2q_machine.specs.Machine.{resident_count, vacancy};
@@ -9,6 +10,8 @@ ghost use Rattle.std.specs.Prelude.{◌≡◌, ◌↔◌, eqb, if◌then◌else�
 
 use crate::calls::{Found, Place};
 use crate::handle::Handle;
+use clock2q_cache::DefaultHashBuilder;
+use std::hash::{BuildHasher, FoldHasher, Hash, Hasher};
 
 /// Returns true if the key has a slot. It records no hit.
 ///
@@ -69,7 +72,12 @@ pub extern "C" fn clock2q_next_victim(handle: &mut Handle) -> Place
     ensures stays { result.evicted ≡ false }
     ensures slot { result.has_last ≡ false → result.slot ≡ 0 }
     ensures which { result.has_last ≡ false → result.last ≡ 0 }
-    ensures same { handle.new.cache ≡ handle.old.cache }
+    ensures machine { machine_in handle.new.cache ≡ machine_in handle.old.cache }
+    ensures looks { IfSome handle.old.cache
+        (λ o. IfSome handle.new.cache
+        (λ n. LooksAhead ⟦<usize as Hash>⟧ ⟦<DefaultHashBuilder as BuildHasher>⟧ ⟦<FoldHasher as Hasher>⟧
+        o.cache n.cache)) }
+    ensures holds { IsSome handle.new.cache }
 {
     match handle.held().cache.next_victim() {
         Some((key, slot)) => Place {

@@ -13,10 +13,10 @@ use Rattle.clock2q_cache.proofs.Slots.{main_have}
 
 module _ {K V : Type 0} (q : QueueState) (h : Remembered K) (keys : KeyPlaces K V) {q' : QueueState} {keys' : KeyPlaces K V} {es : List (Entry K V)} {n : ℕ} where
   -- a key that joins a queue
-  pub joined-spends : {small : List (ℕ × Age)} {main : List (ℕ × Bool)} {made unmade : ℕ} (least most : ℕ) → q' ≡ record q { small = small; main = main; made = made; accesses = q'.accesses }
-      → Rises least (unmade + most) q.accesses q'.accesses → unmade ≡ 0 → most ≤ 28 → {places : Places} {h' : Remembered K} → h' ≡ record h { places = places } → keys' ≡ record keys { entries = es; writes = n }
+  pub joined-spends : {small : List (ℕ × Age)} {main : List (ℕ × Bool)} {made : ℕ} (least most : ℕ) → q' ≡ record q { small = small; main = main; made = made; accesses = q'.accesses }
+      → Rises least most q.accesses q'.accesses → most ≤ 28 → {places : Places} {h' : Remembered K} → h' ≡ record h { places = places } → keys' ≡ record keys { entries = es; writes = n }
       → Spends 0 28 0 (counts_of q h keys) (counts_of q' h' keys')
-  joined-spends least most queues links none few moved renewed = grind (arith, inspections, links.0, links.1)
+  joined-spends least most queues links few moved renewed = grind (arith, inspections, links.0, links.1)
 
   -- a key that takes the slot of Small's tail, which is evicted
   pub evicted-spends : {small : List (ℕ × Age)} {main : List (ℕ × Bool)} {kept : List

@@ -1,8 +1,10 @@
 -- Which resident leaves next, and what a cache's fields become when it leaves though no key comes.
 use Rattle.std.proofs.Common.{◌≡◌, ℕ, suc, ◌+◌, ◌-◌, ◌<◌, ◌==◌, Bool, true, false, not, ◌&&◌, cond, eqb, Option, Some, None, List, [], ◌∷◌, ◌++◌, map, length, take, reverse, inl, inr, refl, sym, ap, ◌∙◌, subst, arith, eq-eqb, eqb-true, length-append}
-use Rattle.clock2q_cache.proofs.Names.{if◌then◌else◌, nat_lt, none_is, slice_get, slice_get_some, IfSome, IsEquivalence, last_or, option_map, AllByRecursion, cases_Bool, lt-ltb, ltb-true, Age, take-map, All-from_recursion, recursion_from_All, All-take, without, among-without_test, and_true, and_false, eqb_swap, KeyPlaces, hash_at, key_at, without_handle, length-taken, QueueState, slots_of, from_victim, Remembered, most_beside, Shares, history_share, SmallEntry, Machine, is_promoted, IsWhole, machine_of, queued_slots, with_keys_small, with_keys_main, IsStored, IsCache, list_any}
+use Rattle.clock2q_cache.proofs.Names.{if◌then◌else◌, nat_lt, none_is, slice_get, slice_get_some, IfSome, IsEquivalence, last_or, option_map, AllByRecursion, cases_Bool, lt-ltb, ltb-true, Age, take-map, All-from_recursion, recursion_from_All, All-take, without, among-without_test, and_true, and_false, eqb_swap, KeyPlaces, hash_at, key_at, without_handle, length-taken, QueueState, slots_of, from_victim, inspections_of, counts_of, Spends, Remembered, most_beside, Shares, history_share, SmallEntry, Machine, is_promoted, IsWhole, machine_of, queued_slots, with_keys_small, with_keys_main, IsStored, IsCache, list_any}
 use Rattle.std.proofs.lemmas.List.{length-reverse}
 use Rattle.clock2q_queues.proofs.Joining.{length-without}
+use Rattle.clock2q_queues.specs.Cells.{Rises}
+use Rattle.clock2q_queues.specs.MainRing.{inspections}
 use Rattle.clock2q_machine.specs.Entries as machine
 use Rattle.clock2q_machine.specs.Entries.{first_of, behind_hand}
 use Rattle.clock2q_machine.specs.Machine.{tail_evicted, victim_evicted, victim_leaves, keeps_tail, leaves_now}
@@ -11,9 +13,9 @@ use Rattle.clock2q_machine.proofs.Whole.{empty_small, tail_some}
 use Rattle.clock2q_queues.specs.Queues as queues
 use Rattle.clock2q_machine.specs.Calls.{Evict}
 use Rattle.clock2q_machine.proofs.MachineInvariant.{lasting-after}
-use Rattle.clock2q_cache.proofs.WithKeys.{main-behind}
+use Rattle.clock2q_cache.proofs.WithKeys.{main-behind, main-inspections}
 use Rattle.clock2q_cache.proofs.Stored.{stored-left, stored-same, hash-of-key}
-use Rattle.clock2q_cache.proofs.Slots.{apart, times, times-none, times-both, times-pushed, among-times, at_most_once, length-places, length-swept}
+use Rattle.clock2q_cache.proofs.Slots.{main_have, apart, times, times-none, times-both, times-pushed, among-times, at_most_once, length-places, length-swept}
 use Rattle.clock2q_cache.proofs.CacheInvariant.{length_in_small, length_in_main, index_some, sized-same}
 use Rattle.clock2q_cache.proofs.Renewed.{front_times, length-front, front_entries, front, tail_at, tail_key, tail_entry, last_entry, tail_is, tail-in, no-tail, rest, rest_times, length-rest, victim_entry, others, choice, victim-in, victim-leaves}
 
@@ -205,6 +207,25 @@ module _ {K V : Type 0} {eq : K → K → Bool} {hash : K → ℕ} {shares : Sha
 
   leaves_same : queues.victim_leaves q ≡ victim_leaves m
   leaves_same = ap (λ n. nat_lt 0 n && queues.keeps_tail (last_or None q.small)) (sym (length_in_main laws kept)) ∙ ap (λ b. nat_lt 0 (length m.main) && b) keeps_same
+
+  -- the queues look at no more than that
+  looks-most : queues.looks_ahead q ≡ 1 + inspections_of eq Evict m
+  looks-most =
+      ap (λ b. 1 + (if b then inspections q.main else 0)) leaves_same
+      ∙ ap (λ n. 1 + (if victim_leaves m then n else 0)) (sym (main-inspections (key_at keys.entries) q.main (main_have laws kept)))
+
+  -- the fields after a look ahead
+  module _ {q' : QueueState} {links : ℕ} (is : q' ≡ record q { accesses = links }) where
+    pub looked-machine : machine_of shares q' keys.entries h.entries free ≡ m
+    looked-machine = ap (λ (z : QueueState). machine_of shares z keys.entries h.entries free) is
+
+    pub kept-looked : IsCache eq hash shares q' h index keys free room
+    kept-looked = rw is (record { whole = kept.whole; stored = kept.stored; hashed = kept.hashed; linked = kept.linked; sized = sized-same kept.sized refl refl refl refl refl refl refl })
+
+    pub looked-spends : Rises 0 (queues.looks_ahead q) q.accesses q'.accesses → Spends 0 (1 + inspections_of eq Evict m) 0 (counts_of q h keys) (counts_of q' h keys)
+    looked-spends links =
+        let most = looks-most in
+        record { inspections = ap (λ (z : QueueState). z.inspections) is ∙ (omega arith); accesses = (omega (arith, links.0), omega (arith, links.1, most)); comparisons = (omega arith, omega arith) }
 
   leaves_by : (b : Bool) → queues.victim_leaves q ≡ b → leaves_now m ≡ (if b then first_of (machine.from_victim m.main) else option_map (λ tail. (tail.key, tail.slot)) (last_or None m.small))
   leaves_by b is = ap (λ z. if z then first_of (machine.from_victim m.main) else option_map (λ tail. (tail.key, tail.slot)) (last_or None m.small)) (sym leaves_same ∙ is)

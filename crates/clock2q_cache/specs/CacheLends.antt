@@ -7,7 +7,7 @@ use Rattle.std.specs.declared.hash.Hasher as hasher
 use Rattle.std.specs.declared.hash.BuildHasher as builder
 use mathlib.Core.Option.{none}
 use Rattle.clock2q_machine.specs.Calls.{Call, Put, Get, Set, With, Try}
-use Rattle.clock2q_cache.specs.Costs.{Becomes, Costs}
+use Rattle.clock2q_cache.specs.Costs.{Becomes, Costs, LooksAhead}
 use Rattle.clock2q_cache.specs.Places.{looked_for}
 use Rattle.clock2q_directory.specs.History.{Places}
 use Rattle.clock2q_machine.specs.Machine.{Machine, stored}
@@ -32,6 +32,10 @@ module _ (K V S A H : RattleType) (key : HashMembers K.Denot) (build : builder.G
   -- once the reference into the cache has ended, the machine and the index are these
   abbrev pub LeavesKnown : MutBor (CacheState K.Denot V.Denot S.Denot) → Call K.Denot V.Denot → Machine K.Denot V.Denot → Places → Fml
   LeavesKnown c call m p = follows_so cache_row cache_row c.ghost_name none (λ _ _. ⊤) (BecomesKnown call m p c.now)
+
+  -- once the reference into the cache has ended, only counts have changed, by a look ahead
+  abbrev pub LeavesLooked : MutBor (CacheState K.Denot V.Denot S.Denot) → Fml
+  LeavesLooked c = follows_so cache_row cache_row c.ghost_name none (λ _ _. ⊤) (LooksAhead key build hash c.now)
 
   -- the key was fetched, at the cost of the call, and has this value; at `Err` the machine is as it was
   abbrev pub Tries : {E : Type 0} → CacheState K.Denot V.Denot S.Denot → K.Denot → Result (Bor V.Denot) E → CacheState K.Denot V.Denot S.Denot → Type 0

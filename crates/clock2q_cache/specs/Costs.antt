@@ -134,3 +134,9 @@ module _ {K V S H : Type 0} (key : HashMembers K) (build : builder.Ghosts S H) (
   -- the machine becomes this one at the cost of the call, and the hasher stays
   abbrev pub Becomes : Call K V → Machine K V → CacheState K V S → CacheState K V S → Type 0
   Becomes call m old new = (new.machine ≡ m) × (new.hasher ≡ old.hasher) × Costs call old new
+
+  -- only counts changed: at most one access to a link for Small's tail, and one for each inspection that an eviction now
+  -- would make
+  pub record LooksAhead (old new : CacheState K V S) : Type 0 where
+    pub same : new ≡ record old { counts = new.counts }
+    pub counts : Spends 0 (1 + inspections_of key.eq Evict old.machine) 0 old.counts new.counts

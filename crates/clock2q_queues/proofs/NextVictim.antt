@@ -1,14 +1,18 @@
 -- The slot that the hand would choose, found without moving it.
 use Rattle.std.proofs.Common.{◌≡◌, ◌&&◌, None, ℕ, zero, suc, ◌+◌, ◌<◌, ◌≤◌, Bool, true, false, Some, slice_get, List, [], ◌∷◌, ◌++◌, length, map, take, drop, refl, sym, ap, ◌∙◌, subst, arith}
+use Rattle.std.specs.Bool.{then_some}
 use Rattle.std.specs.List.{last_or}
 use Rattle.std.proofs.lemmas.Bool.{lt-ltb}
 use Rattle.std.proofs.lemmas.List.{length-map}
-use Rattle.clock2q_queues.specs.Queues.{QueueState, keeps_tail, victim_leaves}
+use Rattle.clock2q_machine.specs.Ages.{Age}
+use Rattle.clock2q_queues.specs.Queues.{QueueState, keeps_tail, tail_promoted, victim_leaves}
+use Rattle.clock2q_queues.specs.Small.{small_slots, small_entries, age_at}
+use Rattle.clock2q_queues.specs.declared.small.Small.{Small}
 use Rattle.clock2q_queues.specs.declared.main_ring.MainRing.{MainRing}
 use Rattle.clock2q_queues.specs.Rings.{around}
 use Rattle.clock2q_queues.specs.Flags.{is_linked}
 use Rattle.clock2q_queues.specs.Links.{LinkState, location_at, slots_from, next_at, bit_at}
-use Rattle.clock2q_queues.specs.MainRing.{IsMainRing, main_slots, main_entries, set_front, from_victim}
+use Rattle.clock2q_queues.specs.MainRing.{IsMainRing, main_slots, main_entries, set_front, inspections, from_victim}
 use Rattle.clock2q_queues.proofs.InQueue.{AllLinked, all_linked, main_linked}
 use Rattle.clock2q_queues.proofs.Hand.{first_of, from_victim-chosen}
 
@@ -38,6 +42,7 @@ pub record Walks (l : LinkState) (main : MainRing) (hand slot passed : ℕ) : Ty
   pub counted : passed + left ≡ main.len
   pub linked : AllLinked l.records.items (around (next_at l.records.items) slot left)
   pub choice : first_clear hand (map (λ s. (s, bit_at l s)) (around (next_at l.records.items) slot left)) ≡ first_clear hand (main_entries l main)
+  pub ahead : passed + set_front (map (λ s. (s, bit_at l s)) (around (next_at l.records.items) slot left)) ≡ set_front (main_entries l main)
 
 module _ (l : LinkState) (main : MainRing) (hand : ℕ) where
   module _ (whole : IsMainRing l main) (at : main.hand ≡ Some hand) where
@@ -60,6 +65,9 @@ module _ (l : LinkState) (main : MainRing) (hand : ℕ) where
         let none : w.left ≡ 0 = omega (arith, w.counted, over) in
         choice_is hand (ap (λ n. first_clear hand (map (λ s. (s, bit_at l s)) (around (next_at l.records.items) slot n))) (sym none) ∙ w.choice)
 
+  pub looked_over : {slot passed : ℕ} → Walks l main hand slot passed → passed ≤ inspections (main_entries l main)
+  looked_over w = omega (arith, w.ahead)
+
   -- one step
   module _ {slot passed : ℕ} (w : Walks l main hand slot passed) (more : passed < main.len) where
     left_after : (left : ℕ) × (w.left ≡ suc left)
@@ -80,11 +88,23 @@ module _ (l : LinkState) (main : MainRing) (hand : ℕ) where
     choice_from : (b : Bool) → bit_at l slot ≡ b → first_clear hand ((slot, b) ∷ map (λ s. (s, bit_at l s)) ahead) ≡ first_clear hand (main_entries l main)
     choice_from b is = grind (arith, left_after)
 
+    ahead_from : (b : Bool) → bit_at l slot ≡ b → passed + set_front ((slot, b) ∷ map (λ s. (s, bit_at l s)) ahead) ≡ set_front (main_entries l main)
+    ahead_from b is = grind (arith, left_after)
+
     pub Walks-on : bit_at l slot ≡ true → Walks l main hand (next_at l.records.items slot) (passed + 1)
-    Walks-on set = record { left = left_after.0; counted = omega (arith, w.counted, left_after.1); linked = all_are.1; choice = choice_from true set }
+    Walks-on set = record { left = left_after.0; counted = omega (arith, w.counted, left_after.1); linked = all_are.1; choice = choice_from true set; ahead = let e = ahead_from true set in omega (arith, e) }
+
+    -- the hand would inspect the slots that were passed, and this one
+    pub looked_here : bit_at l slot ≡ false → passed + 1 ≡ inspections (main_entries l main)
+    looked_here clear = let e = ahead_from false clear in omega (arith, e)
 
     pub Walks-here : IsMainRing l main → main.hand ≡ Some hand → bit_at l slot ≡ false → slice_get (from_victim (main_entries l main)) 0 ≡ Some (slot, false)
     Walks-here whole at clear = choice_is whole at slot (choice_from false clear)
+
+-- no slot comes after a slot whose bit is clear
+pub none_clear : (bit : Bool) (next : ℕ) → None ≡ then_some bit next → bit ≡ false
+none_clear true next e = absurd (cc)
+none_clear false next e = refl
 
 pub length-entries : (l : LinkState) (main : MainRing) → length (main_entries l main) ≡ length (main_slots l main)
 length-entries l main = length-map {B = ℕ × Bool} (main_slots l main) (λ s. (s, bit_at l s))
@@ -92,3 +112,18 @@ length-entries l main = length-map {B = ℕ × Bool} (main_slots l main) (λ s. 
 -- if Main has a slot, Small's oldest one decides
 pub leaves-with_main : (q : QueueState) → 0 < length q.main → victim_leaves q ≡ keeps_tail (last_or None q.small)
 leaves-with_main q some = ap (λ b. b && keeps_tail (last_or None q.small)) (lt-ltb 0 (length q.main) some)
+
+-- an oldest slot that there is stays in Small if it goes on to Main
+keeps_last : (e : ℕ × Age) (es : List (ℕ × Age)) → tail_promoted (last_or (Some e) es) ≡ keeps_tail (last_or (Some e) es)
+keeps_last e [] = refl
+keeps_last e (later ∷ es) = keeps_last later es
+
+keeps-promoted : (es : List (ℕ × Age)) → 0 < length es → tail_promoted (last_or None es) ≡ keeps_tail (last_or None es)
+keeps-promoted [] some = absurd (omega (arith, some))
+keeps-promoted (e ∷ es) some = keeps_last e es
+
+pub leaves-promoted : (q : QueueState) → 0 < length q.main → 0 < length q.small → tail_promoted (last_or None q.small) ≡ victim_leaves q
+leaves-promoted q main small = keeps-promoted q.small small ∙ sym (leaves-with_main q main)
+
+pub length-small : (l : LinkState) (small : Small) → length (small_entries l small) ≡ length (small_slots l small)
+length-small l small = length-map {B = ℕ × Age} (small_slots l small) (λ s. (s, age_at l small.cursor s))

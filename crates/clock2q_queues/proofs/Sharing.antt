@@ -1,5 +1,5 @@
 -- Small and Main share the links: an operation on one queue, seen over both.
-use Rattle.std.proofs.Common.{◌≡◌, ◌⊎◌, ℕ, ◌+◌, ◌^◌, ◌<◌, Bool, true, false, not, eqb, Option, None, List, [], ◌∷◌, ◌++◌, length, drop, replicate, inl, inr, refl, sym, ap, ◌∙◌, subst, arith}
+use Rattle.std.proofs.Common.{◌≡◌, ◌⊎◌, ℕ, ◌+◌, ◌-◌, ◌^◌, ◌<◌, ◌≤◌, Bool, true, false, not, eqb, Option, None, List, [], ◌∷◌, ◌++◌, length, drop, replicate, inl, inr, refl, sym, ap, ◌∙◌, subst, arith}
 use Rattle.std.specs.List.{filter, list_any}
 use Rattle.std.proofs.lemmas.Bool.{eqb-true, both_ways, cases_Bool}
 use Rattle.std.proofs.lemmas.List.{length-map, length-replicate}
@@ -201,6 +201,13 @@ module _ (l : LinkState) (small : Small) (main : MainRing) (q : AreQueues l smal
   -- a record was read
   pub after_reading : (new : LinkState) → new ≡ record l { records = accessed l.records } → Becomes new small main (record (queues_shown l small main) { accesses = accesses_of l + 1 })
   after_reading new e = after_counting new 1 e
+
+  -- records were read
+  pub after_reads : (new : LinkState) → new ≡ record l { records = cells_state l.records.items new.records.accesses } → l.records.accesses + 0 ≤ new.records.accesses
+      → Becomes new small main (record (queues_shown l small main) { accesses = accesses_of l + (new.records.accesses - l.records.accesses) })
+  after_reads new e more =
+      let grown : new.records.accesses ≡ l.records.accesses + (new.records.accesses - l.records.accesses) = omega (arith, more) in
+      after_counting new (new.records.accesses - l.records.accesses) (e ∙ ap (λ n. record l { records = cells_state l.records.items n }) grown)
 
 -- links with no slot in a queue
 pub AreQueues-blank : (l : LinkState) (small : Small) (main : MainRing) → IsSmallQueue l small → IsMainRing l main → IsBlank l → AreQueues l small main

@@ -1,10 +1,10 @@
 -- Small and Main as two lists, over the links that they share.
-use Rattle.std.specs.Prelude.{◌≡◌, ℕ, Bool, true, false, not, ◌&&◌, nat_lt, ◌==◌, ◌<◌, List, [], map, ◌++◌, length, Option, Some, None, nat_eq}
+use Rattle.std.specs.Prelude.{◌≡◌, ℕ, ◌+◌, Bool, true, false, not, ◌&&◌, nat_lt, ◌==◌, ◌<◌, if◌then◌else◌, List, [], map, ◌++◌, length, Option, Some, None, nat_eq}
 use Rattle.std.specs.List.{filter, last_or, list_any, AllByRecursion, IsDistinct}
 use Rattle.clock2q_machine.specs.Ages.{Age, is_promoted}
 use Rattle.clock2q_queues.specs.Links.{LinkState, accesses_of, location_at}
 use Rattle.clock2q_queues.specs.Small.{IsSmallQueue, small_slots, small_entries}
-use Rattle.clock2q_queues.specs.MainRing.{IsMainRing, main_slots, main_entries}
+use Rattle.clock2q_queues.specs.MainRing.{IsMainRing, main_slots, main_entries, inspections}
 use Rattle.clock2q_queues.specs.declared.links.Location.{Location}
 use Rattle.clock2q_queues.specs.declared.links.Location.TheVariants as at
 use Rattle.clock2q_queues.specs.declared.main_ring.MainRing.{MainRing}
@@ -71,6 +71,11 @@ keeps_tail (Some e) = is_promoted e.1
 -- whether a slot of Main leaves next, rather than Small's oldest one
 abbrev pub victim_leaves : QueueState → Bool
 victim_leaves q = nat_lt 0 (length q.main) && keeps_tail (last_or None q.small)
+
+-- the most slots that are looked at to name the one that leaves next: Small's oldest and, if a slot of Main leaves, those
+-- that the hand would inspect
+abbrev pub looks_ahead : QueueState → ℕ
+looks_ahead q = 1 + (if victim_leaves q then inspections q.main else 0)
 
 -- what callers may rely on: no slot occurs twice, and each is below the number of slots
 pub record IsWholeQueues (q : QueueState) : Type 0 where

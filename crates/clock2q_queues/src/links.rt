@@ -1,6 +1,7 @@
 //! What the queues are built on: the link records and the hit bits by slot number, and the
 //! positions of Small's window.
 ghost use Rattle.std.specs.Prelude.{◌≡◌, ℕ, ◌+◌, ◌-◌, ◌^◌, ◌<◌, ◌≤◌, ◌&&◌, length, slice_set, IfOk, IfSome, replicate, None, Some, true, false, if◌then◌else◌, ◌==◌};
+ghost use Rattle.std.specs.Bool.{then_some};
 ghost use Rattle.clock2q_queues.specs.Cells.{Rises, cells_state, accessed, written};
 ghost use Rattle.clock2q_queues.specs.Ends.{position_freed};
 ghost use Rattle.clock2q_queues.specs.Flags.{is_linked};
@@ -250,7 +251,7 @@ impl<A: Allocator> Links<A> {
     pub(crate) fn is_linked(&self, slot: usize) -> bool
         ensures { result ≡ is_linked (location_at self.now.records.items slot) }
     {
-        !matches!(self.records.flag_of_any(slot), Flag::Free)
+        self.records.says_linked(slot)
     }
 
     /// Sets the hit bit of a slot that is in a queue.
@@ -271,8 +272,7 @@ impl<A: Allocator> Links<A> {
         ensures rest { self.new ≡ record self.old { bits = self.new.bits } }
         ensures counted { self.new.bits.inspections ≡ self.old.bits.inspections + 1 }
     {
-        self.inspections.tick();
-        let was = self.records.flag(slot);
+        let was = self.records.flag(slot, &mut self.inspections);
         self.records.set_flag(slot, Flag::Clear);
         matches!(was, Flag::Hit)
     }
@@ -285,36 +285,19 @@ impl<A: Allocator> Links<A> {
             ≡ (is_old (location_at self.old.records.items slot) && bit_at self.old slot) }
         ensures counted { self.new ≡ record self.old { records = accessed self.old.records } }
     {
-        match self.records.read(slot).location {
-            Location::SmallOld => matches!(self.records.flag(slot), Flag::Hit),
-            _ => false,
-        }
+        let (record, flag) = self.records.read_flagged(slot);
+        matches!(record.location, Location::SmallOld) && matches!(flag, Flag::Hit)
     }
 
-    /// Returns the slot after another in its queue. It counts no access.
-    pub(crate) fn next_of(&self, slot: u32) -> u32
-        requires { is_linked (location_at self.now.records.items slot) ≡ true }
-        ensures { result ≡ next_at self.now.records.items slot }
+    /// Reads the record of a slot that is in a queue, and returns the slot after it if its bit is set.
+    pub(crate) fn next_if_hit(&mut self, slot: u32) -> Option<u32>
+        requires { is_linked (location_at self.old.records.items slot) ≡ true }
+        ensures next { result
+            ≡ then_some (bit_at self.old slot) (next_at self.old.records.items slot) }
+        ensures counted { self.new ≡ record self.old { records = accessed self.old.records } }
     {
-        self.records.peek(slot).next
-    }
-
-    /// Returns true if the bit of a slot that is in a queue is set. It counts no inspection.
-    pub(crate) fn has_bit(&self, slot: u32) -> bool
-        requires { is_linked (location_at self.now.records.items slot) ≡ true }
-        ensures { result ≡ bit_at self.now slot }
-    {
-        matches!(self.records.flag(slot), Flag::Hit)
-    }
-
-    /// Returns true if a slot that is in a queue is old and its bit is set. It counts no access.
-    pub(crate) fn is_promoted(&self, slot: u32) -> bool
-        requires { is_linked (location_at self.now.records.items slot) ≡ true }
-        ensures { result
-            ≡ (is_old (location_at self.now.records.items slot) && bit_at self.now slot) }
-    {
-        matches!(self.records.peek(slot).location, Location::SmallOld)
-            && matches!(self.records.flag(slot), Flag::Hit)
+        let (record, flag) = self.records.read_flagged(slot);
+        matches!(flag, Flag::Hit).then_some(record.next)
     }
 
     /// Resets every record, every position and every bit to its initial state.

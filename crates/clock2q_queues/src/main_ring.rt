@@ -2,7 +2,7 @@
 ghost use Rattle.std.specs.Prelude.{◌≡◌, ℕ, ◌+◌, ◌-◌, ◌^◌, ◌<◌, ◌≤◌, ◌==◌, true, false, not, [], ◌∷◌, ◌++◌, length, drop, Some, slice_get, nat_eq};
 ghost use Rattle.std.specs.List.{filter, list_any};
 ghost use Rattle.std.specs.Option.{option_map};
-ghost use Rattle.clock2q_queues.specs.Cells.{Rises, accessed};
+ghost use Rattle.clock2q_queues.specs.Cells.{Rises, accessed, cells_state};
 ghost use Rattle.clock2q_queues.specs.Links.{LinkState, IsSameBut, location_at, made_below};
 
 use crate::links::{Links, Location};
@@ -101,19 +101,25 @@ impl MainRing {
     }
 
     /// Returns the slot that [`select`](MainRing::select) would choose, or `None` if the ring is empty.
-    /// It changes nothing. If every bit is set, the hand would come back to its slot.
-    pub(crate) fn victim<A: Allocator>(&self, links: &Links<A>) -> Option<u32>
-        requires { IsMainRing links.now self.now }
-        ensures victim { slice_get (from_victim (main_entries links.now self.now)) 0
+    /// The hand and the bits stay as they are. If every bit is set, the hand would come back to its slot.
+    pub(crate) fn victim<A: Allocator>(&self, links: &mut Links<A>) -> Option<u32>
+        requires { IsMainRing links.old self.now }
+        ensures victim { slice_get (from_victim (main_entries links.old self.now)) 0
             ≡ option_map (λ slot. (slot, false)) result }
+        ensures links { links.new ≡ record links.old {
+          records =
+              cells_state links.old.records.items links.new.records.accesses;
+        } }
+        ensures accesses { Rises 0 (inspections (main_entries links.old self.now))
+            links.old.records.accesses links.new.records.accesses }
     {
         let hand = self.hand?;
         let mut slot = hand;
         for _ in 0..self.len {
-            if !links.has_bit(slot) {
-                return Some(slot);
+            match links.next_if_hit(slot) {
+                Some(next) => slot = next,
+                None => return Some(slot),
             }
-            slot = links.next_of(slot);
         }
         Some(hand)
     }

@@ -6,7 +6,7 @@ ghost use Rattle.clock2q_queues.specs.Cells.{Rises};
 ghost use Rattle.clock2q_queues.specs.Links.{made_below};
 ghost use Rattle.clock2q_queues.specs.Small.{admitted, small_hit_at};
 ghost use Rattle.clock2q_queues.specs.MainRing.{inspections, from_victim, main_hit_at};
-ghost use Rattle.clock2q_queues.specs.Queues.{slots_of, without_slot, empty_queues, victim_leaves, IsAt, IsWholeQueues, tail_promoted};
+ghost use Rattle.clock2q_queues.specs.Queues.{slots_of, without_slot, empty_queues, victim_leaves, looks_ahead, IsAt, IsWholeQueues, tail_promoted};
 
 use crate::links::{Links, Location};
 use crate::main_ring::MainRing;
@@ -120,22 +120,21 @@ impl<A: Allocator> Queues<A> {
     ///
     /// # Cost
     ///
-    /// At most ten accesses to links, and one for each link record that is made below this slot's:
-    /// none if the slots are used in order from 0.
+    /// At most ten accesses to links.
     #[inline(always)]
     pub fn admit(&mut self, slot: u32)
         requires slot_in { slot < self.old.slots }
         requires not_in_small { list_any (nat_eq slot) (slots_of self.old.small) ≡ false }
         requires not_in_main { list_any (nat_eq slot) (slots_of self.old.main) ≡ false }
         requires window { 0 < self.old.window }
+        requires made { slot ≤ self.old.made }
         ensures queues { self.new
             ≡ record self.old {
               small = admitted self.old.window slot self.old.small;
               made = made_below (slot + 1) self.old.made;
               accesses = self.new.accesses;
             } }
-        ensures accesses { Rises 3 (slot - self.old.made + 10)
-            self.old.accesses self.new.accesses }
+        ensures accesses { Rises 3 10 self.old.accesses self.new.accesses }
     {
         self.small.push(&mut self.links, slot);
     }
@@ -144,20 +143,20 @@ impl<A: Allocator> Queues<A> {
     ///
     /// # Cost
     ///
-    /// At most six accesses to links, and those of [`admit`](Queues::admit) for records.
+    /// At most six accesses to links.
     #[inline(always)]
     pub fn append(&mut self, slot: u32)
         requires slot_in { slot < self.old.slots }
         requires not_in_small { list_any (nat_eq slot) (slots_of self.old.small) ≡ false }
         requires not_in_main { list_any (nat_eq slot) (slots_of self.old.main) ≡ false }
+        requires made { slot ≤ self.old.made }
         ensures queues { self.new
             ≡ record self.old {
               main = self.old.main ++ (slot, false) ∷ [];
               made = made_below (slot + 1) self.old.made;
               accesses = self.new.accesses;
             } }
-        ensures accesses { Rises 1 (slot - self.old.made + 6)
-            self.old.accesses self.new.accesses }
+        ensures accesses { Rises 1 6 self.old.accesses self.new.accesses }
     {
         self.main.push(&mut self.links, slot);
     }
@@ -236,28 +235,41 @@ impl<A: Allocator> Queues<A> {
     }
 
     /// Returns the slot that leaves next: Small's oldest one, or the one that the hand would choose if
-    /// that one goes on to Main or Small is empty. Returns `None` if there is no slot. It changes
-    /// nothing, and counts no access and no inspection.
+    /// that one goes on to Main or Small is empty. Returns `None` if there is no slot. The queues, the
+    /// bits and the hand stay as they are.
     ///
     /// # Cost
     ///
-    /// Linear in the number of slots that the hand would pass.
-    pub fn next_victim(&self) -> Option<u32>
-        ensures tail { victim_leaves self.now ≡ false
-            → result ≡ last_or None (slots_of self.now.small) }
-        ensures victim { victim_leaves self.now ≡ true
-            → slice_get (from_victim self.now.main) 0 ≡ option_map (λ slot. (slot, false)) result }
+    /// One access to a link for each slot that it looks at: Small's oldest one and, if a slot of Main
+    /// leaves next, at most those that the hand would inspect.
+    pub fn next_victim(&mut self) -> Option<u32>
+        ensures tail { victim_leaves self.old ≡ false
+            → result ≡ last_or None (slots_of self.old.small) }
+        ensures victim { victim_leaves self.old ≡ true
+            → slice_get (from_victim self.old.main) 0 ≡ option_map (λ slot. (slot, false)) result }
+        ensures queues { self.new ≡ record self.old { accesses = self.new.accesses } }
+        ensures accesses { Rises 0 (looks_ahead self.old) self.old.accesses self.new.accesses }
     {
-        let tail = self.small.tail();
+        if self.victim_leaves() {
+            self.main.victim(&mut self.links)
+        } else {
+            self.small.tail()
+        }
+    }
+
+    /// Returns true if a slot of Main leaves next, rather than Small's oldest one.
+    fn victim_leaves(&mut self) -> bool
+        ensures leaves { result ≡ victim_leaves self.old }
+        ensures queues { self.new ≡ record self.old { accesses = self.new.accesses } }
+        ensures accesses { Rises 0 1 self.old.accesses self.new.accesses }
+    {
         if self.main.len == 0 {
-            return tail;
+            return false;
         }
-        if let Some(tail) = tail {
-            if !self.links.is_promoted(tail) {
-                return Some(tail);
-            }
+        if self.small.len == 0 {
+            return true;
         }
-        self.main.victim(&self.links)
+        self.tail_is_promoted()
     }
 
     /// Removes the slot that the hand chooses from Main, and returns it.

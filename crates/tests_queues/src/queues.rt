@@ -18,6 +18,7 @@ pub(crate) fn admit(queues: &mut Queues, slot: u32) -> Result<(), Fail>
     if queues.is_resident(slot as usize) {
         return Err(Fail::from("the slot is in a queue"));
     }
+    queues.make_below(slot);
     queues.admit(slot);
     Ok(())
 }
@@ -31,6 +32,7 @@ pub(crate) fn append(queues: &mut Queues, slot: u32) -> Result<(), Fail>
     if queues.is_resident(slot as usize) {
         return Err(Fail::from("the slot is in a queue"));
     }
+    queues.make_below(slot);
     queues.append(slot);
     Ok(())
 }
@@ -120,6 +122,7 @@ fn empty_places(queues: &mut Queues)
 {
     admit_again(queues);
     queues.leave(3);
+    queues.make_below(3);
     queues.admit(3);
     queues.leave(0);
     queues.admit(0);
@@ -150,6 +153,7 @@ fn fill_main(queues: &mut Queues)
     ensures main { queues.new.main ≡ map (λ slot. (slot, true)) (range_with_len 2 18) }
     ensures inspections { queues.new.inspections ≡ queues.old.inspections }
 {
+    queues.make_below(2);
     for slot in 2..20 {
         queues.append(slot);
         queues.hit(slot);
@@ -253,8 +257,8 @@ fn a_single_slot_gets_one_more_look(rt: HostRuntime) -> Result<(), Fail> {
     comes_back(&mut queues)
 }
 
-/// Slot 3 comes first, so the link records of the three below it are made too, and that of slot 5 is
-/// made ahead. Each is an access to a link.
+/// Slot 3 comes first, so the link records of the three below it are made ahead, and later that of
+/// slot 4. Each is an access to a link.
 fn come_in_any_order(queues: &mut Queues)
     requires slots { queues.old.slots ≡ 6 }
     requires none { queues.old.made ≡ 0 }
@@ -264,9 +268,10 @@ fn come_in_any_order(queues: &mut Queues)
     ensures made { queues.new.made ≡ 6 }
     ensures accesses { queues.new.accesses ≤ queues.old.accesses + 23 }
 {
+    queues.make_below(3);
     queues.append(3);
     queues.append(1);
-    queues.make_below(6);
+    queues.make_below(5);
     queues.append(5);
 }
 

@@ -71,6 +71,7 @@ fn pass_through(queues: &mut Queues<&Refusing<Global>>)
     let _ = queues.take_victim();
     queues.leave(1);
     queues.clear();
+    queues.make_below(3);
     queues.admit(3);
 }
 

@@ -1,5 +1,6 @@
-//! The calls for tokens that change nothing.
+//! The calls for tokens that change no token's slot and record no hit.
 ghost use Rattle.clock2q_c.specs.Tokens.{tokens_in};
+ghost use Rattle.clock2q_cache.specs.Costs.{LooksAhead};
 ghost use Rattle.clock2q_cache.specs.SlotsByHash.{ListsOnce, slots_with_hash};
 ghost use Rattle.clock2q_machine.specs.Calls.{Evict};
 ghost use Rattle.clock2q_machine.specs.Leaving.{leaver, next_victim};
@@ -64,7 +65,12 @@ pub extern "C" fn clock2q_tokens_next_victim(handle: &mut TokensHandle) -> Found
         (λ m. vacancy m ≡ None →
         option_map (λ r. r.1) (next_victim m) ≡ (if result.is_found then Some result.slot else None)) }
     ensures none { result.is_found ≡ false → result.slot ≡ 0 }
-    ensures same { handle.new.cache ≡ handle.old.cache }
+    ensures machine { tokens_in handle.new.cache ≡ tokens_in handle.old.cache }
+    ensures looks { IfSome handle.old.cache
+        (λ o. IfSome handle.new.cache
+        (λ n. LooksAhead ⟦<Token as Hash>⟧ ⟦<BuildHasherDefault<GivenHash> as BuildHasher>⟧ ⟦<GivenHash as Hasher>⟧
+        o.cache n.cache)) }
+    ensures holds { IsSome handle.new.cache }
 {
     match handle.held().cache.next_victim() {
         Some((_, slot)) => Found {

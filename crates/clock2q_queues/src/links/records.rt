@@ -76,30 +76,38 @@ impl<A: Allocator> Records<A> {
         }
     }
 
-    /// Returns the record of a slot that is in a queue, to a walk that changes nothing, and so isn't
-    /// counted.
-    pub(super) fn peek(&self, slot: u32) -> Record
-        requires { is_linked (location_at self.now.cells.items slot) ≡ true }
-        ensures value { result ≡ record_at self.now.cells.items slot }
+    /// Returns the record of a slot that is in a queue, with its flag.
+    pub(super) fn read_flagged(&mut self, slot: u32) -> (Record, Flag)
+        requires linked { is_linked (location_at self.old.cells.items slot) ≡ true }
+        requires made { slot < self.old.made }
+        ensures value { result.0 ≡ record_at self.old.cells.items slot }
+        ensures flag { result.1 ≡ slice_index_or self.old.flags slot Flag.Free }
+        ensures counted { self.new.cells ≡ accessed self.old.cells }
+        ensures made { self.new.made ≡ self.old.made }
+        ensures flags { self.new.flags ≡ self.old.flags }
     {
-        self.items[slot as usize]
+        self.accesses.tick();
+        (self.items[slot as usize], self.flags[slot as usize])
     }
 
-    /// Returns the flag of a slot that was made.
-    pub(super) fn flag(&self, slot: u32) -> Flag
+    /// Returns the flag of a slot that was made. The look is counted in `looks`.
+    pub(super) fn flag(&self, slot: u32, looks: &mut Count) -> Flag
         requires { slot < self.now.made }
-        ensures { result ≡ slice_index_or self.now.flags slot Flag.Free }
+        ensures flag { result ≡ slice_index_or self.now.flags slot Flag.Free }
+        ensures counted { looks.new.total ≡ looks.old.total + 1 }
     {
+        looks.tick();
         self.flags[slot as usize]
     }
 
-    /// Returns the flag of any slot.
-    pub(super) fn flag_of_any(&self, slot: usize) -> Flag
-        ensures { result ≡ slice_index_or self.now.flags slot Flag.Free }
+    /// Returns true if the flag of a slot says that it is in a queue. It doesn't say whether the slot's
+    /// bit is set.
+    pub(super) fn says_linked(&self, slot: usize) -> bool
+        ensures { result ≡ says_linked (slice_index_or self.now.flags slot Flag.Free) }
     {
         match self.flags.get(slot) {
-            Some(flag) => *flag,
-            None => Flag::Free,
+            Some(flag) => !matches!(flag, Flag::Free),
+            None => false,
         }
     }
 

@@ -6,9 +6,9 @@ use Rattle.tests_queues.proofs.queues.admit.Goals as goal
 pub admit-requires-clause-not_in_small : goal.admit-requires-clause-not_in_small
 admit-requires-clause-not_in_small c =
     let q = c.args.queues.now in
-    (in_neither c.args.slot (slots_of q.small) (slots_of q.main) (sym c.is_resident.ensures.resident ∙ c.if-is_resident.false)).0
+    rw c.make_below.ensures.queues (in_neither c.args.slot (slots_of q.small) (slots_of q.main) (sym c.is_resident.ensures.resident ∙ c.if-is_resident.false)).0
 
 pub admit-requires-clause-not_in_main : goal.admit-requires-clause-not_in_main
 admit-requires-clause-not_in_main c =
     let q = c.args.queues.now in
-    (in_neither c.args.slot (slots_of q.small) (slots_of q.main) (sym c.is_resident.ensures.resident ∙ c.if-is_resident.false)).1
+    rw c.make_below.ensures.queues (in_neither c.args.slot (slots_of q.small) (slots_of q.main) (sym c.is_resident.ensures.resident ∙ c.if-is_resident.false)).1

@@ -30,6 +30,7 @@ loop-slot-preserved c =
       ap (λ (q : QueueState). q.main) hit ∙ ap (λ (q : QueueState). main_hit_at slot q.main) put ∙ ap (λ (main : List (ℕ × Bool)). main_hit_at slot (main ++ (slot, false) ∷ [])) i.2
           ∙ filled_more 2 (slot - 2) slot (omega (arith, c.loop-slot.auto.slot)) ∙ ap (λ n. all_set (range_with_len 2 n)) is,
       ap (λ (q : QueueState). q.inspections) hit ∙ ap (λ (q : QueueState). q.inspections) put ∙ i.3,
+      omega (arith, i.4, ap (λ (q : QueueState). q.made) hit ∙ ap (λ (q : QueueState). q.made) put),
     )
 
 pub returns-clause-main : goal.returns-clause-main

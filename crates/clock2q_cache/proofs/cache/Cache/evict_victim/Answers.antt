@@ -1,6 +1,6 @@
 -- The victim's slot is free, and Small's tail moves on.
 use Rattle.std.proofs.Common.{◌≡◌, ◌+◌, Some, None, length, eqb, refl, sym, ap, ◌∙◌, arith, vec_capacity}
-use Rattle.clock2q_cache.proofs.Names.{made_below, QueueState, CacheState, last_or, slots_of, slots, slots-left, without_handle}
+use Rattle.clock2q_cache.proofs.Names.{made_below, CacheState, last_or, slots_of, slots, slots-left, without_handle}
 use Rattle.clock2q_cache.proofs.CacheInvariant.{made-still, kept-reindexed, reindexed, now-slots, length_in_main}
 use Rattle.clock2q_cache.proofs.Insertions.{victim-spends}
 use Rattle.clock2q_cache.proofs.Renewed.{is-resident, slot-below, victim-in, tail-in, tail-not_in_front, tail-not_in_rest}
@@ -47,6 +47,7 @@ append-requires g c =
       slot_in = omega (arith, b.1, c.self.invariant.sized.as_many);
       not_in_small = tail-not_in_front g.met.K.Eq.laws c.self.invariant c.in-Some.tail tail;
       not_in_main = tail-not_in_rest g.met.K.Eq.laws c.self.invariant c.in-Some.tail tail c.take_victim-slot.result c.take_victim-slot.ensures.victim;
+      made = omega (arith, b.0, c.self.invariant.linked);
     })
 
 -- the fields afterwards, with a tail and without one
@@ -111,7 +112,6 @@ pub returns-clause-counts : goal.returns-clause-counts
 returns-clause-counts g c =
     let taken = c.take_victim-slot.ensures.accesses in
     let still = still g (goal.at.returns-clause-counts g c).In-Some in
-    let made = ap (λ (z : QueueState). z.made) c.in-Some.ensures.queues ∙ ap (λ (z : QueueState). z.made) c.take_victim-slot.ensures.queues in
     rw (← c.self.view_is) (victim-spends g.met.K.Eq.laws c.self.invariant 20 c.take_victim-slot.ensures.inspections
-    (omega (arith, taken, c.in-Some.ensures.accesses.0, c.append.ensures.accesses.0), omega (arith, taken, c.in-Some.ensures.accesses.1, c.append.ensures.accesses.1, made, still))
+    (omega (arith, taken, c.in-Some.ensures.accesses.0, c.append.ensures.accesses.0), omega (arith, taken, c.in-Some.ensures.accesses.1, c.append.ensures.accesses.1))
     (rw (c.in-Some.ensures.queues, c.take_victim-slot.ensures.queues, still) at c.append.ensures.queues) c.leave.ensures.left.becomes c.leave.ensures.kept)

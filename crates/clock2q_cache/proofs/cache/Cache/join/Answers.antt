@@ -28,10 +28,10 @@ enter-requires g c =
     }
 
 pub append-requires : goal.append-requires
-append-requires g c = grind (arith, free)
+append-requires g c = grind (arith, free, c.self.invariant.linked)
 
 pub admit-requires : goal.admit-requires
-admit-requires g c = grind (arith, free, c.self.invariant.sized, c.self.view_is, c.requires.small c.if-main.false)
+admit-requires g c = grind (arith, free, c.self.invariant.linked, c.self.invariant.sized, c.self.view_is, c.requires.small c.if-main.false)
 
 -- the key has it, in Main and in Small
 in-main : (g : Over) (c : After-append g) → IsFree g.met.K.Eq.laws c.self.invariant c.take_vacancy-slot.result
@@ -77,7 +77,7 @@ returns-then-main g c =
             (rw (← c.self.view_is) at c.requires.unknown.hashed) f.absent (ap (λ (z : Remembered _). z.places) c.enter.ensures.index);
         hasher = refl;
         counts = joined-spends c.self.inside.queues c.self.inside.directory.history c.self.inside.directory.residents 1 6 c.append.ensures.queues c.append.ensures.accesses
-            (omega (arith, f.next, c.self.invariant.linked)) (omega arith) c.enter.ensures.index c.enter.ensures.kept;
+            (omega arith) c.enter.ensures.index c.enter.ensures.kept;
       };
     })
 
@@ -94,6 +94,6 @@ returns g c =
             (rw (← c.self.view_is) at c.requires.unknown.hashed) f.absent (ap (λ (z : Remembered _). z.places) c.enter.ensures.index);
         hasher = refl;
         counts = joined-spends c.self.inside.queues c.self.inside.directory.history c.self.inside.directory.residents 3 10 c.admit.ensures.queues c.admit.ensures.accesses
-            (omega (arith, f.next, c.self.invariant.linked)) (omega arith) c.enter.ensures.index c.enter.ensures.kept;
+            (omega arith) c.enter.ensures.index c.enter.ensures.kept;
       };
     })

@@ -1,6 +1,6 @@
 -- The tail moves on to Main, and the new key takes the slot of Main's victim.
 use Rattle.std.proofs.Common.{◌≡◌, ◌+◌, true, Some, None, refl, sym, arith, vec_capacity, ap, ◌∙◌}
-use Rattle.clock2q_cache.proofs.Names.{made_below, QueueState, last_or, slots_of, slots, Remembered, into_small}
+use Rattle.clock2q_cache.proofs.Names.{made_below, last_or, slots_of, slots, Remembered, into_small}
 use Rattle.clock2q_cache.proofs.CacheInvariant.{made-still, m, IsDone, done-reindexed, reindexed, slots-renewed, length_in_small}
 use Rattle.clock2q_cache.proofs.Renewed.{is-resident, within-room, slot-below, no-tail, victim-in, victim-leaves, leaves-by, victim-not_in_front, victim-not_behind, tail-in, tail-not_in_front, tail-not_in_rest, promoted-done}
 use Rattle.clock2q_cache.proofs.Insertions.{victim-spends}
@@ -27,6 +27,7 @@ append-requires g c =
       slot_in = omega (arith, b.1, c.self.invariant.sized.as_many);
       not_in_small = tail-not_in_front g.met.K.Eq.laws c.self.invariant c.in-Some.tail tail;
       not_in_main = tail-not_in_rest g.met.K.Eq.laws c.self.invariant c.in-Some.tail tail c.take_victim-slot.result c.take_victim-slot.ensures.victim;
+      made = omega (arith, b.0, c.self.invariant.linked);
     })
 
 pub renew-old-requires : goal.renew-old-requires
@@ -48,6 +49,7 @@ admit-requires g c =
       slot_in = omega (arith, b.1, c.self.invariant.sized.as_many);
       not_in_small = victim-not_in_front g.met.K.Eq.laws c.self.invariant c.in-Some.tail tail c.take_victim-slot.result victim;
       not_in_main = victim-not_behind g.met.K.Eq.laws c.self.invariant c.in-Some.tail tail c.take_victim-slot.result victim;
+      made = omega (arith, b.0, c.self.invariant.linked);
       window = omega (arith, c.self.invariant.sized.window, c.self.invariant.sized.windowed (omega (arith, some, c.self.invariant.whole.small_within)));
     })
 
@@ -83,8 +85,6 @@ returns g c =
     let at = goal.at.returns g c in
     let d = done g at.After-admit (last g at.In-Some) in
     let still = still g at.After-admit (last g at.In-Some) in
-    let from_tail = ap (λ (z : QueueState). z.made) c.in-Some.ensures.queues ∙ ap (λ (z : QueueState). z.made) c.take_victim-slot.ensures.queues in
-    let from_victim = ap (λ (z : QueueState). z.made) c.append.ensures.queues in
     let r = c.renew-old.ensures in
     let taken = c.take_victim-slot.ensures.accesses in
     let appended = c.append.ensures.accesses in
@@ -99,7 +99,7 @@ returns g c =
             (victim-in g.met.K.Eq.laws c.self.invariant c.take_victim-slot.result c.take_victim-slot.ensures.victim) r.hash (ap (λ (z : Remembered _). z.places) r.index);
         hasher = refl;
         counts = victim-spends g.met.K.Eq.laws c.self.invariant 28 c.take_victim-slot.ensures.inspections
-            (omega (arith, taken, c.in-Some.ensures.accesses.0, appended.0, admitted.0), omega (arith, taken, c.in-Some.ensures.accesses.1, appended.1, admitted.1, from_tail, from_victim, still.0, still.1))
+            (omega (arith, taken, c.in-Some.ensures.accesses.0, appended.0, admitted.0), omega (arith, taken, c.in-Some.ensures.accesses.1, appended.1, admitted.1))
             (rw (c.append.ensures.queues, c.in-Some.ensures.queues, c.take_victim-slot.ensures.queues, still.0, still.1) at c.admit.ensures.queues) r.index r.kept;
       };
       left = noted g.F.FnOnce (moves ∙ leaver) c.leaves.ensures;

@@ -1,7 +1,7 @@
 use Rattle.std.proofs.Common.{◌≡◌, ◌<◌, true, false, length, refl, ap, ◌∙◌}
 use Rattle.clock2q_queues.specs.declared.links.Flag.{Flag}
 use Rattle.clock2q_queues.specs.Flags.{is_linked}
-use Rattle.clock2q_queues.specs.Links.{LinkState, SlotRecords, location_at}
+use Rattle.clock2q_queues.specs.Links.{LinkState, location_at}
 use Rattle.clock2q_queues.proofs.AllRecords.{linked_within}
 use Rattle.clock2q_queues.proofs.Flagged.{bit_set, slot_detached}
 use Rattle.clock2q_queues.proofs.links.Links.detach.Goals as goal

@@ -1,24 +1,18 @@
-use Rattle.std.proofs.Common.{sym, ◌∙◌, arith}
-use Rattle.clock2q_queues.proofs.NextVictim.{Walks, Walks-start, Walks-on, Walks-here, Walks-over, slot_linked}
+use Rattle.std.proofs.Common.{sym, ap, ◌∙◌, arith}
+use Rattle.clock2q_queues.specs.Flags.{is_linked}
+use Rattle.clock2q_queues.specs.Links.{LinkState, bit_at, location_at}
+use Rattle.clock2q_queues.proofs.NextVictim.{Walks-start, Walks-here, none_clear, slot_linked}
 use Rattle.clock2q_queues.proofs.main_ring.MainRing.victim.Goals as goal
 
 pub loop-init : goal.loop-init
-loop-init g c = Walks-start c.args.links.now c.args.self.now c.in_ok-hand.hand c.requires c.in_ok-hand.was
+loop-init g c = grind (arith, Walks-start, c.requires, c.in_ok-hand.was)
 
-pub has_bit-requires : goal.has_bit-requires
-has_bit-requires g c = slot_linked c.args.links.now c.args.self.now c.in_ok-hand.hand c.loop.invariant c.loop-test.true
+pub next_if_hit-requires : goal.next_if_hit-requires
+next_if_hit-requires g c =
+    ap (λ (l : LinkState). is_linked (location_at l.records.items c.loop.slot)) c.loop.invariant.links
+    ∙ slot_linked c.args.links.now c.args.self.now c.in_ok-hand.hand c.loop.invariant.walk c.loop-test.true
 
-pub returns-then-not-has_bit : goal.returns-then-not-has_bit
-returns-then-not-has_bit g c =
-    let clear = sym c.has_bit.ensures ∙ c.if-not-has_bit.true in
-    record { victim = Walks-here c.args.links.now c.args.self.now c.in_ok-hand.hand c.loop.invariant c.loop-test.true c.requires c.in_ok-hand.was clear }
-
-pub next_of-slot-requires : goal.next_of-slot-requires
-next_of-slot-requires g c = slot_linked c.args.links.now c.args.self.now c.in_ok-hand.hand c.loop.invariant c.loop-test.true
-
-pub loop-preserved : goal.loop-preserved
-loop-preserved g c = grind (arith, Walks, Walks-on, c.next_of-slot.ensures, c.loop.invariant, c.loop-test.true, c.has_bit.ensures, c.if-not-has_bit.false)
-
-pub returns : goal.returns
-returns g c =
-    record { victim = Walks-over c.args.links.now c.args.self.now c.in_ok-hand.hand c.requires c.in_ok-hand.was c.loop.invariant (omega (arith, c.loop-test.false)) }
+pub returns-in-None-clause-victim : goal.returns-in-None-clause-victim
+returns-in-None-clause-victim g c =
+    let clear = ap (λ (l : LinkState). bit_at l c.loop.slot) (sym c.loop.invariant.links) ∙ none_clear _ _ c.in-None.ensures.next in
+    Walks-here c.args.links.now c.args.self.now c.in_ok-hand.hand c.loop.invariant.walk c.loop-test.true c.requires c.in_ok-hand.was clear
