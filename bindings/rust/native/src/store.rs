@@ -1,0 +1,274 @@
+//! Pairs by the hashes of their keys.
+
+use crate::entries::{Drained, Entries};
+use crate::slots::Slots;
+use crate::Refused;
+use alloc::vec::Vec;
+use core::borrow::Borrow;
+use core::hash::{BuildHasher, Hash};
+use core::mem;
+
+/// Returns the hash of a key.
+#[inline]
+pub(crate) fn hash_of<Q, S>(hasher: &S, key: &Q) -> u64
+where
+    Q: Hash + ?Sized,
+    S: BuildHasher,
+{
+    hasher.hash_one(key)
+}
+
+/// What had the slot of a pair that was stored.
+pub(crate) enum Before<K, V> {
+    /// Nothing.
+    Nothing,
+    /// This key: here is its old value, and the new one of the equal keys.
+    Replaced(K, V),
+    /// Another key, or one that left for this one.
+    Evicted(K, V),
+}
+
+impl<K, V> Before<K, V> {
+    /// Returns what had the slot if that was another key, or nothing.
+    #[inline(always)]
+    fn evicted(pair: Option<(K, V)>) -> Before<K, V> {
+        match pair {
+            Some((key, value)) => Before::Evicted(key, value),
+            None => Before::Nothing,
+        }
+    }
+
+    /// Returns the value that was replaced. A pair that was evicted is dropped.
+    pub(crate) fn replaced(self) -> Option<V> {
+        match self {
+            Before::Replaced(_, value) => Some(value),
+            _ => None,
+        }
+    }
+
+    /// Returns what was replaced or evicted.
+    pub(crate) fn pair(self) -> Option<(K, V)> {
+        match self {
+            Before::Nothing => None,
+            Before::Replaced(key, value) | Before::Evicted(key, value) => Some((key, value)),
+        }
+    }
+}
+
+/// Pairs at the slots of their keys. There is a pair at a slot if and only if a key has it: so it is whenever a key
+/// is compared, or a key or value dropped.
+pub(crate) struct Store<K, V> {
+    slots: Slots,
+    pub(crate) entries: Entries<K, V>,
+    /// How many pairs there are at most, or `usize::MAX` if one at each slot.
+    limit: usize,
+    pub(crate) hits: u64,
+    pub(crate) misses: u64,
+}
+
+impl<K, V> Store<K, V> {
+    pub(crate) fn new(slots: Slots) -> Result<Store<K, V>, Refused> {
+        Ok(Store {
+            entries: Entries::new(slots.capacity())?,
+            slots,
+            limit: usize::MAX,
+            hits: 0,
+            misses: 0,
+        })
+    }
+
+    /// Makes one of this capacity and these shares, without pairs, that has counted as much.
+    pub(crate) fn empty_one(&self) -> Result<Store<K, V>, Refused> {
+        let mut store = Store::new(self.slots.empty_one()?)?;
+        store.limit = self.limit;
+        store.hits = self.hits;
+        store.misses = self.misses;
+        Ok(store)
+    }
+
+    #[inline]
+    pub(crate) fn len(&self) -> usize {
+        self.slots.len()
+    }
+
+    #[inline]
+    pub(crate) fn capacity(&self) -> usize {
+        self.slots.capacity().min(self.limit)
+    }
+
+    /// Has as many pairs at most from now on, for which there are slots. Returns those above, which leave.
+    pub(crate) fn resize(&mut self, limit: usize) -> Result<Vec<(K, V)>, Refused> {
+        if limit == 0 || limit > self.slots.capacity() {
+            return Err(Refused::Capacity);
+        }
+        let mut left = Vec::new();
+        while self.len() > limit {
+            left.extend(self.evict().map(|(_, pair)| pair));
+        }
+        self.limit = match limit < self.slots.capacity() {
+            true => limit,
+            false => usize::MAX,
+        };
+        Ok(left)
+    }
+
+    /// Removes all pairs, and drops them last.
+    pub(crate) fn clear(&mut self) {
+        drop(self.drain());
+    }
+
+    /// Removes all pairs, and returns them with their number.
+    pub(crate) fn drain(&mut self) -> (Drained<'_, K, V>, usize) {
+        let len = self.len();
+        self.slots.clear();
+        (self.entries.drain(), len)
+    }
+
+    /// Returns true if there may be more pairs.
+    #[inline(always)]
+    fn has_room(&self) -> bool {
+        self.limit == usize::MAX || self.len() < self.limit
+    }
+
+    /// Stores a pair whose key isn't here, and returns its slot and the pair that left for it.
+    #[inline]
+    pub(crate) fn admit(&mut self, hash: u64, key: K, value: V) -> (usize, Option<(K, V)>) {
+        if !self.has_room() {
+            return self.admit_to_fewer(hash, key, value);
+        }
+        let slot = self.slot_for(hash);
+        (slot, self.entries.put(slot, key, value))
+    }
+
+    /// Gives a key that isn't here a slot.
+    #[inline]
+    fn slot_for(&mut self, hash: u64) -> usize {
+        match self.slots.admit(hash) {
+            Ok(slot) => slot,
+            Err(_) => self.slots.enter_beside(hash),
+        }
+    }
+
+    /// Does what `admit` does in place of another pair though there are slots, since there may not be more pairs. If
+    /// two leave, one of them is dropped.
+    #[cold]
+    #[inline(never)]
+    fn admit_to_fewer(&mut self, hash: u64, key: K, value: V) -> (usize, Option<(K, V)>) {
+        let gone = self.evict().map(|(_, pair)| pair);
+        let slot = self.slot_for(hash);
+        let left = self.entries.put(slot, key, value);
+        (slot, left.or(gone))
+    }
+
+    /// Records a hit of the pair at a slot.
+    #[inline]
+    pub(crate) fn hit(&mut self, slot: usize) {
+        self.slots.hit(slot);
+    }
+
+    /// Removes the pair that would leave next, and returns the slot that it had.
+    pub(crate) fn evict(&mut self) -> Option<(usize, (K, V))> {
+        let slot = self.slots.evict()?;
+        Some((slot, self.entries.take(slot)?))
+    }
+
+    /// Returns the pair that would leave next.
+    pub(crate) fn next_victim(&self) -> Option<&(K, V)> {
+        self.entries.pair(self.slots.next_victim()?)
+    }
+
+    /// Removes the pair at a slot.
+    pub(crate) fn remove_at(&mut self, slot: usize) -> Option<(K, V)> {
+        self.slots.remove(slot);
+        self.entries.take(slot)
+    }
+}
+
+impl<K: Eq, V> Store<K, V> {
+    /// Returns the slot of a key. Whatever `Eq` does, nothing has changed.
+    #[inline(always)]
+    pub(crate) fn slot<Q>(&self, hash: u64, key: &Q) -> Option<usize>
+    where
+        K: Borrow<Q>,
+        Q: Eq + ?Sized,
+    {
+        let entries = &self.entries;
+        let is_it = |slot| matches!(entries.pair(slot), Some((held, _)) if held.borrow() == key);
+        self.slots.find(hash, is_it)
+    }
+
+    /// Returns the pair of a key. It records no hit.
+    #[inline]
+    pub(crate) fn peek<Q>(&self, hash: u64, key: &Q) -> Option<&(K, V)>
+    where
+        K: Borrow<Q>,
+        Q: Eq + ?Sized,
+    {
+        self.entries.pair(self.slot(hash, key)?)
+    }
+
+    /// Returns the pair of a key to write to. It records no hit.
+    #[inline]
+    pub(crate) fn peek_mut<Q>(&mut self, hash: u64, key: &Q) -> Option<&mut (K, V)>
+    where
+        K: Borrow<Q>,
+        Q: Eq + ?Sized,
+    {
+        let slot = self.slot(hash, key)?;
+        self.entries.pair_mut(slot)
+    }
+
+    /// Returns the slot of a key, after a hit, and counts.
+    #[inline(always)]
+    pub(crate) fn find<Q>(&mut self, hash: u64, key: &Q) -> Option<usize>
+    where
+        K: Borrow<Q>,
+        Q: Eq + ?Sized,
+    {
+        let Some(slot) = self.slot(hash, key) else {
+            self.misses += 1;
+            return None;
+        };
+        self.hits += 1;
+        self.slots.hit(slot);
+        Some(slot)
+    }
+
+    /// Returns the pair of a key, after a hit, and counts.
+    #[inline]
+    pub(crate) fn find_pair<Q>(&mut self, hash: u64, key: &Q) -> Option<&mut (K, V)>
+    where
+        K: Borrow<Q>,
+        Q: Eq + ?Sized,
+    {
+        let slot = self.find(hash, key)?;
+        self.entries.pair_mut(slot)
+    }
+
+    /// Stores a pair, after a hit if its key is here, and returns what was replaced or left.
+    #[inline(always)]
+    pub(crate) fn push(&mut self, hash: u64, key: K, value: V) -> Before<K, V> {
+        if let Some(slot) = self.slot(hash, &key) {
+            self.slots.hit(slot);
+            if let Some((_, before)) = self.entries.pair_mut(slot) {
+                return Before::Replaced(key, mem::replace(before, value));
+            }
+        }
+        Before::evicted(self.admit(hash, key, value).1)
+    }
+
+    /// Removes a key, and returns the pair. A key that isn't here is forgotten.
+    pub(crate) fn remove<Q>(&mut self, hash: u64, key: &Q) -> Option<(K, V)>
+    where
+        K: Borrow<Q>,
+        Q: Eq + ?Sized,
+    {
+        match self.slot(hash, key) {
+            Some(slot) => self.remove_at(slot),
+            None => {
+                self.slots.forget(hash);
+                None
+            }
+        }
+    }
+}

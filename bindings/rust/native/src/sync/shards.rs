@@ -1,0 +1,61 @@
+//! What is divided among shards.
+
+use super::shard::Shard;
+use crate::slots::SPREAD;
+use crate::Refused;
+use std::boxed::Box;
+use std::ops::Deref;
+use std::vec::Vec;
+
+/// How many shards there are if there are keys enough.
+const SHARDS: usize = 16;
+/// How many keys a shard is for at least, unless the number of shards is asked for.
+const SHARD_CAPACITY: usize = 64;
+
+/// Shards, of which the high bits of a key's hash choose one.
+pub(super) struct Shards<P, K, V>(Box<[Shard<P, K, V>]>);
+
+/// Returns how many shards a cache has if no number is asked for.
+pub(super) fn usual_count(capacity: usize) -> usize {
+    (capacity / SHARD_CAPACITY).clamp(1, SHARDS)
+}
+
+/// Returns a part of a whole that is divided into parts, which differ by at most 1.
+pub(super) fn part(whole: u64, at: usize, count: usize) -> u64 {
+    let (at, count) = (at as u64, count as u64);
+    whole / count + u64::from(at < whole % count)
+}
+
+impl<P, K, V> Shards<P, K, V> {
+    /// Makes that many shards, or one for each key if there are fewer keys. `make` is given the number of each
+    /// and that of them all.
+    pub(super) fn new(
+        capacity: usize,
+        shards: usize,
+        mut make: impl FnMut(usize, usize) -> Result<P, Refused>,
+    ) -> Result<Shards<P, K, V>, Refused> {
+        let count = shards.min(capacity);
+        if count == 0 {
+            return Err(Refused::Capacity);
+        }
+        let made: Result<Vec<_>, Refused> = (0..count)
+            .map(|at| Ok(Shard::new(make(at, count)?)))
+            .collect();
+        Ok(Shards(made?.into_boxed_slice()))
+    }
+
+    /// Returns the shard of the keys of a hash.
+    pub(super) fn of(&self, hash: u64) -> &Shard<P, K, V> {
+        // As `slots::Name` does, so that a poor hasher does no harm.
+        let spread = u128::from(hash.wrapping_mul(SPREAD));
+        &self.0[((spread * self.0.len() as u128) >> 64) as usize]
+    }
+}
+
+impl<P, K, V> Deref for Shards<P, K, V> {
+    type Target = [Shard<P, K, V>];
+
+    fn deref(&self) -> &[Shard<P, K, V>] {
+        &self.0
+    }
+}

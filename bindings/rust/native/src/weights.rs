@@ -1,0 +1,169 @@
+//! Pairs with weights, of which the sum is limited.
+
+use crate::slots::Slots;
+use crate::store::Store;
+use crate::Refused;
+use alloc::vec::Vec;
+use core::borrow::Borrow;
+use core::mem;
+
+/// A value, and the weight of its pair.
+pub(crate) struct Weighed<V> {
+    pub(crate) value: V,
+    weight: u64,
+}
+
+/// What took the place of what.
+pub(crate) struct Stored<K, V> {
+    /// The key, and its value before.
+    pub(crate) before: Option<(K, V)>,
+    /// The pairs that left.
+    pub(crate) left: Vec<(K, V)>,
+}
+
+impl<K, V> Stored<K, V> {
+    /// Returns all pairs that left or were replaced, this one last.
+    pub(crate) fn into_pairs(self) -> Vec<(K, V)> {
+        let mut pairs = self.left;
+        pairs.extend(self.before);
+        pairs
+    }
+}
+
+/// Pairs at their slots, of which the weights are at most `max_weight` together.
+pub(crate) struct WeightedStore<K, V> {
+    pub(crate) pairs: Store<K, Weighed<V>>,
+    pub(crate) weight: u64,
+    pub(crate) max_weight: u64,
+}
+
+impl<K, V> WeightedStore<K, V> {
+    pub(crate) fn new(slots: Slots, max_weight: u64) -> Result<WeightedStore<K, V>, Refused> {
+        Ok(WeightedStore {
+            pairs: Store::new(slots)?,
+            weight: 0,
+            max_weight,
+        })
+    }
+
+    /// Has the weights be at most `max_weight` together from now on, and returns the pairs that leave.
+    pub(crate) fn set_max_weight(&mut self, max_weight: u64) -> Vec<(K, V)> {
+        let mut left = Vec::new();
+        while self.weight > max_weight {
+            left.extend(self.evict());
+        }
+        self.max_weight = max_weight;
+        left
+    }
+
+    /// Removes the pair that would leave next, and returns it.
+    pub(crate) fn evict(&mut self) -> Option<(K, V)> {
+        self.pairs.evict().map(|(_, pair)| self.without(pair))
+    }
+
+    pub(crate) fn clear(&mut self) {
+        self.weight = 0;
+        self.pairs.clear();
+    }
+
+    /// Removes the pairs for which `keep` returns false, each as soon as it does.
+    pub(crate) fn retain(&mut self, mut keep: impl FnMut(&K, &V) -> bool) {
+        for slot in 0..self.pairs.entries.bound() {
+            if let Some((key, held)) = self.pairs.entries.pair(slot) {
+                if !keep(key, &held.value) {
+                    let gone = self.pairs.remove_at(slot);
+                    drop(gone.map(|pair| self.without(pair)));
+                }
+            }
+        }
+    }
+
+    /// Takes the weight of a pair that left off the sum.
+    fn without(&mut self, (key, held): (K, Weighed<V>)) -> (K, V) {
+        self.weight -= held.weight;
+        (key, held.value)
+    }
+
+    /// Records a hit of the pair at a slot, and returns its weight.
+    fn hit(&mut self, slot: usize) -> u64 {
+        self.pairs.hit(slot);
+        let pair = self.pairs.entries.pair(slot);
+        pair.map_or(0, |(_, held)| held.weight)
+    }
+}
+
+impl<K: Eq, V> WeightedStore<K, V> {
+    /// Returns the value of a key, after a hit, and counts.
+    #[inline]
+    pub(crate) fn find<Q>(&mut self, hash: u64, key: &Q) -> Option<&V>
+    where
+        K: Borrow<Q>,
+        Q: Eq + ?Sized,
+    {
+        let (_, held) = self.pairs.find_pair(hash, key)?;
+        Some(&held.value)
+    }
+
+    /// Returns the value of a key. It records nothing.
+    pub(crate) fn peek<Q>(&self, hash: u64, key: &Q) -> Option<&V>
+    where
+        K: Borrow<Q>,
+        Q: Eq + ?Sized,
+    {
+        let (_, held) = self.pairs.peek(hash, key)?;
+        Some(&held.value)
+    }
+
+    /// Removes a key, and returns the pair. A key that isn't here is forgotten.
+    pub(crate) fn remove<Q>(&mut self, hash: u64, key: &Q) -> Option<(K, V)>
+    where
+        K: Borrow<Q>,
+        Q: Eq + ?Sized,
+    {
+        let pair = self.pairs.remove(hash, key)?;
+        Some(self.without(pair))
+    }
+
+    /// Stores a pair of this weight, or returns it if that is above the limit alone.
+    pub(crate) fn push(
+        &mut self,
+        hash: u64,
+        key: K,
+        value: V,
+        weight: u64,
+    ) -> Result<Stored<K, V>, (K, V)> {
+        if weight > self.max_weight {
+            return Err((key, value));
+        }
+        let found = self.pairs.slot(hash, &key);
+        // No code of users runs from here on.
+        let (found, mut left) = self.make_room(found, weight);
+        let held = Weighed { value, weight };
+        if let Some((_, here)) = found.and_then(|slot| self.pairs.entries.pair_mut(slot)) {
+            let before = mem::replace(here, held);
+            self.weight = self.weight - before.weight + weight;
+            let before = Some((key, before.value));
+            return Ok(Stored { before, left });
+        }
+        self.weight += weight;
+        let (_, more) = self.pairs.admit(hash, key, held);
+        left.extend(more.map(|pair| self.without(pair)));
+        Ok(Stored { before: None, left })
+    }
+
+    /// Has pairs leave until there is room for a weight in place of the one at a slot, if there is one, after
+    /// a hit of it. Returns the slot if its pair is still there, and the pairs that left.
+    fn make_room(&mut self, mut found: Option<usize>, weight: u64) -> (Option<usize>, Vec<(K, V)>) {
+        let mut left = Vec::new();
+        let mut own = found.map_or(0, |slot| self.hit(slot));
+        while self.weight - own > self.max_weight - weight {
+            let (slot, pair) = self.pairs.evict().expect("what has a weight is here");
+            left.push(self.without(pair));
+            if found == Some(slot) {
+                found = None;
+                own = 0;
+            }
+        }
+        (found, left)
+    }
+}
