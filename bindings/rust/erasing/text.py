@@ -87,7 +87,7 @@ class Text:
     def done(self):
         """The source with its edits, and without the empty lines that they leave."""
         parts, at = [], 0
-        for start, end, new in sorted(self.edits):
+        for start, end, new in sorted(self.edits, key=lambda edit: (edit[0], edit[1], edit[2].startswith('#'))):
             if start >= at:
                 parts += [self.source[at:start], new]
                 at = end

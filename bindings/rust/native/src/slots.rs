@@ -102,11 +102,16 @@ impl Slots {
         }
     }
 
+    /// Returns the slot of the key that is named by this hash.
+    #[inline]
+    pub(crate) fn named(&self, hash: u64) -> Option<usize> {
+        self.cache.slot_with_hash(Name::of(hash).0, 0)
+    }
+
     /// Returns the slot of a key of this hash for which `is_it` returns true. Nothing changes.
     #[inline(always)]
     pub(crate) fn find(&self, hash: u64, mut is_it: impl FnMut(usize) -> bool) -> Option<usize> {
-        let named = self.cache.slot_with_hash(Name::of(hash).0, 0);
-        if let Some(slot) = named {
+        if let Some(slot) = self.named(hash) {
             if is_it(slot) {
                 return Some(slot);
             }
@@ -122,6 +127,12 @@ impl Slots {
     #[inline(never)]
     fn find_alike(&self, hash: u64, mut is_it: impl FnMut(usize) -> bool) -> Option<usize> {
         self.alike.slots(hash).find(|slot| is_it(*slot))
+    }
+
+    /// Returns true if there are keys that aren't named by their hash.
+    #[inline]
+    pub(crate) fn has_alike(&self) -> bool {
+        !self.alike.is_empty()
     }
 
     /// Gives a key of this hash a slot that another may lose, and returns it; or else the slot of the key that is

@@ -219,19 +219,16 @@ impl<K: Eq, V> Store<K, V> {
     }
 
     /// Returns the slot of a key, after a hit, and counts.
-    #[inline(always)]
+    #[inline]
     pub(crate) fn find<Q>(&mut self, hash: u64, key: &Q) -> Option<usize>
     where
         K: Borrow<Q>,
         Q: Eq + ?Sized,
     {
-        let Some(slot) = self.slot(hash, key) else {
-            self.misses += 1;
-            return None;
-        };
-        self.hits += 1;
-        self.slots.hit(slot);
-        Some(slot)
+        let slot = self.slot(hash, key);
+        self.count(slot.is_some());
+        self.slots.hit(slot?);
+        slot
     }
 
     /// Returns the pair of a key, after a hit, and counts.
@@ -241,13 +238,62 @@ impl<K: Eq, V> Store<K, V> {
         K: Borrow<Q>,
         Q: Eq + ?Sized,
     {
-        let slot = self.find(hash, key)?;
-        self.entries.pair_mut(slot)
+        if self.slots.has_alike() {
+            let slot = self.find(hash, key)?;
+            return self.entries.pair_mut(slot);
+        }
+        // At most one key has this hash, so that its pair is read once.
+        let named = self.slots.named(hash);
+        let pair = named.and_then(|slot| self.entries.pair_mut(slot));
+        match (named, pair) {
+            (Some(slot), Some(pair)) if pair.0.borrow() == key => {
+                self.slots.hit(slot);
+                self.hits += 1;
+                Some(pair)
+            }
+            _ => {
+                self.misses += 1;
+                None
+            }
+        }
+    }
+
+    #[inline]
+    fn count(&mut self, is_hit: bool) {
+        match is_hit {
+            true => self.hits += 1,
+            false => self.misses += 1,
+        }
     }
 
     /// Stores a pair, after a hit if its key is here, and returns what was replaced or left.
     #[inline(always)]
     pub(crate) fn push(&mut self, hash: u64, key: K, value: V) -> Before<K, V> {
+        if !self.has_room() || self.slots.has_alike() {
+            return self.push_with_care(hash, key, value);
+        }
+        match self.slots.admit(hash) {
+            Ok(slot) => Before::evicted(self.entries.put(slot, key, value)),
+            Err(slot) => self.push_over(slot, hash, key, value),
+        }
+    }
+
+    /// Does so if a key of this hash is at a slot.
+    #[inline]
+    fn push_over(&mut self, slot: usize, hash: u64, key: K, value: V) -> Before<K, V> {
+        match self.entries.pair_mut(slot) {
+            Some((held, before)) if *held == key => {
+                self.slots.hit(slot);
+                Before::Replaced(key, mem::replace(before, value))
+            }
+            _ => self.push_with_care(hash, key, value),
+        }
+    }
+
+    /// Does so if there may not be more pairs, or if there are keys of one hash.
+    #[cold]
+    #[inline(never)]
+    fn push_with_care(&mut self, hash: u64, key: K, value: V) -> Before<K, V> {
         if let Some(slot) = self.slot(hash, &key) {
             self.slots.hit(slot);
             if let Some((_, before)) = self.entries.pair_mut(slot) {

@@ -34,6 +34,7 @@ pub struct Count {
 
 impl Count {
     /// Returns a count of zero.
+    #[inline]
     pub fn new() -> Count {
         Count {
             ticks: GhostValue::new(&()),
@@ -41,18 +42,21 @@ impl Count {
     }
 
     /// Adds one.
+    #[inline]
     pub fn tick(&mut self) {
         self.ticks.set(&());
     }
 
     /// Raises the count to a bound that the proof of the call picks. The bound may depend on what
     /// `seen` refers to.
+    #[inline]
     pub fn raise<X>(&mut self, seen: &X) {
         self.ticks.set(seen);
     }
 }
 
 impl fmt::Debug for Count {
+    #[inline]
     fn fmt(&self, f: &mut fmt::Formatter<'_>) -> fmt::Result {
         f.write_str("Count")
     }

@@ -73,17 +73,20 @@ pub struct Cache<K: Hash + Eq, V, S: BuildHasher = DefaultHashBuilder, A: Alloca
 
 impl<K: Hash + Eq, V, S: BuildHasher, A: Allocator> Cache<K, V, S, A> {
     /// Returns the capacity that the cache was made with, in keys.
+    #[inline]
     pub fn capacity(&self) -> usize {
         self.shares.capacity()
     }
 
     /// Returns the number of keys in the cache, at most its capacity. Evicted keys don't count.
+    #[inline]
     pub fn len(&self) -> usize {
         let _ = self.directory.remembered_len();
         self.queues.small_len() + self.queues.main_len()
     }
 
     /// Returns true if the cache holds no key.
+    #[inline]
     pub fn is_empty(&self) -> bool {
         self.len() == 0
     }
@@ -94,6 +97,7 @@ impl<K: Hash + Eq, V, S: BuildHasher, A: Allocator> Cache<K, V, S, A> {
     ///
     /// One hash of the key, one walk of the index, and at most one comparison with each candidate among
     /// the residents.
+    #[inline]
     pub fn contains(&self, key: &K) -> bool {
         self.slot_of(key).is_some()
     }
@@ -104,6 +108,7 @@ impl<K: Hash + Eq, V, S: BuildHasher, A: Allocator> Cache<K, V, S, A> {
     /// # Cost
     ///
     /// That of [`contains`](Cache::contains).
+    #[inline]
     pub fn peek(&self, key: &K) -> Option<&V> {
         let slot = self.slot_of(key)?;
         Some(self.value(slot))
@@ -117,6 +122,7 @@ impl<K: Hash + Eq, V, S: BuildHasher, A: Allocator> Cache<K, V, S, A> {
     /// # Cost
     ///
     /// That of [`contains`](Cache::contains). A hit sets one bit, and accesses no link.
+    #[inline]
     pub fn get(&mut self, key: &K) -> Option<&V> {
         let hash = self.hash(key);
         let slot = self.find(hash, key)?;
@@ -135,6 +141,7 @@ impl<K: Hash + Eq, V, S: BuildHasher, A: Allocator> Cache<K, V, S, A> {
     /// # Cost
     ///
     /// That of [`get`](Cache::get).
+    #[inline]
     pub fn slot(&mut self, key: &K) -> Option<usize> {
         Some(self.hit(key)? as usize)
     }
@@ -147,6 +154,7 @@ impl<K: Hash + Eq, V, S: BuildHasher, A: Allocator> Cache<K, V, S, A> {
     /// # Cost
     ///
     /// No hash, at most one comparison, with the key at that slot, and no access to a link.
+    #[inline]
     pub fn get_at(&mut self, slot: usize, key: &K) -> Option<&V> {
         let found = self.find_at(slot, key)?;
         // before the bit is set, so that the entries' position isn't read twice
@@ -163,17 +171,20 @@ impl<K: Hash + Eq, V, S: BuildHasher, A: Allocator> Cache<K, V, S, A> {
     /// # Cost
     ///
     /// That of [`get`](Cache::get).
+    #[inline]
     pub fn get_mut(&mut self, key: &K) -> Option<&mut V> {
         let resident = self.hit(key)?;
         Some(self.value_mut(resident))
     }
 
     /// Returns the value of a slot to write to.
+    #[inline]
     fn value_mut(&mut self, slot: u32) -> &mut V {
         self.directory.value_mut(slot)
     }
 
     /// Returns the slot if the key is resident there.
+    #[inline]
     fn find_at(&mut self, slot: usize, key: &K) -> Option<u32> {
         if !self.queues.is_resident(slot) {
             return None;
@@ -183,17 +194,20 @@ impl<K: Hash + Eq, V, S: BuildHasher, A: Allocator> Cache<K, V, S, A> {
     }
 
     /// Returns the hash of a key.
+    #[inline]
     pub(crate) fn hash(&self, key: &K) -> u64 {
         hash_of(&self.hasher, key)
     }
 
     /// Returns the slot of a resident key, and counts no comparison.
+    #[inline]
     fn slot_of(&self, key: &K) -> Option<u32> {
         let hash = hash_of(&self.hasher, key);
         self.directory.slot_of(hash, key)
     }
 
     /// Returns the slot of a resident key.
+    #[inline]
     pub(crate) fn find(&mut self, hash: u64, key: &K) -> Option<u32> {
         self.directory.find_resident(hash, key)
     }
@@ -206,11 +220,13 @@ impl<K: Hash + Eq, V, S: BuildHasher, A: Allocator> Cache<K, V, S, A> {
     }
 
     /// Looks a key that is not resident up in the history.
+    #[inline]
     pub(crate) fn find_place(&mut self, hash: u64, key: &K) -> Found {
         Found::from_place(self.directory.find_remembered(hash, key))
     }
 
     /// Returns the slot of a resident key, and records a hit on it.
+    #[inline]
     fn hit(&mut self, key: &K) -> Option<u32> {
         let hash = self.hash(key);
         let slot = self.find(hash, key)?;
@@ -219,6 +235,7 @@ impl<K: Hash + Eq, V, S: BuildHasher, A: Allocator> Cache<K, V, S, A> {
     }
 
     /// Records a hit on the key that is resident at a slot.
+    #[inline]
     fn record_hit(&mut self, resident: u32, key: &K) {
         let _ = key;
         self.queues.hit(resident);
@@ -226,11 +243,13 @@ impl<K: Hash + Eq, V, S: BuildHasher, A: Allocator> Cache<K, V, S, A> {
 
     /// Removes the key, for which a lookup found `found`, from the history, and returns true if it
     /// was there.
+    #[inline]
     pub(crate) fn forget(&mut self, hash: u64, key: &K, found: &Found) -> bool {
         self.directory.forget(hash, key, found)
     }
 
     /// Returns the value of a slot.
+    #[inline]
     fn value(&self, slot: u32) -> &V {
         self.directory.value(slot)
     }
@@ -265,6 +284,7 @@ impl<K: Hash + Eq, V, S: BuildHasher, A: Allocator> Cache<K, V, S, A> {
     }
 
     /// Replaces the value of a slot, and returns the old one.
+    #[inline]
     fn replace(&mut self, slot: u32, value: V) -> V {
         self.directory.replace_value(slot, value)
     }

@@ -32,6 +32,7 @@ pub enum CacheError {
 }
 
 impl From<AllocError> for CacheError {
+    #[inline]
     fn from(_refused: AllocError) -> Self {
         CacheError::Memory
     }

@@ -8,6 +8,7 @@ use crate::proved::rattle::Allocator;
 use core::hash::{BuildHasher, Hash};
 
 /// Adds default keys, each with a value that `make` returns, until there are as many as `many`.
+#[inline]
 pub(crate) fn fill<K: Hash + Eq + Default, V, S: BuildHasher, A: Allocator, F: FnMut() -> V>(
     directory: &mut Directory<K, V, A>,
     hasher: &S,
@@ -23,6 +24,7 @@ pub(crate) fn fill<K: Hash + Eq + Default, V, S: BuildHasher, A: Allocator, F: F
 
 /// Adds the slots from `from` up to `to` to the free ones, the lowest last, so that it is the next
 /// to be used.
+#[inline]
 pub(crate) fn free_down<A: Allocator>(free: &mut Vec<u32, A>, from: usize, to: usize) {
     let mut slot = to;
     while slot > from {

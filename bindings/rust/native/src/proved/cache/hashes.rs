@@ -4,6 +4,7 @@
 use core::hash::{BuildHasher, Hash};
 
 /// Returns the hash of a key.
+#[inline]
 pub(crate) fn hash_of<K: Hash, S: BuildHasher>(hasher: &S, key: &K) -> u64 {
     hasher.hash_one(key)
 }

@@ -12,6 +12,7 @@ pub(crate) struct Shares {
 
 impl Shares {
     /// Returns the shares of a cache that is made with only a capacity.
+    #[inline]
     pub(crate) fn usual(capacity: usize) -> Self {
         let small = if capacity > 1 {
             (capacity / 10).max(1)
@@ -27,6 +28,7 @@ impl Shares {
 
     /// Returns the shares of a cache that is made with all three numbers, or `None` if they don't
     /// fit together.
+    #[inline]
     pub(crate) fn new(capacity: usize, small: usize, window: usize) -> Option<Self> {
         if small >= capacity || (small == 0) != (window == 0) || window > small {
             return None;
@@ -38,22 +40,27 @@ impl Shares {
         })
     }
 
+    #[inline]
     pub(crate) fn capacity(self) -> usize {
         self.capacity
     }
 
+    #[inline]
     pub(crate) fn small(self) -> usize {
         self.small
     }
 
+    #[inline]
     pub(crate) fn window(self) -> usize {
         self.window
     }
 
+    #[inline]
     pub(crate) fn main(self) -> usize {
         self.capacity - self.small
     }
 
+    #[inline]
     pub(crate) fn history(self) -> usize {
         self.capacity / 2
     }

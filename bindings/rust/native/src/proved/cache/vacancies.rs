@@ -6,6 +6,7 @@ use crate::proved::rattle::Allocator;
 /// Returns the slot for a new resident: the one that was freed last, otherwise the lowest that has
 /// no value yet.
 use crate::proved::rattle::Vec;
+#[inline]
 pub(crate) fn take_vacancy<A: Allocator>(free: &mut Vec<u32, A>, made: usize) -> u32 {
     match free.pop() {
         Some(slot) => slot,
@@ -14,6 +15,7 @@ pub(crate) fn take_vacancy<A: Allocator>(free: &mut Vec<u32, A>, made: usize) ->
 }
 
 /// Adds a slot to the free ones. It is the next to be taken.
+#[inline]
 pub(crate) fn free_slot<A: Allocator>(free: &mut Vec<u32, A>, slot: u32) {
     free.push_reserved(slot);
 }

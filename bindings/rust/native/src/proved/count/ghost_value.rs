@@ -29,11 +29,13 @@ pub struct GhostValue<T> {
 
 impl<T> GhostValue<T> {
     /// Returns a `GhostValue` with the picked value.
+    #[inline]
     pub fn new<X>(_seen: &X) -> GhostValue<T> {
         GhostValue { of: PhantomData }
     }
 
     /// Replaces the value with the picked one.
+    #[inline]
     pub fn set<X>(&mut self, seen: &X) {
         *self = GhostValue::new(seen);
     }

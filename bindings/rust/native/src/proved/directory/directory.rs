@@ -50,6 +50,7 @@ impl<K: Eq, V, A: Allocator + Copy> Directory<K, V, A> {
     /// # Cost
     ///
     /// Linear in `slots` and `limit`.
+    #[inline]
     pub fn new(alloc: A, slots: usize, limit: usize) -> Result<Self, AllocError> {
         Ok(Directory {
             index: Index::new(alloc, slots, limit)?,
@@ -62,43 +63,51 @@ impl<K: Eq, V, A: Allocator + Copy> Directory<K, V, A> {
 
 impl<K: Eq, V, A: Allocator> Directory<K, V, A> {
     /// Returns the number of remembered keys.
+    #[inline]
     pub fn remembered_len(&self) -> usize {
         let _ = self.index.is_shared(); // whose contract says that the entries fit
         self.order.len() as usize
     }
 
     /// Returns the number of slots that have a key and a value, with a resident or without.
+    #[inline]
     pub fn made(&self) -> usize {
         self.residents.len()
     }
 
     /// Returns the key at a slot. What the caller does with it isn't counted.
+    #[inline]
     pub fn key(&self, slot: u32) -> &K {
         self.residents.key(slot)
     }
 
     /// Returns the value at a slot.
+    #[inline]
     pub fn value(&self, slot: u32) -> &V {
         self.residents.value(slot)
     }
 
     /// Returns a mutable reference to the value at a slot.
+    #[inline]
     pub fn value_mut(&mut self, slot: u32) -> &mut V {
         self.residents.value_mut(slot)
     }
 
     /// Replaces the value at a slot, and returns the old one.
+    #[inline]
     pub fn replace_value(&mut self, slot: u32, value: V) -> V {
         self.residents.replace_value(slot, value)
     }
 
     /// Returns true if `key` equals the key at a slot, and counts the comparison.
+    #[inline]
     pub fn key_equals(&mut self, slot: u32, key: &K) -> bool {
         self.residents.key_equals(slot, key)
     }
 
     /// Raises the count of comparisons by an amount that the proof of the call picks. A caller that
     /// has to state the count exactly raises it to its bound with this.
+    #[inline]
     pub fn charge(&mut self) {
         self.residents.charge();
     }

@@ -17,6 +17,7 @@ pub enum Found {
 
 impl Found {
     /// Returns what a search of the history alone found of a key that is not resident.
+    #[inline]
     pub fn from_place(place: Option<Place>) -> Self {
         match place {
             Some(place) => Found::Remembered(place),
@@ -25,6 +26,7 @@ impl Found {
     }
 
     /// Returns the gap where the key would go, if it is absent and the gap is known.
+    #[inline]
     pub fn gap(self) -> Option<Gap> {
         match self {
             Found::Absent(gap) => gap,

@@ -27,6 +27,7 @@ pub enum Handle {
 
 impl Handle {
     /// Returns the number that the table stores.
+    #[inline]
     pub fn pack(self) -> u32 {
         match self {
             Handle::Resident(slot) => slot,
@@ -35,6 +36,7 @@ impl Handle {
     }
 
     /// Returns what a stored number says.
+    #[inline]
     pub fn unpack(number: u32) -> Self {
         if number < REMEMBERED {
             Handle::Resident(number)

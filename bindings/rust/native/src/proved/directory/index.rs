@@ -22,6 +22,7 @@ const MIDDLE_TABLE: usize = 262_144;
 /// if it is small, which keeps lookups short, twice as many if it is of medium size, and no more if
 /// it would take much memory, but for one: a key that takes another's slot may enter before the other
 /// leaves. Such a table is never more than three quarters full.
+#[inline]
 pub fn index_room(most: usize) -> usize {
     if most <= SMALL_TABLE {
         most * 3
@@ -70,6 +71,7 @@ impl<A: Allocator + Copy> Index<A> {
     /// # Errors
     ///
     /// `AllocError` if a request for memory is refused. Memory taken so far is given back.
+    #[inline]
     pub fn new(alloc: A, slots: usize, places: usize) -> Result<Self, AllocError> {
         let is_shared = slots + places <= MOST_ENTRIES;
         let most = if is_shared { slots + places } else { slots };
@@ -104,12 +106,14 @@ impl<A: Allocator> Index<A> {
     }
 
     /// Returns the places under a hash, if they have a table of their own.
+    #[inline]
     pub fn own_places(&self, hash: u64) -> Candidates<'_, u32> {
         self.own.get(hash)
     }
 
     /// Charges one lookup of a hash: the most slots of both tables that the handles under it read.
     /// Whoever looks a key up in an index that it may change calls this once.
+    #[inline]
     pub fn charge_lookup(&mut self, hash: u64) {
         charge(&self.shared, &self.own, &mut self.charged, &hash); // a walk in each
     }
@@ -172,6 +176,7 @@ impl<A: Allocator> Index<A> {
     }
 
     /// Removes every slot and place.
+    #[inline]
     pub fn clear(&mut self) {
         charge(&self.shared, &self.own, &mut self.charged, &());
         self.shared.clear();
@@ -181,6 +186,7 @@ impl<A: Allocator> Index<A> {
 
 /// Charges a number of slots of two tables that the proof of the call picks, which may depend on
 /// what the other arguments refer to.
+#[inline]
 fn charge<X, A: Allocator>(
     _shared: &Table<u32, A>,
     _own: &Table<u32, A>,

@@ -14,6 +14,7 @@ pub use store::{Entry, Keys};
 impl<K, V, A: Allocator> Keys<K, V, A> {
     /// Writes a key and a value to a place: to the next one, or to one that has them, whose old key
     /// and value are dropped.
+    #[inline]
     pub fn write(&mut self, place: u32, hash: u64, key: K, value: V) {
         if place == self.len() as u32 {
             self.push(hash, key, value);
@@ -37,6 +38,7 @@ impl<K, V, A: Allocator> Keys<K, V, A> {
 
 impl<K: Eq, V, A: Allocator> Keys<K, V, A> {
     /// Returns true if `key` equals the key at a place, and counts the comparison.
+    #[inline]
     pub fn key_equals(&mut self, place: u32, key: &K) -> bool {
         let mut compared = Count::new();
         let is_key = self.is_counting_in(place, key, &mut compared);
@@ -46,6 +48,7 @@ impl<K: Eq, V, A: Allocator> Keys<K, V, A> {
 
     /// Returns the first slot among `handles` that has `key`, and counts each comparison. Places
     /// are skipped.
+    #[inline]
     pub fn find(&mut self, handles: Candidates<'_, u32>, key: &K) -> Option<u32> {
         let mut compared = Count::new();
         let found = self.find_counting_in(handles, key, &mut compared);
@@ -55,6 +58,7 @@ impl<K: Eq, V, A: Allocator> Keys<K, V, A> {
 
     /// Returns the first place among `handles` that has `key`, and counts each comparison. Slots
     /// are skipped.
+    #[inline]
     pub fn find_remembered(&mut self, mut handles: Candidates<'_, u32>, key: &K) -> Option<Place> {
         while let Some(handle) = handles.next() {
             if let Handle::Remembered(place) = Handle::unpack(handle) {
@@ -68,6 +72,7 @@ impl<K: Eq, V, A: Allocator> Keys<K, V, A> {
 
     /// Returns the first slot among `handles` that has `key`. The comparisons are counted in
     /// `compared` instead.
+    #[inline]
     pub fn find_counting_in(
         &self,
         mut handles: Candidates<'_, u32>,

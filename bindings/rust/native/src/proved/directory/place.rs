@@ -9,11 +9,13 @@ pub struct Place {
 
 impl Place {
     /// Returns the place with a number.
+    #[inline]
     pub fn new(number: u32) -> Self {
         Place { number }
     }
 
     /// Returns the place's number, from 0.
+    #[inline]
     pub fn number(self) -> u32 {
         self.number
     }

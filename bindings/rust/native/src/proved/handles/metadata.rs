@@ -19,35 +19,42 @@ pub(crate) struct Metadata {
 }
 
 impl Metadata {
+    #[inline]
     pub(super) fn empty() -> Metadata {
         Metadata { word: EMPTY }
     }
 
+    #[inline]
     pub(super) fn is_empty(self) -> bool {
         self.word < UNIT
     }
 
     /// Returns true if a walk that looks for `wanted` in this slot ends here.
+    #[inline]
     pub(super) fn ends_walk_for(self, wanted: Wanted) -> bool {
         u64::from(self.word) < wanted.word / WANTED_UNIT * WANTED_UNIT
     }
 
     /// Returns true if the slot holds an entry that the walk looks for.
+    #[inline]
     pub(super) fn is(self, wanted: Wanted) -> bool {
         u64::from(self.word) == wanted.word
     }
 
     /// Returns true if the entry may move on by one slot.
+    #[inline]
     pub(super) fn can_move_on(self) -> bool {
         (self.word / UNIT) as usize <= MAX_DISPLACEMENT
     }
 
     /// Returns true if the slot holds an entry that isn't at its home.
+    #[inline]
     pub(super) fn can_move_back(self) -> bool {
         2 * UNIT <= self.word
     }
 
     /// Returns the metadata of the same entry one slot further past its home.
+    #[inline]
     pub(super) fn one_further(self) -> Metadata {
         Metadata {
             word: self.word + UNIT,
@@ -55,6 +62,7 @@ impl Metadata {
     }
 
     /// Returns the metadata of the same entry one slot nearer to its home.
+    #[inline]
     pub(super) fn one_nearer(self) -> Metadata {
         Metadata {
             word: self.word - UNIT,
@@ -74,27 +82,32 @@ pub(crate) struct Wanted {
 }
 
 impl Wanted {
+    #[inline]
     pub(super) fn nothing() -> Wanted {
         Wanted { word: 0 }
     }
 
     /// Returns what a walk for `hash` looks for at its home.
+    #[inline]
     pub(super) fn new(hash: u64) -> Wanted {
         Wanted {
             word: WANTED_UNIT + (hash >> 56),
         }
     }
 
+    #[inline]
     pub(super) fn is_nothing(self) -> bool {
         self.word < WANTED_UNIT
     }
 
     /// Returns true if an entry inserted where the walk is would be near enough to its home.
+    #[inline]
     pub(super) fn is_near(self) -> bool {
         self.word / WANTED_UNIT <= MAX_DISPLACEMENT as u64 + 1
     }
 
     /// Returns what the walk looks for in the next slot.
+    #[inline]
     pub(super) fn next(self) -> Wanted {
         Wanted {
             word: self.word + WANTED_UNIT,
@@ -102,6 +115,7 @@ impl Wanted {
     }
 
     /// Returns the metadata of an entry inserted where the walk ends.
+    #[inline]
     pub(super) fn metadata(self) -> Metadata {
         Metadata {
             word: self.word as u32,

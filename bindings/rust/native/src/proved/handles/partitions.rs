@@ -20,6 +20,7 @@
 /// let table = &mut tables[partition(hash, 16)];
 /// # *table = 1;
 /// ```
+#[inline]
 pub fn partition(hash: u64, partitions: usize) -> usize {
     let shift = 56 - partitions.trailing_zeros();
     (hash >> shift) as usize & (partitions - 1)

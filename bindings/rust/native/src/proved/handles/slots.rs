@@ -26,6 +26,7 @@ impl<H: Copy + Default, A: Allocator> Slots<H, A> {
 
     /// Returns true if an entry can be inserted at the gap: neither it nor an entry that has to
     /// move on for it ends up too far past its home.
+    #[inline]
     pub(super) fn has_room(&self, gap: &Gap, reads: &mut Count) -> bool {
         if !gap.wanted.is_near() {
             return false;
@@ -88,6 +89,7 @@ impl<H: Copy + Default, A: Allocator> Slots<H, A> {
 
     /// Inserts each entry of other slots, in the order of those slots, under the hash that `rehash`
     /// returns for its handle.
+    #[inline]
     pub(super) fn put_all<F: FnMut(H) -> u64>(
         &mut self,
         old: &Slots<H, A>,

@@ -46,6 +46,7 @@ pub struct Table<H: Copy + Eq + Default, A: Allocator = Global> {
 
 impl<H: Copy + Eq + Default, A: Allocator + Copy> Table<H, A> {
     /// Returns an empty table with no slots, which takes no memory.
+    #[inline]
     pub fn new(alloc: A) -> Table<H, A> {
         Table {
             slots: Slots::new(alloc),
@@ -63,6 +64,7 @@ impl<H: Copy + Eq + Default, A: Allocator + Copy> Table<H, A> {
     /// # Cost
     ///
     /// Linear in `entries`: every slot is initialized.
+    #[inline]
     pub fn with_capacity(alloc: A, entries: usize) -> Result<Table<H, A>, TableError> {
         if entries == 0 {
             return Ok(Table::new(alloc));
@@ -81,17 +83,20 @@ impl<H: Copy + Eq + Default, A: Allocator + Copy> Table<H, A> {
 
 impl<H: Copy + Eq + Default, A: Allocator> Table<H, A> {
     /// Returns the number of entries.
+    #[inline]
     pub fn len(&self) -> usize {
         self.len
     }
 
     /// Returns true if the table has no entry.
+    #[inline]
     pub fn is_empty(&self) -> bool {
         self.len() == 0
     }
 
     /// Returns the number of entries that the table holds before it grows: three quarters of its
     /// slots.
+    #[inline]
     pub fn capacity(&self) -> usize {
         self.slots.count() / 4 * 3
     }
@@ -104,6 +109,7 @@ impl<H: Copy + Eq + Default, A: Allocator> Table<H, A> {
     ///
     /// The iterator reads slots as it is advanced. Once drained, it has read those from the home of
     /// `hash` to the first that is empty or whose entry is nearer to its own home.
+    #[inline]
     pub fn get(&self, hash: u64) -> Candidates<'_, H> {
         if self.slots.count() == 0 {
             return Candidates {
@@ -126,12 +132,14 @@ impl<H: Copy + Eq + Default, A: Allocator> Table<H, A> {
     }
 
     /// Hints that `hash` will be looked up next. It changes nothing, and does nothing yet.
+    #[inline]
     pub fn prefetch(&self, hash: u64) {
         let _ = hash;
     }
 }
 
 impl<H: Copy + Eq + Default, A: Allocator> fmt::Debug for Table<H, A> {
+    #[inline]
     fn fmt(&self, f: &mut fmt::Formatter<'_>) -> fmt::Result {
         f.debug_struct("Table")
             .field("len", &self.len)

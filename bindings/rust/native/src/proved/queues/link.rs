@@ -13,11 +13,13 @@ pub(crate) struct Link {
 
 impl Link {
     /// Returns a link to a slot.
+    #[inline]
     pub(crate) fn to(slot: u32) -> Self {
         Link { number: slot }
     }
 
     /// Returns the slot, if there is one.
+    #[inline]
     pub(crate) fn slot(self) -> Option<u32> {
         if self.number == NOWHERE.number {
             return None;

@@ -13,6 +13,7 @@ pub(crate) struct MainRing {
 
 impl MainRing {
     /// Returns an empty ring.
+    #[inline]
     pub(crate) fn new() -> Self {
         MainRing { hand: None, len: 0 }
     }
@@ -31,6 +32,7 @@ impl MainRing {
     }
 
     /// Removes a slot. If the hand is at that slot, it moves on.
+    #[inline]
     pub(crate) fn unlink<A: Allocator>(&mut self, links: &mut Links<A>, slot: u32) {
         let was = links.detach(slot);
         self.len -= 1;
@@ -41,6 +43,7 @@ impl MainRing {
 
     /// Moves the hand on to the slot to evict, and returns that slot. The hand passes each slot
     /// whose bit is set, and clears the bit.
+    #[inline]
     pub(crate) fn select<A: Allocator>(&mut self, links: &mut Links<A>) -> u32 {
         // a ring with an entry has a hand
         let mut hand = self.hand.unwrap();
@@ -53,6 +56,7 @@ impl MainRing {
 
     /// Returns the slot that [`select`](MainRing::select) would choose, or `None` if the ring is empty.
     /// It changes nothing. If every bit is set, the hand would come back to its slot.
+    #[inline]
     pub(crate) fn victim<A: Allocator>(&self, links: &Links<A>) -> Option<u32> {
         let hand = self.hand?;
         let mut slot = hand;
@@ -66,11 +70,13 @@ impl MainRing {
     }
 
     /// Moves the hand on from its slot, whose bit is clear. That slot is then the last one.
+    #[inline]
     pub(crate) fn advance<A: Allocator>(&mut self, links: &mut Links<A>, slot: u32) {
         self.hand = Some(links.read(slot).next);
     }
 
     /// Empties the ring. `Links::reset` resets the records.
+    #[inline]
     pub(crate) fn clear(&mut self) {
         *self = MainRing::new();
     }

@@ -34,6 +34,7 @@ pub(crate) struct Neighbourhoods<A: Allocator = Global> {
 impl<A: Allocator> Neighbourhoods<A> {
     /// Returns those of `places` places, none of them made. It takes all the memory that they will
     /// ever need.
+    #[inline]
     pub(crate) fn new(alloc: A, places: u32) -> Result<Self, AllocError> {
         Ok(Neighbourhoods {
             items: Vec::with_capacity(alloc, places as usize)?,
@@ -43,23 +44,27 @@ impl<A: Allocator> Neighbourhoods<A> {
     }
 
     /// Returns the number of all places.
+    #[inline]
     pub(crate) fn places(&self) -> u32 {
         self.places
     }
 
     /// Returns the neighbours of a place.
+    #[inline]
     pub(crate) fn read(&mut self, place: u32) -> Neighbours {
         self.accesses.tick();
         self.items[place as usize]
     }
 
     /// Writes the neighbours of a place that has some.
+    #[inline]
     pub(crate) fn write(&mut self, place: u32, neighbours: Neighbours) {
         self.accesses.tick();
         self.items[place as usize] = neighbours;
     }
 
     /// Writes the neighbours of a place, or makes them, if it is the first place without any.
+    #[inline]
     pub(crate) fn put(&mut self, place: u32, neighbours: Neighbours) {
         if (place as usize) < self.items.len() {
             self.write(place, neighbours);
@@ -70,6 +75,7 @@ impl<A: Allocator> Neighbourhoods<A> {
     }
 
     /// Puts a place just before another.
+    #[inline]
     pub(crate) fn attach(&mut self, place: u32, before: u32) {
         let previous = self.read(before).previous;
         let between = Neighbours {
@@ -90,6 +96,7 @@ impl<A: Allocator> Neighbourhoods<A> {
     }
 
     /// Removes a place from between its neighbours, and returns those that it had.
+    #[inline]
     pub(crate) fn detach(&mut self, place: u32) -> Neighbours {
         let was = self.read(place);
         let previous = self.read(was.previous);
@@ -113,6 +120,7 @@ impl<A: Allocator> Neighbourhoods<A> {
     }
 
     /// Makes those of every place [`EMPTY`], with none made. None is read or written.
+    #[inline]
     pub(crate) fn clear(&mut self) {
         self.items.clear();
     }

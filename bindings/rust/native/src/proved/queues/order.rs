@@ -42,6 +42,7 @@ impl<A: Allocator> Order<A> {
     /// # Errors
     ///
     /// `AllocError` if the request for memory is refused.
+    #[inline]
     pub fn new(alloc: A, limit: u32) -> Result<Self, AllocError> {
         Ok(Order {
             records: Neighbourhoods::new(alloc, limit)?,
@@ -52,17 +53,20 @@ impl<A: Allocator> Order<A> {
     }
 
     /// Returns the number of places in use.
+    #[inline]
     pub fn len(&self) -> u32 {
         self.len
     }
 
     /// Returns the total number of places.
+    #[inline]
     pub fn limit(&self) -> u32 {
         self.records.places()
     }
 
     /// Puts a free place at the front, and returns it. It is the head of the chain, or the next
     /// unused place if the chain is empty.
+    #[inline]
     pub fn push(&mut self) -> u32 {
         let mut place = self.len;
         if self.chain.len > 0 {
@@ -85,6 +89,7 @@ impl<A: Allocator> Order<A> {
     }
 
     /// Moves the last place to the front, and returns it: a new key takes the oldest one's place.
+    #[inline]
     pub fn reuse_oldest(&mut self) -> u32 {
         let oldest = self.records.read(self.newest).previous;
         self.newest = oldest;
@@ -92,6 +97,7 @@ impl<A: Allocator> Order<A> {
     }
 
     /// Gives up a place, and puts it at the head of the chain.
+    #[inline]
     pub fn unlink(&mut self, place: u32) {
         let was = self.records.detach(place);
         let before_head = Neighbours {
@@ -108,6 +114,7 @@ impl<A: Allocator> Order<A> {
     }
 
     /// Empties the order. Every place is unused again.
+    #[inline]
     pub fn clear(&mut self) {
         self.records.clear();
         self.len = 0;

@@ -47,6 +47,7 @@ impl<A: Allocator> Queues<A> {
     /// # Cost
     ///
     /// Linear in `window`.
+    #[inline]
     pub fn new(alloc: A, slots: u32, window: u32) -> Result<Self, AllocError>
     where
         A: Clone,
@@ -64,22 +65,26 @@ impl<A: Allocator> Queues<A> {
     /// # Cost
     ///
     /// One access to a link for each record made.
+    #[inline]
     pub fn make_below(&mut self, bound: u32) {
         self.links.make_below(bound);
     }
 
     /// Returns the number of slots in Small.
+    #[inline]
     pub fn small_len(&self) -> usize {
         self.small.len
     }
 
     /// Returns the number of slots in Main.
+    #[inline]
     pub fn main_len(&self) -> usize {
         self.main.len
     }
 
     /// Returns true if the oldest slot of Small goes on to Main instead of leaving: it is old, and
     /// its bit is set.
+    #[inline]
     pub fn tail_is_promoted(&mut self) -> bool {
         self.links.is_old_hit(self.small.oldest)
     }
@@ -106,12 +111,14 @@ impl<A: Allocator> Queues<A> {
     }
 
     /// Returns where a slot is.
+    #[inline]
     fn location(&mut self, slot: u32) -> Location {
         self.links.location(slot)
     }
 
     /// Returns true if a slot is in a queue. Any number may be asked for: one that is no slot's is in
     /// none. It accesses no link.
+    #[inline]
     pub fn is_resident(&self, slot: usize) -> bool {
         self.links.is_linked(slot)
     }
@@ -137,6 +144,7 @@ impl<A: Allocator> Queues<A> {
     /// # Cost
     ///
     /// Linear in the number of slots that the hand passes.
+    #[inline]
     pub fn select(&mut self) -> u32 {
         self.main.select(&mut self.links)
     }
@@ -148,6 +156,7 @@ impl<A: Allocator> Queues<A> {
     /// # Cost
     ///
     /// Linear in the number of slots that the hand would pass.
+    #[inline]
     pub fn next_victim(&self) -> Option<u32> {
         let tail = self.small.tail();
         if self.main.len == 0 {
@@ -169,6 +178,7 @@ impl<A: Allocator> Queues<A> {
     /// # Cost
     ///
     /// Linear in the number of slots that the hand passes.
+    #[inline]
     pub fn take_victim(&mut self) -> u32 {
         let victim = self.main.select(&mut self.links);
         self.main.unlink(&mut self.links, victim);
@@ -181,6 +191,7 @@ impl<A: Allocator> Queues<A> {
     /// # Cost
     ///
     /// Linear in the number of slots that the hand passes.
+    #[inline]
     pub fn reuse_victim(&mut self) -> u32 {
         let victim = self.main.select(&mut self.links);
         self.main.advance(&mut self.links, victim);
@@ -188,6 +199,7 @@ impl<A: Allocator> Queues<A> {
     }
 
     /// Removes a slot from its queue. If it is in neither, nothing changes.
+    #[inline]
     pub fn leave(&mut self, slot: u32) {
         match self.location(slot) {
             Location::Free => {}
@@ -199,12 +211,14 @@ impl<A: Allocator> Queues<A> {
     }
 
     /// Records a hit on a slot. A hit on a young slot doesn't count.
+    #[inline]
     pub fn hit(&mut self, slot: u32) {
         self.links.set_bit(slot);
     }
 
     /// Raises the count of link accesses by an amount that the proof of the call picks. A caller
     /// that has to state the count exactly raises it to its bound with this.
+    #[inline]
     pub fn charge(&mut self) {
         self.links.charge();
     }
@@ -214,6 +228,7 @@ impl<A: Allocator> Queues<A> {
     /// # Cost
     ///
     /// Linear in the length of the window.
+    #[inline]
     pub fn clear(&mut self) {
         self.small.clear();
         self.main.clear();

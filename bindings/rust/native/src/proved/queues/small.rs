@@ -15,6 +15,7 @@ pub(crate) struct Small {
 
 impl Small {
     /// Returns an empty queue.
+    #[inline]
     pub(crate) fn new() -> Self {
         Small {
             newest: 0,
@@ -25,6 +26,7 @@ impl Small {
     }
 
     /// Returns the oldest slot, or `None` if there is none.
+    #[inline]
     pub(crate) fn tail(&self) -> Option<u32> {
         (self.len > 0).then_some(self.oldest)
     }
@@ -60,6 +62,7 @@ impl Small {
     }
 
     /// Removes a slot. If it was young, its position becomes free.
+    #[inline]
     pub(crate) fn unlink<A: Allocator>(&mut self, links: &mut Links<A>, slot: u32) {
         let was = links.detach(slot);
         links.leave_position(was.location);
@@ -73,6 +76,7 @@ impl Small {
     }
 
     /// Empties the queue. `Links::reset` resets the records and the window's positions.
+    #[inline]
     pub(crate) fn clear(&mut self) {
         *self = Small::new();
     }

@@ -11,6 +11,7 @@ impl<K: Hash + Eq, V, S: BuildHasher, A: Allocator> Cache<K, V, S, A> {
     /// # Cost
     ///
     /// Time in proportion to the capacity: one access to each slot of the index. No key is hashed.
+    #[inline]
     pub fn clear(&mut self) {
         self.directory.clear();
         self.queues.clear();

@@ -25,6 +25,7 @@ impl<K: Hash + Eq, V, A: Allocator + Copy> Cache<K, V, DefaultHashBuilder, A> {
     /// # Cost
     ///
     /// Time and memory in proportion to `capacity`, in at most eleven requests for memory.
+    #[inline]
     pub fn new(alloc: A, capacity: NonZeroUsize) -> Result<Self, CacheError> {
         Cache::with_hasher(alloc, capacity, BuildHasherDefault::default())
     }
@@ -41,6 +42,7 @@ impl<K: Hash + Eq, V, S: BuildHasher, A: Allocator + Copy> Cache<K, V, S, A> {
     /// # Cost
     ///
     /// That of [`new`](Cache::new).
+    #[inline]
     pub fn with_hasher(alloc: A, capacity: NonZeroUsize, hasher: S) -> Result<Self, CacheError> {
         if capacity.get() > MAX_CAPACITY {
             return Err(CacheError::Capacity);
@@ -60,6 +62,7 @@ impl<K: Hash + Eq, V, S: BuildHasher, A: Allocator + Copy> Cache<K, V, S, A> {
     /// # Cost
     ///
     /// That of [`new`](Cache::new).
+    #[inline]
     pub fn with_policy(
         alloc: A,
         capacity: NonZeroUsize,
@@ -77,6 +80,7 @@ impl<K: Hash + Eq, V, S: BuildHasher, A: Allocator + Copy> Cache<K, V, S, A> {
     }
 
     /// Makes an empty cache with these shares.
+    #[inline]
     fn with_shares(alloc: A, shares: Shares, hasher: S) -> Result<Self, CacheError> {
         let slots = shares.capacity();
         let queues = Queues::new(alloc, slots as u32, shares.window() as u32)?;

@@ -7,6 +7,7 @@ use core::hash::{BuildHasher, Hash};
 
 /// Shows the number of keys in the cache and in each of its lists, and the capacity.
 impl<K: Hash + Eq, V, S: BuildHasher, A: Allocator> Debug for Cache<K, V, S, A> {
+    #[inline]
     fn fmt(&self, f: &mut Formatter<'_>) -> fmt::Result {
         f.debug_struct("Cache")
             .field("len", &self.len())

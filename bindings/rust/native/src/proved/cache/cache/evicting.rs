@@ -16,6 +16,7 @@ impl<K: Hash + Eq + Copy, V, S: BuildHasher, A: Allocator> Cache<K, V, S, A> {
     /// # Cost
     ///
     /// That of [`put`](Cache::put).
+    #[inline]
     pub fn put_evicting(&mut self, key: K, value: V) -> Option<(K, V)> {
         let hash = self.hash(&key);
         let found = self.lookup(hash, &key);
@@ -28,6 +29,7 @@ impl<K: Hash + Eq + Copy, V, S: BuildHasher, A: Allocator> Cache<K, V, S, A> {
 
     /// Inserts a key that is not resident, for which a lookup found `found`, and hands over the
     /// resident that leaves.
+    #[inline]
     fn insert_evicting(&mut self, hash: u64, key: K, value: V, found: Found) -> Option<(K, V)> {
         let main = self.choose_queue(hash, &key, &found);
         let gap = found.gap();
@@ -47,6 +49,7 @@ impl<K: Hash + Eq + Copy, V, S: BuildHasher, A: Allocator> Cache<K, V, S, A> {
     /// # Cost
     ///
     /// That of [`get_or_insert_mut`](Cache::get_or_insert_mut).
+    #[inline]
     pub fn put_slot(&mut self, key: K, value: V) -> (usize, Occupant<K>) {
         let _ = self.len(); // whose contract says that the cache is whole
         let hash = self.hash(&key);

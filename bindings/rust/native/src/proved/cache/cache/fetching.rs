@@ -16,6 +16,7 @@ impl<K: Hash + Eq, V, S: BuildHasher, A: Allocator> Cache<K, V, S, A> {
     /// # Cost
     ///
     /// That of [`put`](Cache::put), and that of `f` if it is called.
+    #[inline]
     pub fn get_or_insert_with<F: FnOnce() -> V>(&mut self, key: K, f: F) -> &V {
         let slot = self.find_or_insert(key, f);
         self.value(slot)
@@ -32,6 +33,7 @@ impl<K: Hash + Eq, V, S: BuildHasher, A: Allocator> Cache<K, V, S, A> {
     ///
     /// That of [`get_or_insert_with`](Cache::get_or_insert_with). After an error no link was
     /// accessed.
+    #[inline]
     pub fn try_get_or_insert_with<F: FnOnce() -> Result<V, E>, E>(
         &mut self,
         key: K,
@@ -51,6 +53,7 @@ impl<K: Hash + Eq, V, S: BuildHasher, A: Allocator> Cache<K, V, S, A> {
     /// # Cost
     ///
     /// That of [`try_get_or_insert_with`](Cache::try_get_or_insert_with).
+    #[inline]
     pub fn try_get_or_insert_with_mut<F: FnOnce() -> Result<V, E>, E>(
         &mut self,
         key: K,
@@ -72,6 +75,7 @@ impl<K: Hash + Eq, V, S: BuildHasher, A: Allocator> Cache<K, V, S, A> {
     /// That of [`put`](Cache::put), and that of `make` if it is called. If the key isn't resident,
     /// it is looked up twice. Contracts don't see what the call spent: its counts of comparisons and
     /// of accesses to links are raised to the bounds.
+    #[inline]
     pub fn get_or_insert_mut<F: FnOnce() -> V>(&mut self, key: K, make: F) -> (usize, &mut V) {
         let (slot, value, _) = self.enter(key, make);
         (slot, value)
@@ -84,6 +88,7 @@ impl<K: Hash + Eq, V, S: BuildHasher, A: Allocator> Cache<K, V, S, A> {
     /// # Cost
     ///
     /// That of [`get_or_insert_mut`](Cache::get_or_insert_mut).
+    #[inline]
     pub fn enter<F: FnOnce() -> V>(&mut self, key: K, make: F) -> (usize, &mut V, Entered) {
         let _ = self.len(); // whose contract says that the cache is whole
         let hash = self.hash(&key);
@@ -95,6 +100,7 @@ impl<K: Hash + Eq, V, S: BuildHasher, A: Allocator> Cache<K, V, S, A> {
 
     /// Returns two numbers only for contracts. The proof of the call picks them, and they may
     /// depend on the cache and the key.
+    #[inline]
     fn most(&self, key: &K) -> GhostValue<(usize, usize)> {
         let _ = key;
         GhostValue::new(&())
@@ -102,6 +108,7 @@ impl<K: Hash + Eq, V, S: BuildHasher, A: Allocator> Cache<K, V, S, A> {
 
     /// Raises the counts of link accesses and of comparisons by the amounts that the proof of the
     /// call picks, which may depend on `most`.
+    #[inline]
     fn charge(&mut self, most: &GhostValue<(usize, usize)>) {
         let _ = most;
         self.queues.charge();
@@ -109,6 +116,7 @@ impl<K: Hash + Eq, V, S: BuildHasher, A: Allocator> Cache<K, V, S, A> {
     }
 
     /// Returns the slot of a key, which is hit or inserted with what `f` returns.
+    #[inline]
     fn find_or_insert<F: FnOnce() -> V>(&mut self, key: K, f: F) -> u32 {
         let hash = self.hash(&key);
         let found = self.lookup(hash, &key);
@@ -122,6 +130,7 @@ impl<K: Hash + Eq, V, S: BuildHasher, A: Allocator> Cache<K, V, S, A> {
 
     /// Returns the slot of a key, which is hit or inserted. A slot that was made before keeps its
     /// value; a new one gets what `make` returns.
+    #[inline]
     fn find_or_reuse<F: FnOnce() -> V>(&mut self, hash: u64, key: K, make: F) -> (u32, Entered) {
         if let Some(slot) = self.find(hash, &key) {
             self.record_hit(slot, &key);
@@ -140,6 +149,7 @@ impl<K: Hash + Eq, V, S: BuildHasher, A: Allocator> Cache<K, V, S, A> {
     }
 
     /// Returns the value at the slot that was found, or the error that was returned instead.
+    #[inline]
     fn value_found<E>(&self, found: Result<u32, E>) -> Result<&V, E> {
         match found {
             Ok(slot) => Ok(self.value(slot)),
@@ -148,6 +158,7 @@ impl<K: Hash + Eq, V, S: BuildHasher, A: Allocator> Cache<K, V, S, A> {
     }
 
     /// Does what `find_or_insert` does, with an `f` that may fail. If it does, nothing changes.
+    #[inline]
     fn try_find_or_insert<F: FnOnce() -> Result<V, E>, E>(&mut self, key: K, f: F) -> Result<u32, E> {
         let hash = self.hash(&key);
         let found = self.lookup(hash, &key);

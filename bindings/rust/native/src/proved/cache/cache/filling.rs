@@ -15,6 +15,7 @@ impl<K: Hash + Eq + Default, V, S: BuildHasher, A: Allocator> Cache<K, V, S, A> 
     ///
     /// One call of `make`, one hash of the default key and at most one access to a link for each such
     /// slot.
+    #[inline]
     pub fn prefill<F: FnMut() -> V>(&mut self, make: F) {
         let made = self.directory.made();
         let capacity = self.shares.capacity();

@@ -9,6 +9,7 @@ use core::hash::{BuildHasher, Hash};
 
 impl<K: Hash + Eq, V, S: BuildHasher, A: Allocator> Cache<K, V, S, A> {
     /// Inserts a key that is not resident, for which a lookup found `found`.
+    #[inline]
     pub(crate) fn insert(&mut self, hash: u64, key: K, value: V, found: Found) -> u32 {
         let main = self.choose_queue(hash, &key, &found);
         self.insert_unknown(found.gap(), hash, key, Some(value), main, |_| ())
@@ -37,6 +38,7 @@ impl<K: Hash + Eq, V, S: BuildHasher, A: Allocator> Cache<K, V, S, A> {
     /// Inserts a key that is not known into Main or into Small. A lookup may have found the gap for
     /// its hash. If a resident leaves, `leaves` is called with its key, and what it returns comes back
     /// beside the slot.
+    #[inline]
     pub(super) fn insert_unknown<R, F: FnOnce(&K) -> R>(
         &mut self,
         gap: Option<Gap>,
@@ -62,27 +64,32 @@ impl<K: Hash + Eq, V, S: BuildHasher, A: Allocator> Cache<K, V, S, A> {
     }
 
     /// Returns true if a slot is made for a key that goes into Main or into Small.
+    #[inline]
     pub(super) fn makes_slot(&self, main: bool) -> bool {
         self.next_is_vacant() && !(main && self.main_is_full())
     }
 
     /// Returns true if no slot is free and one was never made.
+    #[inline]
     fn next_is_vacant(&self) -> bool {
         self.free.is_empty() && self.directory.made() < self.shares.capacity()
     }
 
     /// Returns true if Main has as many entries as its share.
+    #[inline]
     fn main_is_full(&self) -> bool {
         self.queues.main_len() == self.shares.main()
     }
 
     /// Returns true if there is a slot for a new resident.
+    #[inline]
     fn has_vacancy(&self) -> bool {
         self.directory.made() < self.shares.capacity() || !self.free.is_empty()
     }
 
     /// Chooses the queue for a key that is not resident, for which a lookup found `found`, and erases
     /// the key from the history. Returns true for Main.
+    #[inline]
     pub(super) fn choose_queue(&mut self, hash: u64, key: &K, found: &Found) -> bool {
         if self.forget(hash, key, found) {
             return true;
@@ -95,6 +102,7 @@ impl<K: Hash + Eq, V, S: BuildHasher, A: Allocator> Cache<K, V, S, A> {
     }
 
     /// Inserts a key into a full Main, in place of its victim.
+    #[inline]
     fn replace_victim<R, F: FnOnce(&K) -> R>(
         &mut self,
         gap: Option<Gap>,
@@ -122,11 +130,13 @@ impl<K: Hash + Eq, V, S: BuildHasher, A: Allocator> Cache<K, V, S, A> {
     }
 
     /// Returns true if Small's tail moves on to Main.
+    #[inline]
     pub(super) fn tail_is_promoted(&mut self) -> bool {
         self.queues.tail_is_promoted()
     }
 
     /// Inserts a key into Small in the slot of its tail, which is evicted and remembered.
+    #[inline]
     fn evict_tail<R, F: FnOnce(&K) -> R>(
         &mut self,
         gap: Option<Gap>,
@@ -142,6 +152,7 @@ impl<K: Hash + Eq, V, S: BuildHasher, A: Allocator> Cache<K, V, S, A> {
     }
 
     /// Inserts a key into Small in the slot of Main's victim, while Small's tail moves on to Main.
+    #[inline]
     fn promote_tail<R, F: FnOnce(&K) -> R>(
         &mut self,
         gap: Option<Gap>,

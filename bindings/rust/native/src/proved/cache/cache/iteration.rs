@@ -72,6 +72,7 @@ impl<K: Hash + Eq, V, S: BuildHasher, A: Allocator> Cache<K, V, S, A> {
     ///
     /// One step for each slot up to the last resident's. No key is hashed or compared, and no link
     /// is accessed.
+    #[inline]
     pub fn iter(&self) -> Iter<'_, K, V, S, A> {
         Iter {
             cache: self,
@@ -85,6 +86,7 @@ impl<K: Hash + Eq, V, S: BuildHasher, A: Allocator> Cache<K, V, S, A> {
     /// # Cost
     ///
     /// That of [`iter`](Cache::iter).
+    #[inline]
     pub fn keys(&self) -> Keys<'_, K, V, S, A> {
         Keys {
             entries: self.iter(),
@@ -96,6 +98,7 @@ impl<K: Hash + Eq, V, S: BuildHasher, A: Allocator> Cache<K, V, S, A> {
     /// # Cost
     ///
     /// That of [`iter`](Cache::iter).
+    #[inline]
     pub fn values(&self) -> Values<'_, K, V, S, A> {
         Values {
             entries: self.iter(),
@@ -103,6 +106,7 @@ impl<K: Hash + Eq, V, S: BuildHasher, A: Allocator> Cache<K, V, S, A> {
     }
 
     /// Returns the lowest slot that has a resident, starting from a given one.
+    #[inline]
     fn next_resident(&self, from: u32) -> Option<u32> {
         for slot in from..self.made() {
             if self.is_resident(slot) {
@@ -116,6 +120,7 @@ impl<K: Hash + Eq, V, S: BuildHasher, A: Allocator> Cache<K, V, S, A> {
 impl<'a, K: Hash + Eq, V, S: BuildHasher, A: Allocator> Iterator for Iter<'a, K, V, S, A> {
     type Item = (&'a K, usize, &'a V);
 
+    #[inline]
     fn next(&mut self) -> Option<(&'a K, usize, &'a V)> {
         let cache = self.cache;
         let slot = cache.next_resident(self.slot)?;
@@ -124,12 +129,14 @@ impl<'a, K: Hash + Eq, V, S: BuildHasher, A: Allocator> Iterator for Iter<'a, K,
         Some((cache.key(slot), slot as usize, cache.value(slot)))
     }
 
+    #[inline]
     fn size_hint(&self) -> (usize, Option<usize>) {
         (self.left, Some(self.left))
     }
 }
 
 impl<'a, K: Hash + Eq, V, S: BuildHasher, A: Allocator> ExactSizeIterator for Iter<'a, K, V, S, A> {
+    #[inline]
     fn len(&self) -> usize {
         self.left
     }
@@ -140,17 +147,20 @@ impl<'a, K: Hash + Eq, V, S: BuildHasher, A: Allocator> FusedIterator for Iter<'
 impl<'a, K: Hash + Eq, V, S: BuildHasher, A: Allocator> Iterator for Keys<'a, K, V, S, A> {
     type Item = &'a K;
 
+    #[inline]
     fn next(&mut self) -> Option<&'a K> {
         let (key, _, _) = self.entries.next()?;
         Some(key)
     }
 
+    #[inline]
     fn size_hint(&self) -> (usize, Option<usize>) {
         self.entries.size_hint()
     }
 }
 
 impl<'a, K: Hash + Eq, V, S: BuildHasher, A: Allocator> ExactSizeIterator for Keys<'a, K, V, S, A> {
+    #[inline]
     fn len(&self) -> usize {
         self.entries.len()
     }
@@ -161,11 +171,13 @@ impl<'a, K: Hash + Eq, V, S: BuildHasher, A: Allocator> FusedIterator for Keys<'
 impl<'a, K: Hash + Eq, V, S: BuildHasher, A: Allocator> Iterator for Values<'a, K, V, S, A> {
     type Item = &'a V;
 
+    #[inline]
     fn next(&mut self) -> Option<&'a V> {
         let (_, _, value) = self.entries.next()?;
         Some(value)
     }
 
+    #[inline]
     fn size_hint(&self) -> (usize, Option<usize>) {
         self.entries.size_hint()
     }
@@ -173,6 +185,7 @@ impl<'a, K: Hash + Eq, V, S: BuildHasher, A: Allocator> Iterator for Values<'a, 
 
 impl<'a, K: Hash + Eq, V, S: BuildHasher, A: Allocator> ExactSizeIterator
     for Values<'a, K, V, S, A> {
+    #[inline]
     fn len(&self) -> usize {
         self.entries.len()
     }
@@ -185,6 +198,7 @@ impl<'a, K: Hash + Eq, V, S: BuildHasher, A: Allocator> IntoIterator for &'a Cac
 
     type IntoIter = Iter<'a, K, V, S, A>;
 
+    #[inline]
     fn into_iter(self) -> Iter<'a, K, V, S, A> {
         self.iter()
     }

@@ -18,6 +18,7 @@ impl<K: Hash + Eq + Copy, V, S: BuildHasher, A: Allocator> Cache<K, V, S, A> {
     /// No hash and no comparison. At most 21 more accesses to links than inspections by the hand, and
     /// at most two changes of the index: one under the hash of the key that leaves, and one under
     /// that of the oldest remembered key.
+    #[inline]
     pub fn evict(&mut self) -> Option<(K, usize)> {
         let _ = self.len(); // whose contract says that the index is whole
         if self.victim_leaves() {
@@ -27,6 +28,7 @@ impl<K: Hash + Eq + Copy, V, S: BuildHasher, A: Allocator> Cache<K, V, S, A> {
     }
 
     /// Returns true if a resident of Main leaves next, rather than Small's tail.
+    #[inline]
     fn victim_leaves(&mut self) -> bool {
         if self.queues.main_len() == 0 {
             return false;
@@ -38,6 +40,7 @@ impl<K: Hash + Eq + Copy, V, S: BuildHasher, A: Allocator> Cache<K, V, S, A> {
     }
 
     /// Evicts Main's victim, while Small's tail moves on to Main.
+    #[inline]
     fn evict_victim(&mut self) -> (K, usize) {
         let slot = self.queues.take_victim();
         let key = *self.directory.key(slot);
@@ -51,6 +54,7 @@ impl<K: Hash + Eq + Copy, V, S: BuildHasher, A: Allocator> Cache<K, V, S, A> {
     }
 
     /// Evicts Small's tail, which is remembered.
+    #[inline]
     fn retire_tail(&mut self) -> Option<(K, usize)> {
         let tail = self.queues.take_tail()?;
         let key = self.directory.retire(tail);

@@ -18,6 +18,7 @@ impl<K: Hash + Eq, V, S: BuildHasher, A: Allocator> Cache<K, V, S, A> {
     /// One hash of the key, and at most one comparison with each candidate. At most eight accesses to
     /// links, one lookup in the index and one change of it, both under the key's hash, and no
     /// inspection by the hand.
+    #[inline]
     pub fn remove(&mut self, key: &K) -> bool {
         let hash = self.hash(key);
         let found = self.lookup(hash, key);
@@ -38,6 +39,7 @@ impl<K: Hash + Eq, V, S: BuildHasher, A: Allocator> Cache<K, V, S, A> {
     ///
     /// At most eight accesses to links and one change of the index for each resident that is
     /// removed. No key is hashed.
+    #[inline]
     pub fn retain<F: FnMut(&K, &V) -> bool>(&mut self, mut keep: F) {
         let _ = self.len(); // whose contract says that the index's entries fit
         for slot in 0..self.made() {
@@ -51,21 +53,25 @@ impl<K: Hash + Eq, V, S: BuildHasher, A: Allocator> Cache<K, V, S, A> {
     }
 
     /// Returns the number of slots that have a value, whether a resident's or an earlier one.
+    #[inline]
     pub(super) fn made(&self) -> u32 {
         self.directory.made() as u32
     }
 
     /// Returns true if a slot has a resident.
+    #[inline]
     pub(super) fn is_resident(&self, slot: u32) -> bool {
         self.queues.is_resident(slot as usize)
     }
 
     /// Returns the key of the resident at a slot.
+    #[inline]
     pub(super) fn key(&self, slot: u32) -> &K {
         self.directory.key(slot)
     }
 
     /// Removes the resident at a slot, and frees the slot.
+    #[inline]
     pub(super) fn vacate(&mut self, slot: u32) {
         self.directory.leave(slot);
         self.queues.leave(slot);

@@ -11,6 +11,7 @@ impl<K: Hash + Eq, V, S: BuildHasher, A: Allocator> Cache<K, V, S, A> {
     /// # Cost
     ///
     /// That of [`contains`](Cache::contains).
+    #[inline]
     pub fn peek_slot(&self, key: &K) -> Option<usize> {
         Some(self.slot_of(key)? as usize)
     }
@@ -22,6 +23,7 @@ impl<K: Hash + Eq, V, S: BuildHasher, A: Allocator> Cache<K, V, S, A> {
     /// # Cost
     ///
     /// No hash and no comparison. It reads each candidate up to the one that it returns.
+    #[inline]
     pub fn slot_with_hash(&self, hash: u64, nth: usize) -> Option<usize> {
         Some(self.with_hash(hash, nth)? as usize)
     }
@@ -32,6 +34,7 @@ impl<K: Hash + Eq, V, S: BuildHasher, A: Allocator> Cache<K, V, S, A> {
     /// # Cost
     ///
     /// No hash, no comparison, and no access to a link.
+    #[inline]
     pub fn hit_slot(&mut self, slot: usize) -> bool {
         if !self.has_resident(slot) {
             return false;
@@ -46,6 +49,7 @@ impl<K: Hash + Eq, V, S: BuildHasher, A: Allocator> Cache<K, V, S, A> {
     /// # Cost
     ///
     /// No hash and no comparison. At most eight accesses to links, and one change of the index.
+    #[inline]
     pub fn remove_slot(&mut self, slot: usize) -> bool {
         if !self.has_resident(slot) {
             return false;
@@ -55,6 +59,7 @@ impl<K: Hash + Eq, V, S: BuildHasher, A: Allocator> Cache<K, V, S, A> {
     }
 
     /// Returns true if there is a resident at a slot.
+    #[inline]
     fn has_resident(&self, slot: usize) -> bool {
         if slot >= self.directory.made() {
             return false;
@@ -79,6 +84,7 @@ impl<K: Hash + Eq, V, S: BuildHasher, A: Allocator> Cache<K, V, S, A> {
     /// One hash of the key, and at most one comparison with each candidate in the history. If the key
     /// is inserted, that of [`put`](Cache::put), and one more walk of the index, the first, which
     /// `costs` leaves out.
+    #[inline]
     pub fn slot_with_hash_or_insert(&mut self, key: K, value: V) -> (usize, bool) {
         let hash = self.hash(&key);
         if let Some(slot) = self.with_hash(hash, 0) {

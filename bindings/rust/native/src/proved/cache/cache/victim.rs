@@ -16,6 +16,7 @@ impl<K: Hash + Eq, V, S: BuildHasher, A: Allocator> Cache<K, V, S, A> {
     ///
     /// No hash and no comparison. If Small's tail leaves next, no walk. Otherwise one along Main, from
     /// the hand to the first resident whose bit is clear: at most all of Main, and anew in each call.
+    #[inline]
     pub fn next_victim(&self) -> Option<(&K, usize)> {
         let slot = self.queues.next_victim()?;
         Some((self.directory.key(slot), slot as usize))

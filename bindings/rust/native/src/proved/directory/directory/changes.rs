@@ -13,12 +13,14 @@ use crate::proved::rattle::Allocator;
 impl<K: Eq, V, A: Allocator> Directory<K, V, A> {
     /// Makes the next slot, with a key and a value. The key is not resident: the slot waits for one
     /// that [enters](Directory::enter).
+    #[inline]
     pub fn prepare(&mut self, hash: u64, key: K, value: V) {
         self.residents.push(hash, key, value);
     }
 
     /// Removes the resident at a slot from the index. Its key and value stay at the slot until
     /// another key enters there.
+    #[inline]
     pub fn leave(&mut self, slot: u32) {
         self.index.remove_slot(self.residents.hash(slot), slot);
     }
@@ -26,6 +28,7 @@ impl<K: Eq, V, A: Allocator> Directory<K, V, A> {
     /// Removes the resident at a slot from the index, remembers its key as the newest, and returns
     /// it. Its value and a copy of the key stay at the slot until another key enters there. If the
     /// history is full, the oldest remembered key is forgotten.
+    #[inline]
     pub fn retire(&mut self, slot: u32) -> K
     where
         K: Copy,
@@ -50,6 +53,7 @@ impl<K: Eq, V, A: Allocator> Directory<K, V, A> {
 
     /// Forgets a key that is not resident, for which a lookup found `found`, and returns true if it
     /// was remembered.
+    #[inline]
     pub fn forget(&mut self, hash: u64, key: &K, found: &Found) -> bool {
         let _ = key;
         let _ = self.order.len();
@@ -66,6 +70,7 @@ impl<K: Eq, V, A: Allocator> Directory<K, V, A> {
     /// # Cost
     ///
     /// Linear in the number of keys that the index may hold: all of it is reset.
+    #[inline]
     pub fn clear(&mut self) {
         self.residents.clear();
         self.index.clear();
@@ -85,6 +90,7 @@ impl<K: Eq, V, A: Allocator> Directory<K, V, A> {
 
     /// Makes a key the resident of a slot in place of another, which is no longer known, with a new
     /// value, or with the one that the slot had. Returns the other's hash and key.
+    #[inline]
     pub fn renew(
         &mut self,
         gap: Option<Gap>,
@@ -100,6 +106,7 @@ impl<K: Eq, V, A: Allocator> Directory<K, V, A> {
 
     /// Makes a key the resident of a slot in place of another, which is remembered as the newest.
     /// If the history is full, the oldest remembered key is forgotten.
+    #[inline]
     pub fn remember(&mut self, gap: Option<Gap>, slot: u32, hash: u64, key: K, value: Option<V>) {
         let (old_hash, old_key) = self.residents.refill(slot, hash, key, value);
         if self.order.limit() == 0 {
@@ -119,6 +126,7 @@ impl<K: Eq, V, A: Allocator> Directory<K, V, A> {
 
 /// Writes a key to a place at the front: to a free one, or, if every place has a key, to the oldest
 /// key's. Then it also returns the hash of that key, which the index still has.
+#[inline]
 fn put_key<K, A: Allocator>(
     index: &Index<A>,
     order: &mut Order<A>,

@@ -30,6 +30,7 @@ impl<K: Eq, V, A: Allocator> Directory<K, V, A> {
 
     /// Looks a key that is not resident up among the remembered keys, if the places have a table of
     /// their own. The lookup of the residents found the gap, and was charged for both.
+    #[inline]
     fn lookup_apart(&mut self, gap: Option<Gap>, hash: u64, key: &K) -> Found {
         match self.remembered.find(self.index.own_places(hash), key) {
             Some(place) => Found::Remembered(Place::new(place)),
@@ -39,6 +40,7 @@ impl<K: Eq, V, A: Allocator> Directory<K, V, A> {
 
     /// Returns the slot of a resident key, and counts each comparison. Places are skipped. The index
     /// is charged one lookup.
+    #[inline]
     pub fn find_resident(&mut self, hash: u64, key: &K) -> Option<u32> {
         let found = self.residents.find(self.index.handles(hash), key);
         self.index.charge_lookup(hash);
@@ -47,6 +49,7 @@ impl<K: Eq, V, A: Allocator> Directory<K, V, A> {
 
     /// Returns the place of a remembered key, and counts each comparison. Slots are skipped. The
     /// index is charged one lookup.
+    #[inline]
     pub fn find_remembered(&mut self, hash: u64, key: &K) -> Option<Place> {
         self.index.charge_lookup(hash);
         if self.index.is_shared() {
@@ -59,6 +62,7 @@ impl<K: Eq, V, A: Allocator> Directory<K, V, A> {
     }
 
     /// Returns the slot of a resident key. It counts no comparison, and charges the index nothing.
+    #[inline]
     pub fn slot_of(&self, hash: u64, key: &K) -> Option<u32> {
         let mut compared = Count::new();
         self.residents
@@ -67,6 +71,7 @@ impl<K: Eq, V, A: Allocator> Directory<K, V, A> {
 
     /// Returns the slot that comes after `nth` others among those of the residents whose keys have
     /// this hash. It compares no key.
+    #[inline]
     pub fn slot_with_hash(&self, hash: u64, nth: usize) -> Option<u32> {
         self.residents
             .with_hash(self.index.handles(hash), hash, nth)

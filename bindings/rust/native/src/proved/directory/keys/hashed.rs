@@ -9,6 +9,7 @@ use crate::proved::rattle::Allocator;
 impl<K, V, A: Allocator> Keys<K, V, A> {
     /// Returns the slot that comes after `nth` others among the slots of `handles` whose keys have
     /// this hash. It compares no key.
+    #[inline]
     pub fn with_hash(&self, mut handles: Candidates<'_, u32>, hash: u64, nth: usize) -> Option<u32> {
         let mut more = nth;
         while let Some(handle) = handles.peek() {

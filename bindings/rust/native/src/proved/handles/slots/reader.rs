@@ -17,6 +17,7 @@ pub(crate) struct Reader<'a, H> {
 
 impl<'a, H: Copy + Default> Reader<'a, H> {
     /// Returns a reader that has read nothing yet.
+    #[inline]
     pub(super) fn new(metadata: &'a [Metadata], handles: &'a [H], mask: usize) -> Reader<'a, H> {
         Reader {
             metadata,
@@ -28,28 +29,33 @@ impl<'a, H: Copy + Default> Reader<'a, H> {
     }
 
     /// Returns the home slot of a hash, if there are slots.
+    #[inline]
     pub(crate) fn home(&self, hash: u64) -> usize {
         hash as usize & self.mask
     }
 
     /// Reads the metadata of a slot.
+    #[inline]
     pub(crate) fn read(&mut self, slot: usize) -> Metadata {
         self.reads.tick();
         self.metadata[slot]
     }
 
     /// Reads the handle of an entry that was found.
+    #[inline]
     pub(crate) fn handle(&mut self, slot: usize) -> H {
         self.handle_reads.tick();
         self.handles[slot]
     }
 
     /// Returns the count of metadata reads.
+    #[inline]
     pub(crate) fn reads(&self) -> &Count {
         &self.reads
     }
 
     /// Returns the slot after `slot`: slot 0 after the last.
+    #[inline]
     pub(crate) fn after(&self, slot: usize) -> usize {
         let mask = self.mask;
         (slot + 1) & mask

@@ -20,6 +20,7 @@ pub(crate) struct Slots<H, A: Allocator> {
 
 impl<H: Copy + Default, A: Allocator> Slots<H, A> {
     /// Returns no slots, without allocating.
+    #[inline]
     pub(crate) fn new(alloc: A) -> Slots<H, A>
     where
         A: Copy,
@@ -33,6 +34,7 @@ impl<H: Copy + Default, A: Allocator> Slots<H, A> {
     }
 
     /// Returns `count` empty slots.
+    #[inline]
     pub(crate) fn with_count(alloc: A, count: usize) -> Result<Slots<H, A>, AllocError>
     where
         A: Copy,
@@ -49,6 +51,7 @@ impl<H: Copy + Default, A: Allocator> Slots<H, A> {
         })
     }
 
+    #[inline]
     pub(crate) fn allocator(&self) -> A
     where
         A: Copy,
@@ -57,6 +60,7 @@ impl<H: Copy + Default, A: Allocator> Slots<H, A> {
     }
 
     /// Adds the writes counted for the slots that these replace.
+    #[inline]
     pub(crate) fn take_over_writes(&mut self, replaced: &Slots<H, A>) {
         self.writes.raise(&replaced.writes);
     }
@@ -68,16 +72,19 @@ impl<H: Copy + Default, A: Allocator> Slots<H, A> {
     }
 
     /// Returns the number of slots.
+    #[inline]
     pub(crate) fn count(&self) -> usize {
         self.metadata.len()
     }
 
     /// Returns the home slot of a hash, if there are slots.
+    #[inline]
     pub(crate) fn home(&self, hash: u64) -> usize {
         hash as usize & self.mask
     }
 
     /// Returns the slot after `slot`: slot 0 after the last.
+    #[inline]
     pub(crate) fn after(&self, slot: usize) -> usize {
         let _ = self.metadata.len(); // which bounds the sum
         (slot + 1) & self.mask
@@ -90,6 +97,7 @@ impl<H: Copy + Default, A: Allocator> Slots<H, A> {
         self.metadata[slot]
     }
 
+    #[inline]
     pub(crate) fn handle(&self, slot: usize) -> H {
         self.handles[slot]
     }
@@ -152,6 +160,7 @@ impl<H: Copy + Default, A: Allocator> Slots<H, A> {
     }
 
     /// Empties every slot. The handles stay in memory, but no lookup reaches them.
+    #[inline]
     pub(crate) fn clear(&mut self) {
         fill(
             self.metadata.as_mut_slice(),
@@ -162,6 +171,7 @@ impl<H: Copy + Default, A: Allocator> Slots<H, A> {
 }
 
 /// Writes a slot in both vectors, and counts the write.
+#[inline]
 fn write<H: Copy>(
     metadata: &mut [Metadata],
     handles: &mut [H],
@@ -176,11 +186,13 @@ fn write<H: Copy>(
 }
 
 /// Returns the slot after `slot`, of `mask + 1` slots: slot 0 after the last.
+#[inline]
 fn after(slot: usize, mask: usize) -> usize {
     (slot + 1) & mask
 }
 
 /// Writes the same word to each slot, and counts the slots as written.
+#[inline]
 fn fill(metadata: &mut [Metadata], word: Metadata, writes: &mut Count) {
     for at in 0..metadata.len() {
         metadata[at] = word;

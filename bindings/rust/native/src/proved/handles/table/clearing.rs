@@ -11,6 +11,7 @@ impl<H: Copy + Eq + Default, A: Allocator> Table<H, A> {
     ///
     /// One counted write per slot. It writes the metadata alone, which the code shows and no clause
     /// states.
+    #[inline]
     pub fn clear(&mut self) {
         self.slots.clear();
         self.len = 0;

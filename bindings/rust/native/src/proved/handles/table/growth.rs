@@ -11,6 +11,7 @@ use crate::proved::rattle::Allocator;
 const MIN_SLOTS: usize = 16;
 
 /// Returns the smallest slot count in which `entries` entries fit, if it can be counted.
+#[inline]
 pub(super) fn slots_for(entries: usize) -> Option<usize> {
     let quarter = entries.div_ceil(3).checked_next_power_of_two()?;
     let Some(count) = quarter.checked_mul(4) else {
@@ -34,6 +35,7 @@ impl<H: Copy + Eq + Default, A: Allocator + Copy> Table<H, A> {
     /// # Cost
     ///
     /// Constant if there is room already, and otherwise linear in the number of slots.
+    #[inline]
     pub fn reserve<F: FnMut(H) -> u64>(
         &mut self,
         additional: usize,
@@ -71,6 +73,7 @@ impl<H: Copy + Eq + Default, A: Allocator + Copy> Table<H, A> {
 
     /// Returns a table of the same entries in `count` slots, each under the hash that `rehash`
     /// returns for its handle.
+    #[inline]
     fn rebuilt<F: FnMut(H) -> u64>(
         &self,
         count: usize,

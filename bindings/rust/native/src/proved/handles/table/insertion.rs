@@ -51,6 +51,7 @@ impl<H: Copy + Eq + Default, A: Allocator + Copy> Table<H, A> {
     ///
     /// That of [get](Table::get), and that of [insert](Table::insert) if no candidate is accepted
     /// or the table is full.
+    #[inline]
     pub fn find_or_insert<M: FnMut(H) -> bool, F: FnMut(H) -> u64>(
         &mut self,
         hash: u64,
@@ -93,6 +94,7 @@ impl<H: Copy + Eq + Default, A: Allocator> Table<H, A> {
     }
 
     /// Returns the first candidate that is accepted, or inserts the handle if none is.
+    #[inline]
     fn find_or_put<M: FnMut(H) -> bool>(
         &mut self,
         hash: u64,

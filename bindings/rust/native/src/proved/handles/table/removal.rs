@@ -13,6 +13,7 @@ impl<H: Copy + Eq + Default, A: Allocator> Table<H, A> {
     ///
     /// It reads the walk to the entry. It writes the slots from the removed entry's to that of the
     /// last entry that moves back, and reads as many more.
+    #[inline]
     pub fn remove(&mut self, hash: u64, handle: H) -> bool {
         let Some(found) = self.slots.find(hash, handle, &mut self.reads) else {
             return false;

@@ -13,6 +13,7 @@ pub(crate) struct Cells<T: Copy, A: Allocator = Global> {
 
 impl<T: Copy, A: Allocator> Cells<T, A> {
     /// Returns cells that hold these items, with no read or write counted yet.
+    #[inline]
     pub(crate) fn new(items: Vec<T, A>) -> Self {
         Cells {
             items,
@@ -21,23 +22,27 @@ impl<T: Copy, A: Allocator> Cells<T, A> {
     }
 
     /// Returns the number of cells.
+    #[inline]
     pub(crate) fn len(&self) -> usize {
         self.items.len()
     }
 
     /// Returns the item of a cell.
+    #[inline]
     pub(crate) fn read(&mut self, at: u32) -> T {
         self.accesses.tick();
         self.items[at as usize]
     }
 
     /// Writes the item of a cell.
+    #[inline]
     pub(crate) fn write(&mut self, at: u32, item: T) {
         self.accesses.tick();
         self.items[at as usize] = item;
     }
 
     /// Writes the same item to every cell.
+    #[inline]
     pub(super) fn fill(&mut self, item: T) {
         let items = self.items.as_mut_slice();
         let accesses = &mut self.accesses;

@@ -18,6 +18,7 @@ pub(crate) struct Records<A: Allocator = Global> {
 impl<A: Allocator> Records<A> {
     /// Returns vacant records for `slots` slots, with no read or write counted yet. It takes all the
     /// memory that they will ever need.
+    #[inline]
     pub(super) fn new(alloc: A, slots: u32) -> Result<Self, AllocError>
     where
         A: Clone,
@@ -31,12 +32,14 @@ impl<A: Allocator> Records<A> {
     }
 
     /// Returns the record of a slot that is in a queue.
+    #[inline]
     pub(super) fn read(&mut self, slot: u32) -> Record {
         self.accesses.tick();
         self.items[slot as usize]
     }
 
     /// Returns the record of any slot.
+    #[inline]
     pub(super) fn read_any(&mut self, slot: u32) -> Record {
         self.accesses.tick();
         match self.items.get(slot as usize) {
@@ -47,16 +50,19 @@ impl<A: Allocator> Records<A> {
 
     /// Returns the record of a slot that is in a queue, to a walk that changes nothing, and so isn't
     /// counted.
+    #[inline]
     pub(super) fn peek(&self, slot: u32) -> Record {
         self.items[slot as usize]
     }
 
     /// Returns the flag of a slot that was made.
+    #[inline]
     pub(super) fn flag(&self, slot: u32) -> Flag {
         self.flags[slot as usize]
     }
 
     /// Returns the flag of any slot.
+    #[inline]
     pub(super) fn flag_of_any(&self, slot: usize) -> Flag {
         match self.flags.get(slot) {
             Some(flag) => *flag,
@@ -65,6 +71,7 @@ impl<A: Allocator> Records<A> {
     }
 
     /// Writes the flag of a slot that stays in a queue.
+    #[inline]
     pub(super) fn set_flag(&mut self, slot: u32, flag: Flag) {
         self.flags[slot as usize] = flag;
     }
@@ -99,6 +106,7 @@ impl<A: Allocator> Records<A> {
 
     /// Writes the location of a slot that is in a queue. Changing one field counts as a read and a
     /// write of the record.
+    #[inline]
     pub(super) fn set_location(&mut self, slot: u32, location: Location) {
         self.accesses.tick();
         self.accesses.tick();
@@ -126,6 +134,7 @@ impl<A: Allocator> Records<A> {
 
     /// Removes a slot from between its neighbours, and returns the record that it had. The slot's flag
     /// becomes free by the write that makes its record vacant.
+    #[inline]
     pub(super) fn detach(&mut self, slot: u32) -> Record {
         self.accesses.tick();
         let was = self.items[slot as usize];
@@ -142,11 +151,13 @@ impl<A: Allocator> Records<A> {
     }
 
     /// Raises the count of accesses by an amount that the proof of the call picks.
+    #[inline]
     pub(super) fn charge(&mut self) {
         self.accesses.raise(&());
     }
 
     /// Makes every slot vacant and free. No record is read or written.
+    #[inline]
     pub(super) fn clear(&mut self) {
         self.items.clear();
         self.flags.clear();
