@@ -66,6 +66,9 @@ pub(crate) struct Store<K, V> {
     pub(crate) entries: Entries<K, V>,
     /// How many pairs there are at most, or `usize::MAX` if one at each slot.
     limit: usize,
+    /// The second pair that left for the one stored last, if two did. Whoever stored that takes it out, and drops it
+    /// without a lock. There is room for it once the cache was resized.
+    second: Vec<(K, V)>,
     pub(crate) hits: u64,
     pub(crate) misses: u64,
 }
@@ -76,6 +79,7 @@ impl<K, V> Store<K, V> {
             entries: Entries::new(slots.capacity())?,
             slots,
             limit: usize::MAX,
+            second: Vec::new(),
             hits: 0,
             misses: 0,
         })
@@ -101,6 +105,7 @@ impl<K, V> Store<K, V> {
             return Err(Refused::Capacity);
         }
         let mut left = Vec::new();
+        self.second.reserve_exact(1);
         while self.entries.len() > limit {
             left.extend(self.evict().map(|(_, pair)| pair));
         }
@@ -116,13 +121,21 @@ impl<K, V> Store<K, V> {
         self.entries.clear();
     }
 
+    /// Removes all pairs, and returns them.
+    pub(crate) fn take_all(&mut self) -> Vec<(K, V)> {
+        let mut left = Vec::with_capacity(self.entries.len());
+        left.extend(self.drain().0);
+        left
+    }
+
     /// Removes all pairs, and returns them with their number.
     pub(crate) fn drain(&mut self) -> (Drained<'_, K, V>, usize) {
         self.slots.clear();
         self.entries.drain()
     }
 
-    /// Stores a pair whose key isn't here, and returns its slot and the pair that left for it.
+    /// Stores a pair whose key isn't here, and returns its slot and the pair that left for it. If two left,
+    /// [`take_second`](Store::take_second) returns the other.
     #[inline(always)]
     pub(crate) fn admit(&mut self, hash: u64, key: K, value: V) -> (usize, Option<(K, V)>) {
         if self.entries.len() < self.limit {
@@ -131,6 +144,12 @@ impl<K, V> Store<K, V> {
             }
         }
         self.admit_with_care(hash, key, value)
+    }
+
+    /// Returns the second pair that left for the one stored last, if two did.
+    #[inline]
+    pub(crate) fn take_second(&mut self) -> Option<(K, V)> {
+        self.second.pop()
     }
 
     /// Does so if there may not be more pairs, or else beside keys of the same hash.
@@ -148,12 +167,10 @@ impl<K, V> Store<K, V> {
         let crowded = self.entries.first_of_many(hash, MOST_ALIKE);
         let gave_way = crowded.and_then(|slot| self.remove_at(slot));
         let slot = self.slots.enter_beside(hash);
-        let left = self.entries.put(slot, hash, key, value);
-        (slot, left.or(gave_way))
+        (slot, self.put_after(gave_way, slot, hash, key, value))
     }
 
-    /// Does so in place of another pair though there are slots, since there may not be more pairs. If two
-    /// leave, one of them is dropped.
+    /// Does so in place of another pair though there are slots, since there may not be more pairs.
     fn admit_to_fewer(&mut self, hash: u64, key: K, value: V) -> (usize, Option<(K, V)>) {
         let gone = match self.entries.first_of_many(hash, MOST_ALIKE) {
             Some(slot) => self.remove_at(slot),
@@ -163,8 +180,51 @@ impl<K, V> Store<K, V> {
             Some(slot) => slot,
             None => self.slots.enter_beside(hash),
         };
-        let left = self.entries.put(slot, hash, key, value);
-        (slot, left.or(gone))
+        (slot, self.put_after(gone, slot, hash, key, value))
+    }
+
+    /// Puts a pair at its slot after another has left, and returns the pair that had the slot, or else that other.
+    fn put_after(
+        &mut self,
+        gone: Option<(K, V)>,
+        slot: usize,
+        hash: u64,
+        key: K,
+        value: V,
+    ) -> Option<(K, V)> {
+        match self.entries.put(slot, hash, key, value) {
+            None => gone,
+            left => {
+                self.second.extend(gone);
+                left
+            }
+        }
+    }
+
+    /// Stores a pair whose key is at this slot, or nowhere, and returns what was replaced or left. It runs no code of
+    /// users, and drops nothing.
+    pub(crate) fn push_at(
+        &mut self,
+        found: Option<usize>,
+        hash: u64,
+        key: K,
+        value: V,
+    ) -> Before<K, V> {
+        if let Some(slot) = found {
+            if let Some((_, before)) = self.entries.pair_mut(slot) {
+                self.slots.hit(slot);
+                return Before::Replaced(key, mem::replace(before, value));
+            }
+        }
+        Before::evicted(self.admit(hash, key, value).1)
+    }
+
+    /// Removes the pair at the slot of a key of this hash, and returns it. A key that has none is forgotten.
+    pub(crate) fn remove_found(&mut self, found: Option<usize>, hash: u64) -> Option<(K, V)> {
+        if found.is_none() {
+            self.slots.forget(hash);
+        }
+        found.and_then(|slot| self.remove_at(slot))
     }
 
     /// Records a hit of the pair at a slot.
@@ -242,12 +302,7 @@ impl<K: Eq, V> Store<K, V> {
         K: Borrow<Q>,
         Q: Eq + ?Sized,
     {
-        match self.entries.slot(hash, key) {
-            Some(slot) => self.remove_at(slot),
-            None => {
-                self.slots.forget(hash);
-                None
-            }
-        }
+        let found = self.entries.slot(hash, key);
+        self.remove_found(found, hash)
     }
 }
