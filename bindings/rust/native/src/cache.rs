@@ -300,7 +300,9 @@ impl<K: Hash + Eq, V, S: BuildHasher> Cache<K, V, S> {
     #[inline(always)]
     fn store_pair(&mut self, key: K, value: V) -> Before<K, V> {
         let hash = hash_of(&self.hasher, &key);
-        self.store.push(hash, key, value)
+        let before = self.store.push(hash, key, value);
+        drop(self.store.take_second());
+        before
     }
 
     /// Returns where a key belongs, after a hit if it is here.

@@ -157,7 +157,7 @@ impl<'a, K, V> VacantEntry<'a, K, V> {
     #[inline]
     pub fn insert(self, value: V) -> &'a mut V {
         let (slot, left) = self.store.admit(self.hash, self.key, value);
-        drop(left);
+        drop((left, self.store.take_second()));
         let pair = self.store.entries.pair_mut(slot);
         &mut pair.expect("a pair is at its slot").1
     }

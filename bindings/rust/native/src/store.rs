@@ -62,6 +62,9 @@ pub(crate) struct Store<K, V> {
     pub(crate) entries: Entries<K, V>,
     /// How many pairs there are at most, or `usize::MAX` if one at each slot.
     limit: usize,
+    /// The second pair that left for the one stored last, if two did. Whoever stored that takes it out, and drops it
+    /// without a lock. There is room for it once the cache was resized.
+    second: Vec<(K, V)>,
     pub(crate) hits: u64,
     pub(crate) misses: u64,
 }
@@ -72,6 +75,7 @@ impl<K, V> Store<K, V> {
             entries: Entries::new(slots.capacity())?,
             slots,
             limit: usize::MAX,
+            second: Vec::new(),
             hits: 0,
             misses: 0,
         })
@@ -102,6 +106,7 @@ impl<K, V> Store<K, V> {
             return Err(Refused::Capacity);
         }
         let mut left = Vec::new();
+        self.second.reserve_exact(1);
         while self.len() > limit {
             left.extend(self.evict().map(|(_, pair)| pair));
         }
@@ -117,6 +122,14 @@ impl<K, V> Store<K, V> {
         drop(self.drain());
     }
 
+    /// Removes all pairs, and returns them.
+    #[cfg(feature = "std")] // as threads need it
+    pub(crate) fn take_all(&mut self) -> Vec<(K, V)> {
+        let mut left = Vec::with_capacity(self.len());
+        left.extend(self.drain().0);
+        left
+    }
+
     /// Removes all pairs, and returns them with their number.
     pub(crate) fn drain(&mut self) -> (Drained<'_, K, V>, usize) {
         let len = self.len();
@@ -130,7 +143,14 @@ impl<K, V> Store<K, V> {
         self.limit == usize::MAX || self.len() < self.limit
     }
 
-    /// Stores a pair whose key isn't here, and returns its slot and the pair that left for it.
+    /// Returns the second pair that left for the one stored last, if two did.
+    #[inline]
+    pub(crate) fn take_second(&mut self) -> Option<(K, V)> {
+        self.second.pop()
+    }
+
+    /// Stores a pair whose key isn't here, and returns its slot and the pair that left for it. If two left,
+    /// [`take_second`](Store::take_second) returns the other.
     #[inline]
     pub(crate) fn admit(&mut self, hash: u64, key: K, value: V) -> (usize, Option<(K, V)>) {
         if !self.has_room() {
@@ -149,15 +169,45 @@ impl<K, V> Store<K, V> {
         }
     }
 
-    /// Does what `admit` does in place of another pair though there are slots, since there may not be more pairs. If
-    /// two leave, one of them is dropped.
+    /// Does what `admit` does in place of another pair though there are slots, since there may not be more pairs.
     #[cold]
     #[inline(never)]
     fn admit_to_fewer(&mut self, hash: u64, key: K, value: V) -> (usize, Option<(K, V)>) {
         let gone = self.evict().map(|(_, pair)| pair);
         let slot = self.slot_for(hash);
-        let left = self.entries.put(slot, key, value);
-        (slot, left.or(gone))
+        match self.entries.put(slot, key, value) {
+            None => (slot, gone),
+            left => {
+                self.second.extend(gone);
+                (slot, left)
+            }
+        }
+    }
+
+    /// Stores a pair whose key is at this slot, or nowhere, and returns what was replaced or left. It runs no code of
+    /// users, and drops nothing.
+    pub(crate) fn push_at(
+        &mut self,
+        found: Option<usize>,
+        hash: u64,
+        key: K,
+        value: V,
+    ) -> Before<K, V> {
+        if let Some(slot) = found {
+            if let Some((_, before)) = self.entries.pair_mut(slot) {
+                self.slots.hit(slot);
+                return Before::Replaced(key, mem::replace(before, value));
+            }
+        }
+        Before::evicted(self.admit(hash, key, value).1)
+    }
+
+    /// Removes the pair at the slot of a key of this hash, and returns it. A key that has none is forgotten.
+    pub(crate) fn remove_found(&mut self, found: Option<usize>, hash: u64) -> Option<(K, V)> {
+        if found.is_none() {
+            self.slots.forget(hash);
+        }
+        found.and_then(|slot| self.remove_at(slot))
     }
 
     /// Records a hit of the pair at a slot.
@@ -294,13 +344,8 @@ impl<K: Eq, V> Store<K, V> {
     #[cold]
     #[inline(never)]
     fn push_with_care(&mut self, hash: u64, key: K, value: V) -> Before<K, V> {
-        if let Some(slot) = self.slot(hash, &key) {
-            self.slots.hit(slot);
-            if let Some((_, before)) = self.entries.pair_mut(slot) {
-                return Before::Replaced(key, mem::replace(before, value));
-            }
-        }
-        Before::evicted(self.admit(hash, key, value).1)
+        let found = self.slot(hash, &key);
+        self.push_at(found, hash, key, value)
     }
 
     /// Removes a key, and returns the pair. A key that isn't here is forgotten.
@@ -309,12 +354,7 @@ impl<K: Eq, V> Store<K, V> {
         K: Borrow<Q>,
         Q: Eq + ?Sized,
     {
-        match self.slot(hash, key) {
-            Some(slot) => self.remove_at(slot),
-            None => {
-                self.slots.forget(hash);
-                None
-            }
-        }
+        let found = self.slot(hash, key);
+        self.remove_found(found, hash)
     }
 }

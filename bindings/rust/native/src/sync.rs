@@ -6,7 +6,7 @@ mod shards;
 mod weighted;
 
 use crate::slots::Slots;
-use crate::store::{hash_of, Store};
+use crate::store::{hash_of, Before, Store};
 use crate::{DefaultHashBuilder, Refused};
 use shard::Pairs;
 use shards::{part, usual_count, Shards};
@@ -26,10 +26,10 @@ pub use weighted::WeightedCache;
 /// [`resize`](Cache::resize) and those like them lock all of them in turn, and what they return may have
 /// changed meanwhile.
 ///
-/// `Hash` and the closure of [`get_or_insert_with`](Cache::get_or_insert_with) run without a lock, and what
-/// leaves is dropped without one, but by [`clear`](Cache::clear). `Eq`, `Clone` and the closure of
-/// [`get_with`](Cache::get_with) run under the lock of a shard: if one of them uses this cache, it may
-/// wait for ever or panic. After a panic the cache is whole, and no lock is poisoned.
+/// `Hash` and the closure of [`get_or_insert_with`](Cache::get_or_insert_with) run without a lock, and keys and
+/// values are dropped without one. `Eq`, `Clone` and the closure of [`get_with`](Cache::get_with) run under the
+/// lock of a shard: if one of them uses this cache, it may wait for ever or panic. After a panic the cache is
+/// whole, and no lock is poisoned.
 ///
 /// ```
 /// fn send_and_share<T: Send + Sync>(_: T) {}
@@ -191,10 +191,13 @@ impl<K, V, S> Cache<K, V, S> {
         &self.hasher
     }
 
-    /// Removes all keys, and forgets those that left.
+    /// Removes all keys, and forgets those that left. The pairs of each shard are kept in a vector until it has none.
     pub fn clear(&self) {
         for shard in self.shards.iter() {
-            shard.lock().clear();
+            let mut store = shard.lock();
+            let gone = (store.outdate_all(), store.take_all());
+            drop(store);
+            drop(gone);
         }
     }
 }
@@ -236,21 +239,31 @@ impl<K: Hash + Eq, V, S: BuildHasher> Cache<K, V, S> {
     /// Stores a value for a key, and returns the one before, if the key was here. A pair that has to leave
     /// for a new key is dropped.
     pub fn insert(&self, key: K, value: V) -> Option<V> {
-        let hash = hash_of(&self.hasher, &key);
-        let before = self.shards.of(hash).lock().push(hash, key, value);
-        before.replaced()
+        self.store_pair(key, value).replaced()
     }
 
     /// Stores a value for a key, and returns what had its slot: `key` and its value before, or the pair
     /// that had to leave for it.
     pub fn push(&self, key: K, value: V) -> Option<(K, V)> {
+        self.store_pair(key, value).pair()
+    }
+
+    fn store_pair(&self, key: K, value: V) -> Before<K, V> {
         let hash = hash_of(&self.hasher, &key);
-        let before = self.shards.of(hash).lock().push(hash, key, value);
-        before.pair()
+        let mut store = self.shards.of(hash).lock();
+        // `Eq` may panic in these two, while the lock is dropped before what this thread owns.
+        let found = store.slot(hash, &key);
+        let outdated = store.outdate(hash, &key);
+        let before = store.push_at(found, hash, key, value);
+        let second = store.take_second();
+        drop(store);
+        drop((outdated, second));
+        before
     }
 
     /// Returns a clone of the value of a key, after a hit or after storing what `make` returns. If
-    /// several threads ask for a key at once, one of them makes the value, which the others wait for.
+    /// several threads ask for a key at once, one of them makes the value, which the others wait for. If
+    /// the key is inserted or removed meanwhile, or all are, the value is returned to all of these, but not stored.
     ///
     /// `make` may use this cache, but not ask for this key, or wait for a thread that does.
     ///
@@ -285,7 +298,12 @@ impl<K: Hash + Eq, V, S: BuildHasher> Cache<K, V, S> {
         V: Clone,
     {
         let hash = hash_of(&self.hasher, &key);
-        let push = |store: &mut Store<K, V>, key, value| store.push(hash, key, value);
+        let push = |store: &mut Store<K, V>, pair: &mut Option<(K, V)>| {
+            let (key, _) = pair.as_ref()?;
+            let found = store.slot(hash, key);
+            let (key, value) = pair.take()?;
+            Some((store.push_at(found, hash, key, value), store.take_second()))
+        };
         self.shards.of(hash).value_or_make(hash, key, make, push)
     }
 
@@ -296,7 +314,12 @@ impl<K: Hash + Eq, V, S: BuildHasher> Cache<K, V, S> {
         Q: Hash + Eq + ?Sized,
     {
         let hash = hash_of(&self.hasher, key);
-        let removed = self.shards.of(hash).lock().remove(hash, key);
+        let mut store = self.shards.of(hash).lock();
+        let found = store.slot(hash, key);
+        let outdated = store.outdate(hash, key);
+        let removed = store.remove_found(found, hash);
+        drop(store);
+        drop(outdated);
         removed.map(|(_, value)| value)
     }
 }

@@ -169,7 +169,9 @@ impl<K: Hash + Eq, V, W, S: BuildHasher> WeightedCache<K, V, W, S> {
         K: Borrow<Q>,
         Q: Hash + Eq + ?Sized,
     {
-        let removed = self.store.remove(hash_of(&self.hasher, key), key);
+        let hash = hash_of(&self.hasher, key);
+        let found = self.store.slot(hash, key);
+        let removed = self.store.remove_found(found, hash);
         removed.map(|(_, value)| value)
     }
 
@@ -204,7 +206,8 @@ impl<K: Hash + Eq, V, W: Fn(&K, &V) -> u64, S: BuildHasher> WeightedCache<K, V, 
     fn store_pair(&mut self, key: K, value: V) -> Result<Stored<K, V>, (K, V)> {
         let weight = (self.weigher)(&key, &value);
         let hash = hash_of(&self.hasher, &key);
-        self.store.push(hash, key, value, weight)
+        let found = self.store.slot(hash, &key);
+        self.store.push_at(found, hash, (key, value), weight)
     }
 }
 

@@ -114,29 +114,42 @@ impl<K: Eq, V> WeightedStore<K, V> {
         Some(&held.value)
     }
 
-    /// Removes a key, and returns the pair. A key that isn't here is forgotten.
-    pub(crate) fn remove<Q>(&mut self, hash: u64, key: &Q) -> Option<(K, V)>
+    /// Returns the slot of a key. It records nothing.
+    pub(crate) fn slot<Q>(&self, hash: u64, key: &Q) -> Option<usize>
     where
         K: Borrow<Q>,
         Q: Eq + ?Sized,
     {
-        let pair = self.pairs.remove(hash, key)?;
+        self.pairs.slot(hash, key)
+    }
+}
+
+impl<K, V> WeightedStore<K, V> {
+    /// Removes all pairs, and returns them.
+    #[cfg(feature = "std")] // as threads need it
+    pub(crate) fn take_all(&mut self) -> Vec<(K, Weighed<V>)> {
+        self.weight = 0;
+        self.pairs.take_all()
+    }
+
+    /// Removes the pair at the slot of a key of this hash, and returns it. A key that has none is forgotten.
+    pub(crate) fn remove_found(&mut self, found: Option<usize>, hash: u64) -> Option<(K, V)> {
+        let pair = self.pairs.remove_found(found, hash)?;
         Some(self.without(pair))
     }
 
-    /// Stores a pair of this weight, or returns it if that is above the limit alone.
-    pub(crate) fn push(
+    /// Stores a pair of this weight, whose key is at this slot or nowhere, or returns it if the weight is above the
+    /// limit alone. It runs no code of users, and drops nothing.
+    pub(crate) fn push_at(
         &mut self,
+        found: Option<usize>,
         hash: u64,
-        key: K,
-        value: V,
+        (key, value): (K, V),
         weight: u64,
     ) -> Result<Stored<K, V>, (K, V)> {
         if weight > self.max_weight {
             return Err((key, value));
         }
-        let found = self.pairs.slot(hash, &key);
-        // No code of users runs from here on.
         let (found, mut left) = self.make_room(found, weight);
         let held = Weighed { value, weight };
         if let Some((_, here)) = found.and_then(|slot| self.pairs.entries.pair_mut(slot)) {
@@ -147,7 +160,12 @@ impl<K: Eq, V> WeightedStore<K, V> {
         }
         self.weight += weight;
         let (_, more) = self.pairs.admit(hash, key, held);
-        left.extend(more.map(|pair| self.without(pair)));
+        let second = self.pairs.take_second();
+        left.extend(
+            more.into_iter()
+                .chain(second)
+                .map(|pair| self.without(pair)),
+        );
         Ok(Stored { before: None, left })
     }
 

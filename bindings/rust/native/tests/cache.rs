@@ -211,7 +211,7 @@ fn keys_of_one_hash_are_beside_one_another() {
         assert_eq!(cache.len(), 100);
     }
     assert_eq!(cache.remove(&9_999), Some(9_999));
-    assert_eq!(cache.insert(0, 1), None);
+    assert_eq!(cache.insert(10_000, 1), None);
 }
 
 /// The keys that are here are those that have a slot in a cache of their hashes.

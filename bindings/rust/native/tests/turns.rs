@@ -29,6 +29,11 @@ impl Call {
     fn asks(self) -> bool {
         matches!(self, Call::Makes | Call::Fails | Call::Panics)
     }
+
+    /// Returns true if a value that is being made isn't stored after this.
+    fn outdates(self) -> bool {
+        matches!(self, Call::Inserts | Call::Removes | Call::Clears)
+    }
 }
 
 const CALLS: [Call; 7] = [
@@ -47,10 +52,12 @@ enum At {
     Start,
     Running,
     Making,
+    /// It makes a value that won't be stored.
+    Outdated,
     /// It has found its key in the cache, or another thread that makes the value.
     Found,
-    /// It waits for the value.
-    Waiting,
+    /// It waits for the value that this thread makes.
+    Waiting(usize),
     Returned(Option<u64>),
 }
 
@@ -92,6 +99,11 @@ impl Hash for Key {
     fn hash<H: Hasher>(&self, state: &mut H) {
         self.0.hash(state);
     }
+}
+
+/// Returns the thread that makes a value to be stored, if one does.
+fn maker(at: &[At]) -> Option<usize> {
+    at.iter().position(|at| *at == At::Making)
 }
 
 impl World {
@@ -162,13 +174,15 @@ impl World {
     fn settled(&self) -> [At; THREADS] {
         loop {
             let seen = self.lock().clone();
-            let is_made = seen.at.contains(&At::Making) && !self.cache.contains_key(&KEY);
-            let goes_on = |at: &At| *at == At::Running || (*at == At::Found && !is_made);
+            let maker = maker(&seen.at).filter(|_| !self.cache.contains_key(&KEY));
             let mut threads = self.lock();
-            if !seen.at.iter().any(goes_on) {
-                for at in threads.at.iter_mut().filter(|at| **at == At::Found) {
-                    *at = At::Waiting;
+            for (at, seen) in threads.at.iter_mut().zip(&seen.at) {
+                if let (At::Found, Some(maker)) = (*seen, maker) {
+                    *at = At::Waiting(maker);
                 }
+            }
+            let goes_on = |at: &At| matches!(at, At::Running | At::Found);
+            if !threads.at.iter().any(goes_on) {
                 return threads.at;
             }
             while threads.changes == seen.changes {
@@ -177,12 +191,14 @@ impl World {
         }
     }
 
-    /// Lets a thread go on. Those that wait for the value that it makes do too.
-    fn turn(&self, next: usize) {
+    /// Lets a thread go on, which makes this call. Those that wait for the value that it makes do too.
+    fn turn(&self, next: usize, call: Call) {
         let mut threads = self.lock();
-        if threads.at[next] == At::Making {
-            for at in threads.at.iter_mut().filter(|at| **at == At::Waiting) {
+        for at in threads.at.iter_mut() {
+            if *at == At::Waiting(next) {
                 *at = At::Running;
+            } else if *at == At::Making && call.outdates() {
+                *at = At::Outdated;
             }
         }
         threads.at[next] = At::Running;
@@ -195,6 +211,7 @@ impl World {
 fn stored(call: Call, me: usize, was: At, held: Option<u64>) -> Option<u64> {
     match (call, was) {
         (Call::Makes, At::Making) | (Call::Inserts, _) => Some(me as u64),
+        (Call::Makes, At::Outdated) => held,
         (Call::Removes | Call::Clears | Call::Evicts, _) => None,
         _ => held,
     }
@@ -203,32 +220,40 @@ fn stored(call: Call, me: usize, was: At, held: Option<u64>) -> Option<u64> {
 /// What a turn has to do to the thread whose turn it was and to those that waited.
 fn check(calls: &[Call], next: usize, before: &[At], after: &[At], held: Option<u64>) {
     let making = |at: &[At]| at.iter().filter(|at| **at == At::Making).count();
-    assert!(making(after) <= 1, "one thread makes the value");
+    assert!(
+        making(after) <= 1,
+        "one thread makes the value to be stored"
+    );
     let expected = match (before[next], calls[next]) {
         (At::Start, call) if !call.asks() => At::Returned(None),
         (At::Start, _) if held.is_some() => At::Returned(held),
-        (At::Start, _) if making(before) == 1 => At::Waiting,
-        (At::Start, _) => At::Making,
+        (At::Start, _) => maker(before).map_or(At::Making, At::Waiting),
         (_, Call::Makes) => At::Returned(Some(next as u64)),
         (_, _) => At::Returned(None),
     };
     assert_eq!(after[next], expected, "{calls:?}, the turn of {next}");
-    let waited: Vec<usize> = (0..before.len())
-        .filter(|at| before[*at] == At::Waiting)
-        .collect();
-    if before[next] != At::Making {
-        assert!(waited.iter().all(|at| after[*at] == At::Waiting));
-    } else if calls[next] == Call::Makes {
-        let made = At::Returned(Some(next as u64));
-        assert!(waited.iter().all(|at| after[*at] == made));
-    } else if let Some(value) = held {
-        assert!(waited
+    let waits = |at: &At| matches!(at, At::Waiting(_));
+    let (woken, others): (Vec<usize>, Vec<usize>) = (0..before.len())
+        .filter(|at| waits(&before[*at]))
+        .partition(|at| before[*at] == At::Waiting(next));
+    assert!(others.iter().all(|at| after[*at] == before[*at]));
+    let returned = |value| {
+        woken
             .iter()
-            .all(|at| after[*at] == At::Returned(Some(value))));
+            .all(|at| after[*at] == At::Returned(Some(value)))
+    };
+    if calls[next] == Call::Makes {
+        assert!(returned(next as u64), "those that wait have the value");
+    } else if let Some(value) = held {
+        assert!(returned(value), "those that waited find a value");
+    } else if let Some(other) = maker(before).filter(|other| *other != next) {
+        let waits = |at: &usize| after[*at] == At::Waiting(other);
+        assert!(woken.iter().all(waits), "those that waited wait again");
     } else {
+        let made = woken.iter().filter(|at| after[**at] == At::Making).count();
         assert_eq!(
-            making(after),
-            waited.len().min(1),
+            made,
+            woken.len().min(1),
             "one of those that waited makes it"
         );
     }
@@ -269,13 +294,13 @@ fn goes(calls: [Call; THREADS], choices: &mut Choices) {
         let mut before = world.settled();
         for turn in 0.. {
             let ready: Vec<usize> = (0..THREADS)
-                .filter(|at| matches!(before[*at], At::Start | At::Making))
+                .filter(|at| matches!(before[*at], At::Start | At::Making | At::Outdated))
                 .collect();
             if ready.is_empty() {
                 break;
             }
             let next = ready[choices.choose(turn, ready.len())];
-            world.turn(next);
+            world.turn(next, calls[next]);
             let after = world.settled();
             check(&calls, next, &before, &after, held);
             held = stored(calls[next], next, before[next], held);

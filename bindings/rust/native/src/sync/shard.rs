@@ -1,6 +1,8 @@
 //! A part of a shared cache, under one lock.
 
 use super::flight::Flight;
+use std::borrow::Borrow;
+use std::mem;
 use std::ops::{Deref, DerefMut};
 use std::sync::{Arc, Mutex, MutexGuard, PoisonError};
 use std::vec::Vec;
@@ -18,10 +20,13 @@ pub(super) trait Pairs<K, V> {
 #[repr(align(128))]
 pub(super) struct Shard<P, K, V>(Mutex<State<P, K, V>>);
 
-/// What a shard's lock guards: pairs, and the keys whose values are being made, with their hashes.
+/// A key's hash, the key, and its value that is being made.
+type InFlight<K, V> = (u64, K, Arc<Flight<V>>);
+
+/// What a shard's lock guards: pairs, and the values that are being made and then stored.
 struct State<P, K, V> {
     pairs: P,
-    made: Vec<(u64, K, Arc<Flight<V>>)>,
+    made: Vec<InFlight<K, V>>,
 }
 
 /// A locked shard, of which only the pairs are seen.
@@ -38,6 +43,25 @@ impl<P, K, V> Deref for Locked<'_, P, K, V> {
 impl<P, K, V> DerefMut for Locked<'_, P, K, V> {
     fn deref_mut(&mut self) -> &mut P {
         &mut self.0.pairs
+    }
+}
+
+impl<P, K, V> Locked<'_, P, K, V> {
+    /// Has a value that is being made for a key go to those that wait for it, and not be stored: it may be older than
+    /// what happens to the key now. Whoever has the lock drops what is returned without it.
+    pub(super) fn outdate<Q>(&mut self, hash: u64, key: &Q) -> Option<InFlight<K, V>>
+    where
+        K: Borrow<Q>,
+        Q: Eq + ?Sized,
+    {
+        let mut made = self.0.made.iter();
+        let at = made.position(|(of, held, _)| *of == hash && held.borrow() == key)?;
+        Some(self.0.made.swap_remove(at))
+    }
+
+    /// Does so for all keys.
+    pub(super) fn outdate_all(&mut self) -> Vec<InFlight<K, V>> {
+        mem::take(&mut self.0.made)
     }
 }
 
@@ -61,13 +85,14 @@ impl<P, K, V> Shard<P, K, V> {
 
 impl<P: Pairs<K, V>, K: Eq, V: Clone> Shard<P, K, V> {
     /// Returns a clone of the value of a key, which `make` makes and `push` stores if neither is it here nor
-    /// does another thread make it. What `push` returns is dropped without the lock.
+    /// does another thread make it. `push` takes the pair out after it has run code of users, and what it leaves or
+    /// returns is dropped without the lock.
     pub(super) fn value_or_make<E, L>(
         &self,
         hash: u64,
         key: K,
         make: impl FnOnce() -> Result<V, E>,
-        push: impl FnOnce(&mut P, K, V) -> L,
+        push: impl FnOnce(&mut P, &mut Option<(K, V)>) -> L,
     ) -> Result<V, E> {
         match self.value_or_begin(hash, key) {
             Ok(value) => Ok(value),
@@ -120,6 +145,21 @@ impl<P, K, V> Shard<P, K, V> {
             is_over: false,
         }
     }
+
+    /// Stores a value that was made, unless it is outdated, and returns what `push` does.
+    fn store_made<L>(
+        &self,
+        flight: &Arc<Flight<V>>,
+        value: V,
+        push: impl FnOnce(&mut P, &mut Option<(K, V)>) -> L,
+    ) -> Option<L> {
+        // Before the lock, so that the pair is dropped after it if `push` panics; `value` is too.
+        let mut pair;
+        let mut state = self.state();
+        let key = state.end(flight)?;
+        pair = Some((key, value));
+        Some(push(&mut state.pairs, &mut pair))
+    }
 }
 
 impl<P, K, V> State<P, K, V> {
@@ -133,7 +173,7 @@ impl<P, K, V> State<P, K, V> {
         Some(Arc::clone(flight))
     }
 
-    /// Has nobody wait from now on, and returns the key.
+    /// Has nobody wait from now on, and returns the key, unless the value is outdated.
     fn end(&mut self, flight: &Arc<Flight<V>>) -> Option<K> {
         let mut made = self.made.iter();
         let at = made.position(|(_, _, other)| Arc::ptr_eq(flight, other))?;
@@ -150,12 +190,9 @@ struct Making<'a, P, K, V> {
 
 impl<P, K: Eq, V: Clone> Making<'_, P, K, V> {
     /// Stores the value, and returns a clone of it, as to those that wait. What leaves is dropped last.
-    fn store<L>(mut self, value: V, push: impl FnOnce(&mut P, K, V) -> L) -> V {
+    fn store<L>(mut self, value: V, push: impl FnOnce(&mut P, &mut Option<(K, V)>) -> L) -> V {
         let copy = value.clone();
-        let mut state = self.shard.state();
-        let key = state.end(&self.flight);
-        let before = key.map(|key| push(&mut state.pairs, key, value));
-        drop(state);
+        let before = self.shard.store_made(&self.flight, value, push);
         // Nobody begins to wait from now on.
         if Arc::strong_count(&self.flight) > 1 {
             self.flight.end(Some(copy.clone()));

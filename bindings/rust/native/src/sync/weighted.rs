@@ -180,10 +180,13 @@ impl<K, V, W, S> WeightedCache<K, V, W, S> {
         &self.hasher
     }
 
-    /// Removes all pairs, and forgets those that left.
+    /// Removes all pairs, and forgets those that left. Those of each shard are kept in a vector until it has none.
     pub fn clear(&self) {
         for shard in self.shards.iter() {
-            shard.lock().clear();
+            let mut store = shard.lock();
+            let gone = (store.outdate_all(), store.take_all());
+            drop(store);
+            drop(gone);
         }
     }
 }
@@ -226,7 +229,12 @@ impl<K: Hash + Eq, V, W, S: BuildHasher> WeightedCache<K, V, W, S> {
         Q: Hash + Eq + ?Sized,
     {
         let hash = hash_of(&self.hasher, key);
-        let removed = self.shards.of(hash).lock().remove(hash, key);
+        let mut store = self.shards.of(hash).lock();
+        let found = store.slot(hash, key);
+        let outdated = store.outdate(hash, key);
+        let removed = store.remove_found(found, hash);
+        drop(store);
+        drop(outdated);
         removed.map(|(_, value)| value)
     }
 }
@@ -257,11 +265,22 @@ impl<K: Hash + Eq, V, W: Fn(&K, &V) -> u64, S: BuildHasher> WeightedCache<K, V, 
     fn store_pair(&self, key: K, value: V) -> Result<Stored<K, V>, (K, V)> {
         let weight = (self.weigher)(&key, &value);
         let hash = hash_of(&self.hasher, &key);
-        self.shards.of(hash).lock().push(hash, key, value, weight)
+        let mut store = self.shards.of(hash).lock();
+        if weight > store.max_weight {
+            return Err((key, value));
+        }
+        // `Eq` may panic in these two, while the lock is dropped before what this thread owns.
+        let found = store.slot(hash, &key);
+        let outdated = store.outdate(hash, &key);
+        let stored = store.push_at(found, hash, (key, value), weight);
+        drop(store);
+        drop(outdated);
+        stored
     }
 
     /// Returns a clone of the value of a key, after a hit or after storing what `make` returns, if that isn't too
-    /// heavy. If several threads ask for a key at once, one of them makes the value, which the others wait for.
+    /// heavy. If several threads ask for a key at once, one of them makes the value, which the others wait for. If the
+    /// key is inserted or removed meanwhile, or all are, the value is returned to all of these, but not stored.
     ///
     /// `make` may use this cache, but not ask for this key, or wait for a thread that does.
     ///
@@ -296,9 +315,11 @@ impl<K: Hash + Eq, V, W: Fn(&K, &V) -> u64, S: BuildHasher> WeightedCache<K, V, 
         V: Clone,
     {
         let hash = hash_of(&self.hasher, &key);
-        let push = |store: &mut WeightedStore<K, V>, key, value| {
-            let weight = (self.weigher)(&key, &value);
-            store.push(hash, key, value, weight)
+        let push = |store: &mut WeightedStore<K, V>, pair: &mut Option<(K, V)>| {
+            let (key, value) = pair.as_ref()?;
+            let weight = (self.weigher)(key, value);
+            let found = store.slot(hash, key);
+            Some(store.push_at(found, hash, pair.take()?, weight))
         };
         self.shards.of(hash).value_or_make(hash, key, make, push)
     }
