@@ -122,6 +122,8 @@ class Checks:
     """The runs of rt that are under way, so that all of them can be ended."""
 
     def __init__(self):
+        if not shutil.which("rt"):
+            stop("rt isn't there, the command of the Rattle kit: README.md, Install")
         self.running = set()
         self.is_ended = False
 
@@ -167,6 +169,18 @@ def clause_of(goal, before):
     return goal
 
 
+def noted(log):
+    """Returns the functions and clauses that the checker's notes name: those of a function come before its line."""
+    found_at, goals = [], []
+    for line in log:
+        if found := re.match(r"note: \S+:\d+:\d+: it is not proved that .*\(`([\w-]*clause-[\w-]+)`\)$", line):
+            goals.append(found[1])
+        elif found := re.match(r"fn \w+::(\S+): (not proved|no proof)?", line):
+            found_at += [(found[1], clause_of(it, "")) for it in goals if found[2]]
+            goals = []
+    return found_at
+
+
 def refusing(log, crate):
     """Returns the functions and clauses at which the check refused the crate, and those at which a name is gone, as two lists."""
     refused_at, gone, records = [], [], {}
@@ -190,6 +204,7 @@ def refusing(log, crate):
             # goals that rest on a lemma which was refused
             goals = re.findall(r"(?:returns|invariant_of)[\w-]*", found[2])
             refused_at += [(found[1].replace("/", "::"), clause_of(it, "")) for it in goals]
+    refused_at += [it for it in noted(log) if it not in gone]
     return list(dict.fromkeys(refused_at)), list(dict.fromkeys(gone))
 
 

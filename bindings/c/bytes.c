@@ -225,15 +225,13 @@ clock2q_bytes_key (clock2q_bytes_key_at)(clock2q_bytes *handle, size_t slot) {
     return shown(slot < clock2q_tokens_capacity(&cache->slots) ? cache->keys[slot] : NULL);
 }
 
-/* Frees all keys. */
+/* Frees the keys that have slots. */
 static void drop_keys(struct cache *cache) {
     size_t capacity = clock2q_tokens_capacity(&cache->slots);
     for (size_t slot = 0; slot < capacity; slot++) {
         give_back(cache, cache->keys[slot]);
         cache->keys[slot] = NULL;
     }
-    give_back(cache, cache->left);
-    cache->left = NULL;
 }
 
 void (clock2q_bytes_clear)(clock2q_bytes *handle) {
@@ -253,6 +251,7 @@ size_t (clock2q_bytes_capacity)(clock2q_bytes *handle) {
 void (clock2q_bytes_release)(clock2q_bytes handle) {
     struct cache *cache = handle.at;
     drop_keys(cache);
+    give_back(cache, cache->left);
     clock2q_tokens_free(&cache->slots);
     cache->memory.give_back(cache);
 }

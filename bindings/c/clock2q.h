@@ -125,7 +125,7 @@ bool clock2q_remove(clock2q_cache *cache, uint64_t key);
 /* Takes the slot away from the key that leaves next, and returns its place: `slot` was its slot, `last`
  * is the key, `has_last` and `evicted` are true. If no key has a slot, all of them are 0 or false.
  * clock2q_evict below writes that instead. In a full cache it is the key that a new one would make leave;
- * the next key that enters takes its slot. Needs a cache. Costs no hash, at most 21 accesses to the
+ * the next key that takes a free slot takes this one. Needs a cache. Costs no hash, at most 21 accesses to the
  * queues, and one for each key that the hand passes over. */
 clock2q_place clock2q_evict_key(clock2q_cache *cache);
 
@@ -166,7 +166,7 @@ void clock2q_release(clock2q_cache cache);
  *   left the cache.
  * - Hashes are well spread, in their low bits and in the highest eight: clock2q_spread makes them so.
  *   They choose where a key is looked for, never what is found. If strangers choose keys, hash them
- *   with a secret.
+ *   with a secret, or spread their hashes with clock2q_spread_by.
  * - Few keys of one hash: a walk over them takes time in proportion to the square of their number.
  *   From sixteen on remove one before the next enters.
  * - Between a walk and the call that it leads to, no other call is made on the cache. If a comparison
@@ -372,6 +372,14 @@ static inline void clock2q_tokens_free(clock2q_tokens *cache) {
 /* Spreads the bits of a hash. Different hashes stay different. */
 static inline uint64_t clock2q_spread(uint64_t hash) {
     uint64_t product = hash * UINT64_C(0x9E3779B97F4A7C15);
+    return product ^ product >> 32;
+}
+
+/* Spreads them by a secret, two odd numbers: who chooses hashes without knowing it finds no more of them that are
+ * looked for at one place than chance does. Different hashes stay different. */
+static inline uint64_t clock2q_spread_by(const uint64_t secret[2], uint64_t hash) {
+    uint64_t product = hash * secret[0];
+    product = (product ^ product >> 32) * secret[1];
     return product ^ product >> 32;
 }
 

@@ -10,17 +10,26 @@
 #ifndef CLOCK2Q_HPP
 #define CLOCK2Q_HPP
 
+#if __cplusplus < 201703L && !(defined _MSVC_LANG && _MSVC_LANG >= 201703L)
+#error "clock2q.hpp needs C++17 or later, as by -std=c++17"
+#else
+
 #include "clock2q.h"
 
 #include <algorithm>
+#include <array>
+#include <chrono>
 #include <cstddef>
 #include <cstdint>
+#include <exception>
 #include <functional>
 #include <iterator>
 #include <memory>
 #include <new>
 #include <optional>
+#include <random>
 #include <stdexcept>
+#include <string>
 #include <tuple>
 #include <type_traits>
 #include <utility>
@@ -44,8 +53,30 @@ inline void check(std::uint32_t answer) {
     }
 }
 
-// The most keys of one hash in a cache.
+// The most keys of one hash in a cache, and how often what users' code undoes is tried again.
 constexpr std::size_t most_alike = 16;
+constexpr int most_tries = 8;
+
+using secret = std::array<std::uint64_t, 2>;
+
+// Draws a number, which is guessed more easily if the system has no random ones.
+inline std::uint64_t drawn_number() {
+    try {
+        std::random_device device;
+        return static_cast<std::uint64_t>(device()) << 32 | device();
+    } catch (const std::exception &) {
+        static const char anchor = 0;
+        auto now = std::chrono::high_resolution_clock::now().time_since_epoch().count();
+        return static_cast<std::uint64_t>(now) * reinterpret_cast<std::uintptr_t>(&anchor);
+    }
+}
+
+// Two odd numbers of this process, by which hashes are spread: std::hash of an int is often the int, and who picks the
+// keys isn't to choose where they are looked for.
+inline const secret &process_secret() {
+    static const secret drawn = {drawn_number() | 1, drawn_number() | 1};
+    return drawn;
+}
 
 } // namespace detail
 
@@ -240,6 +271,99 @@ template <class Node> class nodes {
     std::unique_ptr<Node *[]> chains_;
 };
 
+// Nodes that have left a cache, which are destroyed as the call ends during which they left. Code of users may call
+// the cache while it is working on nodes, as Equal is on keys: those that this thread is to destroy then come here.
+template <class Node> class leaving {
+  public:
+    // Blocks of nodes are kept at `spare`, if that isn't null and has none.
+    leaving(const void *cache, Node **spare) noexcept : cache_(cache), spare_(spare) {}
+    leaving(const leaving &) = delete;
+    leaving &operator=(const leaving &) = delete;
+    ~leaving() { end(nullptr); }
+
+    // Is there while code of users is working on nodes. If there are two of a cache, nodes come to the outer one.
+    class working {
+      public:
+        explicit working(leaving &left) noexcept : left_(of(left.cache_) == nullptr ? &left : nullptr) {
+            if (left_ != nullptr) left_->outer_ = std::exchange(innermost(), left_);
+        }
+        working(const working &) = delete;
+        working &operator=(const working &) = delete;
+        ~working() {
+            if (left_ != nullptr) innermost() = left_->outer_;
+        }
+
+      private:
+        leaving *left_;
+    };
+
+    // Adds a node and those that it leads to; none, if it is null.
+    void add(Node *left) noexcept {
+        if (left == nullptr) return;
+        leaving *outer = of(cache_);
+        while (left != nullptr) (outer == nullptr ? this : outer)->append(std::exchange(left, left->next));
+    }
+
+    // Destroys all nodes but this one. Returns false if it is one of them, and the caller's from then on.
+    bool end(const Node *kept) noexcept {
+        bool is_kept = false;
+        if (first_ == nullptr) return true;
+        working now(*this);
+        while (Node *left = take_first()) {
+            if (left == kept) is_kept = true;
+            else destroy_now(left, spare_);
+        }
+        return !is_kept;
+    }
+
+    // Destroys a node that has left a cache, or adds it to those of its call.
+    static void destroy(const void *cache, Node *left) noexcept {
+        leaving *outer = of(cache);
+        if (outer != nullptr) outer->append(left);
+        else destroy_now(left, nullptr);
+    }
+
+  private:
+    // Who gets the nodes of a cache, if code of users is working on them on this thread, or null.
+    static leaving *of(const void *cache) noexcept {
+        leaving *at = innermost();
+        while (at != nullptr && at->cache_ != cache) at = at->outer_;
+        return at;
+    }
+    static leaving *&innermost() noexcept {
+        static thread_local leaving *at = nullptr;
+        return at;
+    }
+    void append(Node *left) noexcept {
+        left->next = nullptr;
+        *end_ = left;
+        end_ = &left->next;
+    }
+    Node *take_first() noexcept {
+        Node *left = first_;
+        if (left == nullptr) return nullptr;
+        first_ = std::exchange(left->next, nullptr);
+        if (first_ == nullptr) end_ = &first_;
+        return left;
+    }
+    static void destroy_now(Node *left, Node **spare) noexcept {
+        left->~Node();
+        if (spare != nullptr && *spare == nullptr) *spare = left;
+        else std::allocator<Node>().deallocate(left, 1);
+    }
+
+    const void *cache_;
+    Node **spare_;
+    leaving *outer_ = nullptr;
+    Node *first_ = nullptr, **end_ = &first_;
+};
+
+// Whether to compare keys calls no code of users.
+template <class Key> struct is_plain : std::bool_constant<std::is_arithmetic_v<Key> || std::is_pointer_v<Key>> {};
+template <class Letter> struct is_plain<std::basic_string<Letter>> : std::is_arithmetic<Letter> {};
+template <class Key, class Equal>
+constexpr bool compares_plainly = is_plain<Key>::value && std::is_same_v<Equal, std::equal_to<Key>>;
+
 template <class T, class = void> struct is_transparent : std::false_type {};
 template <class T> struct is_transparent<T, std::void_t<typename T::is_transparent>> : std::true_type {};
 
@@ -263,8 +387,10 @@ template <> struct argument<false> {
 //   Moving or swapping a cache keeps them all, moves no key or value, and leaves an empty cache of capacity 0,
 //   in which what would insert throws std::length_error.
 // - Hash, Equal, constructors, assignments and destructors of keys and values run while the cache is whole.
-//   They may call it, but not destroy, move or assign it, or erase what they work on; if Equal changes the
-//   cache at eight tries, std::logic_error is thrown. An entry that leaves is destroyed last.
+//   They may call it, and insert and erase, but not destroy, move or assign it, or have an entry leave to which
+//   an argument of the call refers. Entries that leave are destroyed last, as the outermost call ends. If that
+//   has the call's own entry leave, it enters again, and get and find return none. std::logic_error is thrown
+//   if so it is at nine tries, or if Equal changes the cache at eight.
 // - If a call throws, the cache has the entries that it had; `insert_or_assign` leaves of a value what its
 //   assignment does. Destructors don't throw.
 // - Calls of const members may overlap, as those of std's containers; others are one thread's at a time.
@@ -284,6 +410,7 @@ template <class Key, class Value, class Hash = std::hash<Key>, class Equal = std
             : hash(own_hash), entry(std::piecewise_construct, std::forward_as_tuple(std::forward<K>(key)),
                                     std::forward_as_tuple(std::forward<Args>(args)...)) {}
     };
+    using leaving = detail::leaving<node>;
     template <class Other>
     using argument = typename detail::argument<detail::is_transparent<Hash>::value &&
                                                detail::is_transparent<Equal>::value>::template type<Other, Key>;
@@ -354,12 +481,10 @@ template <class Key, class Value, class Hash = std::hash<Key>, class Equal = std
         friend class cache;
         template <class, class, class, class, class> friend class weighted_cache;
         struct destroy {
-            void operator()(node *left) const noexcept {
-                left->~node();
-                std::allocator<node>().deallocate(left, 1);
-            }
+            const void *cache = nullptr;
+            void operator()(node *left) const noexcept { leaving::destroy(cache, left); }
         };
-        explicit node_type(node *owned) noexcept : owned_(owned) {}
+        node_type(node *owned, const void *from) noexcept : owned_(owned, destroy{from}) {}
         std::unique_ptr<node, destroy> owned_;
     };
 
@@ -378,17 +503,12 @@ template <class Key, class Value, class Hash = std::hash<Key>, class Equal = std
 
     // Returns the value of a key, after a hit, or null. Counts a hit or a miss.
     template <class K = Key> Value *get(const argument<K> &key) {
-        if (state_ == nullptr) return nullptr;
-        return value_of(state_->hit_and_count(key, hash_of(key)));
+        return value_of(counted(key));
     }
 
     // Returns the value of a key, or null, and records nothing.
-    template <class K = Key> Value *peek(const argument<K> &key) {
-        return state_ == nullptr ? nullptr : value_of(state_->find(key, hash_of(key)));
-    }
-    template <class K = Key> const Value *peek(const argument<K> &key) const {
-        return state_ == nullptr ? nullptr : value_of(state_->find(key, hash_of(key)));
-    }
+    template <class K = Key> Value *peek(const argument<K> &key) { return value_of(found(key)); }
+    template <class K = Key> const Value *peek(const argument<K> &key) const { return value_of(found(key)); }
 
     // Returns true, or 1, if the key is there, and records nothing.
     template <class K = Key> bool contains(const argument<K> &key) const { return peek(key) != nullptr; }
@@ -400,11 +520,9 @@ template <class Key, class Value, class Hash = std::hash<Key>, class Equal = std
     template <class K = Key> const Value &at(const argument<K> &key) const { return must_be(peek(key)); }
 
     // Returns where the entry of a key is, after what `at` records, or end().
-    template <class K = Key> iterator find(const argument<K> &key) {
-        return state_ == nullptr ? end() : position<iterator>(state_->hit_and_count(key, hash_of(key)));
-    }
+    template <class K = Key> iterator find(const argument<K> &key) { return position<iterator>(counted(key)); }
     template <class K = Key> const_iterator find(const argument<K> &key) const {
-        return state_ == nullptr ? end() : position<const_iterator>(state_->find(key, hash_of(key)));
+        return position<const_iterator>(found(key));
     }
 
     // Returns the value of a key and false, after a hit; or inserts the key, with a value made of `args`, and
@@ -443,34 +561,35 @@ template <class Key, class Value, class Hash = std::hash<Key>, class Equal = std
 
     // Inserts a key, in place of its entry if it has one, after a hit.
     template <class Other = Value> void put(const Key &key, Other &&value) {
-        node *left = pushed(key, std::forward<Other>(value));
-        state_->drop_all(left);
+        pushed(key, std::forward<Other>(value), [](node *left, leaving &others) { others.add(left); });
     }
     template <class Other = Value> void put(Key &&key, Other &&value) {
-        node *left = pushed(std::move(key), std::forward<Other>(value));
-        state_->drop_all(left);
+        pushed(std::move(key), std::forward<Other>(value), [](node *left, leaving &others) { others.add(left); });
     }
 
     // Does what `put` does, and returns the entry that left: the key's own, another's or none. If two left, it is the
     // one whose slot the key has now.
     template <class Other = Value> node_type push(const Key &key, Other &&value) {
-        return first_of(pushed(key, std::forward<Other>(value)));
+        return pushed(key, std::forward<Other>(value),
+                      [this](node *left, leaving &others) { return first_of(left, others); });
     }
     template <class Other = Value> node_type push(Key &&key, Other &&value) {
-        return first_of(pushed(std::move(key), std::forward<Other>(value)));
+        return pushed(std::move(key), std::forward<Other>(value),
+                      [this](node *left, leaving &others) { return first_of(left, others); });
     }
 
     // Takes a key out, and returns its entry or none.
     template <class K = Key> node_type extract(const argument<K> &key) {
         if (state_ == nullptr) return node_type();
-        node *found = state_->find(key, hash_of(key));
+        leaving left = state_->none_left();
+        node *found = state_->find(key, hash_of(key), left);
         if (found != nullptr) state_->unlink(found);
-        return node_type(found);
+        return node_type(found, state_.get());
     }
     node_type extract(const_iterator where) noexcept {
         node *found = const_cast<node *>(*where.at_);
         state_->unlink(found);
-        return node_type(found);
+        return node_type(found, state_.get());
     }
 
     // Takes a key out, and returns how many entries left: 1 or 0.
@@ -495,7 +614,7 @@ template <class Key, class Value, class Hash = std::hash<Key>, class Equal = std
 
     // Takes out the entry that would have to leave next for a new key, and returns it, or none. Its key is remembered as
     // those that leave for others are.
-    node_type evict() noexcept { return node_type(state_ == nullptr ? nullptr : state_->evict()); }
+    node_type evict() noexcept { return node_type(state_ == nullptr ? nullptr : state_->evict(), state_.get()); }
 
     // Returns where that entry is, or end(), and records nothing.
     iterator next_victim() noexcept {
@@ -509,7 +628,8 @@ template <class Key, class Value, class Hash = std::hash<Key>, class Equal = std
         if (capacity == 0 || state_ == nullptr || capacity > state_->slots.capacity()) {
             detail::check(CLOCK2Q_BAD_CAPACITY);
         }
-        state_->drop_all(state_->resize(capacity));
+        leaving left = state_->none_left();
+        left.add(state_->resize(capacity));
     }
 
     // Takes all entries out, and forgets all keys. Takes time in proportion to the capacity.
@@ -555,23 +675,22 @@ template <class Key, class Value, class Hash = std::hash<Key>, class Equal = std
         state(const state &) = delete;
         state &operator=(const state &) = delete;
 
+        // No node, of those that leave during a call that isn't const.
+        leaving none_left() noexcept { return leaving(this, &spare); }
+
         // The node of a key, after a hit, or null.
-        template <class K> node *hit(const K &key, std::uint64_t wanted) {
-            node *found = find(key, wanted);
+        template <class K> node *hit(const K &key, std::uint64_t wanted, leaving &left) {
+            node *found = find(key, wanted, left);
             if (found != nullptr) slots.hit(found->slot);
             return found;
         }
 
-        // The same, counted.
-        template <class K> node *hit_and_count(const K &key, std::uint64_t wanted) {
-            node *found = hit(key, wanted);
-            ++(found != nullptr ? hits : misses);
-            return found;
-        }
-
         // The node of a key, or null.
-        template <class K> node *find(const K &key, std::uint64_t wanted) const {
-            for (int tries = 0; tries < 8; tries++) {
+        template <class K> node *find(const K &key, std::uint64_t wanted, leaving &left) const {
+            if (detail::compares_plainly<Key, Equal>) return equal_one(key, wanted);
+            if (nodes.find(wanted) == nullptr) return nullptr;
+            typename leaving::working now(left);
+            for (int tries = 0; tries < detail::most_tries; tries++) {
                 std::uint64_t before = version;
                 node *found = equal_one(key, wanted);
                 if (version == before) return found;
@@ -619,13 +738,13 @@ template <class Key, class Value, class Hash = std::hash<Key>, class Equal = std
             return left;
         }
 
-        // The same in place of the node of its key, if there is one. Drops the new node if Equal throws.
-        node *link_or_replace(node *fresh) {
+        // The same in place of the node of its key, if there is one. Destroys the new node if Equal throws.
+        node *link_or_replace(node *fresh, leaving &left) {
             node *found;
             try {
-                found = hit(std::as_const(fresh->entry.first), fresh->hash);
+                found = hit(std::as_const(fresh->entry.first), fresh->hash, left);
             } catch (...) {
-                drop(fresh);
+                left.add(fresh);
                 throw;
             }
             if (found == nullptr) return link(fresh);
@@ -633,8 +752,21 @@ template <class Key, class Value, class Hash = std::hash<Key>, class Equal = std
             return exchange(found->slot, fresh);
         }
 
-        // The same for a node whose key wasn't in at this version.
-        node *link_since(std::uint64_t seen, node *fresh) { return version == seen ? link(fresh) : link_or_replace(fresh); }
+        // Gives a new node whose key wasn't in at this version its slot, or that of its key.
+        void link_since(std::uint64_t seen, node *fresh, leaving &left) {
+            left.add(version == seen ? link(fresh) : link_or_replace(fresh, left));
+        }
+
+        // Destroys what left during a call. If that has the call's own node leave, it enters again.
+        void settle(node *own, leaving &left) {
+            for (int tries = 0; !left.end(own); tries++) {
+                if (tries == detail::most_tries) {
+                    left.add(own);
+                    throw std::logic_error("clock2q: what is destroyed has the call's own entry leave");
+                }
+                left.add(link_or_replace(own, left));
+            }
+        }
 
         // Takes a node out, which is in.
         void unlink(node *gone) noexcept {
@@ -672,9 +804,10 @@ template <class Key, class Value, class Hash = std::hash<Key>, class Equal = std
         }
 
         void clear() noexcept {
+            leaving left = none_left();
             version++;
             slots.clear();
-            drop_all(nodes.remove_all());
+            left.add(nodes.remove_all());
         }
 
         template <class... Args> node *make(Args &&...args) {
@@ -683,70 +816,84 @@ template <class Key, class Value, class Hash = std::hash<Key>, class Equal = std
             try {
                 return new (static_cast<void *>(block)) node(std::forward<Args>(args)...);
             } catch (...) {
-                keep(block);
+                node *other = std::exchange(spare, block);
+                if (other != nullptr) std::allocator<node>().deallocate(other, 1);
                 throw;
             }
         }
 
-        void drop(node *left) noexcept {
-            left->~node();
-            keep(left);
-        }
-
-        // Drops a node and those that it leads to, which are out; none, if it is null.
-        void drop_all(node *left) noexcept {
-            while (left != nullptr) drop(std::exchange(left, left->next));
-        }
-
-        // Keeps one block without an entry for the next one.
-        void keep(node *block) noexcept {
-            node *other = std::exchange(spare, block);
-            if (other != nullptr) std::allocator<node>().deallocate(other, 1);
-        }
-
         token_cache slots;
         detail::nodes<node> nodes;
-        node *spare = nullptr;
+        node *spare = nullptr; // a block without an entry, or null
         std::size_t limit = no_limit; // how many nodes there may be, if fewer than slots
         std::uint64_t version = 0; // how often entries have come or left
         std::uint64_t hits = 0, misses = 0;
+        detail::secret secret = detail::process_secret();
         Hash hash;
         Equal equal;
     };
 
-    template <class K> std::uint64_t hash_of(const K &key) const { return std::as_const(state_->hash)(key); }
+    template <class K> std::uint64_t hash_of(const K &key) const {
+        return clock2q_spread_by(state_->secret.data(), std::as_const(state_->hash)(key));
+    }
 
     std::uint64_t hash_to_insert(const Key &key) const {
         if (state_ == nullptr) throw std::length_error("clock2q: the capacity is 0, since the cache was moved from");
         return hash_of(key);
     }
 
-    // The first of the nodes that left. The others are dropped.
-    node_type first_of(node *left) noexcept {
-        node_type first(left);
-        if (left != nullptr) state_->drop_all(left->next);
-        return first;
+    // What a look-up found, or null if that left as what else did was destroyed.
+    static node *still_in(node *found, leaving &left) noexcept {
+        if (found == nullptr || left.end(found)) return found;
+        left.add(found);
+        return nullptr;
+    }
+
+    // The node of a key, or null.
+    template <class K> node *found(const K &key) const {
+        if (state_ == nullptr) return nullptr;
+        leaving left(state_.get(), nullptr);
+        return still_in(state_->find(key, hash_of(key), left), left);
+    }
+
+    // The same, after a hit, counted.
+    template <class K> node *counted(const K &key) {
+        if (state_ == nullptr) return nullptr;
+        leaving left = state_->none_left();
+        node *found = state_->hit(key, hash_of(key), left);
+        ++(found != nullptr ? state_->hits : state_->misses);
+        return still_in(found, left);
     }
 
     static Value *value_of(node *at) noexcept { return at == nullptr ? nullptr : std::addressof(at->entry.second); }
 
-    template <class K, class Other> node *pushed(K &&key, Other &&value) {
+    // Gives `end` what left for a new node, and what left besides.
+    template <class K, class Other, class End> auto pushed(K &&key, Other &&value, End end) {
         std::uint64_t hash = hash_to_insert(key);
-        return state_->link_or_replace(state_->make(hash, std::forward<K>(key), std::forward<Other>(value)));
+        leaving others = state_->none_left();
+        node *fresh = state_->make(hash, std::forward<K>(key), std::forward<Other>(value));
+        return end(state_->link_or_replace(fresh, others), others);
+    }
+
+    // The first of the nodes that left for a new one, or none.
+    node_type first_of(node *left, leaving &others) const noexcept {
+        if (left != nullptr) others.add(std::exchange(left->next, nullptr));
+        return node_type(left, state_.get());
     }
 
     // The value of a key and false, after a hit, or that of the node that `make` makes and true.
     template <class Make> std::pair<Value *, bool> found_or(const Key &key, std::uint64_t hash, Make make) {
-        if (node *found = state_->hit(key, hash)) {
-            state_->hits++;
-            return {value_of(found), false};
+        leaving left = state_->none_left();
+        node *own = state_->hit(key, hash, left);
+        bool is_new = own == nullptr;
+        if (is_new) {
+            std::uint64_t seen = state_->version;
+            own = make();
+            state_->link_since(seen, own, left);
         }
-        std::uint64_t seen = state_->version;
-        node *fresh = make();
-        node *left = state_->link_since(seen, fresh);
-        state_->misses++;
-        state_->drop_all(left);
-        return {value_of(fresh), true};
+        ++(is_new ? state_->misses : state_->hits);
+        state_->settle(own, left);
+        return {value_of(own), is_new};
     }
 
     template <class K, class... Args> std::pair<Value *, bool> emplaced(K &&key, Args &&...args) {
@@ -764,21 +911,25 @@ template <class Key, class Value, class Hash = std::hash<Key>, class Equal = std
 
     template <class K, class Other> std::pair<Value *, bool> assigned(K &&key, Other &&value) {
         std::uint64_t hash = hash_to_insert(key);
-        if (node *found = state_->hit(key, hash)) {
-            found->entry.second = std::forward<Other>(value);
-            return {value_of(found), false};
+        leaving left = state_->none_left();
+        node *own = state_->hit(key, hash, left);
+        bool is_new = own == nullptr;
+        if (is_new) {
+            std::uint64_t seen = state_->version;
+            own = state_->make(hash, std::forward<K>(key), std::forward<Other>(value));
+            state_->link_since(seen, own, left);
+        } else {
+            typename leaving::working now(left);
+            own->entry.second = std::forward<Other>(value);
         }
-        std::uint64_t seen = state_->version;
-        node *fresh = state_->make(hash, std::forward<K>(key), std::forward<Other>(value));
-        state_->drop_all(state_->link_since(seen, fresh));
-        return {value_of(fresh), true};
+        state_->settle(own, left);
+        return {value_of(own), is_new};
     }
 
-    static Value &must_be(Value *found) {
+    template <class Kind> static Kind &must_be(Kind *found) {
         if (found == nullptr) throw std::out_of_range("clock2q: the key isn't there");
         return *found;
     }
-    static const Value &must_be(const Value *found) { return must_be(const_cast<Value *>(found)); }
 
     template <class Iterator> Iterator position(const node *at) const noexcept {
         return at == nullptr ? last<Iterator>() : Iterator(state_->nodes.begin() + at->slot, state_->nodes.end());
@@ -915,13 +1066,13 @@ class weighted_cache {
         void take_off(const node *left) noexcept { weight -= std::exchange(by_slot[left->slot], 0); }
     };
 
-    // Nodes that left, in their order, which are dropped at the end.
+    // Nodes that left, in their order, which are destroyed at the end.
     class leaving {
       public:
         explicit leaving(weighted_cache &from) noexcept : from_(from) {}
         leaving(const leaving &) = delete;
         leaving &operator=(const leaving &) = delete;
-        ~leaving() { from_.entries_.state_->drop_all(first_); }
+        ~leaving() { from_.entries_.state_->none_left().add(first_); }
         // Adds a node that was taken out, whose weight is still there.
         void add(node *left) noexcept {
             from_.limit_->take_off(left);
@@ -931,7 +1082,7 @@ class weighted_cache {
         }
         // Calls a function with each.
         template <class Left> void hand_over(Left &left) {
-            while (first_ != nullptr) left(node_type(std::exchange(first_, first_->next)));
+            while (first_ != nullptr) left(node_type(std::exchange(first_, first_->next), from_.entries_.state_.get()));
         }
 
       private:
@@ -947,17 +1098,18 @@ class weighted_cache {
     template <class K, class Other, class Left> bool pushed(K &&key, Other &&value, Left &left) {
         std::uint64_t hash = entries_.hash_to_insert(key), weight = 0;
         typename entries::state &state = *entries_.state_;
+        typename entries::leaving left_meanwhile = state.none_left();
         node *fresh = state.make(hash, std::forward<K>(key), std::forward<Other>(value)), *found = nullptr;
         try {
             const auto &entry = fresh->entry;
             weight = limit_->weigher(entry.first, entry.second);
-            if (weight <= limit_->max_weight) found = state.hit(entry.first, hash);
+            if (weight <= limit_->max_weight) found = state.hit(entry.first, hash, left_meanwhile);
         } catch (...) {
-            state.drop(fresh);
+            left_meanwhile.add(fresh);
             throw;
         }
         if (weight > limit_->max_weight) {
-            state.drop(fresh);
+            left_meanwhile.add(fresh);
             return false;
         }
         leaving gone(*this);
@@ -988,4 +1140,5 @@ class weighted_cache {
 
 } // namespace clock2q
 
+#endif // C++17
 #endif

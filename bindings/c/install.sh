@@ -5,12 +5,14 @@
 #   lib/libclock2q_sqlite.so, if SQLite's header and library are there; else an earlier one is removed
 #   share/clock2q/pcache_clock2q.c
 # DESTDIR goes before PREFIX. Either may begin at the folder where this is called. CC is the C compiler.
-# With CLOCK2Q_ARCHIVES, LIBRARY:KIT, two archives in place of what is built here, nothing is proved.
+# With CLOCK2Q_ARCHIVES, LIBRARY:KIT, two archives in place of what is built here, nothing is proved. A proof leaves its
+# archive's sum, the kit's, that of the sources and the version of rt beside it, in crates/clock2q_c/out/libclock2q_c.a.proved.
 set -eu
 self=$(readlink -f "$0")
 here=${self%/*}
 bindings=${here%/*}
-crate=${bindings%/*}/crates/clock2q_c
+top=${bindings%/*}
+crate=$top/crates/clock2q_c
 soname=libclock2q.so.1 # counted up when a name of the library goes or changes
 archives=${CLOCK2Q_ARCHIVES:-}
 CC=${CC:-cc}
@@ -35,20 +37,27 @@ absolute() {
     esac
 }
 
-# Says whether the compiler builds a program that includes a header; the words after it go to the compiler.
+# Says whether the compiler builds a program that includes a header, and keeps what it said; the words after it go to
+# the compiler.
 builds() {
-    printf '#include <%s>\nint main(void) { return 0; }\n' "$1" >"$work/none.c"
+    printf '#include <%s>\nint main(void) { return 0; }\n' "$1" >"$work/none.c" || give_up "$work can't be written to: see TMPDIR"
     shift
     # shellcheck disable=SC2086 # CC may have options
-    $CC "$work/none.c" -o "$work/none" "$@" >/dev/null 2>&1
+    said=$($CC "$work/none.c" -o "$work/none" "$@" 2>&1)
 }
 
 check_tools() {
     missing=''
     [ "$archives" ] || command -v rt >/dev/null || missing="$missing
-  rt, the command of the Rattle kit"
-    builds stdlib.h || missing="$missing
-  $CC that builds a C program: apt-get install gcc libc6-dev"
+  rt, the command of the Rattle kit: README.md, Install"
+    if ! command -v "${CC%% *}" >/dev/null; then
+        missing="$missing
+  $CC, the C compiler: apt-get install gcc libc6-dev"
+    elif ! builds stdlib.h; then
+        case $said in *'No space left'*) give_up "$work is full: see TMPDIR" ;; esac
+        missing="$missing
+  $CC that builds a C program (apt-get install gcc libc6-dev): it says $(printf '%s\n' "$said" | head -n 1)"
+    fi
     for tool in ar ld objcopy; do
         command -v "$tool" >/dev/null || missing="$missing
   $tool: apt-get install binutils"
@@ -74,17 +83,29 @@ check_prefix() {
     done
 }
 
-# Shows the minutes so far and the crate that is proved, in one line, if a person is there to read it.
+# Shows the minutes so far and the crate that is proved, in one line on a terminal, and else in one every five minutes
+# and as soon as rt waits.
 show_progress() {
-    [ -t 2 ] || return 0
-    name=$(sed -n 's/^rt: chose .* for //p' "$work/log" | tail -n 1)
-    printf '\r%s min%s\033[K' "$((($(date +%s) - began) / 60))" "${name:+, proving $name}" >&2
+    minutes=$((($(date +%s) - began) / 60))
+    doing=$(sed -n 's/^rt: chose .* for /, proving /p; s/^rt: waiting for/, waiting for/p
+        s/^rt: \(.*\): another copy .*/, waiting for another copy that builds \1/p' "$work/log" | tail -n 1)
+    is_new_wait=''
+    case $doing in "$waited" | *proving* | '') ;; *) is_new_wait=yes waited=$doing ;; esac
+    if [ -t 2 ]; then
+        printf '\r%s min%s\033[K' "$minutes" "$doing" >&2
+    elif [ "$minutes" -ge "$shown_at" ] || [ "$is_new_wait" ]; then
+        shown_at=$((minutes + 5))
+        say "$minutes min$doing"
+    fi
 }
 
-# Proves and builds the library, and shows what rt said if that fails.
+# Proves and builds the library, and shows what rt said if that fails. The sums are left only if the sources stayed
+# as they were.
 prove() {
     say "proving and building the library: up to 20 minutes on 4 cores, seconds if it was proved before"
-    began=$(date +%s) is_proving=yes
+    rm -f "$proved.proved"
+    sources=$("$top/.bin/sums" clock2q_c)
+    began=$(date +%s) shown_at=5 waited='' is_proving=yes
     (cd "$crate" && exec rt lib) </dev/null >"$work/log" 2>&1 &
     while kill -0 "$!" 2>/dev/null; do
         sleep 1
@@ -96,6 +117,9 @@ prove() {
         cat "$work/log" >&2
         give_up "the library isn't proved: rt says why above"
     }
+    [ "$("$top/.bin/sums" clock2q_c)" = "$sources" ] || give_up "sources were changed while they were proved: start again"
+    { rt version && "$top/.bin/sums" clock2q_c "$proved" "$kit"; } >"$work/proved"
+    cp "$work/proved" "$proved.proved"
 }
 
 # Ends what runs, leaves nothing behind, and ends as the signal does.
@@ -174,10 +198,10 @@ case ${1-} in
 -*) show_help >&2; exit 2 ;;
 esac
 [ $# -le 1 ] || { show_help >&2; exit 2; }
-version=$(cat "${bindings%/*}/VERSION")
+version=$(cat "$top/VERSION")
 prefix=$(absolute "${1:-/usr/local}")
 to=${DESTDIR:+$(absolute "$DESTDIR")}$prefix
-is_proving='' has_sqlite=''
+is_proving='' has_sqlite='' said=''
 case $archives in
 *:* | '') ;;
 *' '*) archives=${archives%% *}:${archives##* } ;; # as two words, neither with a space
@@ -198,6 +222,9 @@ else
 fi
 if [ "$archives" ]; then
     proved=$(absolute "${archives%%:*}") kit=$(absolute "${archives#*:}")
+    for file in "$proved" "$kit"; do
+        [ -f "$file" ] || give_up "CLOCK2Q_ARCHIVES names $file, which isn't there"
+    done
 else
     proved=$crate/out/libclock2q_c.a kit=$(dirname "$(rt doc)")/c/liblibc_c.a
     prove

@@ -233,6 +233,22 @@ static bool is_fast_if_crowded(void) {
     return is_fast;
 }
 
+/* Whether a key that left is there until the next one enters, also if all are removed. */
+static bool keeps_what_left(void) {
+    clock2q_bytes cache = CLOCK2Q_BYTES_NONE;
+    clock2q_bytes_place place = {.slot = 0}, next = {.slot = 0};
+    if (clock2q_bytes_new(&cache, 1) != CLOCK2Q_DONE) return false;
+    bool agrees = clock2q_bytes_enter(&cache, "one", 3, &next) == CLOCK2Q_DONE;
+    agrees = agrees && clock2q_bytes_enter(&cache, "two", 3, &place) == CLOCK2Q_DONE;
+    clock2q_bytes_clear(&cache);
+    agrees = agrees && place.left.length == 3 && memcmp(place.left.start, "one", 3) == 0;
+    agrees = agrees && clock2q_bytes_enter(&cache, place.left.start, 3, &next) == CLOCK2Q_DONE && next.left.start == NULL;
+    agrees = agrees && clock2q_bytes_len(&cache) == 1 && clock2q_bytes_find(&cache, "one", 3).is_found;
+    clock2q_bytes_free(&cache);
+    if (!agrees) printf("a key that left isn't there after clock2q_bytes_clear\n");
+    return agrees;
+}
+
 static long left;   /* requests until one is refused; none is, below 0 */
 static long blocks; /* that are taken */
 
@@ -309,7 +325,7 @@ static bool hashes_are_known(void) {
 int main(int count, char **arguments) {
     size_t calls = count > 1 ? strtoul(arguments[1], NULL, 10) : 100000;
     const size_t capacities[] = {1, 2, 3, 10, 100, 1000};
-    bool agrees = refuses() && hashes_are_known() && is_fast_if_crowded();
+    bool agrees = refuses() && keeps_what_left() && hashes_are_known() && is_fast_if_crowded();
     for (size_t i = 0; i < sizeof capacities / sizeof *capacities; i++) {
         for (unsigned kind = 0; kind < HASHES; kind++) {
             agrees = run_agrees(capacities[i], kind, capacities[i] == 1000 ? calls / 10 : calls) && agrees;

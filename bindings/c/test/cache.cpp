@@ -5,6 +5,7 @@
 
 #include <cstdio>
 #include <cstdlib>
+#include <ctime>
 #include <memory>
 #include <optional>
 #include <string>
@@ -344,6 +345,10 @@ bool caller_equal::operator()(const caller &one, const caller &other) const {
 }
 std::size_t caller_hash::operator()(const caller &key) const { return std::hash<std::string>()(key.text); }
 
+struct constant_hash {
+    std::size_t operator()(const std::string &) const { return 42; }
+};
+
 static std::string text_of(int number) { return "a text of more than sixteen bytes, " + std::to_string(number); }
 
 static void fill(int first, int end) {
@@ -422,6 +427,84 @@ static void calls_from_values() {
     value_calls = 2; // as the cache is destroyed
 }
 
+// Equal that has what it compares leave before it compares, and destructors that insert as often as `relays` says.
+struct relay;
+struct late_equal {
+    bool operator()(const std::string &one, const std::string &other) const;
+};
+using late_cache = cache<std::string, relay, constant_hash, late_equal>;
+
+static late_cache *late;
+static int relays; // how often the next ones insert
+static bool equal_relays = true;
+static int entered;
+static void relay_now();
+
+struct relay {
+    std::string text = text_of(0);
+    relay() = default;
+    explicit relay(std::string given) : text(std::move(given)) {}
+    relay(const relay &) = delete;
+    relay &operator=(const std::string &given) {
+        relay_now();
+        text = given;
+        return *this;
+    }
+    ~relay() { relay_now(); }
+};
+
+static void relay_now() {
+    static bool is_relaying = false;
+    if (relays == 0 || is_relaying) return;
+    relays--;
+    is_relaying = true;
+    late->try_emplace(text_of(1000 + entered++));
+    is_relaying = false;
+}
+
+bool late_equal::operator()(const std::string &one, const std::string &other) const {
+    if (equal_relays) relay_now();
+    return one == other;
+}
+
+static void what_is_compared_leaves() {
+    for (std::size_t capacity : {1, 2, 3}) {
+        for (int i = 0; i < 100; i++) {
+            late_cache tried(capacity);
+            late = &tried;
+            for (std::size_t at = 0; at < capacity; at++) tried[text_of(static_cast<int>(at))];
+            const late_cache &reading = tried;
+            relays = i % 5;
+            switch (i / 5 % 6) {
+            case 0: tried.get(text_of(0)); break;
+            case 1: reading.contains(text_of(0)); break;
+            case 2: tried.erase(text_of(0)); break;
+            case 3: tried.push(text_of(0), text_of(7)); break;
+            case 4: tried.put(text_of(9), text_of(7)); break;
+            default: tried.find(tried.begin()->first);
+            }
+            relays = i % 6;
+            relay *made = tried.try_emplace(text_of(5), text_of(6)).first;
+            must(made->text == text_of(6), "the value is the entry's own");
+            relays = i % 7;
+            relay *assigned = tried.insert_or_assign(text_of(5), text_of(7)).first;
+            must(assigned->text == text_of(7), "so it is when it was assigned");
+            relays = 0;
+            must(tried.peek(text_of(5)) == assigned && tried.size() <= capacity, "the entry is in");
+            relays = 2; // as the cache is destroyed
+        }
+    }
+    late_cache tried(1);
+    late = &tried;
+    tried[text_of(0)];
+    relays = 40;
+    must_throw<std::logic_error>([&tried] { tried[text_of(0)]; }, "Equal that always inserts");
+    equal_relays = false, relays = 40;
+    must_throw<std::logic_error>([&tried] { tried[text_of(1)]; }, "destructors that always insert");
+    relays = 0;
+    must(tried.size() == 1 && !tried.contains(text_of(1)), "the entry isn't in then");
+}
+
 // ---- types ----
 
 struct text_hash {
@@ -461,6 +544,11 @@ static void kinds_of_types() {
     must(moved.get(std::string_view("seven")) == at && at->number == 7, "a value stays where it is");
     must(reinterpret_cast<std::uintptr_t>(at) % 64 == 0, "it is aligned");
     must(moved.contains("seven") && moved.erase(std::string_view("seven")) == 1, "look-ups by another type");
+
+    cache<std::string, const int> constants(2);
+    must(*constants.try_emplace("a", 1).first == 1 && constants.at("a") == 1, "values that are const");
+    constants.put("a", 2);
+    must(constants["a"] == 2 && *std::as_const(constants).peek("a") == 2, "are replaced whole");
 
     auto by_parity = [](int number) { return static_cast<std::size_t>(number) * 8; };
     cache<int, int, decltype(by_parity)> lambda(3, {1, 1}, by_parity);
@@ -562,6 +650,27 @@ static void pages() {
 }
 
 // Threads that only read may do it at once.
+// Ints that would be looked for at one place if hashes were spread without a secret take no longer than others.
+static void ints_that_a_stranger_picks() {
+    constexpr std::uint64_t count = 4000, inverse = 0xF1DE83E19937733D; // of what clock2q_spread multiplies by
+    static_assert(inverse * UINT64_C(0x9E3779B97F4A7C15) == 1, "the inverse");
+    auto least = [](auto key_of) {
+        std::clock_t best = 0;
+        for (int tries = 0; tries < 3; tries++) {
+            cache<std::uint64_t, int> tried(count);
+            std::clock_t begun = std::clock();
+            for (std::uint64_t i = 0; i < count; i++) tried.put(key_of(i), 1);
+            for (std::uint64_t i = 0; i < count; i++) must(tried.contains(key_of(i)), "it is there");
+            std::clock_t took = std::clock() - begun;
+            if (tries == 0 || took < best) best = took;
+        }
+        return best + 1;
+    };
+    std::clock_t usual = least([](std::uint64_t i) { return i; });
+    must(least([](std::uint64_t i) { return i * inverse; }) < 8 * usual, "of one chain here");
+    must(least([](std::uint64_t i) { return ((i << 24 | 7) ^ i >> 8) * inverse; }) < 8 * usual, "of one in the library");
+}
+
 static void readers() {
     cache<std::string, int> shared(100);
     for (int i = 0; i < 200; i++) shared.put(text_of(i), i);
@@ -588,12 +697,14 @@ int main(int, char **arguments) {
     must(alive == 0, "what is constructed is destroyed");
     calls_from_equal();
     calls_from_values();
+    what_is_compared_leaves();
     must(value_calls == 0, "values insert as the cache is destroyed");
     kinds_of_types();
     like_a_map();
     moved_from();
     refusals();
     pages();
+    ints_that_a_stranger_picks();
     readers();
     return failed;
 }

@@ -32,7 +32,12 @@ static int cache_init(Cache *self, PyObject *args, PyObject *keywords) {
     if (!PyArg_ParseTupleAndKeywords(args, keywords, "n|OO:Cache", names, &maxsize, &weigher, &max_weight)) return -1;
     if (read_weights(weigher, max_weight, &most) < 0) return -1;
     if (may_make_slots(self->is_made, maxsize, 0, "maxsize") < 0) return -1;
-    if (maxsize > 0 && made_slots(clock2q_tokens_new(&self->slots, (size_t)maxsize)) < 0) return -1;
+    if (maxsize > 0) {
+        clock2q_memory before = begin_count();
+        uint32_t status = clock2q_tokens_new(&self->slots, (size_t)maxsize);
+        self->slots_size = end_count(before);
+        if (made_slots(status) < 0) return -1;
+    }
     self->is_made = 1;
     self->capacity = self->maxsize = (size_t)maxsize;
     self->weigher = weigher == Py_None ? NULL : Py_NewRef(weigher);
@@ -78,14 +83,15 @@ static Py_ssize_t cache_length(Cache *self) {
     return self->pairs == NULL ? 0 : (Py_ssize_t)clock2q_tokens_len(&self->slots);
 }
 
-/* Finds a key, and writes its hash. */
-static inline found_pair find_key(Cache *self, PyObject *key, uint64_t *hash) {
-    return hash_of(key, hash) < 0 ? (found_pair){FAILED, 0} : find_pair(self, key, *hash);
+/* Finds a key, and records nothing. */
+static found_pair peek_key(Cache *self, PyObject *key) {
+    uint64_t hash;
+    return hash_of(key, &hash) < 0 ? (found_pair){FAILED, 0} : peek_pair(self, key, hash);
 }
 
-/* Finds a key and counts that. */
+/* Finds a key, writes its hash, records a hit and counts that. */
 static inline found_pair count_key(Cache *self, PyObject *key, uint64_t *hash) {
-    found_pair found = find_key(self, key, hash);
+    found_pair found = hash_of(key, hash) < 0 ? (found_pair){FAILED, 0} : find_pair(self, key, *hash);
     if (found.is == PRESENT) self->hits++;
     if (found.is == ABSENT) self->misses++;
     return found;
@@ -114,7 +120,7 @@ static PyObject *cache_subscript(Cache *self, PyObject *key) {
 static int cache_ass_subscript(Cache *self, PyObject *key, PyObject *value) {
     uint64_t hash;
     if (value != NULL) return hash_of(key, &hash) < 0 ? -1 : store_pair(self, key, hash, value);
-    found_pair found = find_key(self, key, &hash);
+    found_pair found = peek_key(self, key);
     if (found.is == ABSENT) set_key_error(key);
     if (found.is != PRESENT) return -1;
     pair left = take_pair(self, found.slot);
@@ -124,8 +130,7 @@ static int cache_ass_subscript(Cache *self, PyObject *key, PyObject *value) {
 }
 
 static int cache_contains(Cache *self, PyObject *key) {
-    uint64_t hash;
-    return (int)find_key(self, key, &hash).is;
+    return (int)peek_key(self, key).is;
 }
 
 /* Reads the arguments `key` and `default` of a method, of which some are named or too many or too few. */
@@ -177,9 +182,8 @@ static PyObject *cache_get(Cache *self, PyObject *const *args, Py_ssize_t count,
 
 static PyObject *cache_peek(Cache *self, PyObject *const *args, Py_ssize_t count, PyObject *names) {
     PyObject *otherwise = Py_None, *key = key_and_default("peek", args, count, names, &otherwise);
-    uint64_t hash;
     if (key == NULL) return NULL;
-    found_pair found = find_key(self, key, &hash);
+    found_pair found = peek_key(self, key);
     if (found.is == PRESENT) return Py_NewRef(self->pairs[found.slot].value);
     return found.is == ABSENT ? Py_NewRef(otherwise) : NULL;
 }
@@ -195,9 +199,8 @@ static PyObject *cache_setdefault(Cache *self, PyObject *const *args, Py_ssize_t
 
 static PyObject *cache_pop(Cache *self, PyObject *const *args, Py_ssize_t count, PyObject *names) {
     PyObject *otherwise = NULL, *key = key_and_default("pop", args, count, names, &otherwise);
-    uint64_t hash;
     if (key == NULL) return NULL;
-    found_pair found = find_key(self, key, &hash);
+    found_pair found = peek_key(self, key);
     if (found.is == PRESENT) {
         pair left = take_pair(self, found.slot);
         Py_DECREF(left.key);
@@ -214,6 +217,15 @@ static PyObject *cache_resize(Cache *self, PyObject *number) {
         return PyErr_Format(PyExc_ValueError, "maxsize is from 1 to %zu, with which the cache was made", self->capacity);
     if (resize_pairs(self, (size_t)maxsize) < 0) return NULL;
     Py_RETURN_NONE;
+}
+
+/* As of a dict: without the keys and values. */
+static PyObject *cache_sizeof(Cache *self, PyObject *unused) {
+    (void)unused;
+    size_t size = (size_t)Py_TYPE(self)->tp_basicsize + self->slots_size;
+    if (self->pairs != NULL) size += self->capacity * sizeof *self->pairs;
+    if (self->weights != NULL) size += self->capacity * sizeof *self->weights;
+    return PyLong_FromSize_t(size);
 }
 
 static PyObject *cache_clear(Cache *self, PyObject *unused) {
@@ -274,7 +286,7 @@ static PyMethodDef cache_methods[] = {
     {"get", WITH_DEFAULT(cache_get),
      "get($self, /, key, default=None)\n--\n\nReturn the value of a key, or the default if the key isn't there."},
     {"peek", WITH_DEFAULT(cache_peek),
-     "peek($self, /, key, default=None)\n--\n\nReturn what get returns, without counting a hit or a miss."},
+     "peek($self, /, key, default=None)\n--\n\nReturn what get returns, and change nothing."},
     {"setdefault", WITH_DEFAULT(cache_setdefault),
      "setdefault($self, /, key, default=None)\n--\n\nReturn the value of a key, which is stored if the key isn't there."},
     {"pop", WITH_DEFAULT(cache_pop),
@@ -290,6 +302,8 @@ static PyMethodDef cache_methods[] = {
      "clear($self, /)\n--\n\nRemove all pairs and forget their keys; hits and misses stay."},
     {"_pairs", (PyCFunction)cache_pairs, METH_NOARGS, "_pairs($self, /)\n--\n\nReturn a list of all (key, value) pairs."},
     {"__reduce__", refuse_copy, METH_NOARGS, NULL},
+    {"__sizeof__", (PyCFunction)cache_sizeof, METH_NOARGS,
+     "__sizeof__($self, /)\n--\n\nReturn how many bytes the cache takes, without its keys and values."},
     {NULL, NULL, 0, NULL}};
 
 static PyMemberDef cache_members[] = {

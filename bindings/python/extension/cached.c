@@ -90,7 +90,7 @@ static inline PyObject *call_by_arguments(Cached *self, PyObject *const *args, P
     clock2q_found alike = {0, false};
     uint64_t hash;
     if (hash_of_all(args, count, &hash) < 0) return NULL;
-    if (cache->pairs != NULL) alike = clock2q_tokens_seek(&cache->slots, clock2q_spread(hash), 0);
+    if (cache->pairs != NULL) alike = clock2q_tokens_seek(&cache->slots, spread(hash), 0);
     if (!alike.is_found || !is_same(cache->pairs[alike.slot].key, args, count))
         return call_with_tuple(self, hash, alike, args, count);
     clock2q_tokens_hit(&cache->slots, alike.slot);

@@ -75,6 +75,7 @@ int resize_pairs(Cache *cache, size_t maxsize) {
     PyObject *list = PyList_New(0);
     if (list == NULL) return -1;
     cache->maxsize = maxsize;
+    cache->version++; /* so a look-up that is under way, and whoever stores after it, sees how many there may be */
     while (!failed && clock2q_tokens_len(&cache->slots) > maxsize) failed = evict_to(cache, list, &slot) < 0;
     Py_DECREF(list);
     return failed ? -1 : 0;

@@ -1,6 +1,20 @@
 /* The module clock2q._extension. */
 #include "pairs.h"
 
+uint64_t hash_secret[2];
+
+/* Draws the secret, which is the same in each interpreter of the process. Returns -1 with an exception if that fails. */
+static int draw_secret(void) {
+    for (int i = 0; i < 2; i++) {
+        PyObject *text = PyUnicode_FromFormat("clock2q's secret %d", i);
+        Py_hash_t hash = text == NULL ? -1 : PyObject_Hash(text);
+        Py_XDECREF(text);
+        if (hash == -1) return -1;
+        hash_secret[i] = (uint64_t)hash | 1;
+    }
+    return 0;
+}
+
 /* Adds a type to the module, and returns a new reference to it. */
 static PyTypeObject *add_type(PyObject *module, PyType_Spec *spec) {
     PyTypeObject *type = (PyTypeObject *)PyType_FromModuleAndSpec(module, spec, NULL);
@@ -10,6 +24,7 @@ static PyTypeObject *add_type(PyObject *module, PyType_Spec *spec) {
 
 static int module_exec(PyObject *module) {
     module_state *state = PyModule_GetState(module);
+    if (draw_secret() < 0) return -1;
     state->keyword_mark = PyObject_CallNoArgs((PyObject *)&PyBaseObject_Type);
     state->cache_type = add_type(module, &cache_spec);
     state->place_type = PyStructSequence_NewType(&place_description);
@@ -19,7 +34,12 @@ static int module_exec(PyObject *module) {
     int failed = cached == NULL || pages == NULL;
     Py_XDECREF(cached);
     Py_XDECREF(pages);
-    return failed ? -1 : PyModule_AddIntConstant(module, "MAX_CAPACITY", CLOCK2Q_MAX_CAPACITY);
+    if (failed || PyModule_AddIntConstant(module, "MAX_CAPACITY", CLOCK2Q_MAX_CAPACITY) < 0) return -1;
+    uint32_t version = clock2q_version();
+    PyObject *text = PyUnicode_FromFormat("%u.%u.%u", version / 10000, version / 100 % 100, version % 100);
+    failed = text == NULL || PyModule_AddObjectRef(module, "__version__", text) < 0;
+    Py_XDECREF(text);
+    return failed ? -1 : 0;
 }
 
 static int module_traverse(PyObject *module, visitproc visit, void *arg) {

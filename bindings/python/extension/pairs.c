@@ -22,7 +22,7 @@ found_pair compare_alike(Cache *cache, PyObject *key, uint64_t hash, size_t slot
     for (size_t nth = 1; alike.is_found; nth++) {
         outcome found = compare(cache, cache->pairs[alike.slot].key, key);
         if (found != ABSENT) return (found_pair){found, alike.slot};
-        alike = clock2q_tokens_seek(&cache->slots, clock2q_spread(hash), nth);
+        alike = clock2q_tokens_seek(&cache->slots, spread(hash), nth);
     }
     return (found_pair){ABSENT, 0};
 }
@@ -43,6 +43,23 @@ int may_make_slots(int is_made, Py_ssize_t capacity, Py_ssize_t least, const cha
     if (capacity >= least && capacity <= CLOCK2Q_MAX_CAPACITY) return 0;
     PyErr_Format(PyExc_ValueError, "%s is from %zd to %d", name, least, CLOCK2Q_MAX_CAPACITY);
     return -1;
+}
+
+static size_t counted;
+
+static void *count_and_take(size_t size) {
+    counted += size;
+    return PyMem_RawMalloc(size);
+}
+
+clock2q_memory begin_count(void) {
+    counted = 0;
+    return clock2q_use_memory(&(clock2q_memory){count_and_take, PyMem_RawFree});
+}
+
+size_t end_count(clock2q_memory before) {
+    clock2q_use_memory(&before);
+    return counted;
 }
 
 int made_slots(uint32_t status) {
@@ -90,16 +107,16 @@ void replace_value(Cache *cache, size_t slot, PyObject *value, uint64_t weight) 
 /* Gives a key a slot beside those of its hash, and returns it. Writes the pair that gave way, or none. */
 static size_t enter_beside(Cache *cache, uint64_t hash, pair *gave_way) {
     size_t count = 0, last = 0;
-    for (clock2q_found alike; (alike = clock2q_tokens_seek(&cache->slots, clock2q_spread(hash), count)).is_found; count++) {
+    for (clock2q_found alike; (alike = clock2q_tokens_seek(&cache->slots, spread(hash), count)).is_found; count++) {
         last = alike.slot;
     }
     if (count >= MOST_ALIKE) *gave_way = take_pair(cache, last);
-    return clock2q_tokens_enter(&cache->slots, clock2q_spread(hash), ++cache->number);
+    return clock2q_tokens_enter(&cache->slots, spread(hash), ++cache->number);
 }
 
 void add_pair(Cache *cache, PyObject *key, uint64_t hash, PyObject *value, uint64_t weight) {
     pair gave_way = {NULL, NULL};
-    clock2q_admitted place = clock2q_tokens_admit(&cache->slots, clock2q_spread(hash));
+    clock2q_admitted place = clock2q_tokens_admit(&cache->slots, spread(hash));
     if (!place.has_entered) place.slot = enter_beside(cache, hash, &gave_way);
     pair left = cache->pairs[place.slot];
     cache->pairs[place.slot] = (pair){Py_NewRef(key), Py_NewRef(value)};
@@ -113,8 +130,8 @@ void add_pair(Cache *cache, PyObject *key, uint64_t hash, PyObject *value, uint6
 }
 
 int store_pair(Cache *cache, PyObject *key, uint64_t hash, PyObject *value) {
-    if (cache->weigher != NULL || cache->maxsize < cache->capacity) return store_within(cache, key, hash, value);
     for (int tries = 0; tries < MOST_TRIES; tries++) {
+        if (cache->weigher != NULL || cache->maxsize < cache->capacity) return store_within(cache, key, hash, value);
         if (cache->pairs == NULL && make_pairs(cache) < 0) return -1;
         found_pair found = look_at_pairs(cache, key, hash);
         if (found.is == FAILED) return -1;

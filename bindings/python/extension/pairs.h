@@ -29,8 +29,9 @@ typedef struct {
     pair *pairs;      /* `capacity` of them, each at the slot of its key; NULL until one is stored */
     size_t capacity;  /* how many slots there are; 0 if there are none */
     size_t maxsize;   /* how many pairs there are at most */
+    size_t slots_size; /* how many bytes the library took */
     size_t reached;   /* above the highest slot that has had a pair */
-    uint64_t version; /* how often a pair was stored, replaced or removed */
+    uint64_t version; /* how often a pair was stored, replaced or removed, or maxsize set */
     uint64_t hits, misses;
     PyObject *weigher;   /* or NULL; then there are no weights */
     uint64_t *weights;   /* by slot, 0 if there is no pair */
@@ -56,6 +57,15 @@ enum { MOST_TRIES = 8, MOST_ALIKE = 16 };
 /* Sets the exception after the last try, and returns FAILED. */
 outcome too_many_tries(void);
 
+/* Two odd numbers, drawn with the secret of str's hashes as the process starts: PYTHONHASHSEED sets both. */
+extern uint64_t hash_secret[2];
+
+/* Spreads the bits of a hash by the secret. Those of ints and of others whose hash Python doesn't keep secret are so
+ * looked for where no stranger knows. */
+static inline uint64_t spread(uint64_t hash) {
+    return clock2q_spread_by(hash_secret, hash);
+}
+
 /* Writes a key's hash. Returns -1 with an exception if it has none. */
 static inline int hash_of(PyObject *key, uint64_t *hash) {
     Py_hash_t value = PyUnicode_CheckExact(key) ? ((PyASCIIObject *)key)->hash : -1; /* -1 before it is first asked for */
@@ -70,7 +80,7 @@ found_pair compare_alike(Cache *cache, PyObject *key, uint64_t hash, size_t slot
 /* Finds the slot of a key, if no comparison changes the cache. */
 static inline found_pair look_at_pairs(Cache *cache, PyObject *key, uint64_t hash) {
     if (cache->pairs == NULL) return (found_pair){ABSENT, 0};
-    clock2q_found alike = clock2q_tokens_seek(&cache->slots, clock2q_spread(hash), 0);
+    clock2q_found alike = clock2q_tokens_seek(&cache->slots, spread(hash), 0);
     if (!alike.is_found) return (found_pair){ABSENT, 0};
     if (cache->pairs[alike.slot].key == key) return (found_pair){PRESENT, alike.slot};
     return compare_alike(cache, key, hash, alike.slot);
@@ -78,6 +88,12 @@ static inline found_pair look_at_pairs(Cache *cache, PyObject *key, uint64_t has
 
 /* Does so after a comparison has changed the cache, until none does. */
 found_pair look_again(Cache *cache, PyObject *key, uint64_t hash);
+
+/* Finds the slot of a key, and records nothing. If PRESENT, the slot's pair stays until other code runs. */
+static inline found_pair peek_pair(Cache *cache, PyObject *key, uint64_t hash) {
+    found_pair found = look_at_pairs(cache, key, hash);
+    return found.is == CHANGED ? look_again(cache, key, hash) : found;
+}
 
 /* Ends a look-up that found this: looks again if the cache has changed, and records a hit in the library if the key has
  * a slot. If PRESENT, the slot's pair stays until other code runs. */
@@ -135,6 +151,11 @@ int may_make_slots(int is_made, Py_ssize_t capacity, Py_ssize_t least, const cha
 
 /* Returns 0 if the library made a cache, or -1 with an exception. */
 int made_slots(uint32_t status);
+
+/* Has the library take its memory where tracemalloc sees it, and counts that. The second returns how much it was, and
+ * is given what the first returned. No other code runs between them. */
+clock2q_memory begin_count(void);
+size_t end_count(clock2q_memory before);
 
 /* Raises a KeyError. */
 void set_key_error(PyObject *key);

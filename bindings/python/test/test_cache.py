@@ -4,9 +4,11 @@ import copy
 import inspect
 import pickle
 import random
+import time
 import unittest
 from collections import abc
 
+import clock2q
 from clock2q import MAX_CAPACITY, Cache
 from keys import Key, SameHash, TwoBits
 
@@ -99,12 +101,29 @@ class MappingTest(unittest.TestCase):
         self.assertEqual((cache.peek("a"), cache.peek("b"), cache.peek("b", 2), "a" in cache), (1, None, 2, True))
         self.assertEqual((cache.hits, cache.misses), (0, 0))
 
+    def test_peek_and_in_do_not_change_who_leaves(self):
+        draws = random.Random(1)
+        plain, peeked = Cache(20), Cache(20)
+        for number in range(5_000):
+            key = draws.randrange(60) & draws.randrange(60)
+            for cache in (plain, peeked):
+                if cache.get(key) is None:
+                    cache[key] = number
+            other = draws.randrange(60)
+            self.assertEqual(peeked.peek(other) is not None, other in peeked)
+            self.assertNotIn((other, None), peeked.items())
+            self.assertEqual(list(plain.items()), list(peeked.items()))
+            self.assertEqual(plain.next_victim(), peeked.next_victim())
+
     def test_repr(self):
         cache = Cache(3)
         cache["a"] = 1
         self.assertEqual(repr(cache), "Cache({'a': 1}, maxsize=3, currsize=1)")
         cache["a"] = cache
         self.assertEqual(repr(cache), "Cache({'a': ...}, maxsize=3, currsize=1)")
+
+    def test_version(self):
+        self.assertRegex(clock2q.__version__, r"^\d+\.\d+\.\d+$")
 
     def test_signature(self):
         self.assertEqual(str(inspect.signature(Cache)), "(maxsize, weigher=None, max_weight=None)")
@@ -261,6 +280,24 @@ class ModelTest(unittest.TestCase):
         self.assertEqual((cache.get(-1), cache.get(-2)), ("one", "two"))
         self.assertEqual(cache.pop(-1), "one")
         self.assertEqual(cache.get(-2), "two")
+
+    def test_ints_that_a_stranger_picks(self):
+        """Ints whose hashes, were they spread without a secret, would be looked for at one place take no longer than others."""
+        count, inverse = 20_000, pow(0x9E3779B97F4A7C15, -1, 2**64)
+        spread = ((number << 24) | 0x5A5A5A for number in range(1, 20 * count))
+        picked = ((it ^ it >> 32) * inverse % 2**64 for it in spread)
+        picked = [it for it in picked if it < 2**61 - 1][:count]
+
+        def seconds(keys):
+            cache, begun = Cache(count), time.process_time()
+            for key in keys:
+                cache[key] = key
+            self.assertEqual(sum(map(cache.__contains__, keys)), count)
+            return time.process_time() - begun
+
+        usual, of_picked = (min(seconds(keys) for _ in range(3)) for keys in (range(count), picked))
+        self.assertEqual(len(picked), count)
+        self.assertLess(of_picked, 5 * usual)
 
     def test_thousands_of_one_hash(self):
         cache = Cache(1000)

@@ -8,6 +8,7 @@ import random
 import signal
 import sys
 import threading
+import types
 import unittest
 import weakref
 
@@ -207,6 +208,18 @@ class CachedTest(unittest.TestCase):
             cached(10)(7)
         with self.assertRaises(TypeError):
             type(some_function)()
+
+    def test_an_async_def(self):
+        async def function(number):
+            return number
+
+        async def generator(number):
+            yield number
+
+        for refused in (function, generator, functools.partial(function, 1), types.MethodType(function, 1)):
+            for decorate in (cached, cached(10), cached(None)):
+                with self.assertRaisesRegex(TypeError, "no async def"):
+                    decorate(refused)
 
     def test_a_function_that_clears_or_calls_again(self):
         @cached(3)

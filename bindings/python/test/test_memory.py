@@ -37,6 +37,22 @@ class MemoryTest(unittest.TestCase):
             cache = outer
         del cache, outer
 
+    def test_sizes(self):
+        """A cache says how much memory it takes, which tracemalloc sees."""
+        for maxsize, arguments in ((1, ()), (1000, ()), (100_000, (lambda key, value: 1, 100_000))):
+            tracemalloc.start()
+            self.addCleanup(tracemalloc.stop)
+            before = tracemalloc.get_traced_memory()[0]
+            cache = Cache(maxsize, *arguments)
+            cache["a"] = None
+            taken = tracemalloc.get_traced_memory()[0] - before
+            tracemalloc.stop()
+            size = sys.getsizeof(cache)
+            self.assertLess(abs(taken - size), 2_000)
+            self.assertGreater(size, 60 * maxsize)
+            cache.clear()
+            self.assertLess(sys.getsizeof(cache), size)
+
     def test_references_are_given_back(self):
         """What each call does with a key and a value of its own leaves their counts as they were."""
         key, other, value = Key(10**9), Key(10**9), object()

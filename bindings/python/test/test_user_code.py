@@ -99,6 +99,34 @@ class UserCodeTest(unittest.TestCase):
                 self.assertIsNone(Acting.act)
                 self.check_whole()
 
+    def test_comparisons_that_resize(self):
+        """Whoever resizes the cache during a call, it has at most as many keys after the call."""
+
+        def in_a_thread():
+            thread = threading.Thread(target=self.cache.resize, args=(5,))
+            thread.start()
+            thread.join()
+
+        for resize in (lambda: self.cache.resize(5), in_a_thread):
+            for at in range(len(self.calls(None))):
+                for key in (Acting(1), Acting(2)):
+                    self.cache.resize(10)
+                    self.cache.clear()
+                    self.cache[Acting(1)] = 1
+                    self.cache.update((number, number) for number in range(9))
+
+                    def act():
+                        Acting.act = None
+                        resize()
+
+                    Acting.act = act
+                    try:
+                        self.calls(key)[at]()
+                    except KeyError:
+                        pass
+                    self.assertIsNone(Acting.act)
+                    self.assertEqual((len(self.cache) <= 5, self.cache.maxsize), (True, 5))
+
     def test_a_comparison_after_which_the_key_is_gone(self):
         self.cache[Acting(1)] = 1
         Acting.act = self.cache.clear

@@ -1,305 +1,228 @@
--- A scan can't flush Main: no more of its keys leave than Small had old keys that were hit.
-use Rattle.std.proofs.Common.{◌≡◌, ℕ, ◌+◌, ◌-◌, ◌<◌, ◌≤◌, ◌==◌, Bool, true, false, not, ◌||◌, ◌&&◌, List, [], ◌∷◌, map, length, take, inl, inr, Option, Some, None, refl, sym, ap, ◌∙◌, subst, arith, ne_eqb}
-use Rattle.std.specs.Prelude.{if◌then◌else◌, is_some, nat_lt, nat_le}
+-- What keys that are each new when they come evict from a full cache, and what a scan evicts, which consists of such keys.
+use Rattle.std.proofs.Common.{◌≡◌, ◌⊎◌, ℕ, ◌+◌, ◌-◌, ◌<◌, ◌≤◌, Bool, false, not, ◌||◌, ◌&&◌, ◌==◌, List, [], ◌∷◌, length, take, inl, inr, Option, Some, None, refl, sym, ap, ◌∙◌, subst, arith}
+use Rattle.std.specs.Prelude.{if◌then◌else◌, is_some}
 use Rattle.std.specs.Cmp.{IsEquivalence}
-use Rattle.std.specs.List.{sum_by, count_by, list_any, last_or, AllByRecursion}
-use Rattle.std.proofs.lemmas.Bool.{lt-ltb}
+use Rattle.std.specs.List.{sum_by, count_by, last_or, AllByRecursion}
 use Rattle.std.proofs.lemmas.List.Sums.{sum_by-cons, count_by-le-length}
-use Rattle.std.proofs.Math.ListN.{length-set}
-use Rattle.clock2q_machine.specs.Ages.{Age, Young, Old, grown_older, is_promoted}
-use Rattle.clock2q_machine.specs.Entries.{SmallEntry, MainEntry, small_admitted, from_victim, behind_hand, with_age}
+use Rattle.clock2q_machine.specs.Ages.{is_promoted}
+use Rattle.clock2q_machine.specs.Shares.{main_share}
+use Rattle.clock2q_machine.specs.Entries.{SmallEntry, MainEntry}
 use Rattle.clock2q_machine.specs.Calls.{Put}
-use Rattle.clock2q_machine.specs.Machine.{Machine, Placement, forgotten, stored, placement, inserted, goes_to_main, into_main, into_small, into_small_at, evicting_tail, promoting_tail, slot_of, vacancy, vacant_slot}
-use Rattle.clock2q_machine.specs.Steps.{replaced_at, after, after_all}
-use Rattle.clock2q_machine.specs.Whole.{IsWhole, known_count}
-use Rattle.clock2q_machine.specs.Scans.{scan, IsFullCache, set_in_small, IsScan, left_main}
-use Rattle.clock2q_machine.proofs.Weights.{sum_by-same, sum_by-filter-le, weight-from_victim, weight-behind, weight-last}
-use Rattle.clock2q_machine.proofs.Whole.{one_if, last_some, no_vacancy, all_resident}
-use Rattle.clock2q_machine.proofs.MachineInvariant.{placed-key, lasting-after, lasting-run}
-use Rattle.clock2q_machine.proofs.Standing.{none_counted, absent_if}
+use Rattle.clock2q_machine.specs.Machine.{Machine, slot_of}
+use Rattle.clock2q_machine.specs.Steps.{after, after_all}
+use Rattle.clock2q_machine.specs.Bounds.{takes_out, summed}
+use Rattle.clock2q_machine.specs.Whole.{IsWhole}
+use Rattle.clock2q_machine.specs.Scans.{scan, IsFullCache, set_in_small, IsScan, AreNew, left_all, left_main}
+use Rattle.clock2q_machine.specs.Turnover.{settings_in_small, belongs_in_main, earned}
+use Rattle.clock2q_machine.proofs.Weights.{weight-from_victim, weight-behind, weight-last}
+use Rattle.clock2q_machine.proofs.Whole.{one_if, weight}
+use Rattle.clock2q_machine.proofs.MachineInvariant.{lasting-after, lasting-run}
+use Rattle.clock2q_machine.proofs.Standing.{none_counted, absent_if, found_counted, count_at-le, key_count, fewer_second, weights-both-le}
 use Rattle.clock2q_machine.proofs.Entering.{StaysOrGoes, differs}
+use Rattle.clock2q_machine.proofs.Victims.{counted_residents}
 use Rattle.clock2q_machine.proofs.Laws.{others_keep}
+use Rattle.clock2q_machine.proofs.LeftKeys.{gone_or_there}
+use Rattle.clock2q_machine.proofs.PromotedKeys.{promoted_count, promoted_of, admitted_count, promoted_admitted, promoted_without}
+use Rattle.clock2q_machine.proofs.NewKeys.{LeavesForHistory, LeavesForMain, EntersFor, none_passes, share_some, full_main, tail_of, small_some, new_shares, new_enters, full_still, shares_run, full_run, scan_new}
+use Rattle.clock2q_machine.proofs.Turnover.{main_turnover}
 
--- Sums over Main's keys.
+ones : {X : Type 0} (xs : List X) → sum_by (λ x. 1) xs ≡ length xs
+ones [] = refl
+ones (x ∷ xs) = omega (arith, sum_by-cons (λ y. 1) x xs, ones xs)
 
-module _ {X : Type 0} where
-  two_sums : (f g h : X → ℕ) → ((x : X) → f x ≤ g x + h x) → (xs : List X) → sum_by f xs ≤ sum_by g xs + sum_by h xs
-  two_sums f g h less [] = omega arith
-  two_sums f g h less (x ∷ xs) = omega (arith, less x, sum_by-cons f x xs, sum_by-cons g x xs, sum_by-cons h x xs, two_sums f g h less xs)
+-- Residents that weren't there before: those in Main, and those in Small that would be promoted.
 
-  one_each : (f g : X → ℕ) → ((x : X) → f x + g x ≤ 1) → (xs : List X) → sum_by f xs + sum_by g xs ≤ length xs
-  one_each f g one [] = omega arith
-  one_each f g one (x ∷ xs) = omega (arith, one x, sum_by-cons f x xs, sum_by-cons g x xs, one_each f g one xs)
+module _ {K : Type 0} (old : K → Bool) where
+  abbrev comers : List (MainEntry K) → ℕ
+  comers main = count_by (λ e. not (old e.key)) main
 
-none_passes : {X : Type 0} (p : X → Bool) (xs : List X) → count_by p xs ≡ 0 → list_any p xs ≡ false
-none_passes p [] none = refl
-none_passes p (x ∷ xs) none =
-    (elim (p x) as (λ b. p x ≡ b → (b || list_any p xs) ≡ false) [
-      | true ↦ λ is. absurd (omega (arith, sum_by-cons (λ y. one_if (p y)) x xs, ap one_if is, none))
-      | false ↦ λ is. none_passes p xs (omega (arith, sum_by-cons (λ y. one_if (p y)) x xs, ap one_if is, none))
-    ]) refl
+  abbrev coming : List (SmallEntry K) → ℕ
+  coming small = promoted_of (λ k. not (old k)) small
 
-share_some : (share : ℕ) → 0 < share → (share == 0) ≡ false
-share_some share some = ne_eqb share 0 (λ e. omega (arith, e, some))
+module _ {K V : Type 0} (old : K → Bool) where
+  abbrev HasNoComers : Machine K V → Type 0
+  HasNoComers m = (comers old m.main ≡ 0) × (coming old m.small ≡ 0)
 
--- Small's keys that are promoted: an admission adds none and removes none.
+  module _ (key : K) (tail : SmallEntry K) (m n : Machine K V) (last : last_or None m.small ≡ Some tail) (some : 0 < length m.small) (e : EntersFor key tail m n) where
+    tail_leaves : coming old (take (length m.small - 1) m.small) + one_if (is_promoted tail.age && not (old tail.key)) ≡ coming old m.small
+    tail_leaves = (weight-last (λ x. one_if (is_promoted x.age && not (old x.key))) None m.small tail some last).0
 
-grown_alike : (window : ℕ) (age : Age) → is_promoted (grown_older window age) ≡ is_promoted age
-grown_alike window (Young age) = elim (nat_lt (age + 1) window) as (λ b. is_promoted (if b then Young (age + 1) else Old false) ≡ false) [ true ↦ refl | false ↦ refl ]
-grown_alike window (Old bit) = refl
-
-module _ {K : Type 0} where
-  abbrev set_old : List (SmallEntry K) → ℕ
-  set_old small = count_by (λ e. is_promoted e.age) small
-
-  set_grown : (window : ℕ) (small : List (SmallEntry K)) → set_old (map (λ e. with_age e (grown_older window e.age)) small) ≡ set_old small
-  set_grown window [] = refl
-  set_grown window (e ∷ small) =
-      omega (
-        arith,
-        sum_by-cons (λ x. one_if (is_promoted x.age)) (with_age e (grown_older window e.age)) (map (λ x. with_age x (grown_older window x.age)) small),
-        sum_by-cons (λ x. one_if (is_promoted x.age)) e small,
-        ap one_if (grown_alike window e.age),
-        set_grown window small,
-      )
-
-  set_admitted : (window : ℕ) (key : K) (slot : ℕ) (small : List (SmallEntry K)) → set_old (small_admitted window key slot small) ≡ set_old small
-  set_admitted window key slot small =
-      omega (
-        arith,
-        sum_by-cons (λ x. one_if (is_promoted x.age)) (record { key = key; slot = slot; age = Young 0 }) (map (λ x. with_age x (grown_older window x.age)) small),
-        set_grown window small,
-      )
-
-module _ {K : Type 0} (eq : K → K → Bool) where
-  -- the number of pairs of one of these entries and an entry of Main with its key
-  abbrev shared : List (MainEntry K) → List (MainEntry K) → ℕ
-  shared entries main = sum_by (λ e. count_by (λ x. eq e.key x.key) main) entries
-
-  -- no two of these entries have the same key
-  abbrev AreApart : List (MainEntry K) → Type 0
-  AreApart entries = (k : K) → count_by (λ e. eq e.key k) entries ≤ 1
-
-  module _ (entries : List (MainEntry K)) (apart : AreApart entries) where
-    -- Main loses its victim and gets Small's tail
-    lost_one : (main others : List (MainEntry K)) (victim : MainEntry K) → from_victim main ≡ victim ∷ others → (key : K) (slot : ℕ)
-        → shared entries main ≤ shared entries (behind_hand key slot others) + 1
-    lost_one main others victim choice key slot =
-        omega (
-          arith,
-          apart victim.key,
-          two_sums
-              (λ (e : MainEntry K). count_by (λ x. eq e.key x.key) main)
-              (λ e. count_by (λ x. eq e.key x.key) (behind_hand key slot others))
-              (λ e. one_if (eq e.key victim.key))
-              (λ e. one_less (eq e.key))
-              entries,
-        ) where
-          one_less : (is : K → Bool) → count_by (λ x. is x.key) main ≤ count_by (λ x. is x.key) (behind_hand key slot others) + one_if (is victim.key)
-          one_less is =
-              let g : MainEntry K → ℕ = λ x. one_if (is x.key) in
-              omega (arith, weight-behind g (λ e bit. refl) key slot others, sum_by-cons g victim others, ap (sum_by g) choice, weight-from_victim g (λ e bit. refl) main)
-
-module _ {K V : Type 0} (eq : K → K → Bool) where
-  -- Main, Small and the slots after a key of the scan
-  record Passes (entries : List (MainEntry K)) (m n : Machine K V) : Type 0 where
-    main_kept : shared eq entries m.main + set_in_small n ≤ shared eq entries n.main + set_in_small m
-    main_same : set_in_small m ≡ 0 → (n.main ≡ m.main) × (set_in_small n ≡ 0)
-    free_same : n.free ≡ m.free
-    made_same : length n.values ≡ length m.values
-    shares_same : n.shares ≡ m.shares
-
-  module _ (entries : List (MainEntry K)) (apart : AreApart eq entries) where
-    module _ (key : K) (tail : SmallEntry K) (m : Machine K V) (last : last_or None m.small ≡ Some tail) (some : 0 < length m.small) where
-      tail_out : set_old (take (length m.small - 1) m.small) + one_if (is_promoted tail.age) ≡ set_in_small m
-      tail_out = (weight-last (λ e. one_if (is_promoted e.age)) None m.small tail some last).0
-
-      passes_promoting : is_promoted tail.age ≡ true → (es : List (MainEntry K)) → from_victim m.main ≡ es → Passes entries m (promoting_tail key tail es m).machine
-      passes_promoting goes [] choice = record { main_kept = omega arith; main_same = λ none. (refl, none); free_same = refl; made_same = refl; shares_same = refl }
-      passes_promoting goes (victim ∷ others) choice = record {
-        main_kept =
-            omega (
-              arith,
-              lost_one eq entries apart m.main others victim choice tail.key tail.slot,
-              tail_out,
-              ap one_if goes,
-              set_admitted m.shares.window key victim.slot (take (length m.small - 1) m.small),
-            );
-        main_same = λ none. absurd (omega (arith, tail_out, ap one_if goes, none));
-        free_same = refl;
-        made_same = refl;
-        shares_same = refl;
-      }
-
-      passes_evicting : is_promoted tail.age ≡ false → Passes entries m (evicting_tail key tail m).machine
-      passes_evicting goes =
-          let same : set_in_small (evicting_tail key tail m).machine ≡ set_in_small m =
-          omega (arith, set_admitted m.shares.window key tail.slot (take (length m.small - 1) m.small), tail_out, ap one_if goes) in
-          record { main_kept = omega (arith, same); main_same = λ none. (refl, same ∙ none); free_same = refl; made_same = refl; shares_same = refl }
-
-      passes_tail : Passes entries m (into_small_at key None (Some tail) m).machine
-      passes_tail =
-          (elim (is_promoted tail.age)
-          as (λ b. is_promoted tail.age ≡ b → Passes entries m (if b then promoting_tail key tail (from_victim m.main) m else evicting_tail key tail m).machine) [
-            | true ↦ λ goes. passes_promoting goes (from_victim m.main) refl
-            | false ↦ λ goes. passes_evicting goes
-          ]) refl
-
-    passed_on : (m n o : Machine K V) → Passes entries m n → Passes entries n o → Passes entries m o
-    passed_on m n o p q = record {
-      main_kept = omega (arith, p.main_kept, q.main_kept);
-      main_same = λ none. let first = p.main_same none in let second = q.main_same first.1 in (second.0 ∙ first.0, second.1);
-      free_same = q.free_same ∙ p.free_same;
-      made_same = q.made_same ∙ p.made_same;
-      shares_same = q.shares_same ∙ p.shares_same;
-    }
-
-    module _ (laws : IsEquivalence eq) (key : K) (m : Machine K V) (h : IsWhole eq m) (full : IsFullCache m) (unknown : known_count (eq key) m ≡ 0) where
-      abbrev rest : Machine K V
-      rest = forgotten (eq key) m
-
-      abbrev placed_at : Placement K V
-      placed_at = placement (eq key) key m
-
-      absent : slot_of (eq key) m ≡ None
-      absent = absent_if (eq key) m (omega (arith, unknown))
-
-      small_goes : goes_to_main (list_any (eq key) m.history) m ≡ false
-      small_goes =
-          let vacant : Bool = is_some (vacancy m) && nat_le m.shares.small (length m.small) in
-          ap (λ b. b || (m.shares.small == 0) || vacant) (none_passes (eq key) m.history (omega (arith, unknown)))
-          ∙ ap (λ b. false || b || vacant) (share_some m.shares.small full.small_share)
-          ∙ ap (λ v. false || false || (is_some v && nat_le m.shares.small (length m.small))) full.no_vacancy
-
-      small_some : 0 < length m.small
-      small_some = omega (arith, all_resident eq m h full.no_vacancy, h.main_within, h.small_below, full.small_share)
-
-      tail_there : (small : List (SmallEntry K)) → 0 < length small → (tail : SmallEntry K) × (last_or None small ≡ Some tail)
-      tail_there [] some = absurd (omega (arith, some))
-      tail_there (e ∷ small) some = last_some small e
-
-      passes_placement : Passes entries m placed_at.machine
-      passes_placement =
-          let last = tail_there m.small small_some in
-          subst (λ b. Passes entries m (if b then into_main key rest else into_small key rest).machine) (sym small_goes)
-          (subst (λ v. Passes entries m (into_small_at key v (last_or None m.small) rest).machine) (sym full.no_vacancy)
-          (subst (λ t. Passes entries m (into_small_at key None t rest).machine) (sym last.1)
-          (let p = passes_tail key last.0 rest last.1 small_some in
-          record { main_kept = p.main_kept; main_same = p.main_same; free_same = p.free_same; made_same = p.made_same; shares_same = p.shares_same })))
-
-      stored_as_long : (value : V) → length (stored placed_at.slot value placed_at.machine).values ≡ length m.values
-      stored_as_long value =
-          let placed = placed-key eq laws key m h absent in
-          elim placed.slots [
-            | inl keeps ↦
-                let made : placed_at.slot < length placed_at.machine.values = rw placed.values keeps.made in
-                rw (lt-ltb placed_at.slot (length placed_at.machine.values) made) (length-set placed_at.machine.values placed_at.slot value ∙ ap (length {A = V}) placed.values)
-            | inr makes ↦ absurd (omega (arith, makes.vacant, (no_vacancy m.free (length m.values) m.shares.capacity full.no_vacancy).1))
-          ]
-
-      put_inserts : (value : V) → inserted (eq key) key value m ≡ after eq (Put key value) m
-      put_inserts value = ap (λ o. if is_some o then replaced_at (eq key) value o m else inserted (eq key) key value m) (sym absent)
-
-      passes_put : (value : V) → Passes entries m (after eq (Put key value) m)
-      passes_put value =
-          let p = passes_placement in
-          subst (Passes entries m) (put_inserts value)
-          (record { main_kept = p.main_kept; main_same = p.main_same; free_same = p.free_same; made_same = stored_as_long value; shares_same = p.shares_same })
-
-      -- only its own key becomes known
-      still_unknown : (value : V) (other : K) → eq other key ≡ false → known_count (eq other) m ≡ 0 → known_count (eq other) (after eq (Put key value) m) ≡ 0
-      still_unknown value other differs none =
-          subst (λ n. known_count (eq other) n ≡ 0) (put_inserts value)
-          (omega (
+    none_comes : HasNoComers m → HasNoComers n
+    none_comes none = (
+      by_leaves e.leaves,
+      omega (arith, ap (coming old) e.small, promoted_admitted (λ k. not (old k)) m.shares.window key e.slot (take (length m.small - 1) m.small), tail_leaves, none.1),
+    ) where
+      by_leaves : LeavesForHistory tail m n ⊎ LeavesForMain tail m n → comers old n.main ≡ 0
+      by_leaves (inl l) = ap (comers old) l.main ∙ none.0
+      by_leaves (inr l) =
+          let f : MainEntry K → ℕ = λ x. one_if (not (old x.key)) in
+          omega (
             arith,
-            (placed-key eq laws key m h absent).known (eq other),
-            ap one_if differs,
-            sum_by-filter-le (λ k. one_if (eq other k)) (λ k. not (eq key k)) m.history,
-            none,
-          ))
+            ap (comers old) l.main,
+            weight-behind f (λ x bit. refl) tail.key tail.slot l.others,
+            sum_by-cons f l.victim l.others,
+            ap (sum_by f) l.choice,
+            weight-from_victim f (λ x bit. refl) m.main,
+            tail_leaves,
+            ap (λ b. one_if (b && not (old tail.key))) l.goes,
+            none.0,
+            none.1,
+          )
 
-      -- the keys that follow are still unknown
-      scan_goes_on : (value : V) (puts : List (K × V)) → AllByRecursion (λ q. eq q.0 key ≡ false) puts → IsScan eq puts m → IsScan eq puts (after eq (Put key value) m)
-      scan_goes_on value [] differ scans = tt
-      scan_goes_on value (q ∷ puts) differ scans = (still_unknown value q.0 differ.0 scans.0, (scans.1.0, scan_goes_on value puts differ.1 scans.1.1))
+-- Main while Small has no key that would be promoted.
 
-      full_still : (value : V) → IsFullCache (after eq (Put key value) m)
-      full_still value =
-          let n = after eq (Put key value) m in
-          let p = passes_put value in
-          record {
-            small_share = subst (λ s. 0 < s.small) (sym p.shares_same) full.small_share;
-            no_vacancy =
-                ap (λ free. vacant_slot free (length n.values) n.shares.capacity) p.free_same
-                ∙ ap (λ made. vacant_slot m.free made n.shares.capacity) p.made_same
-                ∙ ap (λ s. vacant_slot m.free (length m.values) s.capacity) p.shares_same
-                ∙ full.no_vacancy;
-          }
+module _ {K V : Type 0} (key : K) (tail : SmallEntry K) (m n : Machine K V) (last : last_or None m.small ≡ Some tail) (some : 0 < length m.small) (e : EntersFor key tail m n) where
+  same_main : set_in_small m ≡ 0 → (n.main ≡ m.main) × (set_in_small n ≡ 0)
+  same_main none = (
+    by_leaves e.leaves,
+    omega (arith, ap promoted_count e.small, admitted_count m.shares.window key e.slot (take (length m.small - 1) m.small), promoted_without m.small tail some last, none),
+  ) where
+    by_leaves : LeavesForHistory tail m n ⊎ LeavesForMain tail m n → n.main ≡ m.main
+    by_leaves (inl l) = l.main
+    by_leaves (inr l) = absurd (omega (arith, promoted_without m.small tail some last, ap one_if l.goes, none))
 
-    passes_scan : IsEquivalence eq → (puts : List (K × V)) (m : Machine K V) → IsWhole eq m → IsFullCache m → IsScan eq puts m → Passes entries m (after_all eq (scan puts) m)
-    passes_scan laws [] m h full scans = record { main_kept = omega arith; main_same = λ none. (refl, none); free_same = refl; made_same = refl; shares_same = refl }
-    passes_scan laws (p ∷ puts) m h full scans =
-        let n = after eq (Put p.0 p.1) m in
-        passed_on m n (after_all eq (scan puts) n) (passes_put laws p.0 m h full scans.0 p.1)
-        (passes_scan laws puts n (lasting-after eq laws (Put p.0 p.1) m h) (full_still laws p.0 m h full scans.0 p.1) (scan_goes_on laws p.0 m h full scans.0 p.1 puts scans.1.0 scans.1.1))
+module _ {K V : Type 0} (eq : K → K → Bool) (laws : IsEquivalence eq) where
+  -- through a list of new keys
+  no_comers_run : (old : K → Bool) (puts : List (K × V)) (m : Machine K V) → IsWhole eq m → IsFullCache m → AreNew eq puts m → HasNoComers old m → HasNoComers old (after_all eq (scan puts) m)
+  no_comers_run old [] m h full new none = none
+  no_comers_run old (p ∷ puts) m h full new none =
+      let n = after eq (Put p.0 p.1) m in
+      let tail = tail_of eq laws p.0 m h new.0 p.1 full in
+      no_comers_run old puts n (lasting-after eq laws (Put p.0 p.1) m h) (full_still eq laws p.0 m h new.0 p.1 full) new.1
+      (none_comes old p.0 tail.0 m n tail.1 (small_some eq laws p.0 m h new.0 p.1 full) (new_enters eq laws p.0 m h new.0 p.1 full) none)
 
-  -- Main after the keys of a scan
+  same_main_run : (puts : List (K × V)) (m : Machine K V) → IsWhole eq m → IsFullCache m → AreNew eq puts m → set_in_small m ≡ 0 → (after_all eq (scan puts) m).main ≡ m.main
+  same_main_run [] m h full new none = refl
+  same_main_run (p ∷ puts) m h full new none =
+      let n = after eq (Put p.0 p.1) m in
+      let tail = tail_of eq laws p.0 m h new.0 p.1 full in
+      let same = same_main p.0 tail.0 m n tail.1 (small_some eq laws p.0 m h new.0 p.1 full) (new_enters eq laws p.0 m h new.0 p.1 full) none in
+      same_main_run puts n (lasting-after eq laws (Put p.0 p.1) m h) (full_still eq laws p.0 m h new.0 p.1 full) new.1 same.1 ∙ same.0
 
-  module _ (laws : IsEquivalence eq) (m : Machine K V) (h : IsWhole eq m) where
-    main_apart : AreApart eq m.main
-    main_apart k =
-        omega (arith, h.keys_once k, sum_by-same (λ (e : MainEntry K). one_if (eq e.key k)) (λ e. one_if (eq k e.key)) (λ e. ap one_if (laws.symm e.key k)) m.main)
+  -- new keys earn nothing if Small has a share
+  none_earned : (puts : List (K × V)) (m : Machine K V) → IsWhole eq m → 0 < m.shares.small → AreNew eq puts m → summed eq (earned eq) (scan puts) m ≡ 0
+  none_earned [] m h some new = refl
+  none_earned (p ∷ puts) m h some new =
+      let n = after eq (Put p.0 p.1) m in
+      omega (
+        arith,
+        ap (λ o. if is_some o then settings_in_small (eq p.0) m else belongs_in_main (eq p.0) m) (absent_if (eq p.0) m (omega (arith, new.0))),
+        ap (λ b. one_if (b || (m.shares.small == 0))) (none_passes (eq p.0) m.history (omega (arith, new.0))),
+        ap (λ b. one_if (false || b)) (share_some m.shares.small some),
+        none_earned puts n (lasting-after eq laws (Put p.0 p.1) m h) (subst (λ s. 0 < s.small) (sym (new_shares eq laws p.0 m h new.0 p.1)) some) new.1,
+      )
 
-    each_there : (main entries : List (MainEntry K)) → ((is : K → Bool) → count_by (λ x. is x.key) entries ≤ count_by (λ x. is x.key) main) → length entries ≤ shared eq entries main
-    each_there main [] among = omega arith
-    each_there main (e ∷ entries) among =
-        let others : (is : K → Bool) → count_by (λ x. is x.key) entries ≤ count_by (λ x. is x.key) main =
-        λ is. omega (arith, among is, sum_by-cons (λ (x : MainEntry K). one_if (is x.key)) e entries) in
+  none_taken_out : (puts : List (K × V)) → AllByRecursion (λ call. takes_out call ≡ false) (scan puts)
+  none_taken_out [] = tt
+  none_taken_out (p ∷ puts) = (refl, none_taken_out puts)
+
+  module _ (m : Machine K V) (h : IsWhole eq m) where
+    -- whether a key was resident
+    abbrev was : K → Bool
+    was k = is_some (slot_of (eq k) m)
+
+    was_there : (k : K) → 0 < key_count (eq k) m → one_if (not (was k)) ≡ 0
+    was_there k some = by_slot (slot_of (eq k) m) refl where
+      by_slot : (o : Option ℕ) → slot_of (eq k) m ≡ o → one_if (not (is_some o)) ≡ 0
+      by_slot None absent = absurd (omega (arith, none_counted (eq k) m absent, some))
+      by_slot (Some slot) found = refl
+
+    is_counted : (k : K) → one_if (not (was k)) ≡ 0 → 0 < key_count (eq k) m
+    is_counted k known = by_slot (slot_of (eq k) m) refl known where
+      by_slot : (o : Option ℕ) → slot_of (eq k) m ≡ o → one_if (not (is_some o)) ≡ 0 → 0 < key_count (eq k) m
+      by_slot None absent none = absurd (omega (arith, none))
+      by_slot (Some slot) found none = omega (arith, found_counted (eq k) m slot found, count_at-le (eq k) slot m)
+
+    main_was : (entries : List (MainEntry K)) → ((is : K → Bool) → count_by (λ x. is x.key) entries ≤ key_count is m) → comers was entries ≡ 0
+    main_was [] among = refl
+    main_was (e ∷ entries) among =
         omega (
           arith,
-          among (eq e.key),
-          sum_by-cons (λ (x : MainEntry K). one_if (eq e.key x.key)) e entries,
-          ap one_if (laws.refl e.key),
-          sum_by-cons (λ (x : MainEntry K). count_by (λ y. eq x.key y.key) main) e entries,
-          each_there main entries others,
+          sum_by-cons (λ x. one_if (not (was x.key))) e entries,
+          was_there e.key (omega (arith, among (eq e.key), sum_by-cons (λ (x : MainEntry K). one_if (eq e.key x.key)) e entries, ap one_if (laws.refl e.key))),
+          main_was entries (λ is. omega (arith, among is, sum_by-cons (λ (x : MainEntry K). one_if (is x.key)) e entries)),
         )
 
-    -- a key that left isn't in Main, and any other is there at most once
-    gone_or_there : (n : Machine K V) → IsWhole eq n → (k : K) → one_if (not (is_some (slot_of (eq k) n))) + count_by (λ x. eq k x.key) n.main ≤ 1
-    gone_or_there n whole k = by_slot (slot_of (eq k) n) refl where
-      by_slot : (o : Option ℕ) → slot_of (eq k) n ≡ o → one_if (not (is_some o)) + count_by (λ x. eq k x.key) n.main ≤ 1
-      by_slot None gone = omega (arith, none_counted (eq k) n gone)
-      by_slot (Some slot) found = omega (arith, whole.keys_once k)
+    small_was : (entries : List (SmallEntry K)) → ((is : K → Bool) → count_by (λ x. is x.key) entries ≤ key_count is m) → coming was entries ≡ 0
+    small_was [] among = refl
+    small_was (e ∷ entries) among =
+        omega (
+          arith,
+          sum_by-cons (λ x. one_if (is_promoted x.age && not (was x.key))) e entries,
+          fewer_second (is_promoted e.age) (not (was e.key)),
+          was_there e.key (omega (arith, among (eq e.key), sum_by-cons (λ (x : SmallEntry K). one_if (eq e.key x.key)) e entries, ap one_if (laws.refl e.key))),
+          small_was entries (λ is. omega (arith, among is, sum_by-cons (λ (x : SmallEntry K). one_if (is x.key)) e entries)),
+        )
 
-    module _ (full : IsFullCache m) (puts : List (K × V)) (scans : IsScan eq puts m) where
+    each_was : (main : List (MainEntry K)) → comers was main ≡ 0 → length main ≤ weight (λ k s. count_by (λ x. eq k x.key) main) m
+    each_was [] none = omega arith
+    each_was (x ∷ main) none =
+        let f : MainEntry K → ℕ = λ e. one_if (not (was e.key)) in
+        omega (
+          arith,
+          is_counted x.key (omega (arith, none, sum_by-cons f x main)),
+          each_was main (omega (arith, none, sum_by-cons f x main)),
+          weights-both-le (λ k s. one_if (eq x.key k)) (λ k s. count_by (λ y. eq k y.key) main) (λ k s. count_by (λ y. eq k y.key) (x ∷ main))
+              (λ k s. omega (arith, sum_by-cons (λ (y : MainEntry K). one_if (eq k y.key)) x main, ap one_if (laws.symm x.key k)))
+              m,
+        )
+
+    -- The laws of keys that are new when they come.
+
+    module _ (puts : List (K × V)) (new : AreNew eq puts m) where
+      abbrev later : Machine K V
+      later = after_all eq (scan puts) m
+
+      -- no more keys of Main leave than Small had old keys that were hit
+      pub new_left : 0 < m.shares.small → left_main eq m later ≤ set_in_small m
+      new_left some = omega (arith, main_turnover eq laws m h (scan puts) (none_taken_out puts), none_earned puts m h some new)
+
+      module _ (full : IsFullCache m) where
+        -- each key of Main was a resident before, and Main is full: so no more residents leave than Small's share
+        pub new_left_all : left_all eq m later ≤ m.shares.small
+        new_left_all =
+            let whole = lasting-run eq laws (scan puts) m h in
+            let none = no_comers_run was puts m h full new (main_was m.main (λ is. omega arith), small_was m.small (λ is. omega arith)) in
+            omega (
+              arith,
+              counted_residents (λ k s. not (is_some (slot_of (eq k) later))) m,
+              weights-both-le (λ k s. one_if (not (is_some (slot_of (eq k) later)))) (λ k s. count_by (λ x. eq k x.key) later.main) (λ k s. 1) (λ k s. gone_or_there eq later whole k) m,
+              each_was later.main none.0,
+              full_main eq laws later whole (full_run eq laws puts m h full new),
+              ap main_share (shares_run eq laws puts m h new),
+              ones m.small,
+              ones m.main,
+              h.small_within,
+              h.main_within,
+            )
+
+        -- if Small had none, Main is unchanged, including its bits and order
+        pub new_untouched : set_in_small m ≡ 0 → later.main ≡ m.main
+        new_untouched = same_main_run puts m h full new
+
+    -- The laws of a scan.
+
+    module _ (puts : List (K × V)) (scans : IsScan eq puts m) where
       abbrev scanned : Machine K V
       scanned = after_all eq (scan puts) m
 
-      passed : Passes m.main m scanned
-      passed = passes_scan m.main main_apart laws puts m h full scans
+      -- of all residents at most Small's share leave, however long the scan is
+      pub scan_left_all : IsFullCache m → left_all eq m scanned ≤ m.shares.small
+      scan_left_all = new_left_all puts (scan_new eq laws puts m h scans)
 
       -- no more keys of Main leave than Small had old keys that were hit
-      pub scan_left : left_main eq m scanned ≤ set_in_small m
-      scan_left =
-          omega (
-            arith,
-            one_each
-                (λ (e : MainEntry K). one_if (not (is_some (slot_of (eq e.key) scanned))))
-                (λ e. count_by (λ x. eq e.key x.key) scanned.main)
-                (λ e. gone_or_there scanned (lasting-run eq laws (scan puts) m h) e.key)
-                m.main,
-            each_there m.main m.main (λ is. omega arith),
-            passed.main_kept,
-          )
+      pub scan_left : 0 < m.shares.small → left_main eq m scanned ≤ set_in_small m
+      scan_left = new_left puts (scan_new eq laws puts m h scans)
 
       -- so at most as many as Small's share
-      pub scan_left_share : left_main eq m scanned ≤ m.shares.small
-      scan_left_share = omega (arith, scan_left, count_by-le-length (λ (e : SmallEntry K). is_promoted e.age) m.small, h.small_within)
+      pub scan_left_share : 0 < m.shares.small → left_main eq m scanned ≤ m.shares.small
+      scan_left_share some = omega (arith, scan_left some, count_by-le-length (λ (e : SmallEntry K). is_promoted e.age) m.small, h.small_within)
 
-      -- if there were none, Main is unchanged, including its bits and order
-      pub scan_untouched : set_in_small m ≡ 0 → scanned.main ≡ m.main
-      scan_untouched none = (passed.main_same none).0
+      -- if Small had none, Main is unchanged, including its bits and order
+      pub scan_untouched : IsFullCache m → set_in_small m ≡ 0 → scanned.main ≡ m.main
+      scan_untouched = new_untouched puts (scan_new eq laws puts m h scans)
 
+module _ {K V : Type 0} (eq : K → K → Bool) where
   -- a resident that stays keeps its slot and its value
   pub scan_keeps : (laws : IsEquivalence eq) (puts : List (K × V)) (m : Machine K V) → IsWhole eq m → (k : K) → AllByRecursion (λ p. eq k p.0 ≡ false) puts
       → StaysOrGoes eq k m (after_all eq (scan puts) m)

@@ -3,8 +3,8 @@ use Rattle.std.proofs.Common.{◌≡◌, true, false, eqb, [], ◌∷◌, ◌++�
 use Rattle.clock2q_machine.specs.Calls.{Put, Get}
 use Rattle.clock2q_machine.specs.Machine.{slot_of}
 use Rattle.clock2q_machine.specs.Steps.{after, after_all}
-use Rattle.clock2q_machine.specs.Bounds.{summed}
-use Rattle.clock2q_machine.specs.Lifetimes.{older, newer, is_in_small, is_remembered, admissions_of, evictions_of}
+use Rattle.clock2q_machine.specs.Bounds.{inspections_of, summed}
+use Rattle.clock2q_machine.specs.Lifetimes.{older, newer, ahead, is_in_main, is_in_small, is_remembered, admissions_of, evictions_of}
 use Rattle.clock2q_machine.proofs.WorkedRuns.{puts, gets, state}
 
 -- Small has four keys at capacity 40: the newest stays for three more admissions, and leaves with the fourth
@@ -13,6 +13,16 @@ four_in_small : let m = state 40 (puts 0 41) in
     × ((summed eqb (admissions_of eqb) (puts 41 3) m ≡ 3)
     × ((is_in_small (eqb 40) (after_all eqb (puts 41 3) m) ≡ true) × (is_in_small (eqb 40) (after_all eqb (puts 41 4) m) ≡ false)))
 four_in_small = (refl, (refl, (refl, refl)))
+
+-- key 5 is the third of Main's keys: it stays for two inspections, and leaves with the third
+two_are_ahead : let m = state 20 (puts 1 20) in
+    let more = puts 21 12 ++ puts 21 2 in (ahead (eqb 5) m.main ≡ 2)
+    × ((summed eqb (inspections_of eqb) more m ≡ 2) × ((is_in_main (eqb 5) (after_all eqb more m) ≡ true) × (is_in_main (eqb 5) (after_all eqb (more ++ puts 23 1) m) ≡ false)))
+two_are_ahead = (refl, (refl, (refl, refl)))
+
+-- a hit lets the hand pass it: the bound counts the inspections, and key 5 stays for the third as well
+a_hit_key_is_passed : let m = state 20 (puts 1 20 ++ Get 5 ∷ []) in is_in_main (eqb 5) (after_all eqb (puts 21 12 ++ puts 21 3) m) ≡ true
+a_hit_key_is_passed = refl
 
 -- a capacity of 4 remembers two keys: the first that Small evicted is forgotten with the third
 two_remembered : let m = state 4 (puts 1 5) in

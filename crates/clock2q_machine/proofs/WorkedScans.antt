@@ -1,11 +1,11 @@
--- Scans worked out by hand: which keys of Main leave, and what stays unchanged.
-use Rattle.std.proofs.Common.{◌≡◌, ℕ, Bool, false, true, eqb, List, [], ◌∷◌, ◌++◌, map, refl}
+-- Scans worked out by hand: which residents leave, and what stays unchanged.
+use Rattle.std.proofs.Common.{◌≡◌, ℕ, ◌-◌, Bool, false, true, eqb, List, [], ◌∷◌, ◌++◌, map, length, refl}
 use Rattle.std.specs.Prelude.{None}
-use Rattle.std.specs.List.{range_with_len}
+use Rattle.std.specs.List.{flat_map, range_with_len}
 use Rattle.clock2q_machine.specs.Machine.{vacancy}
 use Rattle.clock2q_machine.specs.Calls.{Get}
 use Rattle.clock2q_machine.specs.Steps.{after_all}
-use Rattle.clock2q_machine.specs.Scans.{scan, set_in_small, IsScan, left_main}
+use Rattle.clock2q_machine.specs.Scans.{scan, set_in_small, IsScan, left_all, left_main}
 use Rattle.clock2q_machine.proofs.WorkedRuns.{puts, gets, state}
 
 -- each number of a range as the value of itself
@@ -18,6 +18,11 @@ one_leaves : let m = state 20 (puts 1 20 ++ Get 1 ∷ Get 2 ∷ []) in
     let later = after_all eqb (scan (numbers 21 60)) m in
     (vacancy m ≡ None) × ((set_in_small m ≡ 1) × ((left_main eqb m later ≡ 1) × (map (λ e. e.key) later.main ≡ range_with_len 4 17 ++ 1 ∷ [])))
 one_leaves = (refl, (refl, (refl, refl)))
+
+-- of all its residents two leave, which is Small's share: key 2, and key 3 for key 1
+two_of_all_leave : let m = state 20 (puts 1 20 ++ Get 1 ∷ Get 2 ∷ []) in
+    (m.shares.small ≡ 2) × ((left_all eqb m (after_all eqb (scan (numbers 21 1)) m) ≡ 1) × (left_all eqb m (after_all eqb (scan (numbers 21 60)) m) ≡ 2))
+two_of_all_leave = (refl, (refl, refl))
 
 -- if no old key of Small was hit, Main is unchanged, including its bits and hand
 none_leaves : let m = state 20 (puts 1 20 ++ gets 5 3) in
@@ -33,3 +38,10 @@ a_key_that_is_remembered = (refl, refl)
 
 its_keys_differ : IsScan eqb ((21, 21) ∷ (22, 22) ∷ []) (state 20 (puts 1 20))
 its_keys_differ = (refl, ((refl, tt), (refl, (tt, tt))))
+
+-- a scan that reads each key twice, the second time when the history remembers it, evicts all of Main
+abbrev read_twice : ℕ → ℕ → List (ℕ × ℕ)
+read_twice from n = flat_map (λ k. (k, k) ∷ (k - 3, k - 3) ∷ []) (range_with_len from n)
+
+each_key_twice : let m = state 20 (puts 1 20) in (length m.main ≡ 18) × (left_main eqb m (after_all eqb (scan (read_twice 24 30)) m) ≡ 18)
+each_key_twice = (refl, refl)

@@ -8,6 +8,8 @@ pub mod Calls
 pub mod Steps
 pub mod Bounds
 pub mod Whole
-pub mod Scans
 pub mod Leaving
+pub mod Scans
+pub mod Turnover
+pub mod Loops
 pub mod Lifetimes

@@ -1,8 +1,8 @@
--- The minimum time that a key stays: in Small by the admissions after its own, in the history by the keys that Small
--- evicts after it.
-use Rattle.std.specs.Prelude.{⊤, ◌≡◌, ℕ, ◌+◌, Bool, false, not, ◌||◌, if◌then◌else◌, List, [], ◌∷◌, length, Some, None, is_some}
+-- The minimum time that a key stays: in Small by the admissions after its own, in Main by the hand's inspections, in the
+-- history by the keys that Small evicts after it.
+use Rattle.std.specs.Prelude.{⊤, ◌≡◌, ℕ, ◌+◌, Bool, false, not, ◌||◌, if◌then◌else◌, List, [], ◌∷◌, map, length, Some, None, is_some}
 use Rattle.std.specs.List.{list_any, last_or}
-use Rattle.clock2q_machine.specs.Entries.{SmallEntry}
+use Rattle.clock2q_machine.specs.Entries.{SmallEntry, MainEntry}
 use Rattle.clock2q_machine.specs.Calls.{Call, Put, Get, Peek, Contains, GetAt, Set, With, Try, SlotFor, Remove, Retain, Clear, Evict, Prefill, Len, IsEmpty, Capacity}
 use Rattle.clock2q_machine.specs.Machine.{Machine, slot_of, vacancy, goes_to_main, victim_leaves}
 use Rattle.clock2q_machine.specs.Bounds.{goes_on}
@@ -17,7 +17,14 @@ abbrev pub newer : {K : Type 0} → (K → Bool) → List K → ℕ
 newer is [] = 0
 newer is (k ∷ history) = if is k then 0 else 1 + newer is history
 
+-- the number of entries of Main that the hand reaches before the key that passes the test
+abbrev pub ahead : {K : Type 0} → (K → Bool) → List (MainEntry K) → ℕ
+ahead is main = newer is (map (λ e. e.key) main)
+
 module _ {K V : Type 0} where
+  abbrev pub is_in_main : (K → Bool) → Machine K V → Bool
+  is_in_main is m = list_any is (map (λ e. e.key) m.main)
+
   abbrev pub is_in_small : (K → Bool) → Machine K V → Bool
   is_in_small is m = list_any (λ e. is e.key) m.small
 

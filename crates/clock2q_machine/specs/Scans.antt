@@ -1,9 +1,11 @@
--- A scan: keys that are accessed once, none of which the cache knows when it begins.
+-- A scan: keys that are accessed once, none of which the cache knows when it begins; and how many residents leave.
 use Rattle.std.specs.Prelude.{⊤, ◌≡◌, ◌<◌, ℕ, Bool, false, not, List, [], ◌∷◌, map, None, is_some}
 use Rattle.std.specs.List.{count_by, AllByRecursion}
 use Rattle.clock2q_machine.specs.Ages.{is_promoted}
 use Rattle.clock2q_machine.specs.Calls.{Call, Put}
 use Rattle.clock2q_machine.specs.Machine.{Machine, slot_of, vacancy}
+use Rattle.clock2q_machine.specs.Leaving.{resident_with}
+use Rattle.clock2q_machine.specs.Steps.{after}
 use Rattle.clock2q_machine.specs.Whole.{known_count}
 
 module _ {K V : Type 0} where
@@ -26,6 +28,14 @@ module _ {K V : Type 0} where
     IsScan [] m = ⊤
     IsScan (p ∷ puts) m = (known_count (eq p.0) m ≡ 0) × (AllByRecursion (λ q. eq q.0 p.0 ≡ false) puts × IsScan puts m)
 
-    -- the number of keys of Main that are no longer resident afterwards
+    -- the cache neither holds nor remembers any of the keys when its turn comes
+    abbrev pub AreNew : List (K × V) → Machine K V → Type 0
+    AreNew [] m = ⊤
+    AreNew (p ∷ puts) m = (known_count (eq p.0) m ≡ 0) × AreNew puts (after eq (Put p.0 p.1) m)
+
+    -- the number of residents, and of keys of Main, that are no longer resident afterwards
+    abbrev pub left_all : Machine K V → Machine K V → ℕ
+    left_all m later = resident_with (λ k s. not (is_some (slot_of (eq k) later))) m
+
     abbrev pub left_main : Machine K V → Machine K V → ℕ
     left_main m later = count_by (λ e. not (is_some (slot_of (eq e.key) later))) m.main

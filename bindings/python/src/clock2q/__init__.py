@@ -13,17 +13,18 @@ slot of its own; at most sixteen keys of one hash() are here at a time, and then
 """
 
 from collections import abc
-from functools import update_wrapper
+from functools import partial, update_wrapper
 from operator import index
 from reprlib import recursive_repr
 from typing import NamedTuple
 
 from . import _extension
-from ._extension import MAX_CAPACITY, PageCache, Place
+from ._extension import MAX_CAPACITY, PageCache, Place, __version__
 
 __all__ = ["MAX_CAPACITY", "Cache", "CacheInfo", "PageCache", "Place", "cached"]
 
 _ABSENT = object()
+_ASYNC = 0x80 | 0x200  # inspect.CO_COROUTINE and CO_ASYNC_GENERATOR, without the milliseconds that inspect takes
 
 
 class CacheInfo(NamedTuple):
@@ -68,9 +69,9 @@ class Cache(_extension.Cache, abc.MutableMapping):
     leave until all weigh at most max_weight together. ValueError is raised for a pair that alone is heavier,
     and the cache is as it was.
 
-    [], get and setdefault count hits and misses. `in` and peek count neither, but the replacement takes
-    them for a use of the key. Iteration is over what was there when it began, and uses no key. `cache[key]`
-    of a key that isn't there returns what __missing__ does, if a subclass has it.
+    [], get and setdefault count hits and misses. `in` and peek change nothing. Iteration is over what was
+    there when it began, and uses no key. `cache[key]` of a key that isn't there returns what __missing__ does,
+    if a subclass has it.
     """
 
     __slots__ = ()
@@ -87,12 +88,20 @@ class Cache(_extension.Cache, abc.MutableMapping):
         return f"{type(self).__name__}({{{pairs}}}, maxsize={self.maxsize}, currsize={self.currsize})"
 
 
+def _is_async(function):
+    """Whether a function is an async def, or calls one as a functools.partial or as a method does."""
+    while isinstance(function, partial):
+        function = function.func
+    return bool(getattr(getattr(function, "__code__", None), "co_flags", 0) & _ASYNC)
+
+
 def cached(maxsize=128, typed=False):
     """Keeps a function's last results, at most maxsize of them: @cached or @cached(1000).
 
     If maxsize is None, all results are kept; if it is 0 or less, none is. Arguments are hashable. If typed,
     3 and 3.0 are different. The function gets cache_info(), cache_clear(), cache_parameters() and
-    __wrapped__, as functools.lru_cache has them.
+    __wrapped__, as functools.lru_cache has them. TypeError is raised for an async def, whose results can be
+    awaited only once.
     """
     if callable(maxsize):
         return cached(128, typed)(maxsize)
@@ -104,6 +113,8 @@ def cached(maxsize=128, typed=False):
     def decorate(function):
         if not callable(function):
             raise TypeError("cached decorates a function")
+        if _is_async(function):
+            raise TypeError("cached decorates no async def: what that returns can be awaited only once")
         return update_wrapper(_extension.Cached(function, maxsize, typed, CacheInfo), function)
 
     return decorate

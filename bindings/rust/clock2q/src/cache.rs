@@ -300,9 +300,7 @@ impl<K: Hash + Eq, V, S: BuildHasher> Cache<K, V, S> {
     #[inline(always)]
     fn store_pair(&mut self, key: K, value: V) -> Before<K, V> {
         let hash = hash_of(&self.hasher, &key);
-        let before = self.store.push(hash, key, value);
-        drop(self.store.take_second());
-        before
+        self.store.push(hash, key, value)
     }
 
     /// Returns where a key belongs, after a hit if it is here.

@@ -316,7 +316,8 @@ impl<K: Eq, V> Store<K, V> {
         }
     }
 
-    /// Stores a pair, after a hit if its key is here, and returns what was replaced or left.
+    /// Stores a pair, after a hit if its key is here, and returns what was replaced or left. A second pair that left is
+    /// dropped.
     #[inline(always)]
     pub(crate) fn push(&mut self, hash: u64, key: K, value: V) -> Before<K, V> {
         if !self.has_room() || self.slots.has_alike() {
@@ -345,7 +346,9 @@ impl<K: Eq, V> Store<K, V> {
     #[inline(never)]
     fn push_with_care(&mut self, hash: u64, key: K, value: V) -> Before<K, V> {
         let found = self.slot(hash, &key);
-        self.push_at(found, hash, key, value)
+        let before = self.push_at(found, hash, key, value);
+        drop(self.take_second());
+        before
     }
 
     /// Removes a key, and returns the pair. A key that isn't here is forgotten.

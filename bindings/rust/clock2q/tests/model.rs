@@ -210,11 +210,7 @@ impl Model {
         let tail = self.small.back();
         let found = match tail {
             Some(tail) if self.main.is_empty() || !self.tail_goes_on() => Some(tail),
-            _ => self
-                .main
-                .iter()
-                .find(|it| !it.is_hit)
-                .or(self.main.front()),
+            _ => self.main.iter().find(|it| !it.is_hit).or(self.main.front()),
         };
         found.map(|it| (it.key, it.slot))
     }
@@ -374,7 +370,10 @@ impl<S: BuildHasher> Beside<S> {
                 self.model.clear();
             }
             _ => {
-                let entries = self.cache.iter().map(|(key, slot, value)| (*key, slot, *value));
+                let entries = self
+                    .cache
+                    .iter()
+                    .map(|(key, slot, value)| (*key, slot, *value));
                 assert_eq!(entries.collect::<Vec<_>>(), self.model.entries());
             }
         }
@@ -420,7 +419,11 @@ fn agrees_with_one_hash() {
 fn the_usual_shares() {
     for capacity in 1..=250 {
         let some = capacity.try_into().expect("it isn't 0");
-        let small = if capacity > 1 { (capacity / 10).max(1) } else { 0 };
+        let small = if capacity > 1 {
+            (capacity / 10).max(1)
+        } else {
+            0
+        };
         let mut cache: Cache<u64, u64> = Cache::new(Global, some).expect("a cache");
         let mut model = Model::new((capacity, small, small.div_ceil(2)));
         for number in 0..1000 {
