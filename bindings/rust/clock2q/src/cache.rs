@@ -1,7 +1,8 @@
 //! Keys and their values.
 
+use crate::before::Before;
 use crate::slots::Slots;
-use crate::store::{hash_of, Before, Store};
+use crate::store::{hash_of, Store};
 use crate::{DefaultHashBuilder, Drain, Entry, Iter, IterMut, Keys, Refused, Values, ValuesMut};
 use core::borrow::Borrow;
 use core::convert::Infallible;

@@ -24,6 +24,7 @@ extern crate alloc;
 extern crate std;
 
 mod alike;
+mod before;
 mod cache;
 mod collect;
 mod entries;

@@ -5,8 +5,9 @@ mod shard;
 mod shards;
 mod weighted;
 
+use crate::before::Before;
 use crate::slots::Slots;
-use crate::store::{hash_of, Before, Store};
+use crate::store::{hash_of, Store};
 use crate::{DefaultHashBuilder, Refused};
 use shard::Pairs;
 use shards::{part, usual_count, Shards};
