@@ -1,25 +1,26 @@
 //! Keys and their values.
 
+use crate::before::Before;
 use crate::slots::Slots;
-use crate::store::{hash_of, Before, Store};
-use crate::{Drain, Entry, Iter, IterMut, Keys, Refused, Values, ValuesMut};
-use std::borrow::Borrow;
-use std::collections::hash_map::RandomState;
-use std::convert::Infallible;
-use std::fmt;
-use std::hash::{BuildHasher, Hash};
+use crate::store::{hash_of, Store};
+use crate::{DefaultHashBuilder, Drain, Entry, Iter, IterMut, Keys, Refused, Values, ValuesMut};
+use core::borrow::Borrow;
+use core::convert::Infallible;
+use core::fmt;
+use core::hash::{BuildHasher, Hash};
 
 /// A map of fixed capacity: if it is full, a new key takes the place of another one.
 ///
-/// The library is given the 64-bit hash of a key in place of the key, and a number if keys of the same
-/// hash are here: each key has a slot of its own. There are at most sixteen keys of one hash, and then one
-/// of them leaves for the next. Whoever can choose such keys makes the cache useless, which
-/// [`RandomState`] prevents.
+/// The [core](crate::proved) is given the 64-bit hash of a key in place of the key, or a number of its own if a key
+/// of the same hash is here: each key has a slot of its own, and a key that left is remembered by its hash. Keys of
+/// one hash are compared one by one, so whoever can choose such keys makes the cache slow, which a random hasher
+/// prevents.
 ///
 /// `Eq`, `Hash`, closures and `Drop` run only while the cache is whole: if one of them panics, it is as it
 /// was before or after the call. Keys and values that leave are dropped last, unless they are returned.
 ///
-/// All memory is taken when a cache is made. No other call takes any, but [`resize`](Cache::resize).
+/// All memory is taken when a cache is made. No other call takes any, but [`resize`](Cache::resize), and those that
+/// store a key whose hash another one has that is here.
 ///
 /// # Threads
 ///
@@ -59,11 +60,12 @@ use std::hash::{BuildHasher, Hash};
 /// assert_eq!((cache.hits(), cache.misses()), (1, 1));
 /// # Ok::<(), clock2q::Refused>(())
 /// ```
-pub struct Cache<K, V, S = RandomState> {
+pub struct Cache<K, V, S = DefaultHashBuilder> {
     pub(crate) store: Store<K, V>,
     pub(crate) hasher: S,
 }
 
+#[cfg(feature = "std")]
 impl<K, V> Cache<K, V> {
     /// Makes a cache for `capacity` keys, which are hashed with random numbers.
     ///
@@ -71,7 +73,7 @@ impl<K, V> Cache<K, V> {
     ///
     /// [`Refused::Capacity`] and [`Refused::Memory`].
     pub fn new(capacity: usize) -> Result<Cache<K, V>, Refused> {
-        Cache::with_hasher(capacity, RandomState::new())
+        Cache::with_hasher(capacity, DefaultHashBuilder::default())
     }
 
     /// Makes a cache in which `small` slots are for new keys, each young until `window` more were
@@ -86,7 +88,7 @@ impl<K, V> Cache<K, V> {
         small: usize,
         window: usize,
     ) -> Result<Cache<K, V>, Refused> {
-        Cache::with_policy_and_hasher(capacity, small, window, RandomState::new())
+        Cache::with_policy_and_hasher(capacity, small, window, DefaultHashBuilder::default())
     }
 }
 
@@ -122,7 +124,7 @@ impl<K, V, S> Cache<K, V, S> {
 
     /// Returns how many keys there are.
     pub fn len(&self) -> usize {
-        self.store.entries.len()
+        self.store.len()
     }
 
     /// Returns true if there is no key.
@@ -162,10 +164,11 @@ impl<K, V, S> Cache<K, V, S> {
     }
 
     /// Returns the pair that [`evict`](Cache::evict) would remove: if the cache is full, the one that leaves for
-    /// a key that is unknown. Records no hit, but needs the cache alone, as each call of the library does. Takes
+    /// a key that is unknown. Records no hit. Takes
     /// time in proportion to the pairs that were hit and would be passed over.
-    pub fn next_victim(&mut self) -> Option<(&K, &V)> {
-        self.store.next_victim()
+    pub fn next_victim(&self) -> Option<(&K, &V)> {
+        let (key, value) = self.store.next_victim()?;
+        Some((key, value))
     }
 
     /// Has the cache hold `capacity` keys at most. Pairs leave as by [`evict`](Cache::evict) until there are no
@@ -237,7 +240,7 @@ impl<K: Hash + Eq, V, S: BuildHasher> Cache<K, V, S> {
         K: Borrow<Q>,
         Q: Hash + Eq + ?Sized,
     {
-        let (_, (_, value)) = self.store.find_pair(hash_of(&self.hasher, key), key)?;
+        let (_, value) = self.store.find_pair(hash_of(&self.hasher, key), key)?;
         Some(value)
     }
 
@@ -247,7 +250,7 @@ impl<K: Hash + Eq, V, S: BuildHasher> Cache<K, V, S> {
         K: Borrow<Q>,
         Q: Hash + Eq + ?Sized,
     {
-        let (_, (key, value)) = self.store.find_pair(hash_of(&self.hasher, key), key)?;
+        let (key, value) = self.store.find_pair(hash_of(&self.hasher, key), key)?;
         Some((key, value))
     }
 
@@ -258,7 +261,7 @@ impl<K: Hash + Eq, V, S: BuildHasher> Cache<K, V, S> {
         Q: Hash + Eq + ?Sized,
     {
         let hash = hash_of(&self.hasher, key);
-        let (_, (_, value)) = self.store.entries.find(hash, key)?;
+        let (_, value) = self.store.peek(hash, key)?;
         Some(value)
     }
 
@@ -269,7 +272,7 @@ impl<K: Hash + Eq, V, S: BuildHasher> Cache<K, V, S> {
         Q: Hash + Eq + ?Sized,
     {
         let hash = hash_of(&self.hasher, key);
-        let (_, (_, value)) = self.store.entries.find_mut(hash, key)?;
+        let (_, value) = self.store.peek_mut(hash, key)?;
         Some(value)
     }
 

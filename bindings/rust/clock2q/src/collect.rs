@@ -2,7 +2,8 @@
 
 use crate::store::hash_of;
 use crate::{Cache, IntoIter, Iter, IterMut};
-use std::hash::{BuildHasher, Hash};
+use alloc::vec::Vec;
+use core::hash::{BuildHasher, Hash};
 
 /// Inserts each pair.
 impl<K: Hash + Eq, V, S: BuildHasher> Extend<(K, V)> for Cache<K, V, S> {

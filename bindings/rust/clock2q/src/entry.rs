@@ -1,8 +1,8 @@
 //! A key and where it belongs.
 
 use crate::store::Store;
-use std::fmt;
-use std::mem;
+use core::fmt;
+use core::mem;
 
 /// What [`Cache::entry`](crate::Cache::entry) finds of a key.
 ///
@@ -109,14 +109,14 @@ impl<'a, K, V> OccupiedEntry<'a, K, V> {
     /// Returns its value to write to.
     pub fn get_mut(&mut self) -> &mut V {
         let pair = self.store.entries.pair_mut(self.slot);
-        pair.expect("a pair is at its slot").1
+        &mut pair.expect("a pair is at its slot").1
     }
 
     /// Returns its value to write to, for as long as the cache is borrowed.
     #[inline]
     pub fn into_mut(self) -> &'a mut V {
         let pair = self.store.entries.pair_mut(self.slot);
-        pair.expect("a pair is at its slot").1
+        &mut pair.expect("a pair is at its slot").1
     }
 
     /// Stores another value, and returns the one before.
@@ -137,7 +137,8 @@ impl<'a, K, V> OccupiedEntry<'a, K, V> {
 
     fn pair(&self) -> (&K, &V) {
         let pair = self.store.entries.pair(self.slot);
-        pair.expect("a pair is at its slot")
+        let (key, value) = pair.expect("a pair is at its slot");
+        (key, value)
     }
 }
 
@@ -158,7 +159,7 @@ impl<'a, K, V> VacantEntry<'a, K, V> {
         let (slot, left) = self.store.admit(self.hash, self.key, value);
         drop((left, self.store.take_second()));
         let pair = self.store.entries.pair_mut(slot);
-        pair.expect("a pair is at its slot").1
+        &mut pair.expect("a pair is at its slot").1
     }
 }
 

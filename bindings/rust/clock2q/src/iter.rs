@@ -1,8 +1,8 @@
 //! Iterators over pairs, in the order of their slots. None of them records a hit.
 
 use crate::entries::{Drained, IntoPairs, Pairs, PairsMut};
-use std::fmt;
-use std::iter::FusedIterator;
+use core::fmt;
+use core::iter::FusedIterator;
 
 /// Declares an iterator over pairs, of which `left` are still to come.
 macro_rules! iterator {

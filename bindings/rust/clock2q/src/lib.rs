@@ -1,8 +1,8 @@
-//! Caches of fixed capacity with Clock2Q+ replacement, proved up to the C calls under them.
+//! Caches of fixed capacity with Clock2Q+ replacement, of which the core is a proved text without its contracts.
 //!
 //! A [`Cache`] is a map of any hashable keys, and a [`WeightedCache`] one whose pairs have weights; threads
-//! share those of [`sync`]. A [`PageCache`] gives numbers slots, for arrays of the caller's.
-//! [`sys`] has the C calls.
+//! share those of `sync`. A [`PageCache`] gives numbers slots, for arrays of the caller's, and a [`Table`] finds
+//! what the caller keeps by hashes. [`proved`] has the core.
 //!
 //! ```
 //! use clock2q::Cache;
@@ -12,24 +12,32 @@
 //! assert_eq!(cache.get("seven"), Some(&7));
 //! # Ok::<(), clock2q::Refused>(())
 //! ```
-#![deny(
-    missing_docs,
-    unsafe_op_in_unsafe_fn,
-    clippy::undocumented_unsafe_blocks
-)]
+//!
+//! Without the feature `std`, which is on if nothing else is said, the crate needs `alloc` alone. There is no random
+//! hasher then, and nothing that threads share.
+#![no_std]
+#![forbid(unsafe_code)]
+#![deny(missing_docs, clippy::incompatible_msrv)]
 
+extern crate alloc;
+#[cfg(feature = "std")]
+extern crate std;
+
+mod alike;
+mod before;
 mod cache;
-mod chains;
 mod collect;
 mod entries;
 mod entry;
 mod iter;
 mod pages;
+#[rustfmt::skip] // written by erase
+pub mod proved;
 mod refused;
 mod slots;
 mod store;
+#[cfg(feature = "std")]
 pub mod sync;
-pub mod sys;
 mod weighted;
 mod weights;
 
@@ -37,8 +45,16 @@ pub use cache::Cache;
 pub use entry::{Entry, OccupiedEntry, VacantEntry};
 pub use iter::{Drain, IntoIter, Iter, IterMut, Keys, Values, ValuesMut};
 pub use pages::{PageCache, Place};
+pub use proved::cache::MAX_CAPACITY;
+pub use proved::handles::{Candidates, Table, TableError};
 pub use refused::Refused;
 pub use weighted::WeightedCache;
 
-/// The largest capacity.
-pub const MAX_CAPACITY: usize = sys::CLOCK2Q_MAX_CAPACITY;
+/// The builder of hashers that a cache has if nothing else is said.
+#[cfg(feature = "std")]
+pub type DefaultHashBuilder = std::collections::hash_map::RandomState;
+
+/// The builder of hashers that a cache has if nothing else is said. Its seed is fixed: whoever chooses the keys can
+/// choose ones that collide.
+#[cfg(not(feature = "std"))]
+pub use proved::cache::DefaultHashBuilder;

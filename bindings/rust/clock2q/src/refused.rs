@@ -1,8 +1,7 @@
 //! Why there is no cache.
 
-use crate::sys;
-use std::error::Error;
-use std::fmt;
+use crate::proved::cache::CacheError;
+use core::fmt;
 
 /// Why a cache can't be had. Nothing is kept of what was taken for it.
 #[derive(Clone, Copy, Debug, PartialEq, Eq)]
@@ -15,14 +14,12 @@ pub enum Refused {
     Policy,
 }
 
-impl Refused {
-    /// Returns why a constructor of the library made no cache, if it made none.
-    pub(crate) fn check(status: u32) -> Result<(), Refused> {
-        match status {
-            sys::CLOCK2Q_DONE => Ok(()),
-            sys::CLOCK2Q_NO_MEMORY => Err(Refused::Memory),
-            sys::CLOCK2Q_BAD_CAPACITY => Err(Refused::Capacity),
-            _ => Err(Refused::Policy),
+impl From<CacheError> for Refused {
+    fn from(refusal: CacheError) -> Refused {
+        match refusal {
+            CacheError::Memory => Refused::Memory,
+            CacheError::Capacity => Refused::Capacity,
+            CacheError::Policy => Refused::Policy,
         }
     }
 }
@@ -37,4 +34,5 @@ impl fmt::Display for Refused {
     }
 }
 
-impl Error for Refused {}
+#[cfg(feature = "std")]
+impl std::error::Error for Refused {}

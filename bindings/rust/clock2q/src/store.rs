@@ -1,11 +1,13 @@
 //! Pairs by the hashes of their keys.
 
+use crate::before::Before;
 use crate::entries::{Drained, Entries};
 use crate::slots::Slots;
 use crate::Refused;
-use std::borrow::Borrow;
-use std::hash::{BuildHasher, Hash, Hasher};
-use std::mem;
+use alloc::vec::Vec;
+use core::borrow::Borrow;
+use core::hash::{BuildHasher, Hash};
+use core::mem;
 
 /// Returns the hash of a key.
 #[inline]
@@ -14,53 +16,11 @@ where
     Q: Hash + ?Sized,
     S: BuildHasher,
 {
-    let mut state = hasher.build_hasher();
-    key.hash(&mut state);
-    state.finish()
+    hasher.hash_one(key)
 }
 
-/// What had the slot of a pair that was stored.
-pub(crate) enum Before<K, V> {
-    /// Nothing.
-    Nothing,
-    /// This key: here is its old value, and the new one of the equal keys.
-    Replaced(K, V),
-    /// Another key, or one that left for this one.
-    Evicted(K, V),
-}
-
-impl<K, V> Before<K, V> {
-    /// Returns what had the slot if that was another key, or nothing.
-    #[inline(always)]
-    fn evicted(pair: Option<(K, V)>) -> Before<K, V> {
-        match pair {
-            Some((key, value)) => Before::Evicted(key, value),
-            None => Before::Nothing,
-        }
-    }
-
-    /// Returns the value that was replaced. A pair that was evicted is dropped.
-    pub(crate) fn replaced(self) -> Option<V> {
-        match self {
-            Before::Replaced(_, value) => Some(value),
-            _ => None,
-        }
-    }
-
-    /// Returns what was replaced or evicted.
-    pub(crate) fn pair(self) -> Option<(K, V)> {
-        match self {
-            Before::Nothing => None,
-            Before::Replaced(key, value) | Before::Evicted(key, value) => Some((key, value)),
-        }
-    }
-}
-
-/// The most keys of one hash: to compare a key with more of them would take too long.
-const MOST_ALIKE: usize = 16;
-
-/// Pairs at the slots that the library gives their keys. There is a pair at a slot if and only if the
-/// library gave it to a key: so it is whenever a key is compared, or a key or value dropped.
+/// Pairs at the slots of their keys. There is a pair at a slot if and only if a key has it: so it is whenever a key
+/// is compared, or a key or value dropped.
 pub(crate) struct Store<K, V> {
     slots: Slots,
     pub(crate) entries: Entries<K, V>,
@@ -95,6 +55,11 @@ impl<K, V> Store<K, V> {
     }
 
     #[inline]
+    pub(crate) fn len(&self) -> usize {
+        self.slots.len()
+    }
+
+    #[inline]
     pub(crate) fn capacity(&self) -> usize {
         self.slots.capacity().min(self.limit)
     }
@@ -106,7 +71,7 @@ impl<K, V> Store<K, V> {
         }
         let mut left = Vec::new();
         self.second.reserve_exact(1);
-        while self.entries.len() > limit {
+        while self.len() > limit {
             left.extend(self.evict().map(|(_, pair)| pair));
         }
         self.limit = match limit < self.slots.capacity() {
@@ -116,34 +81,30 @@ impl<K, V> Store<K, V> {
         Ok(left)
     }
 
+    /// Removes all pairs, and drops them last.
     pub(crate) fn clear(&mut self) {
-        self.slots.clear();
-        self.entries.clear();
+        drop(self.drain());
     }
 
     /// Removes all pairs, and returns them.
+    #[cfg(feature = "std")] // as threads need it
     pub(crate) fn take_all(&mut self) -> Vec<(K, V)> {
-        let mut left = Vec::with_capacity(self.entries.len());
+        let mut left = Vec::with_capacity(self.len());
         left.extend(self.drain().0);
         left
     }
 
     /// Removes all pairs, and returns them with their number.
     pub(crate) fn drain(&mut self) -> (Drained<'_, K, V>, usize) {
+        let len = self.len();
         self.slots.clear();
-        self.entries.drain()
+        (self.entries.drain(), len)
     }
 
-    /// Stores a pair whose key isn't here, and returns its slot and the pair that left for it. If two left,
-    /// [`take_second`](Store::take_second) returns the other.
+    /// Returns true if there may be more pairs.
     #[inline(always)]
-    pub(crate) fn admit(&mut self, hash: u64, key: K, value: V) -> (usize, Option<(K, V)>) {
-        if self.entries.len() < self.limit {
-            if let Some(slot) = self.slots.admit(hash) {
-                return (slot, self.entries.put(slot, hash, key, value));
-            }
-        }
-        self.admit_with_care(hash, key, value)
+    fn has_room(&self) -> bool {
+        self.limit == usize::MAX || self.len() < self.limit
     }
 
     /// Returns the second pair that left for the one stored last, if two did.
@@ -152,51 +113,37 @@ impl<K, V> Store<K, V> {
         self.second.pop()
     }
 
-    /// Does so if there may not be more pairs, or else beside keys of the same hash.
-    #[cold]
-    #[inline(never)]
-    fn admit_with_care(&mut self, hash: u64, key: K, value: V) -> (usize, Option<(K, V)>) {
-        match self.entries.len() < self.limit {
-            true => self.admit_beside(hash, key, value),
-            false => self.admit_to_fewer(hash, key, value),
+    /// Stores a pair whose key isn't here, and returns its slot and the pair that left for it. If two left,
+    /// [`take_second`](Store::take_second) returns the other.
+    #[inline]
+    pub(crate) fn admit(&mut self, hash: u64, key: K, value: V) -> (usize, Option<(K, V)>) {
+        if !self.has_room() {
+            return self.admit_to_fewer(hash, key, value);
+        }
+        let slot = self.slot_for(hash);
+        (slot, self.entries.put(slot, key, value))
+    }
+
+    /// Gives a key that isn't here a slot.
+    #[inline]
+    fn slot_for(&mut self, hash: u64) -> usize {
+        match self.slots.admit(hash) {
+            Ok(slot) => slot,
+            Err(_) => self.slots.enter_beside(hash),
         }
     }
 
-    /// Does so beside keys of the same hash, of which one gives way if there are [`MOST_ALIKE`].
-    fn admit_beside(&mut self, hash: u64, key: K, value: V) -> (usize, Option<(K, V)>) {
-        let crowded = self.entries.first_of_many(hash, MOST_ALIKE);
-        let gave_way = crowded.and_then(|slot| self.remove_at(slot));
-        let slot = self.slots.enter_beside(hash);
-        (slot, self.put_after(gave_way, slot, hash, key, value))
-    }
-
-    /// Does so in place of another pair though there are slots, since there may not be more pairs.
+    /// Does what `admit` does in place of another pair though there are slots, since there may not be more pairs.
+    #[cold]
+    #[inline(never)]
     fn admit_to_fewer(&mut self, hash: u64, key: K, value: V) -> (usize, Option<(K, V)>) {
-        let gone = match self.entries.first_of_many(hash, MOST_ALIKE) {
-            Some(slot) => self.remove_at(slot),
-            None => self.evict().map(|(_, pair)| pair),
-        };
-        let slot = match self.slots.admit(hash) {
-            Some(slot) => slot,
-            None => self.slots.enter_beside(hash),
-        };
-        (slot, self.put_after(gone, slot, hash, key, value))
-    }
-
-    /// Puts a pair at its slot after another has left, and returns the pair that had the slot, or else that other.
-    fn put_after(
-        &mut self,
-        gone: Option<(K, V)>,
-        slot: usize,
-        hash: u64,
-        key: K,
-        value: V,
-    ) -> Option<(K, V)> {
-        match self.entries.put(slot, hash, key, value) {
-            None => gone,
+        let gone = self.evict().map(|(_, pair)| pair);
+        let slot = self.slot_for(hash);
+        match self.entries.put(slot, key, value) {
+            None => (slot, gone),
             left => {
                 self.second.extend(gone);
-                left
+                (slot, left)
             }
         }
     }
@@ -228,6 +175,7 @@ impl<K, V> Store<K, V> {
     }
 
     /// Records a hit of the pair at a slot.
+    #[inline]
     pub(crate) fn hit(&mut self, slot: usize) {
         self.slots.hit(slot);
     }
@@ -239,9 +187,8 @@ impl<K, V> Store<K, V> {
     }
 
     /// Returns the pair that would leave next.
-    pub(crate) fn next_victim(&mut self) -> Option<(&K, &V)> {
-        let slot = self.slots.next_victim()?;
-        self.entries.pair(slot)
+    pub(crate) fn next_victim(&self) -> Option<&(K, V)> {
+        self.entries.pair(self.slots.next_victim()?)
     }
 
     /// Removes the pair at a slot.
@@ -252,6 +199,39 @@ impl<K, V> Store<K, V> {
 }
 
 impl<K: Eq, V> Store<K, V> {
+    /// Returns the slot of a key. Whatever `Eq` does, nothing has changed.
+    #[inline(always)]
+    pub(crate) fn slot<Q>(&self, hash: u64, key: &Q) -> Option<usize>
+    where
+        K: Borrow<Q>,
+        Q: Eq + ?Sized,
+    {
+        let entries = &self.entries;
+        let is_it = |slot| matches!(entries.pair(slot), Some((held, _)) if held.borrow() == key);
+        self.slots.find(hash, is_it)
+    }
+
+    /// Returns the pair of a key. It records no hit.
+    #[inline]
+    pub(crate) fn peek<Q>(&self, hash: u64, key: &Q) -> Option<&(K, V)>
+    where
+        K: Borrow<Q>,
+        Q: Eq + ?Sized,
+    {
+        self.entries.pair(self.slot(hash, key)?)
+    }
+
+    /// Returns the pair of a key to write to. It records no hit.
+    #[inline]
+    pub(crate) fn peek_mut<Q>(&mut self, hash: u64, key: &Q) -> Option<&mut (K, V)>
+    where
+        K: Borrow<Q>,
+        Q: Eq + ?Sized,
+    {
+        let slot = self.slot(hash, key)?;
+        self.entries.pair_mut(slot)
+    }
+
     /// Returns the slot of a key, after a hit, and counts.
     #[inline]
     pub(crate) fn find<Q>(&mut self, hash: u64, key: &Q) -> Option<usize>
@@ -259,44 +239,80 @@ impl<K: Eq, V> Store<K, V> {
         K: Borrow<Q>,
         Q: Eq + ?Sized,
     {
-        self.find_pair(hash, key).map(|(slot, _)| slot)
+        let slot = self.slot(hash, key);
+        self.count(slot.is_some());
+        self.slots.hit(slot?);
+        slot
     }
 
-    /// Returns the slot of a key and its pair, after a hit, and counts.
+    /// Returns the pair of a key, after a hit, and counts.
     #[inline]
-    pub(crate) fn find_pair<Q>(&mut self, hash: u64, key: &Q) -> Option<(usize, &mut (K, V))>
+    pub(crate) fn find_pair<Q>(&mut self, hash: u64, key: &Q) -> Option<&mut (K, V)>
     where
         K: Borrow<Q>,
         Q: Eq + ?Sized,
     {
-        let (slots, hits) = (&mut self.slots, &mut self.hits);
-        let found = self.entries.find_and_hit(hash, key, |slot| {
-            *hits += 1;
-            slots.hit(slot);
-        });
-        if found.is_none() {
-            self.misses += 1;
+        if self.slots.has_alike() {
+            let slot = self.find(hash, key)?;
+            return self.entries.pair_mut(slot);
         }
-        found
+        // At most one key has this hash, so that its pair is read once.
+        let named = self.slots.named(hash);
+        let pair = named.and_then(|slot| self.entries.pair_mut(slot));
+        match (named, pair) {
+            (Some(slot), Some(pair)) if pair.0.borrow() == key => {
+                self.slots.hit(slot);
+                self.hits += 1;
+                Some(pair)
+            }
+            _ => {
+                self.misses += 1;
+                None
+            }
+        }
+    }
+
+    #[inline]
+    fn count(&mut self, is_hit: bool) {
+        match is_hit {
+            true => self.hits += 1,
+            false => self.misses += 1,
+        }
     }
 
     /// Stores a pair, after a hit if its key is here, and returns what was replaced or left. A second pair that left is
     /// dropped.
     #[inline(always)]
     pub(crate) fn push(&mut self, hash: u64, key: K, value: V) -> Before<K, V> {
-        if let Some((slot, (_, before))) = self.entries.find_mut(hash, &key) {
-            self.slots.hit(slot);
-            return Before::Replaced(key, mem::replace(before, value));
+        if !self.has_room() || self.slots.has_alike() {
+            return self.push_with_care(hash, key, value);
         }
-        // As `admit` does. The pair that leaves is moved once so, and not through a tuple with the slot.
-        if self.entries.len() < self.limit {
-            if let Some(slot) = self.slots.admit(hash) {
-                return Before::evicted(self.entries.put(slot, hash, key, value));
+        match self.slots.admit(hash) {
+            Ok(slot) => Before::evicted(self.entries.put(slot, key, value)),
+            Err(slot) => self.push_over(slot, hash, key, value),
+        }
+    }
+
+    /// Does so if a key of this hash is at a slot.
+    #[inline]
+    fn push_over(&mut self, slot: usize, hash: u64, key: K, value: V) -> Before<K, V> {
+        match self.entries.pair_mut(slot) {
+            Some((held, before)) if *held == key => {
+                self.slots.hit(slot);
+                Before::Replaced(key, mem::replace(before, value))
             }
+            _ => self.push_with_care(hash, key, value),
         }
-        let left = self.admit_with_care(hash, key, value).1;
+    }
+
+    /// Does so if there may not be more pairs, or if there are keys of one hash.
+    #[cold]
+    #[inline(never)]
+    fn push_with_care(&mut self, hash: u64, key: K, value: V) -> Before<K, V> {
+        let found = self.slot(hash, &key);
+        let before = self.push_at(found, hash, key, value);
         drop(self.take_second());
-        Before::evicted(left)
+        before
     }
 
     /// Removes a key, and returns the pair. A key that isn't here is forgotten.
@@ -305,7 +321,7 @@ impl<K: Eq, V> Store<K, V> {
         K: Borrow<Q>,
         Q: Eq + ?Sized,
     {
-        let found = self.entries.slot(hash, key);
+        let found = self.slot(hash, key);
         self.remove_found(found, hash)
     }
 }

@@ -5,17 +5,18 @@ mod shard;
 mod shards;
 mod weighted;
 
+use crate::before::Before;
 use crate::slots::Slots;
-use crate::store::{hash_of, Before, Store};
-use crate::Refused;
+use crate::store::{hash_of, Store};
+use crate::{DefaultHashBuilder, Refused};
 use shard::Pairs;
 use shards::{part, usual_count, Shards};
 use std::borrow::Borrow;
-use std::collections::hash_map::RandomState;
 use std::convert::Infallible;
 use std::fmt;
 use std::hash::{BuildHasher, Hash};
 use std::sync::{Mutex, MutexGuard, PoisonError};
+use std::vec::Vec;
 pub use weighted::WeightedCache;
 
 /// A map of fixed capacity that threads share: shards, each a [`Cache`](crate::Cache) under a lock of its
@@ -57,7 +58,7 @@ pub use weighted::WeightedCache;
 /// assert_eq!(cache.get("seven"), Some(7));
 /// # Ok::<(), clock2q::Refused>(())
 /// ```
-pub struct Cache<K, V, S = RandomState> {
+pub struct Cache<K, V, S = DefaultHashBuilder> {
     shards: Shards<Store<K, V>, K, V>,
     hasher: S,
     /// How many keys there are slots for.
@@ -68,12 +69,12 @@ pub struct Cache<K, V, S = RandomState> {
 
 impl<K: Eq, V> Pairs<K, V> for Store<K, V> {
     fn find(&mut self, hash: u64, key: &K) -> Option<&V> {
-        let (_, (_, value)) = self.find_pair(hash, key)?;
+        let (_, value) = self.find_pair(hash, key)?;
         Some(value)
     }
 
     fn peek(&self, hash: u64, key: &K) -> Option<&V> {
-        let (_, (_, value)) = self.entries.find(hash, key)?;
+        let (_, value) = Store::peek(self, hash, key)?;
         Some(value)
     }
 }
@@ -91,7 +92,7 @@ impl<K, V> Cache<K, V> {
     ///
     /// [`Refused::Capacity`] and [`Refused::Memory`].
     pub fn new(capacity: usize) -> Result<Cache<K, V>, Refused> {
-        Cache::with_hasher(capacity, RandomState::new())
+        Cache::with_hasher(capacity, DefaultHashBuilder::default())
     }
 }
 
@@ -129,10 +130,7 @@ impl<K, V, S> Cache<K, V, S> {
 
     /// Returns how many keys there are.
     pub fn len(&self) -> usize {
-        self.shards
-            .iter()
-            .map(|shard| shard.lock().entries.len())
-            .sum()
+        self.shards.iter().map(|shard| shard.lock().len()).sum()
     }
 
     /// Returns true if there is no key.
@@ -224,7 +222,7 @@ impl<K: Hash + Eq, V, S: BuildHasher> Cache<K, V, S> {
     {
         let hash = hash_of(&self.hasher, key);
         let mut store = self.shards.of(hash).lock();
-        let (_, (_, value)) = store.find_pair(hash, key)?;
+        let (_, value) = store.find_pair(hash, key)?;
         Some(read(value))
     }
 
@@ -236,7 +234,7 @@ impl<K: Hash + Eq, V, S: BuildHasher> Cache<K, V, S> {
     {
         let hash = hash_of(&self.hasher, key);
         let store = self.shards.of(hash).lock();
-        store.entries.slot(hash, key).is_some()
+        store.slot(hash, key).is_some()
     }
 
     /// Stores a value for a key, and returns the one before, if the key was here. A pair that has to leave
@@ -255,7 +253,7 @@ impl<K: Hash + Eq, V, S: BuildHasher> Cache<K, V, S> {
         let hash = hash_of(&self.hasher, &key);
         let mut store = self.shards.of(hash).lock();
         // `Eq` may panic in these two, while the lock is dropped before what this thread owns.
-        let found = store.entries.slot(hash, &key);
+        let found = store.slot(hash, &key);
         let outdated = store.outdate(hash, &key);
         let before = store.push_at(found, hash, key, value);
         let second = store.take_second();
@@ -303,7 +301,7 @@ impl<K: Hash + Eq, V, S: BuildHasher> Cache<K, V, S> {
         let hash = hash_of(&self.hasher, &key);
         let push = |store: &mut Store<K, V>, pair: &mut Option<(K, V)>| {
             let (key, _) = pair.as_ref()?;
-            let found = store.entries.slot(hash, key);
+            let found = store.slot(hash, key);
             let (key, value) = pair.take()?;
             Some((store.push_at(found, hash, key, value), store.take_second()))
         };
@@ -318,7 +316,7 @@ impl<K: Hash + Eq, V, S: BuildHasher> Cache<K, V, S> {
     {
         let hash = hash_of(&self.hasher, key);
         let mut store = self.shards.of(hash).lock();
-        let found = store.entries.slot(hash, key);
+        let found = store.slot(hash, key);
         let outdated = store.outdate(hash, key);
         let removed = store.remove_found(found, hash);
         drop(store);

@@ -3,11 +3,11 @@
 use crate::slots::Slots;
 use crate::store::hash_of;
 use crate::weights::{Stored, WeightedStore};
-use crate::{Iter, Refused};
-use std::borrow::Borrow;
-use std::collections::hash_map::RandomState;
-use std::fmt;
-use std::hash::{BuildHasher, Hash};
+use crate::{DefaultHashBuilder, Iter, Refused};
+use alloc::vec::Vec;
+use core::borrow::Borrow;
+use core::fmt;
+use core::hash::{BuildHasher, Hash};
 
 /// A [`Cache`](crate::Cache) whose pairs have weights, of which the sum is limited too.
 ///
@@ -31,12 +31,13 @@ use std::hash::{BuildHasher, Hash};
 /// assert!(texts.insert(8, "8".repeat(1_000_001)).is_err());
 /// # Ok::<(), clock2q::Refused>(())
 /// ```
-pub struct WeightedCache<K, V, W, S = RandomState> {
+pub struct WeightedCache<K, V, W, S = DefaultHashBuilder> {
     store: WeightedStore<K, V>,
     weigher: W,
     hasher: S,
 }
 
+#[cfg(feature = "std")]
 impl<K, V, W: Fn(&K, &V) -> u64> WeightedCache<K, V, W> {
     /// Makes a cache for `capacity` pairs, whose weights are at most `max_weight` together.
     ///
@@ -44,7 +45,7 @@ impl<K, V, W: Fn(&K, &V) -> u64> WeightedCache<K, V, W> {
     ///
     /// Those of [`Cache::new`](crate::Cache::new).
     pub fn new(capacity: usize, max_weight: u64, weigher: W) -> Result<Self, Refused> {
-        WeightedCache::with_hasher(capacity, max_weight, weigher, RandomState::new())
+        WeightedCache::with_hasher(capacity, max_weight, weigher, DefaultHashBuilder::default())
     }
 }
 
@@ -71,7 +72,7 @@ impl<K, V, W: Fn(&K, &V) -> u64, S> WeightedCache<K, V, W, S> {
 impl<K, V, W, S> WeightedCache<K, V, W, S> {
     /// Returns how many pairs there are.
     pub fn len(&self) -> usize {
-        self.store.pairs.entries.len()
+        self.store.pairs.len()
     }
 
     /// Returns true if there is no pair.
@@ -116,7 +117,7 @@ impl<K, V, W, S> WeightedCache<K, V, W, S> {
     }
 
     /// Returns the pair that [`evict`](WeightedCache::evict) would remove. Records no hit.
-    pub fn next_victim(&mut self) -> Option<(&K, &V)> {
+    pub fn next_victim(&self) -> Option<(&K, &V)> {
         let (key, weighed) = self.store.pairs.next_victim()?;
         Some((key, &weighed.value))
     }

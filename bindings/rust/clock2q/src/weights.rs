@@ -3,8 +3,9 @@
 use crate::slots::Slots;
 use crate::store::Store;
 use crate::Refused;
-use std::borrow::Borrow;
-use std::mem;
+use alloc::vec::Vec;
+use core::borrow::Borrow;
+use core::mem;
 
 /// A value, and the weight of its pair.
 pub(crate) struct Weighed<V> {
@@ -99,7 +100,7 @@ impl<K: Eq, V> WeightedStore<K, V> {
         K: Borrow<Q>,
         Q: Eq + ?Sized,
     {
-        let (_, (_, held)) = self.pairs.find_pair(hash, key)?;
+        let (_, held) = self.pairs.find_pair(hash, key)?;
         Some(&held.value)
     }
 
@@ -109,7 +110,7 @@ impl<K: Eq, V> WeightedStore<K, V> {
         K: Borrow<Q>,
         Q: Eq + ?Sized,
     {
-        let (_, (_, held)) = self.pairs.entries.find(hash, key)?;
+        let (_, held) = self.pairs.peek(hash, key)?;
         Some(&held.value)
     }
 
@@ -119,12 +120,13 @@ impl<K: Eq, V> WeightedStore<K, V> {
         K: Borrow<Q>,
         Q: Eq + ?Sized,
     {
-        self.pairs.entries.slot(hash, key)
+        self.pairs.slot(hash, key)
     }
 }
 
 impl<K, V> WeightedStore<K, V> {
     /// Removes all pairs, and returns them.
+    #[cfg(feature = "std")] // as threads need it
     pub(crate) fn take_all(&mut self) -> Vec<(K, Weighed<V>)> {
         self.weight = 0;
         self.pairs.take_all()

@@ -9,9 +9,6 @@ use std::hash::BuildHasher;
 
 const CAPACITIES: [usize; 6] = [1, 2, 3, 10, 100, 1000];
 
-/// The most keys of one hash.
-const MOST_ALIKE: usize = 16;
-
 /// A cache, the value stored last of each key that may be in it, and what was counted.
 struct Beside<S> {
     cache: Cache<String, u64, S>,
@@ -171,13 +168,13 @@ impl<S: BuildHasher + Default> Beside<S> {
     }
 }
 
-fn agrees<S: BuildHasher + Default>(most: usize) {
+fn agrees<S: BuildHasher + Default>() {
     for capacity in CAPACITIES {
         let mut beside = Beside::<S>::new(capacity);
         let mut draws = Draws(88_172_645_463_325_252);
         for number in 0..calls() / CAPACITIES.len() {
             beside.call(&mut draws, number as u64);
-            assert!(beside.cache.len() <= most.min(capacity));
+            assert!(beside.cache.len() <= capacity);
         }
         beside.lists_all();
     }
@@ -185,36 +182,36 @@ fn agrees<S: BuildHasher + Default>(most: usize) {
 
 #[test]
 fn agrees_with_a_good_hasher() {
-    agrees::<Good>(usize::MAX);
+    agrees::<Good>();
 }
 
 #[test]
 fn agrees_with_four_hashes() {
-    agrees::<TwoBits>(4 * MOST_ALIKE);
+    agrees::<TwoBits>();
 }
 
 #[test]
 fn agrees_with_one_hash() {
-    agrees::<Constant>(MOST_ALIKE);
+    agrees::<Constant>();
 }
 
-/// Each of the keys of one hash has a slot of its own, up to the most, and the next takes the place of one.
+/// Each of the keys of one hash has a slot of its own, and the next takes the place of one that has to leave.
 #[test]
 fn keys_of_one_hash_are_beside_one_another() {
     let mut cache: Cache<usize, usize, Constant> =
         Cache::with_hasher(100, Constant::default()).expect("a cache");
-    for key in 0..MOST_ALIKE {
+    for key in 0..100 {
         assert_eq!(cache.push(key, key), None);
     }
-    assert!((0..MOST_ALIKE).all(|key| cache.get(&key) == Some(&key)));
-    for key in MOST_ALIKE..10_000 {
-        let (left, value) = cache.push(key, key).expect("one gives way");
+    assert!((0..100).all(|key| cache.get(&key) == Some(&key)));
+    for key in 100..10_000 {
+        let (left, value) = cache.push(key, key).expect("one leaves");
         assert!(left == value && left < key);
         assert!(!cache.contains_key(&left) && cache.contains_key(&key));
-        assert_eq!(cache.len(), MOST_ALIKE);
+        assert_eq!(cache.len(), 100);
     }
     assert_eq!(cache.remove(&9_999), Some(9_999));
-    assert_eq!(cache.insert(0, 1), None);
+    assert_eq!(cache.insert(10_000, 1), None);
 }
 
 /// The keys that are here are those that have a slot in a cache of their hashes.

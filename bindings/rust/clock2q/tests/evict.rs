@@ -70,7 +70,7 @@ fn resizes<S: BuildHasher + Default>() {
                 _ => {
                     let was_here = cache.contains_key(&key);
                     let left = cache.push(key, number);
-                    assert_eq!(left.map_or(false, |(left, _)| left == key), was_here);
+                    assert_eq!(left.is_some_and(|(left, _)| left == key), was_here);
                     stored.insert(key, number);
                     assert_eq!(cache.peek(&key), Some(&number));
                 }

@@ -2,14 +2,9 @@
 
 mod common;
 
-use clock2q::{sys, PageCache, Place, Refused, MAX_CAPACITY};
+use clock2q::{PageCache, Place, Refused, MAX_CAPACITY};
 use common::Draws;
 use std::thread;
-
-#[test]
-fn the_library_has_the_version_of_the_crate() {
-    assert_eq!(unsafe { sys::clock2q_version() }, sys::CLOCK2Q_VERSION);
-}
 
 /// Each key at its slot, and the key that has each slot.
 #[test]

@@ -5,6 +5,7 @@ use std::borrow::Borrow;
 use std::mem;
 use std::ops::{Deref, DerefMut};
 use std::sync::{Arc, Mutex, MutexGuard, PoisonError};
+use std::vec::Vec;
 
 /// What a shard keeps: pairs, of which a key finds the value.
 pub(super) trait Pairs<K, V> {

@@ -1,9 +1,11 @@
 //! What is divided among shards.
 
 use super::shard::Shard;
-use crate::chains::SPREAD;
+use crate::slots::SPREAD;
 use crate::Refused;
+use std::boxed::Box;
 use std::ops::Deref;
+use std::vec::Vec;
 
 /// How many shards there are if there are keys enough.
 const SHARDS: usize = 16;
@@ -44,7 +46,7 @@ impl<P, K, V> Shards<P, K, V> {
 
     /// Returns the shard of the keys of a hash.
     pub(super) fn of(&self, hash: u64) -> &Shard<P, K, V> {
-        // As `chains::Mark` does, so that a poor hasher does no harm.
+        // As `slots::Name` does, so that a poor hasher does no harm.
         let spread = u128::from(hash.wrapping_mul(SPREAD));
         &self.0[((spread * self.0.len() as u128) >> 64) as usize]
     }

@@ -6,13 +6,13 @@ use super::shards::{part, usual_count, Shards};
 use crate::slots::Slots;
 use crate::store::hash_of;
 use crate::weights::{Stored, WeightedStore};
-use crate::Refused;
+use crate::{DefaultHashBuilder, Refused};
 use std::borrow::Borrow;
-use std::collections::hash_map::RandomState;
 use std::convert::Infallible;
 use std::fmt;
 use std::hash::{BuildHasher, Hash};
 use std::sync::Mutex;
+use std::vec::Vec;
 
 /// A [`sync::Cache`](super::Cache) whose pairs have weights, of which the sum is limited too, as that of a
 /// [`WeightedCache`](crate::WeightedCache) is.
@@ -36,7 +36,7 @@ use std::sync::Mutex;
 /// assert_eq!(texts.weight(), 5);
 /// # Ok::<(), clock2q::Refused>(())
 /// ```
-pub struct WeightedCache<K, V, W, S = RandomState> {
+pub struct WeightedCache<K, V, W, S = DefaultHashBuilder> {
     shards: Shards<WeightedStore<K, V>, K, V>,
     weigher: W,
     hasher: S,
@@ -63,7 +63,7 @@ impl<K, V, W: Fn(&K, &V) -> u64> WeightedCache<K, V, W> {
     ///
     /// [`Refused::Capacity`] and [`Refused::Memory`].
     pub fn new(capacity: usize, max_weight: u64, weigher: W) -> Result<Self, Refused> {
-        WeightedCache::with_hasher(capacity, max_weight, weigher, RandomState::new())
+        WeightedCache::with_hasher(capacity, max_weight, weigher, DefaultHashBuilder::default())
     }
 }
 
@@ -115,7 +115,7 @@ impl<K, V, W, S> WeightedCache<K, V, W, S> {
     pub fn len(&self) -> usize {
         self.shards
             .iter()
-            .map(|shard| shard.lock().pairs.entries.len())
+            .map(|shard| shard.lock().pairs.len())
             .sum()
     }
 

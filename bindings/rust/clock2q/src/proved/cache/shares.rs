@@ -1,0 +1,67 @@
+// Written by bindings/rust/erase from crates/clock2q_cache/src/shares.rt; change that, and run erase.
+//! How a cache's capacity is divided among its queues.
+
+/// The capacity of a cache, Small's share of it, and the window: the number of admissions to Small
+/// for which an entry is young.
+#[derive(Clone, Copy)]
+pub(crate) struct Shares {
+    capacity: usize,
+    small: usize,
+    window: usize,
+}
+
+impl Shares {
+    /// Returns the shares of a cache that is made with only a capacity.
+    #[inline]
+    pub(crate) fn usual(capacity: usize) -> Self {
+        let small = if capacity > 1 {
+            (capacity / 10).max(1)
+        } else {
+            0
+        };
+        Shares {
+            capacity,
+            small,
+            window: small.div_ceil(2),
+        }
+    }
+
+    /// Returns the shares of a cache that is made with all three numbers, or `None` if they don't
+    /// fit together.
+    #[inline]
+    pub(crate) fn new(capacity: usize, small: usize, window: usize) -> Option<Self> {
+        if small >= capacity || (small == 0) != (window == 0) || window > small {
+            return None;
+        }
+        Some(Shares {
+            capacity,
+            small,
+            window,
+        })
+    }
+
+    #[inline]
+    pub(crate) fn capacity(self) -> usize {
+        self.capacity
+    }
+
+    #[inline]
+    pub(crate) fn small(self) -> usize {
+        self.small
+    }
+
+    #[inline]
+    pub(crate) fn window(self) -> usize {
+        self.window
+    }
+
+    #[inline]
+    pub(crate) fn main(self) -> usize {
+        self.capacity - self.small
+    }
+
+    #[inline]
+    pub(crate) fn history(self) -> usize {
+        self.capacity / 2
+    }
+}

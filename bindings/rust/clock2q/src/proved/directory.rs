@@ -1,0 +1,16 @@
+// Written by bindings/rust/erase from crates/clock2q_directory/src/lib.rt; change that, and run erase.
+//! The keys that a cache knows, and where each is: [`Directory`](directory::Directory) owns the keys
+//! of the residents and the remembered ones, and the index of all of them. It is made of
+//!
+//! - [`Keys`](keys::Keys): keys by number, each with its hash and a value;
+//! - [`Index`](index::Index): where each known key is, under its hash;
+//! - `Order` of the queues: the places of the remembered keys, in order.
+//!
+//! Constructors take all the memory that will ever be needed, and no later call can fail.
+
+pub mod directory;
+pub mod found;
+pub mod handle;
+pub mod index;
+pub mod keys;
+pub mod place;

@@ -1,0 +1,109 @@
+// Written by bindings/rust/erase from crates/clock2q_directory/src/directory/lookups.rt; change that, and run erase.
+//! Where a key is: lookups of residents and of remembered keys.
+
+use crate::proved::directory::directory::Directory;
+use crate::proved::directory::found::Found;
+use crate::proved::directory::handle::Handle;
+use crate::proved::directory::keys::Keys;
+use crate::proved::directory::place::Place;
+use crate::proved::count::Count;
+use crate::proved::handles::{Candidates, Gap};
+use crate::proved::rattle::Allocator;
+
+impl<K: Eq, V, A: Allocator> Directory<K, V, A> {
+    /// Looks a key up among the residents and the remembered keys. The index is charged one lookup.
+    #[inline(always)]
+    pub fn lookup(&mut self, hash: u64, key: &K) -> Found {
+        self.index.charge_lookup(hash); // once for both kinds
+        let found = look_among(
+            self.index.handles(hash),
+            key,
+            &mut self.residents,
+            &mut self.remembered,
+        );
+        match found {
+            // asked only now: most keys are found in the slots' table, wherever the places are
+            Found::Absent(gap) if !self.index.is_shared() => self.lookup_apart(gap, hash, key),
+            found => found,
+        }
+    }
+
+    /// Looks a key that is not resident up among the remembered keys, if the places have a table of
+    /// their own. The lookup of the residents found the gap, and was charged for both.
+    #[inline]
+    fn lookup_apart(&mut self, gap: Option<Gap>, hash: u64, key: &K) -> Found {
+        match self.remembered.find(self.index.own_places(hash), key) {
+            Some(place) => Found::Remembered(Place::new(place)),
+            None => Found::Absent(gap),
+        }
+    }
+
+    /// Returns the slot of a resident key, and counts each comparison. Places are skipped. The index
+    /// is charged one lookup.
+    #[inline]
+    pub fn find_resident(&mut self, hash: u64, key: &K) -> Option<u32> {
+        let found = self.residents.find(self.index.handles(hash), key);
+        self.index.charge_lookup(hash);
+        found
+    }
+
+    /// Returns the place of a remembered key, and counts each comparison. Slots are skipped. The
+    /// index is charged one lookup.
+    #[inline]
+    pub fn find_remembered(&mut self, hash: u64, key: &K) -> Option<Place> {
+        self.index.charge_lookup(hash);
+        if self.index.is_shared() {
+            return self
+                .remembered
+                .find_remembered(self.index.handles(hash), key);
+        }
+        let place = self.remembered.find(self.index.own_places(hash), key)?;
+        Some(Place::new(place))
+    }
+
+    /// Returns the slot of a resident key. It counts no comparison, and charges the index nothing.
+    #[inline]
+    pub fn slot_of(&self, hash: u64, key: &K) -> Option<u32> {
+        let mut compared = Count::new();
+        self.residents
+            .find_counting_in(self.index.handles(hash), key, &mut compared)
+    }
+
+    /// Returns the slot that comes after `nth` others among those of the residents whose keys have
+    /// this hash. It compares no key.
+    #[inline]
+    pub fn slot_with_hash(&self, hash: u64, nth: usize) -> Option<u32> {
+        self.residents
+            .with_hash(self.index.handles(hash), hash, nth)
+    }
+}
+
+/// Returns the first of `handles` that has `key`, as a resident or as a remembered key, or else the
+/// gap where they end.
+#[inline(always)]
+fn look_among<K: Eq, V, A: Allocator>(
+    mut handles: Candidates<'_, u32>,
+    key: &K,
+    residents: &mut Keys<K, V, A>,
+    remembered: &mut Keys<K, (), A>,
+) -> Found {
+    loop {
+        let handle = match handles.peek_or_gap() {
+            Ok(handle) => handle,
+            Err(gap) => return Found::Absent(Some(gap)),
+        };
+        match Handle::unpack(handle) {
+            Handle::Resident(slot) => {
+                if residents.key_equals(slot, key) {
+                    return Found::Resident(slot);
+                }
+            }
+            Handle::Remembered(place) => {
+                if remembered.key_equals(place.number(), key) {
+                    return Found::Remembered(place);
+                }
+            }
+        }
+        handles.advance();
+    }
+}

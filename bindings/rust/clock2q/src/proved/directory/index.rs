@@ -1,0 +1,197 @@
+// Written by bindings/rust/erase from crates/clock2q_directory/src/index.rt; change that, and run erase.
+//! The index of a cache: where each known key is, under the key's hash.
+
+mod succession;
+
+use crate::proved::directory::handle::Handle;
+use crate::proved::directory::place::Place;
+use crate::proved::count::Count;
+use crate::proved::handles::{Candidates, Gap, Table};
+use crate::proved::rattle::{AllocError, Allocator, Global};
+
+/// The most entries of slots and places that share a table: with one more, no run is too long.
+const MOST_ENTRIES: usize = (1 << 24) - 2;
+
+/// The most entries for which a table gets three times the room.
+const SMALL_TABLE: usize = 16_384;
+
+/// The most entries for which a table gets twice the room.
+const MIDDLE_TABLE: usize = 262_144;
+
+/// Returns the number of entries to make room for in a table of at most `most`: three times as many
+/// if it is small, which keeps lookups short, twice as many if it is of medium size, and no more if
+/// it would take much memory, but for one: a key that takes another's slot may enter before the other
+/// leaves. Such a table is never more than three quarters full.
+#[inline]
+pub fn index_room(most: usize) -> usize {
+    if most <= SMALL_TABLE {
+        most * 3
+    } else if most <= MIDDLE_TABLE {
+        most * 2
+    } else {
+        most + 1
+    }
+}
+
+/// The slot of each resident and the place of each remembered key, under the key's hash.
+///
+/// Both kinds are in one table, so that one lookup finds whether a key is resident, remembered or
+/// neither. If one table would have so many entries that a run could become too long, the places
+/// have a table of their own.
+///
+/// Each call is charged the slots of both tables that it reads and writes at most, and contracts see
+/// the sum: a change takes the walk of a hash, and its run twice, each with the slot of one more entry.
+/// All slots that the tables count are within that sum. A lookup borrows the index, so its reads are
+/// counted in the [`Candidates`] that it returns; whoever can change the index charges it the most that
+/// these may read.
+///
+/// # Example
+///
+/// ```
+/// # #![allow(unused)]
+/// # use clock2q::proved::rattle::Global;
+/// # use clock2q::proved::directory::{directory::Directory, handle::Handle, index::Index, keys::Keys, place::Place};
+/// let mut index = Index::new(Global, 2, 1)?;
+/// index.add_slot(None, 7, 0);
+/// index.remember(7, 0, Place::new(0));
+/// index.add_slot(None, 9, 0);
+/// index.forget(Some(7), Place::new(0));
+/// # Ok::<(), Box<dyn std::error::Error>>(())
+/// ```
+pub struct Index<A: Allocator = Global> {
+    shared: Table<u32, A>,
+    own: Table<u32, A>,
+    charged: Count,
+}
+
+impl<A: Allocator + Copy> Index<A> {
+    /// Returns an empty index for up to `slots` residents and `places` remembered keys. It takes
+    /// all the memory that it will ever need.
+    ///
+    /// # Errors
+    ///
+    /// `AllocError` if a request for memory is refused. Memory taken so far is given back.
+    #[inline]
+    pub fn new(alloc: A, slots: usize, places: usize) -> Result<Self, AllocError> {
+        let is_shared = slots + places <= MOST_ENTRIES;
+        let most = if is_shared { slots + places } else { slots };
+        let Ok(shared) = Table::with_capacity(alloc, index_room(most)) else {
+            return Err(AllocError);
+        };
+        let beside = if is_shared { 0 } else { places.max(1) };
+        let Ok(own) = Table::with_capacity(alloc, index_room(beside)) else {
+            return Err(AllocError);
+        };
+        Ok(Index {
+            shared,
+            own,
+            charged: Count::new(),
+        })
+    }
+}
+
+impl<A: Allocator> Index<A> {
+    /// Returns true if slots and places are in one table.
+    #[inline(always)]
+    pub fn is_shared(&self) -> bool {
+        let _ = (self.shared.len(), self.own.len()); // whose contract says that the entries fit
+        self.own.capacity() == 0
+    }
+
+    /// Returns the numbers of the [handles](Handle) under a hash in the table of the slots, which has
+    /// no places if they have a table of their own.
+    #[inline(always)]
+    pub fn handles(&self, hash: u64) -> Candidates<'_, u32> {
+        self.shared.get_in_slots(hash)
+    }
+
+    /// Returns the places under a hash, if they have a table of their own.
+    #[inline]
+    pub fn own_places(&self, hash: u64) -> Candidates<'_, u32> {
+        self.own.get(hash)
+    }
+
+    /// Charges one lookup of a hash: the most slots of both tables that the handles under it read.
+    /// Whoever looks a key up in an index that it may change calls this once.
+    #[inline]
+    pub fn charge_lookup(&mut self, hash: u64) {
+        charge(&self.shared, &self.own, &mut self.charged, &hash); // a walk in each
+    }
+
+    /// Adds the slot of a key that becomes resident, at the gap for its hash if a lookup found that.
+    #[inline(always)]
+    pub fn add_slot(&mut self, gap: Option<Gap>, hash: u64, slot: u32) {
+        charge(&self.shared, &self.own, &mut self.charged, &hash);
+        self.shared.insert_at_gap(gap, hash, slot);
+    }
+
+    /// Adds the slot of a key that becomes resident in place of another, which leaves.
+    #[inline(always)]
+    pub fn renew(&mut self, gap: Option<Gap>, hash: u64, slot: u32, old_hash: u64) {
+        let gap = if self.is_shared() { gap } else { None }; // there may be no room before it leaves
+        charge(
+            &self.shared,
+            &self.own,
+            &mut self.charged,
+            &(hash, old_hash),
+        );
+        self.shared.exchange(gap, hash, slot, old_hash, slot);
+    }
+
+    /// Removes the slot of a resident that leaves.
+    #[inline(always)]
+    pub fn remove_slot(&mut self, hash: u64, slot: u32) {
+        charge(&self.shared, &self.own, &mut self.charged, &hash);
+        self.shared.remove_existing(hash, slot);
+    }
+
+    /// Replaces the slot of a resident that leaves with the place at which it is remembered.
+    #[inline(always)]
+    pub fn remember(&mut self, hash: u64, slot: u32, place: Place) {
+        let is_shared = self.is_shared();
+        charge(&self.shared, &self.own, &mut self.charged, &hash);
+        if is_shared {
+            let handle = Handle::Remembered(place).pack();
+            self.shared.replace_handle(hash, slot, handle);
+        } else {
+            self.shared.remove_existing(hash, slot);
+            self.own.insert_at_gap(None, hash, place.number());
+        }
+    }
+
+    /// Removes the place of the key with this hash, which is forgotten. Without a hash nothing changes.
+    #[inline(always)]
+    pub fn forget(&mut self, hash: Option<u64>, place: Place) {
+        let Some(hash) = hash else {
+            return;
+        };
+        let is_shared = self.is_shared();
+        charge(&self.shared, &self.own, &mut self.charged, &hash);
+        if is_shared {
+            let handle = Handle::Remembered(place).pack();
+            self.shared.remove_existing(hash, handle);
+        } else {
+            self.own.remove_existing(hash, place.number());
+        }
+    }
+
+    /// Removes every slot and place.
+    #[inline]
+    pub fn clear(&mut self) {
+        charge(&self.shared, &self.own, &mut self.charged, &());
+        self.shared.clear();
+        self.own.clear();
+    }
+}
+
+/// Charges a number of slots of two tables that the proof of the call picks, which may depend on
+/// what the other arguments refer to.
+#[inline]
+fn charge<X, A: Allocator>(
+    _shared: &Table<u32, A>,
+    _own: &Table<u32, A>,
+    charged: &mut Count,
+    _seen: &X,
+) {
+    charged.raise(&());
+}

@@ -1,0 +1,153 @@
+// Written by bindings/rust/erase from crates/clock2q_directory/src/keys/store.rt; change that, and run erase.
+//! The keys themselves, and the counts of their comparisons and writes.
+
+use crate::proved::rattle::Vec;
+use crate::proved::count::Count;
+use crate::proved::rattle::{AllocError, Allocator, Global};
+use core::mem;
+
+/// A key with its hash, and a value that belongs to it.
+pub struct Entry<K, V> {
+    pub hash: u64,
+    pub key: K,
+    pub value: V,
+}
+
+/// A key at each place, with its hash and a value. Places are numbered from 0, in the order in
+/// which they are first used.
+///
+/// One function compares keys, and counts each comparison. Three functions write keys, and count each
+/// write.
+///
+/// # Example
+///
+/// ```
+/// # #![allow(unused)]
+/// # use clock2q::proved::rattle::Global;
+/// # use clock2q::proved::directory::{directory::Directory, handle::Handle, index::Index, keys::Keys, place::Place};
+/// let mut keys: Keys<u64, u64> = Keys::new(Global, 2)?;
+/// keys.push(7, 70, 700);
+/// assert!(keys.key_equals(0, &70));
+/// assert_eq!(keys.replace(0, 9, 90), (7, 70));
+/// assert_eq!(*keys.key(0), 90);
+/// assert_eq!(*keys.value(0), 700);
+/// # Ok::<(), Box<dyn std::error::Error>>(())
+/// ```
+pub struct Keys<K, V, A: Allocator = Global> {
+    entries: Vec<Entry<K, V>, A>,
+    writes: Count,
+    comparisons: Count,
+}
+
+impl<K, V, A: Allocator> Keys<K, V, A> {
+    /// Returns places for up to `room` keys, with no key yet. It takes all the memory that the
+    /// places will ever need.
+    ///
+    /// # Errors
+    ///
+    /// `AllocError` if the request for memory is refused.
+    #[inline]
+    pub fn new(alloc: A, room: usize) -> Result<Self, AllocError> {
+        Ok(Keys {
+            entries: Vec::with_capacity(alloc, room)?,
+            writes: Count::new(),
+            comparisons: Count::new(),
+        })
+    }
+
+    /// Returns the number of places that have a key.
+    #[inline]
+    pub fn len(&self) -> usize {
+        self.entries.len()
+    }
+
+    /// Returns the hash of the key at a place.
+    #[inline]
+    pub fn hash(&self, place: u32) -> u64 {
+        self.entries[place as usize].hash
+    }
+
+    /// Returns the key at a place. What the caller does with it isn't counted.
+    #[inline]
+    pub fn key(&self, place: u32) -> &K {
+        &self.entries[place as usize].key
+    }
+
+    /// Returns the value at a place.
+    #[inline]
+    pub fn value(&self, place: u32) -> &V {
+        &self.entries[place as usize].value
+    }
+
+    /// Returns a mutable reference to the value at a place.
+    #[inline]
+    pub fn value_mut(&mut self, place: u32) -> &mut V {
+        &mut self.entries[place as usize].value
+    }
+
+    /// Replaces the value at a place, and returns the old one.
+    #[inline]
+    pub fn replace_value(&mut self, place: u32, value: V) -> V {
+        mem::replace(&mut self.entries[place as usize].value, value)
+    }
+
+    /// Writes a key to the next place.
+    #[inline]
+    pub fn push(&mut self, hash: u64, key: K, value: V) {
+        self.writes.tick();
+        self.entries.push_reserved(Entry { hash, key, value });
+    }
+
+    /// Replaces the key and the hash at a place, and returns the old ones. The value stays.
+    #[inline]
+    pub fn replace(&mut self, place: u32, hash: u64, key: K) -> (u64, K) {
+        self.writes.tick();
+        let entry = &mut self.entries[place as usize];
+        let old_hash = mem::replace(&mut entry.hash, hash);
+        let old_key = mem::replace(&mut entry.key, key);
+        (old_hash, old_key)
+    }
+
+    /// Drops every key and value. No place has a key afterwards.
+    #[inline]
+    pub fn clear(&mut self) {
+        self.entries.clear();
+    }
+}
+
+impl<K, V, A: Allocator> Keys<K, V, A> {
+    /// Writes a key over the one at a place, and returns the old hash and key. Without a value, the
+    /// place keeps the one that it has.
+    #[inline]
+    pub fn refill(&mut self, place: u32, hash: u64, key: K, value: Option<V>) -> (u64, K) {
+        let Some(value) = value else {
+            return self.replace(place, hash, key);
+        };
+        self.writes.tick();
+        let entry = Entry { hash, key, value };
+        let old = mem::replace(&mut self.entries[place as usize], entry);
+        (old.hash, old.key)
+    }
+}
+
+impl<K: Eq, V, A: Allocator> Keys<K, V, A> {
+    /// Returns true if `key` equals the key at a place, and counts the comparison in `compared`.
+    #[inline]
+    pub(super) fn is_counting_in(&self, place: u32, key: &K, compared: &mut Count) -> bool {
+        compared.tick();
+        *key == self.entries[place as usize].key
+    }
+
+    /// Adds comparisons that were counted elsewhere.
+    #[inline]
+    pub(super) fn add_comparisons(&mut self, compared: &Count) {
+        self.comparisons.raise(compared);
+    }
+
+    /// Raises the count of comparisons by an amount that the proof of the call picks. A caller that
+    /// has to state the count exactly raises it to its bound with this.
+    #[inline]
+    pub fn charge(&mut self) {
+        self.comparisons.raise(&());
+    }
+}

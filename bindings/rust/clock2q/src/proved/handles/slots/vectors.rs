@@ -1,0 +1,201 @@
+// Written by bindings/rust/erase from crates/clock2q_handles/src/slots/vectors.rt; change that, and run erase.
+//! The two vectors of a table's slots. Only this module writes them. It counts each write of a slot,
+//! and each read of its metadata.
+
+use crate::proved::rattle::Vec;
+use crate::proved::handles::gap::Gap;
+use crate::proved::handles::metadata::Metadata;
+use crate::proved::handles::slots::Reader;
+use crate::proved::count::Count;
+use crate::proved::rattle::{AllocError, Allocator};
+
+/// The slots: a power of two of them, or none, the number of slots minus one, and the number of
+/// writes to them.
+pub(crate) struct Slots<H, A: Allocator> {
+    metadata: Vec<Metadata, A>,
+    handles: Vec<H, A>,
+    mask: usize,
+    writes: Count,
+}
+
+impl<H: Copy + Default, A: Allocator> Slots<H, A> {
+    /// Returns no slots, without allocating.
+    #[inline]
+    pub(crate) fn new(alloc: A) -> Slots<H, A>
+    where
+        A: Copy,
+    {
+        Slots {
+            metadata: Vec::new(alloc),
+            handles: Vec::new(alloc),
+            mask: 0,
+            writes: Count::new(),
+        }
+    }
+
+    /// Returns `count` empty slots.
+    #[inline]
+    pub(crate) fn with_count(alloc: A, count: usize) -> Result<Slots<H, A>, AllocError>
+    where
+        A: Copy,
+    {
+        let mut metadata = Vec::with_capacity(alloc, count)?;
+        let mut handles = Vec::with_capacity(alloc, count)?;
+        metadata.resize(count, Metadata::empty())?;
+        handles.resize(count, H::default())?;
+        Ok(Slots {
+            metadata,
+            handles,
+            mask: count.wrapping_sub(1),
+            writes: Count::new(),
+        })
+    }
+
+    #[inline]
+    pub(crate) fn allocator(&self) -> A
+    where
+        A: Copy,
+    {
+        *self.metadata.allocator()
+    }
+
+    /// Adds the writes counted for the slots that these replace.
+    #[inline]
+    pub(crate) fn take_over_writes(&mut self, replaced: &Slots<H, A>) {
+        self.writes.raise(&replaced.writes);
+    }
+
+    /// Returns a reader of the slots that has read nothing yet.
+    #[inline(always)]
+    pub(crate) fn reader(&self) -> Reader<'_, H> {
+        Reader::new(self.metadata.as_slice(), self.handles.as_slice(), self.mask)
+    }
+
+    /// Returns the number of slots.
+    #[inline]
+    pub(crate) fn count(&self) -> usize {
+        self.metadata.len()
+    }
+
+    /// Returns the home slot of a hash, if there are slots.
+    #[inline]
+    pub(crate) fn home(&self, hash: u64) -> usize {
+        hash as usize & self.mask
+    }
+
+    /// Returns the slot after `slot`: slot 0 after the last.
+    #[inline]
+    pub(crate) fn after(&self, slot: usize) -> usize {
+        let _ = self.metadata.len(); // which bounds the sum
+        (slot + 1) & self.mask
+    }
+
+    /// Reads the metadata of a slot, and counts the read.
+    #[inline(always)]
+    pub(crate) fn read(&self, slot: usize, reads: &mut Count) -> Metadata {
+        reads.tick();
+        self.metadata[slot]
+    }
+
+    #[inline]
+    pub(crate) fn handle(&self, slot: usize) -> H {
+        self.handles[slot]
+    }
+
+    /// Writes the handle of a slot.
+    #[inline(always)]
+    pub(crate) fn replace_handle_at(&mut self, slot: usize, handle: H) {
+        self.handles[slot] = handle;
+        self.writes.tick();
+    }
+
+    /// Inserts an entry at a gap. The rest of the run moves on by one slot, and each slot that is
+    /// written is read.
+    #[inline(always)]
+    pub(crate) fn put_at(&mut self, gap: &Gap, handle: H, reads: &mut Count) {
+        let metadata = self.metadata.as_mut_slice();
+        let handles = self.handles.as_mut_slice();
+        let writes = &mut self.writes;
+        let mask = self.mask;
+        let mut slot = gap.slot;
+        let mut word = gap.wanted.metadata();
+        let mut handle = handle;
+        reads.tick();
+        let mut there = metadata[slot];
+        while !there.is_empty() {
+            let held = handles[slot];
+            write(metadata, handles, writes, slot, word, handle);
+            word = there.one_further();
+            handle = held;
+            slot = after(slot, mask);
+            reads.tick();
+            there = metadata[slot];
+        }
+        write(metadata, handles, writes, slot, word, handle);
+    }
+
+    /// Removes the entry in a slot. The entries after it move back by one slot, up to an empty slot
+    /// or an entry at its home. It reads as many slots as it writes. The handle of the slot that is
+    /// left empty stays in memory, but no lookup reaches it.
+    #[inline(always)]
+    pub(crate) fn take_out(&mut self, slot: usize, reads: &mut Count) {
+        let metadata = self.metadata.as_mut_slice();
+        let handles = self.handles.as_mut_slice();
+        let writes = &mut self.writes;
+        let mask = self.mask;
+        let mut hole = slot;
+        loop {
+            let next = after(hole, mask);
+            reads.tick();
+            let word = metadata[next];
+            if !word.can_move_back() {
+                break;
+            }
+            let handle = handles[next];
+            write(metadata, handles, writes, hole, word.one_nearer(), handle);
+            hole = next;
+        }
+        metadata[hole] = Metadata::empty();
+        writes.tick();
+    }
+
+    /// Empties every slot. The handles stay in memory, but no lookup reaches them.
+    #[inline]
+    pub(crate) fn clear(&mut self) {
+        fill(
+            self.metadata.as_mut_slice(),
+            Metadata::empty(),
+            &mut self.writes,
+        );
+    }
+}
+
+/// Writes a slot in both vectors, and counts the write.
+#[inline]
+fn write<H: Copy>(
+    metadata: &mut [Metadata],
+    handles: &mut [H],
+    writes: &mut Count,
+    slot: usize,
+    word: Metadata,
+    handle: H,
+) {
+    metadata[slot] = word;
+    handles[slot] = handle;
+    writes.tick();
+}
+
+/// Returns the slot after `slot`, of `mask + 1` slots: slot 0 after the last.
+#[inline]
+fn after(slot: usize, mask: usize) -> usize {
+    (slot + 1) & mask
+}
+
+/// Writes the same word to each slot, and counts the slots as written.
+#[inline]
+fn fill(metadata: &mut [Metadata], word: Metadata, writes: &mut Count) {
+    for at in 0..metadata.len() {
+        metadata[at] = word;
+        writes.tick();
+    }
+}

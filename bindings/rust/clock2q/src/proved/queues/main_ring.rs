@@ -1,0 +1,83 @@
+// Written by bindings/rust/erase from crates/clock2q_queues/src/main_ring.rt; change that, and run erase.
+//! Main: a ring of slots with a hand, which looks for the slot to evict.
+
+use crate::proved::queues::links::{Links, Location};
+use crate::proved::rattle::Allocator;
+
+/// A ring of slots. The hand is at the slot that it inspects next, and a new slot goes just before
+/// the hand.
+pub(crate) struct MainRing {
+    hand: Option<u32>,
+    pub(crate) len: usize,
+}
+
+impl MainRing {
+    /// Returns an empty ring.
+    #[inline]
+    pub(crate) fn new() -> Self {
+        MainRing { hand: None, len: 0 }
+    }
+
+    /// Puts a slot just before the hand, with a clear bit. In an empty ring, the hand goes to it.
+    #[inline(always)]
+    pub(crate) fn push<A: Allocator>(&mut self, links: &mut Links<A>, slot: u32) {
+        match self.hand {
+            None => {
+                links.attach_alone(slot, Location::Main);
+                self.hand = Some(slot);
+            }
+            Some(hand) => links.attach(slot, hand, Location::Main),
+        }
+        self.len += 1;
+    }
+
+    /// Removes a slot. If the hand is at that slot, it moves on.
+    #[inline]
+    pub(crate) fn unlink<A: Allocator>(&mut self, links: &mut Links<A>, slot: u32) {
+        let was = links.detach(slot);
+        self.len -= 1;
+        if self.hand == Some(slot) {
+            self.hand = (self.len > 0).then_some(was.next);
+        }
+    }
+
+    /// Moves the hand on to the slot to evict, and returns that slot. The hand passes each slot
+    /// whose bit is set, and clears the bit.
+    #[inline]
+    pub(crate) fn select<A: Allocator>(&mut self, links: &mut Links<A>) -> u32 {
+        // a ring with an entry has a hand
+        let mut hand = self.hand.unwrap();
+        while links.inspect(hand) {
+            hand = links.read(hand).next;
+        }
+        self.hand = Some(hand);
+        hand
+    }
+
+    /// Returns the slot that [`select`](MainRing::select) would choose, or `None` if the ring is empty.
+    /// It changes nothing. If every bit is set, the hand would come back to its slot.
+    #[inline]
+    pub(crate) fn victim<A: Allocator>(&self, links: &Links<A>) -> Option<u32> {
+        let hand = self.hand?;
+        let mut slot = hand;
+        for _ in 0..self.len {
+            if !links.has_bit(slot) {
+                return Some(slot);
+            }
+            slot = links.next_of(slot);
+        }
+        Some(hand)
+    }
+
+    /// Moves the hand on from its slot, whose bit is clear. That slot is then the last one.
+    #[inline]
+    pub(crate) fn advance<A: Allocator>(&mut self, links: &mut Links<A>, slot: u32) {
+        self.hand = Some(links.read(slot).next);
+    }
+
+    /// Empties the ring. `Links::reset` resets the records.
+    #[inline]
+    pub(crate) fn clear(&mut self) {
+        *self = MainRing::new();
+    }
+}

@@ -1,0 +1,83 @@
+// Written by bindings/rust/erase from crates/clock2q_queues/src/small.rt; change that, and run erase.
+//! Small: the queue of the newest residents, of which the last admitted ones are young.
+
+use crate::proved::queues::links::{Links, Location};
+use crate::proved::rattle::Allocator;
+
+/// A queue of slots, newest first. The window's positions hold the young slots, and the cursor is
+/// the position of the next admission.
+pub(crate) struct Small {
+    newest: u32,
+    pub(crate) oldest: u32,
+    pub(crate) len: usize,
+    cursor: u32,
+}
+
+impl Small {
+    /// Returns an empty queue.
+    #[inline]
+    pub(crate) fn new() -> Self {
+        Small {
+            newest: 0,
+            oldest: 0,
+            len: 0,
+            cursor: 0,
+        }
+    }
+
+    /// Returns the oldest slot, or `None` if there is none.
+    #[inline]
+    pub(crate) fn tail(&self) -> Option<u32> {
+        (self.len > 0).then_some(self.oldest)
+    }
+
+    /// Admits a slot as the newest, and young. All other young slots grow older.
+    #[inline(always)]
+    pub(crate) fn push<A: Allocator>(&mut self, links: &mut Links<A>, slot: u32) {
+        let cursor = self.cursor;
+        self.cursor = links.take_position(cursor, slot);
+        if self.len == 0 {
+            links.attach_alone(slot, Location::SmallYoung(cursor));
+            self.oldest = slot;
+        } else {
+            links.attach(slot, self.newest, Location::SmallYoung(cursor));
+        }
+        self.newest = slot;
+        self.len += 1;
+    }
+
+    /// Makes the oldest slot the newest, and returns it, as if it left and was admitted again. The
+    /// ring doesn't change, since the newest slot follows the oldest in it.
+    #[inline(always)]
+    pub(crate) fn reuse_oldest<A: Allocator>(&mut self, links: &mut Links<A>) -> u32 {
+        let slot = self.oldest;
+        let cursor = self.cursor;
+        let record = links.read(slot);
+        links.leave_position(record.location);
+        self.cursor = links.take_position(cursor, slot);
+        links.set_location(slot, Location::SmallYoung(cursor));
+        self.newest = slot;
+        self.oldest = record.previous;
+        slot
+    }
+
+    /// Removes a slot. If it was young, its position becomes free.
+    #[inline]
+    pub(crate) fn unlink<A: Allocator>(&mut self, links: &mut Links<A>, slot: u32) {
+        let was = links.detach(slot);
+        links.leave_position(was.location);
+        self.len -= 1;
+        if self.newest == slot {
+            self.newest = was.next;
+        }
+        if self.oldest == slot {
+            self.oldest = was.previous;
+        }
+    }
+
+    /// Empties the queue. `Links::reset` resets the records and the window's positions.
+    #[inline]
+    pub(crate) fn clear(&mut self) {
+        *self = Small::new();
+    }
+}
