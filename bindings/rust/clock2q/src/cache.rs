@@ -166,7 +166,7 @@ impl<K, V, S> Cache<K, V, S> {
     /// Returns the pair that [`evict`](Cache::evict) would remove: if the cache is full, the one that leaves for
     /// a key that is unknown. Records no hit. Takes
     /// time in proportion to the pairs that were hit and would be passed over.
-    pub fn next_victim(&self) -> Option<(&K, &V)> {
+    pub fn next_victim(&mut self) -> Option<(&K, &V)> {
         let (key, value) = self.store.next_victim()?;
         Some((key, value))
     }

@@ -119,7 +119,7 @@ impl PageCache {
     }
 
     /// Returns the key and the slot that [`evict`](PageCache::evict) would return, and changes nothing.
-    pub fn next_victim(&self) -> Option<(u64, usize)> {
+    pub fn next_victim(&mut self) -> Option<(u64, usize)> {
         self.cache.next_victim().map(|(key, slot)| (*key, slot))
     }
 

@@ -184,7 +184,7 @@ impl Slots {
     }
 
     /// Returns the slot that [`evict`](Slots::evict) would return.
-    pub(crate) fn next_victim(&self) -> Option<usize> {
+    pub(crate) fn next_victim(&mut self) -> Option<usize> {
         self.cache.next_victim().map(|(_, slot)| slot)
     }
 

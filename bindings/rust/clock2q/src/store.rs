@@ -187,7 +187,7 @@ impl<K, V> Store<K, V> {
     }
 
     /// Returns the pair that would leave next.
-    pub(crate) fn next_victim(&self) -> Option<&(K, V)> {
+    pub(crate) fn next_victim(&mut self) -> Option<&(K, V)> {
         self.entries.pair(self.slots.next_victim()?)
     }
 

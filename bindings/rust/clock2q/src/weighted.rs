@@ -117,7 +117,7 @@ impl<K, V, W, S> WeightedCache<K, V, W, S> {
     }
 
     /// Returns the pair that [`evict`](WeightedCache::evict) would remove. Records no hit.
-    pub fn next_victim(&self) -> Option<(&K, &V)> {
+    pub fn next_victim(&mut self) -> Option<(&K, &V)> {
         let (key, weighed) = self.store.pairs.next_victim()?;
         Some((key, &weighed.value))
     }

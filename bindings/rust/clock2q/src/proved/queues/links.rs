@@ -164,7 +164,7 @@ impl<A: Allocator> Links<A> {
     /// Returns true if a slot is in a queue. It reads the byte with the slot's bit, and no record.
     #[inline]
     pub(crate) fn is_linked(&self, slot: usize) -> bool {
-        !matches!(self.records.flag_of_any(slot), Flag::Free)
+        self.records.says_linked(slot)
     }
 
     /// Sets the hit bit of a slot that is in a queue.
@@ -177,8 +177,7 @@ impl<A: Allocator> Links<A> {
     /// slot.
     #[inline]
     pub(crate) fn inspect(&mut self, slot: u32) -> bool {
-        self.inspections.tick();
-        let was = self.records.flag(slot);
+        let was = self.records.flag(slot, &mut self.inspections);
         self.records.set_flag(slot, Flag::Clear);
         matches!(was, Flag::Hit)
     }
@@ -187,29 +186,15 @@ impl<A: Allocator> Links<A> {
     /// is set.
     #[inline]
     pub(crate) fn is_old_hit(&mut self, slot: u32) -> bool {
-        match self.records.read(slot).location {
-            Location::SmallOld => matches!(self.records.flag(slot), Flag::Hit),
-            _ => false,
-        }
+        let (record, flag) = self.records.read_flagged(slot);
+        matches!(record.location, Location::SmallOld) && matches!(flag, Flag::Hit)
     }
 
-    /// Returns the slot after another in its queue. It counts no access.
+    /// Reads the record of a slot that is in a queue, and returns the slot after it if its bit is set.
     #[inline]
-    pub(crate) fn next_of(&self, slot: u32) -> u32 {
-        self.records.peek(slot).next
-    }
-
-    /// Returns true if the bit of a slot that is in a queue is set. It counts no inspection.
-    #[inline]
-    pub(crate) fn has_bit(&self, slot: u32) -> bool {
-        matches!(self.records.flag(slot), Flag::Hit)
-    }
-
-    /// Returns true if a slot that is in a queue is old and its bit is set. It counts no access.
-    #[inline]
-    pub(crate) fn is_promoted(&self, slot: u32) -> bool {
-        matches!(self.records.peek(slot).location, Location::SmallOld)
-            && matches!(self.records.flag(slot), Flag::Hit)
+    pub(crate) fn next_if_hit(&mut self, slot: u32) -> Option<u32> {
+        let (record, flag) = self.records.read_flagged(slot);
+        matches!(flag, Flag::Hit).then_some(record.next)
     }
 
     /// Resets every record, every position and every bit to its initial state.

@@ -55,16 +55,16 @@ impl MainRing {
     }
 
     /// Returns the slot that [`select`](MainRing::select) would choose, or `None` if the ring is empty.
-    /// It changes nothing. If every bit is set, the hand would come back to its slot.
+    /// The hand and the bits stay as they are. If every bit is set, the hand would come back to its slot.
     #[inline]
-    pub(crate) fn victim<A: Allocator>(&self, links: &Links<A>) -> Option<u32> {
+    pub(crate) fn victim<A: Allocator>(&self, links: &mut Links<A>) -> Option<u32> {
         let hand = self.hand?;
         let mut slot = hand;
         for _ in 0..self.len {
-            if !links.has_bit(slot) {
-                return Some(slot);
+            match links.next_if_hit(slot) {
+                Some(next) => slot = next,
+                None => return Some(slot),
             }
-            slot = links.next_of(slot);
         }
         Some(hand)
     }

@@ -93,8 +93,7 @@ impl<A: Allocator> Queues<A> {
     ///
     /// # Cost
     ///
-    /// At most ten accesses to links, and one for each link record that is made below this slot's:
-    /// none if the slots are used in order from 0.
+    /// At most ten accesses to links.
     #[inline(always)]
     pub fn admit(&mut self, slot: u32) {
         self.small.push(&mut self.links, slot);
@@ -104,7 +103,7 @@ impl<A: Allocator> Queues<A> {
     ///
     /// # Cost
     ///
-    /// At most six accesses to links, and those of [`admit`](Queues::admit) for records.
+    /// At most six accesses to links.
     #[inline(always)]
     pub fn append(&mut self, slot: u32) {
         self.main.push(&mut self.links, slot);
@@ -150,24 +149,32 @@ impl<A: Allocator> Queues<A> {
     }
 
     /// Returns the slot that leaves next: Small's oldest one, or the one that the hand would choose if
-    /// that one goes on to Main or Small is empty. Returns `None` if there is no slot. It changes
-    /// nothing, and counts no access and no inspection.
+    /// that one goes on to Main or Small is empty. Returns `None` if there is no slot. The queues, the
+    /// bits and the hand stay as they are.
     ///
     /// # Cost
     ///
-    /// Linear in the number of slots that the hand would pass.
+    /// One access to a link for each slot that it looks at: Small's oldest one and, if a slot of Main
+    /// leaves next, at most those that the hand would inspect.
     #[inline]
-    pub fn next_victim(&self) -> Option<u32> {
-        let tail = self.small.tail();
+    pub fn next_victim(&mut self) -> Option<u32> {
+        if self.victim_leaves() {
+            self.main.victim(&mut self.links)
+        } else {
+            self.small.tail()
+        }
+    }
+
+    /// Returns true if a slot of Main leaves next, rather than Small's oldest one.
+    #[inline]
+    fn victim_leaves(&mut self) -> bool {
         if self.main.len == 0 {
-            return tail;
+            return false;
         }
-        if let Some(tail) = tail {
-            if !self.links.is_promoted(tail) {
-                return Some(tail);
-            }
+        if self.small.len == 0 {
+            return true;
         }
-        self.main.victim(&self.links)
+        self.tail_is_promoted()
     }
 
     /// Removes the slot that the hand chooses from Main, and returns it.

@@ -90,7 +90,6 @@ impl<K: Hash + Eq, V, S: BuildHasher, A: Allocator> Cache<K, V, S, A> {
     /// That of [`get_or_insert_mut`](Cache::get_or_insert_mut).
     #[inline]
     pub fn enter<F: FnOnce() -> V>(&mut self, key: K, make: F) -> (usize, &mut V, Entered) {
-        let _ = self.len(); // whose contract says that the cache is whole
         let hash = self.hash(&key);
         let most = self.most(&key);
         let (slot, entered) = self.find_or_reuse(hash, key, make);

@@ -8,6 +8,10 @@ use crate::proved::rattle::Allocator;
 impl<H: Copy + Eq + Default, A: Allocator> Table<H, A> {
     /// Inserts `handle` under `hash` as [`insert_infallible`](Table::insert_infallible) does, at the
     /// gap for it if a lookup found that.
+    ///
+    /// # Cost
+    ///
+    /// That of [`insert_infallible`](Table::insert_infallible), without the walk if there is a gap.
     #[inline(always)]
     pub fn insert_at_gap(&mut self, gap: Option<Gap>, hash: u64, handle: H) {
         let Some(gap) = gap else {

@@ -48,25 +48,27 @@ impl<A: Allocator> Records<A> {
         }
     }
 
-    /// Returns the record of a slot that is in a queue, to a walk that changes nothing, and so isn't
-    /// counted.
+    /// Returns the record of a slot that is in a queue, with its flag.
     #[inline]
-    pub(super) fn peek(&self, slot: u32) -> Record {
-        self.items[slot as usize]
+    pub(super) fn read_flagged(&mut self, slot: u32) -> (Record, Flag) {
+        self.accesses.tick();
+        (self.items[slot as usize], self.flags[slot as usize])
     }
 
-    /// Returns the flag of a slot that was made.
+    /// Returns the flag of a slot that was made. The look is counted in `looks`.
     #[inline]
-    pub(super) fn flag(&self, slot: u32) -> Flag {
+    pub(super) fn flag(&self, slot: u32, looks: &mut Count) -> Flag {
+        looks.tick();
         self.flags[slot as usize]
     }
 
-    /// Returns the flag of any slot.
+    /// Returns true if the flag of a slot says that it is in a queue. It doesn't say whether the slot's
+    /// bit is set.
     #[inline]
-    pub(super) fn flag_of_any(&self, slot: usize) -> Flag {
+    pub(super) fn says_linked(&self, slot: usize) -> bool {
         match self.flags.get(slot) {
-            Some(flag) => *flag,
-            None => Flag::Free,
+            Some(flag) => !matches!(flag, Flag::Free),
+            None => false,
         }
     }
 
