@@ -14,7 +14,7 @@ use Rattle.clock2q_ports.specs.Lines.{lines_of}
 use Rattle.clock2q_ports.proofs.Lines.{lines_of-ended, lines_of-last, lines_of-empty}
 use Rattle.clock2q_ports.specs.Ports.{Traffic, traffic_after, one_if}
 use Rattle.clock2q_simulation.specs.declared.error.SimulationError.{SimulationError}
-use Rattle.clock2q_simulation.specs.declared.error.SimulationError.TheVariants.{Argument, NotText, NoCapacity, UnusedShares, Shares, Capacity, Memory, Open, Read, Line, Size, Record, Write}
+use Rattle.clock2q_simulation.specs.declared.error.SimulationError.TheVariants.{Argument, NotText, NoCapacity, UnusedShares, Shares, SampledShares, Capacity, Memory, Open, Read, Line, Size, Record, LargeSizes, Write}
 use Rattle.clock2q_simulation.specs.declared.format.TraceFormat.{TraceFormat}
 use Rattle.clock2q_simulation.specs.declared.format.TraceFormat.TheVariants.{Lines, Csv, OracleGeneral}
 use Rattle.clock2q_simulation.specs.Formats.{Access, access_in, accesses_after, accesses_in, accesses_of, consed, record_of, unsized}
@@ -69,6 +69,8 @@ bad-by NotText f b = b
 bad-by NoCapacity f b = b
 bad-by UnusedShares f b = b
 bad-by (Shares _) f b = b
+bad-by (SampledShares _) f b = b
+bad-by LargeSizes f b = b
 
 -- the same of a result, and what a result without one says
 pub bad-result : {X : Type 0} (result : Result X SimulationError) {P Q : Type 0} → (P → Q) → IfErr result (λ refusal. IsBad refusal P) → IfErr result (λ refusal. IsBad refusal Q)
@@ -334,6 +336,8 @@ given-up old new left remain format NotText m f b = b
 given-up old new left remain format NoCapacity m f b = b
 given-up old new left remain format UnusedShares m f b = b
 given-up old new left remain format (Shares _) m f b = b
+given-up old new left remain format (SampledShares _) m f b = b
+given-up old new left remain format LargeSizes m f b = b
 
 -- the byte at a place, and those after it
 rest-at : (bytes : List ℕ) (i : ℕ) (next : List ℕ) → i < length bytes → drop i bytes ++ next ≡ get_or bytes i 0 ∷ (drop (i + 1) bytes ++ next)

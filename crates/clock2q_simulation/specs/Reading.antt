@@ -5,7 +5,7 @@ use Rattle.std.specs.Option.{option_map}
 use Rattle.std.specs.Io.KnownBytes.{Consumes, IsAtEnd}
 use Rattle.clock2q_ports.specs.Ports.{Traffic, traffic_after}
 use Rattle.clock2q_simulation.specs.declared.error.SimulationError.{SimulationError}
-use Rattle.clock2q_simulation.specs.declared.error.SimulationError.TheVariants.{Argument, NotText, NoCapacity, UnusedShares, Shares, Capacity, Memory, Open, Read, Line, Size, Record, Write}
+use Rattle.clock2q_simulation.specs.declared.error.SimulationError.TheVariants.{Argument, NotText, NoCapacity, UnusedShares, Shares, SampledShares, Capacity, Memory, Open, Read, Line, Size, Record, LargeSizes, Write}
 use Rattle.clock2q_simulation.specs.declared.format.TraceFormat.{TraceFormat}
 use Rattle.clock2q_simulation.specs.declared.format.TraceFormat.TheVariants.{Lines, Csv, OracleGeneral}
 use Rattle.clock2q_simulation.specs.Formats.{Access, accesses_after, accesses_in}
@@ -63,6 +63,8 @@ IsBad NotText bad = ⊥
 IsBad NoCapacity bad = ⊥
 IsBad UnusedShares bad = ⊥
 IsBad (Shares _) bad = ⊥
+IsBad (SampledShares _) bad = ⊥
+IsBad LargeSizes bad = ⊥
 
 module _ (old new : Traffic) (left remain : Option (List ℕ)) (format : TraceFormat) where
   -- the whole input was read, once up to its end, and the accesses are those of its records
@@ -95,6 +97,8 @@ module _ (old new : Traffic) (left remain : Option (List ℕ)) (format : TraceFo
   IsGivenUp NoCapacity = ⊥
   IsGivenUp UnusedShares = ⊥
   IsGivenUp (Shares _) = ⊥
+  IsGivenUp (SampledShares _) = ⊥
+  IsGivenUp LargeSizes = ⊥
 
   abbrev pub ReadsTrace : {X : Type 0} → (X → List Access) → Result X SimulationError → Type 0
   ReadsTrace accesses (Ok trace) = AreRead (accesses trace)

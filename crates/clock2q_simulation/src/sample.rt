@@ -1,11 +1,12 @@
 //! A part of all keys, chosen by their hashes: a cache as much smaller hits about as often on it.
 ghost use Rattle.std.specs.List.{fold};
-ghost use Rattle.std.specs.Prelude.{◌≡◌, ◌<◌, ◌≤◌, IfOk, IfSome, Some, map};
+ghost use Rattle.std.specs.Prelude.{◌≡◌, ◌<◌, ◌≤◌, ◌^◌, IfOk, IfSome, Some, map};
 ghost use Rattle.clock2q_simulation.specs.Amounts.{amount};
 ghost use Rattle.clock2q_simulation.specs.declared.amount.Unit.TheVariants.{Millionths};
-ghost use Rattle.clock2q_simulation.specs.Sample.{after_byte, is_in_sample, is_sampled, sampling_hash, scaled, stirred, unscaled};
+ghost use Rattle.clock2q_simulation.specs.Sample.{after_byte, is_in_sample, is_sampled, sampling_hash, scaled, scaled_both, scaled_share, scaled_shares, shown, stirred, unscaled};
 
 use crate::amount::{Amount, Unit, number_of};
+use crate::shares::ChosenShares;
 use clock2q_cache::MAX_CAPACITY;
 use std::alloc::{AllocError, Allocator};
 
@@ -115,8 +116,63 @@ pub(crate) fn unscaled(sample: Option<Sample>, capacity: usize) -> usize
     }
 }
 
+/// Returns the capacities that the rows of capacities for all keys show, in order, if a trace has this
+/// many different keys.
+pub(crate) fn all_shown<A: Allocator>(
+    alloc: A,
+    sample: Option<Sample>,
+    keys: usize,
+    capacities: &[Amount],
+) -> Result<Vec<usize, A>, AllocError>
+    requires few { keys ≤ 2 ^ 32 }
+    ensures shown { IfOk result (λ all. all.items ≡ map (shown sample keys) capacities.now) }
+{
+    let mut all = Vec::new(alloc);
+    for capacity in capacities {
+        all.push(shown(sample, keys, *capacity))?;
+    }
+    Ok(all)
+}
+
+/// Returns the capacity that the row of a capacity for all keys shows.
+fn shown(sample: Option<Sample>, keys: usize, capacity: Amount) -> usize
+    requires few { keys ≤ 2 ^ 32 }
+    ensures shown { result ≡ shown sample keys capacity }
+{
+    match capacity.unit {
+        Unit::Keys => capacity.number,
+        Unit::Millionths => unscaled(sample, capacity.of(keys)),
+    }
+}
+
+/// Returns the shares that shares of caches for all keys become.
+pub(crate) fn scaled_shares(
+    sample: Option<Sample>,
+    shares: Option<ChosenShares>,
+) -> Option<ChosenShares>
+    ensures scaled { result ≡ scaled_shares sample shares }
+{
+    match shares {
+        Some(shares) => Some(ChosenShares {
+            small: scaled_share(sample, shares.small),
+            window: scaled_share(sample, shares.window),
+        }),
+        None => None,
+    }
+}
+
+/// Returns the share that a share of a cache for all keys becomes.
+fn scaled_share(sample: Option<Sample>, share: Amount) -> Amount
+    ensures scaled { result ≡ scaled_share sample share }
+{
+    if share.number == 0 {
+        return share;
+    }
+    scaled(sample, share)
+}
+
 /// Returns the capacity that a capacity for all keys becomes.
-fn scaled(sample: Option<Sample>, capacity: Amount) -> Amount
+pub(crate) fn scaled(sample: Option<Sample>, capacity: Amount) -> Amount
     ensures scaled { result ≡ scaled sample capacity }
 {
     match sample {

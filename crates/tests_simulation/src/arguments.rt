@@ -57,7 +57,8 @@ pub(crate) fn is_refused(alloc: Global, line: &str, wanted: &str, status: u8) ->
     has_message(alloc, &words, refusal, None, wanted)
 }
 
-const NOT_CAPACITY: &str = "not a capacity (1 to 16777215, 1k, 1M, 0.0001% to 100%, or 10..1M)";
+const NOT_CAPACITY: &str =
+    "not a capacity (1 to 16777215, 1k, 1M, 0.0001% to 100%, or 10..1M); before a trace's name put ./";
 
 const NOT_RANGE: &str =
     "not a range (of keys from 1 to 16777215, as 10..1M, or of percents, as 0.1%..50%)";
@@ -151,7 +152,7 @@ const REFUSED_OPTIONS: [(&str, &str); 42] = [
     ),
     (
         "5 --sample 0",
-        "0: not a part of the keys (0.000001 to 0.999999, or 1% to 100%)",
+        "0: not a part of the keys (0.000001 to 0.999999, or 0.0001% to 100%)",
     ),
     (
         "5 --best-shares --best-shares",

@@ -117,6 +117,17 @@ fn warns_of_keys_asked_for_once(rt: HostRuntime) -> Result<(), Fail> {
     shows(rt.alloc(), "5", &trace, (None, false), "")
 }
 
+/// A trace without an access, and one without an access to a key of its sample.
+#[test]
+fn warns_of_empty_traces(rt: HostRuntime) -> Result<(), Fail> {
+    let empty = "clock2q-simulate: -: warning: an empty trace\n";
+    let unsampled = "clock2q-simulate: -: warning: no access to a key of the sample\n";
+    for (line, wanted) in [("5 --skip=3", empty), ("5 --sample=0.1", unsampled)] {
+        shows(rt.alloc(), line, b"", (None, false), wanted)?;
+    }
+    Ok(())
+}
+
 #[test]
 fn warns_of_skipped_traces(rt: HostRuntime) -> Result<(), Fail> {
     let warning = "clock2q-simulate: -: warning: --skip=3 leaves none of 3 accesses to count\n";

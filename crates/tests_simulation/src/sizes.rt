@@ -1,7 +1,7 @@
 //! Traces with sizes: which sizes are read, which are refused, and how they are summed and shown.
 
-use crate::arguments::options_of;
-use crate::texts::writes;
+use crate::arguments::{has_message, options_of};
+use crate::texts::{replayed, writes};
 use clock2q_cache::DefaultHashBuilder;
 use clock2q_ports::Device;
 use clock2q_simulation::{
@@ -206,6 +206,31 @@ fn sums(_rt: HostRuntime) -> Result<(), Fail> {
     same(hit_bytes(&outcomes, &large, 1, 2), 0)?;
     same(asked_bytes(&large, 1, 3), usize::MAX)?;
     Ok(())
+}
+
+/// Sizes whose sum has more than 64 bits, and one that has.
+#[test]
+fn large_sizes(rt: HostRuntime) -> Result<(), Fail> {
+    let options = options_of(rt.alloc(), CSV)?;
+    let hasher = DefaultHashBuilder::new;
+    let traces: [&[u8]; 3] = [
+        b"t,k,s\n1,a,9223372036854775808\n2,b,9223372036854775808\n",
+        b"t,k,s\n1,a,99999999999999999999\n",
+        b"t,k,s\n1,a,9223372036854775808\n",
+    ];
+    let wanted = [true, true, false];
+    for (bytes, is_large) in traces.iter().zip(wanted.iter()) {
+        let mut progress = Progress::new(Vec::new(rt.alloc()), false);
+        let refusal = replayed(rt.alloc(), &options, hasher(), bytes, &mut progress).err();
+        same_at(
+            refusal == Some(SimulationError::LargeSizes),
+            *is_large,
+            bytes.len(),
+        )?;
+    }
+    let text = "clock2q-simulate: -: sizes of more than 64 bits in all";
+    same(SimulationError::LargeSizes.status(), 2)?;
+    has_message(rt.alloc(), &[], SimulationError::LargeSizes, None, text)
 }
 
 const SIZED: &[u8] = b"t,k,s\n1,a,100\n2,b,10\n3,a,100\n4,c,40\n5,b,10\n6,d,30\n7,a,100\n8,b,10\n";
