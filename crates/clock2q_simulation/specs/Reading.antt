@@ -17,25 +17,25 @@ HasNoEnd line = All (λ byte. (byte == 10) ≡ false) line
 -- some bytes are the beginning of a record, and may be all of it but for a line end
 abbrev pub IsBegun : TraceFormat → List ℕ → Type 0
 IsBegun Lines part = HasNoEnd part
-IsBegun (Csv _ _) part = HasNoEnd part
+IsBegun (Csv _) part = HasNoEnd part
 IsBegun OracleGeneral part = length part < 24
 
 -- some bytes are a whole record, but for a line end
 abbrev pub IsWholeRecord : TraceFormat → List ℕ → Type 0
 IsWholeRecord Lines part = HasNoEnd part
-IsWholeRecord (Csv _ _) part = HasNoEnd part
+IsWholeRecord (Csv _) part = HasNoEnd part
 IsWholeRecord OracleGeneral part = length part ≡ 24
 
 -- what is between two records
 abbrev pub between : TraceFormat → List ℕ
 between Lines = 10 ∷ []
-between (Csv _ _) = 10 ∷ []
+between (Csv _) = 10 ∷ []
 between OracleGeneral = []
 
 -- a format of lines
 abbrev pub IsOfLines : TraceFormat → Type 0
 IsOfLines Lines = Unit {0}
-IsOfLines (Csv _ _) = Unit {0}
+IsOfLines (Csv _) = Unit {0}
 IsOfLines OracleGeneral = ⊥
 
 -- accesses with those of the rest after them

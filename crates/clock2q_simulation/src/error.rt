@@ -75,6 +75,15 @@ pub enum ArgumentError {
     /// It asks for a column of sizes, and no argument for the format csv.
     #[error("a column of sizes, which only --format=csv has")]
     UnusedSizes,
+    /// It isn't what can be between two values.
+    #[error("not a separator (one character of ASCII other than a quote, or tab)")]
+    NotSeparator,
+    /// It asks for a separator, and no argument for the format csv.
+    #[error("a separator, which only --format=csv has")]
+    UnusedSeparator,
+    /// It says that there is no header, and no argument asks for the format csv.
+    #[error("a header, which only --format=csv has")]
+    UnusedHeader,
     /// It ends with a B, and isn't a number of bytes of at least 1.
     #[error("not a capacity in bytes (as 500B, 64kB or 1GiB)")]
     NotBytes,
@@ -142,9 +151,9 @@ pub enum SimulationError {
     /// The trace could not be read to its end.
     #[error("clock2q-simulate: read failed")]
     Read,
-    /// A line of a trace isn't comma-separated values, or has too few: its number and the column of
+    /// A line of a trace isn't values with separators, or has too few: its number and the column of
     /// the keys or of the sizes, both counted from 1.
-    #[error("line {0}: not comma-separated values with a column {1}")]
+    #[error("line {0}: not separated values with a column {1}")]
     Line(usize, usize),
     /// A line of a trace has something else than a size in the column of the sizes: its number and
     /// the column, both counted from 1.

@@ -3,7 +3,7 @@
 use crate::queues::non_zero;
 use clock2q_cache::MAX_CAPACITY;
 use clock2q_simulation::{
-    Amount, ErrorReport, FORMATS_HELP, Format, HELP, Options, POLICIES_HELP, Policy,
+    Amount, Columns, ErrorReport, FORMATS_HELP, Format, HELP, Options, POLICIES_HELP, Policy,
     SimulationError, TraceFormat, Unit, help_for, parse_options,
 };
 use std::alloc::Global;
@@ -116,7 +116,7 @@ fn refused_capacities(rt: HostRuntime) -> Result<(), Fail> {
 }
 
 /// Arguments with an option that is refused, and the message.
-const REFUSED_OPTIONS: [(&str, &str); 42] = [
+const REFUSED_OPTIONS: [(&str, &str); 49] = [
     ("", "no capacity (see --help)"),
     ("--csv", "no capacity (see --help)"),
     ("--csv --svg 5", "--svg: a second form beside another one"),
@@ -212,6 +212,31 @@ const REFUSED_OPTIONS: [(&str, &str); 42] = [
         "--column=2 5 --format=oracleGeneral",
         "--column=2: a column of keys, which only --format=csv has",
     ),
+    (
+        "5 --separator=ab",
+        "--separator=ab: not a separator (one character of ASCII other than a quote, or tab)",
+    ),
+    (
+        "5 --separator \"",
+        "\": not a separator (one character of ASCII other than a quote, or tab)",
+    ),
+    (
+        "5 --separator=; --separator=;",
+        "--separator=;: option given twice",
+    ),
+    (
+        "5 --separator=;",
+        "--separator=;: a separator, which only --format=csv has",
+    ),
+    (
+        "--no-header --no-header 5",
+        "--no-header: option given twice",
+    ),
+    (
+        "5 --format=lines --no-header",
+        "--no-header: a header, which only --format=csv has",
+    ),
+    ("5 --no-header=1", "--no-header=1: unknown option"),
     (
         "5 --policies=new",
         "--policies=new: unknown policy (--help policies names them)",
@@ -456,13 +481,29 @@ fn amounts_show(rt: HostRuntime) -> Result<(), Fail> {
 /// The formats of traces.
 #[test]
 fn formats(rt: HostRuntime) -> Result<(), Fail> {
-    let second = TraceFormat::Csv(non_zero(2), None);
+    let usual = Columns {
+        key: non_zero(2),
+        size: None,
+        separator: b',',
+        has_header: true,
+    };
+    let second = TraceFormat::Csv(usual);
+    let bare = TraceFormat::Csv(Columns {
+        size: Some(non_zero(1)),
+        separator: b'\t',
+        has_header: false,
+        ..usual
+    });
     for (line, wanted) in [
         ("5", TraceFormat::Lines),
         ("5 --format=lines", TraceFormat::Lines),
         ("--format oracleGeneral 5", TraceFormat::OracleGeneral),
         ("--column 2 5 --csv --format csv", second),
         ("5 --format=csv --column=02", second),
+        (
+            "5 --no-header --separator=tab --format=csv --column=2 --size-column=1",
+            bare,
+        ),
     ] {
         same_at(options_of(rt.alloc(), line)?.trace_format, wanted, line)?;
     }

@@ -67,10 +67,16 @@ const FIRST: &str = "5 --format=csv --column=1";
 
 const SECOND: &str = "5 --format=csv --column=2";
 
+const BARE: &str = "5 --format=csv --column=1 --no-header";
+
+const SEMICOLONS: &str = "5 --format=csv --column=2 --separator=;";
+
+const TABS: &str = "5 --separator tab --no-header --format=csv --column=1";
+
 /// Values with commas and quotes, empty ones, and carriage returns at the lines' ends.
 #[test]
 fn values(rt: HostRuntime) -> Result<(), Fail> {
-    let cases: [(&str, &[u8], &[u32]); 11] = [
+    let cases: [(&str, &[u8], &[u32]); 17] = [
         (FIRST, b"", &[]),
         (FIRST, b"key", &[]),
         (FIRST, b"key\na\nb\na", &[0, 1, 0]),
@@ -90,6 +96,12 @@ fn values(rt: HostRuntime) -> Result<(), Fail> {
         (SECOND, b"t,k\n1,\n2,\"\"\n,\n,\"\"\"\"\n", &[0, 0, 0, 1]),
         (SECOND, b"t,k\r\n1,a\r\n2,\"a\"\r\n3,a", &[0, 0, 0]),
         (FIRST, b"a \"header\nx\n y\nx\n", &[0, 1, 0]),
+        (FIRST, b"key\na\n\nb\r\n\r\na\n\n", &[0, 1, 0]),
+        (FIRST, b"key\n\"\"\n\n\"\"\n", &[0, 0]),
+        (BARE, b"a\nb\na\n", &[0, 1, 0]),
+        (BARE, b"\na\nb\na", &[0, 1, 0]),
+        (SEMICOLONS, b"t;k\n1;a,b\n2;\"a;b\"\n3;a,b\n", &[0, 1, 0]),
+        (TABS, b"a\tk\nb,\tk\na\tl\n", &[0, 1, 0]),
     ];
     for (line, bytes, wanted) in cases {
         has_numbers(rt.alloc(), line, bytes, wanted)?;
@@ -102,7 +114,7 @@ fn values(rt: HostRuntime) -> Result<(), Fail> {
 fn refused_lines(rt: HostRuntime) -> Result<(), Fail> {
     let cases: [(&[u8], usize); 8] = [
         (b"t,k\n1\n", 2),
-        (b"t,k\n1,a\n\n3,a\n", 3),
+        (b"t,k\n1,a\n\n3\n", 4),
         (b"t,k\n1,a\n2,b\n3", 4),
         (b"t,k\n1,\"a\n", 2),
         (b"t,k\n1,\"a\"b\n", 2),
@@ -172,7 +184,7 @@ fn reports(rt: HostRuntime) -> Result<(), Fail> {
         (
             SimulationError::Line(3, 2),
             Some(1),
-            "clock2q-simulate: a.csv: line 3: not comma-separated values with a column 2",
+            "clock2q-simulate: a.csv: line 3: not separated values with a column 2",
         ),
         (
             SimulationError::Record(48),
