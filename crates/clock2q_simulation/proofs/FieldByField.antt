@@ -12,8 +12,8 @@ use Rattle.clock2q_simulation.specs.Fields.{IsEarly, after_step, found, found_in
 use Rattle.clock2q_simulation.specs.Formats.{field, fields_from, fields_of, with_byte, with_end, without_return}
 
 -- nothing of the line was read
-pub found-first : (column : ℕ) (line : List ℕ) → 0 < column → found_in column [] (fields_from Start (without_return line)) ≡ field column line
-found-first column line some = each (fields_of line) where
+pub found-first : (separator column : ℕ) (line : List ℕ) → 0 < column → found_in column [] (fields_from separator Start (without_return line)) ≡ field separator column line
+found-first separator column line some = each (fields_of separator line) where
   at : (column : ℕ) (fields : List (List ℕ)) → 0 < column → found column [] fields ≡ slice_get fields (column - 1)
   at zero fields h = absurd (omega arith)
   at (suc zero) fields h = option_map_id (slice_get fields 0)
@@ -52,30 +52,30 @@ last zero key h = refl
 last (suc zero) key h = ap Some (append-nil key)
 last (suc (suc n)) key h = absurd (omega arith)
 
-pub found-last : (left : ℕ) (key : List ℕ) (place : Place) (is_end : Bool) (wanted : Option (List ℕ)) → left ≤ 1 → found_in left key (fields_from place []) ≡ wanted
-    → MatchBool is_end (fields_from place [] ≡ Some ([] ∷ [])) (fields_from place [] ≡ None) → MatchBool is_end (wanted ≡ Some key) (wanted ≡ None)
-found-last left key place true wanted low e ends = sym e ∙ ap (found_in left key) ends ∙ last left key low
-found-last left key place false wanted low e none = sym e ∙ ap (found_in left key) none
+pub found-last : (separator left : ℕ) (key : List ℕ) (place : Place) (is_end : Bool) (wanted : Option (List ℕ)) → left ≤ 1 → found_in left key (fields_from separator place []) ≡ wanted
+    → MatchBool is_end (fields_from separator place [] ≡ Some ([] ∷ [])) (fields_from separator place [] ≡ None) → MatchBool is_end (wanted ≡ Some key) (wanted ≡ None)
+found-last separator left key place true wanted low e ends = sym e ∙ ap (found_in left key) ends ∙ last left key low
+found-last separator left key place false wanted low e none = sym e ∙ ap (found_in left key) none
 
 -- a quote after a quote
-pub second-quote : (place : Place) (byte : ℕ) (rest : List ℕ) → place ≡ Closed → byte ≡ 34 → fields_from place (byte ∷ rest) ≡ with_byte byte (fields_from Quoted rest)
-second-quote place byte rest p q = rw (p, q) refl
+pub second-quote : (separator : ℕ) (place : Place) (byte : ℕ) (rest : List ℕ) → place ≡ Closed → byte ≡ 34 → fields_from separator place (byte ∷ rest) ≡ with_byte byte (fields_from separator Quoted rest)
+second-quote separator place byte rest p q = rw (p, q) refl
 
 -- a step on the way to the key
-module _ (left : ℕ) (key : List ℕ) (place next : Place) (byte : ℕ) (step : Step) (h : (rest : List ℕ) → fields_from place (byte ∷ rest) ≡ after_step (Some step) byte rest) where
-  pub steps : (other : Step) → step ≡ other → (rest : List ℕ) → found_in left key (fields_from place (byte ∷ rest)) ≡ found_in left key (after_step (Some other) byte rest)
-  steps other e rest = ap (found_in left key) (h rest ∙ ap (λ s. after_step (Some s) byte rest) e)
+module _ (separator left : ℕ) (key : List ℕ) (place next : Place) (byte : ℕ) (step : Step) (h : (rest : List ℕ) → fields_from separator place (byte ∷ rest) ≡ after_step separator (Some step) byte rest) where
+  pub steps : (other : Step) → step ≡ other → (rest : List ℕ) → found_in left key (fields_from separator place (byte ∷ rest)) ≡ found_in left key (after_step separator (Some other) byte rest)
+  steps other e rest = ap (found_in left key) (h rest ∙ ap (λ s. after_step separator (Some s) byte rest) e)
 
-  pub skips : step ≡ Skip next → (rest : List ℕ) → found_in left key (fields_from place (byte ∷ rest)) ≡ found_in left key (fields_from next rest)
+  pub skips : step ≡ Skip next → (rest : List ℕ) → found_in left key (fields_from separator place (byte ∷ rest)) ≡ found_in left key (fields_from separator next rest)
   skips e rest = steps (Skip next) e rest
 
-  pub ends : (less : ℕ) → step ≡ End → less ≡ left - 1 → IsEarly left key → (rest : List ℕ) → found_in left key (fields_from place (byte ∷ rest)) ≡ found_in less key (fields_from Start rest)
-  ends less e l early rest = steps End e rest ∙ found-end left key (fields_from Start rest) less l early
+  pub ends : (less : ℕ) → step ≡ End → less ≡ left - 1 → IsEarly left key → (rest : List ℕ) → found_in left key (fields_from separator place (byte ∷ rest)) ≡ found_in less key (fields_from separator Start rest)
+  ends less e l early rest = steps End e rest ∙ found-end left key (fields_from separator Start rest) less l early
 
   pub adds : (longer : List ℕ) → step ≡ Add next → left ≡ 1 → longer ≡ key ++ byte ∷ []
-      → (rest : List ℕ) → found_in left key (fields_from place (byte ∷ rest)) ≡ found_in
-      left longer (fields_from next rest)
-  adds longer e one l rest = steps (Add next) e rest ∙ found-byte left key byte (fields_from next rest) one ∙ ap (λ k. found_in left k (fields_from next rest)) (sym l)
+      → (rest : List ℕ) → found_in left key (fields_from separator place (byte ∷ rest)) ≡ found_in
+      left longer (fields_from separator next rest)
+  adds longer e one l rest = steps (Add next) e rest ∙ found-byte left key byte (fields_from separator next rest) one ∙ ap (λ k. found_in left k (fields_from separator next rest)) (sym l)
 
-  pub passes : step ≡ Add next → (left ≡ 1 → ⊥) → (rest : List ℕ) → found_in left key (fields_from place (byte ∷ rest)) ≡ found_in left key (fields_from next rest)
-  passes e other rest = steps (Add next) e rest ∙ found-other left key byte (fields_from next rest) other
+  pub passes : step ≡ Add next → (left ≡ 1 → ⊥) → (rest : List ℕ) → found_in left key (fields_from separator place (byte ∷ rest)) ≡ found_in left key (fields_from separator next rest)
+  passes e other rest = steps (Add next) e rest ∙ found-other left key byte (fields_from separator next rest) other

@@ -8,6 +8,7 @@ mod KnownHits
 mod KnownKeys
 mod LineByLine
 mod Numbering
+mod PolicyNames
 mod RecordByRecord
 mod Replaying
 mod Sampling

@@ -1,23 +1,23 @@
 -- Records put together byte by byte, and read from a source.
 use Rattle.std.proofs.Common.{◌≡◌, ℕ, suc, ◌+◌, ◌-◌, ◌/◌, ◌%◌, ◌<◌, ◌≤◌, Bool, true, false, cond, List, [], ◌∷◌, ◌++◌, length, length-append, map, take, drop, get_or, eqb, refl, sym, ap}
-use Rattle.std.proofs.Common.{subst, ◌∙◌, arith, rules, append_assoc, append-nil, option_map, Option, None, Some, Result, Ok, Err}
+use Rattle.std.proofs.Common.{subst, ◌∙◌, arith, rules, append_assoc, append-nil, Option, None, Some, Result, Ok, Err}
 use Rattle.std.proofs.lemmas.Bool.{eqb-true, ne_eqb}
 use Rattle.std.proofs.lemmas.List.{drop_more, drop_all}
 use Rattle.std.proofs.lemmas.List.Elements.{All-append}
 use Rattle.std.proofs.lemmas.List.Splits.{slice_split_at, slice_split_none}
 use Rattle.std.proofs.Math.Seq.{take-append_seam, drop-append_seam}
 use Rattle.std.specs.Io.KnownBytes.{Consumes, IsAtEnd}
-use Rattle.std.specs.NonZero.{non_zero_usize_get}
 use Rattle.std.specs.Result.{IfErr, IfOk, OnOk}
 use Rattle.std.specs.Simd.{first_chunks}
 use Rattle.clock2q_ports.specs.Lines.{lines_of}
 use Rattle.clock2q_ports.proofs.Lines.{lines_of-ended, lines_of-last, lines_of-empty}
 use Rattle.clock2q_ports.specs.Ports.{Traffic, traffic_after, one_if}
 use Rattle.clock2q_simulation.specs.declared.error.SimulationError.{SimulationError}
-use Rattle.clock2q_simulation.specs.declared.error.SimulationError.TheVariants.{Argument, NotText, NoCapacity, UnusedShares, Shares, Capacity, Memory, Open, Read, Line, Size, Record, Write}
+use Rattle.clock2q_simulation.specs.declared.error.SimulationError.TheVariants.{Argument, NotText, NoCapacity, UnusedShares, Shares, SampledShares, Capacity, Memory, Open, Read, Line, Size, Record, LargeSizes, Write}
+use Rattle.clock2q_simulation.specs.declared.format.Columns.{Columns}
 use Rattle.clock2q_simulation.specs.declared.format.TraceFormat.{TraceFormat}
 use Rattle.clock2q_simulation.specs.declared.format.TraceFormat.TheVariants.{Lines, Csv, OracleGeneral}
-use Rattle.clock2q_simulation.specs.Formats.{Access, access_in, accesses_after, accesses_in, accesses_of, consed, record_of, unsized}
+use Rattle.clock2q_simulation.specs.Formats.{Access, access_by, accesses_after, accesses_by, accesses_in, consed, headers, is_blank, record_of, unsized}
 use Rattle.clock2q_simulation.specs.Reading.{AreRead, HasNoEnd, IsBad, IsBegun, IsGivenUp, IsNoTrace, IsOfLines, IsWholeRecord, ReadsTrace, TakesBytes, between, joined}
 
 -- a line and its end come first of the lines
@@ -69,6 +69,8 @@ bad-by NotText f b = b
 bad-by NoCapacity f b = b
 bad-by UnusedShares f b = b
 bad-by (Shares _) f b = b
+bad-by (SampledShares _) f b = b
+bad-by LargeSizes f b = b
 
 -- the same of a result, and what a result without one says
 pub bad-result : {X : Type 0} (result : Result X SimulationError) {P Q : Type 0} → (P → Q) → IfErr result (λ refusal. IsBad refusal P) → IfErr result (λ refusal. IsBad refusal Q)
@@ -103,11 +105,12 @@ module _ (part next : List ℕ) (h : length part ≡ 24) where
       cases false ids = refl
       cases true ids = ap Some (sym (append_assoc keys (record_of part ∷ []) ids))
 
--- the format csv, with its keys and perhaps its sizes in columns
-abbrev pub IsCsv : ℕ → Option ℕ → TraceFormat → Type 0
-IsCsv column sizes Lines = ⊥
-IsCsv column sizes (Csv other more) = (non_zero_usize_get other ≡ column) × (option_map non_zero_usize_get more ≡ sizes)
-IsCsv column sizes OracleGeneral = ⊥
+-- at most the first line is a header
+few-headers : (columns : Columns) → headers columns ≤ 1
+few-headers columns = each columns.has_header where
+  each : (b : Bool) → cond b 1 0 ≤ 1
+  each true = omega arith
+  each false = omega arith
 
 module _ (keys more : List Access) (count counted : ℕ) (part : List ℕ) where
   -- a record that ends, and what its key does to those so far
@@ -118,76 +121,103 @@ module _ (keys more : List Access) (count counted : ℕ) (part : List ℕ) where
   line-ends Lines e whole m next =
       ap (λ ls. joined keys (Some (map unsized ls))) (ended-lines part next whole) ∙ joined-more keys (unsized part) (Some (map unsized (lines_of next)))
       ∙ ap (λ ks. joined ks (Some (map unsized (lines_of next)))) (sym m)
-  line-ends (Csv column sizes) e whole m next = absurd (cc)
+  line-ends (Csv columns) e whole m next = absurd (cc)
   line-ends OracleGeneral e whole m next = absurd (cc)
 
-  pub header-ends : (format : TraceFormat) (column : ℕ) (sizes : Option ℕ) → IsCsv column sizes format → IsWholeRecord format part → count ≡ 0 → 0 < counted → more ≡ keys → Ends format
-  header-ends Lines column sizes e whole z some m next = absurd e
-  header-ends OracleGeneral column sizes e whole z some m next = absurd e
-  header-ends (Csv other others) column sizes e whole z some m next =
-      let first : drop (1 - count) (lines_of (part ++ 10 ∷ next)) ≡ lines_of next = rw (z, ended-lines part next whole) refl in
-      let none : 1 - counted ≡ 0 = omega arith in
-      ap (λ ls. joined keys (accesses_of (non_zero_usize_get other) (option_map non_zero_usize_get others) ls)) first ∙ rw (m, none) refl
+  -- a line of values, by its columns
+  module _ (columns : Columns) (whole : HasNoEnd part) where
+    -- the lines after one that is no header
+    later : headers columns ≤ count → 0 < counted → (next : List ℕ)
+        → (accesses_after (Csv columns) count (part ++ 10 ∷ next) ≡ accesses_by columns (part ∷ lines_of next))
+        × (accesses_after (Csv columns) counted next ≡ accesses_by columns (lines_of next))
+    later so some next =
+        let before : headers columns - count ≡ 0 = omega (arith, so) in
+        let after : headers columns - counted ≡ 0 = omega (arith, some, few-headers columns) in (
+          ap (λ n. accesses_by columns (drop n (lines_of (part ++ 10 ∷ next)))) before ∙ ap (accesses_by columns) (ended-lines part next whole),
+          ap (λ n. accesses_by columns (drop n (lines_of next))) after,
+        )
 
-  pub fields-end : (format : TraceFormat) (column : ℕ) (sizes : Option ℕ) (key : Access) → IsCsv column sizes format → IsWholeRecord format part → 0 < count → 0 < counted
-      → access_in column sizes part ≡ Some key → more ≡ keys ++ key ∷ [] → Ends format
-  fields-end Lines column sizes key e whole so some f m next = absurd e
-  fields-end OracleGeneral column sizes key e whole so some f m next = absurd e
-  fields-end (Csv other others) column sizes key e whole so some f m next =
-      let c = non_zero_usize_get other in
-      let s = option_map non_zero_usize_get others in
-      let before : 1 - count ≡ 0 = omega arith in
-      let after : 1 - counted ≡ 0 = omega arith in
-      let at : access_in c s part ≡ Some key = ap (λ d. access_in d s part) e.0 ∙ ap (λ d. access_in column d part) e.1 ∙ f in
-      ap (λ n. joined keys (accesses_of c s (drop n (lines_of (part ++ 10 ∷ next))))) before
-      ∙ ap (λ ls. joined keys (accesses_of c s ls)) (ended-lines part next whole)
-      ∙ ap (λ k. joined keys (consed k (accesses_of c s (lines_of next)))) at
-      ∙ joined-more keys key (accesses_of c s (lines_of next))
-      ∙ rw (m, after) refl
+    pub header-ends : count < headers columns → 0 < counted → more ≡ keys → (next : List ℕ)
+        → joined keys (accesses_after (Csv columns) count (part ++ 10 ∷ next)) ≡ joined more (accesses_after (Csv columns) counted next)
+    header-ends is some m next =
+        let before : headers columns - count ≡ 1 = omega (arith, is, few-headers columns) in
+        let after : headers columns - counted ≡ 0 = omega (arith, some, few-headers columns) in
+        ap (λ n. joined keys (accesses_by columns (drop n (lines_of (part ++ 10 ∷ next))))) before
+        ∙ ap (λ ls. joined keys (accesses_by columns (drop 1 ls))) (ended-lines part next whole)
+        ∙ ap (λ n. joined keys (accesses_by columns (drop n (lines_of next)))) (sym after)
+        ∙ ap (λ ks. joined ks (accesses_after (Csv columns) counted next)) (sym m)
 
-  pub no-field-ends : (format : TraceFormat) (column : ℕ) (sizes : Option ℕ) → IsCsv column sizes format → IsWholeRecord format part → 0 < count → access_in column sizes part ≡ None
-      → (next : List ℕ) → accesses_after format count (part ++ (between format ++ next)) ≡ None
-  no-field-ends Lines column sizes e whole so f next = absurd e
-  no-field-ends OracleGeneral column sizes e whole so f next = absurd e
-  no-field-ends (Csv other others) column sizes e whole so f next =
-      let c = non_zero_usize_get other in
-      let s = option_map non_zero_usize_get others in
-      let before : 1 - count ≡ 0 = omega arith in
-      let at : access_in c s part ≡ None = ap (λ d. access_in d s part) e.0 ∙ ap (λ d. access_in column d part) e.1 ∙ f in
-      ap (λ n. accesses_of c s (drop n (lines_of (part ++ 10 ∷ next)))) before
-      ∙ ap (accesses_of c s) (ended-lines part next whole)
-      ∙ ap (λ k. consed k (accesses_of c s (lines_of next))) at
+    pub blank-ends : headers columns ≤ count → 0 < counted → is_blank part ≡ true → more ≡ keys → (next : List ℕ)
+        → joined keys (accesses_after (Csv columns) count (part ++ 10 ∷ next)) ≡ joined more (accesses_after (Csv columns) counted next)
+    blank-ends so some blank m next =
+        let is = later so some next in
+        ap (joined keys) is.0
+        ∙ ap (λ b. joined keys (cond b (accesses_by columns (lines_of next)) (consed (access_by columns part) (accesses_by columns (lines_of next))))) blank
+        ∙ ap (joined keys) (sym is.1)
+        ∙ ap (λ ks. joined ks (accesses_after (Csv columns) counted next)) (sym m)
+
+    pub fields-end : (key : Access) → headers columns ≤ count → 0 < counted → is_blank part ≡ false → access_by columns part ≡ Some key → more ≡ keys ++ key ∷ [] → (next : List ℕ)
+        → joined keys (accesses_after (Csv columns) count (part ++ 10 ∷ next)) ≡ joined more (accesses_after (Csv columns) counted next)
+    fields-end key so some blank f m next =
+        let is = later so some next in
+        let rest = accesses_by columns (lines_of next) in
+        ap (joined keys) is.0
+        ∙ ap (λ b. joined keys (cond b rest (consed (access_by columns part) rest))) blank
+        ∙ ap (λ k. joined keys (consed k rest)) f
+        ∙ joined-more keys key rest
+        ∙ ap (joined (keys ++ key ∷ [])) (sym is.1)
+        ∙ ap (λ ks. joined ks (accesses_after (Csv columns) counted next)) (sym m)
+
+    pub no-field-ends : headers columns ≤ count → is_blank part ≡ false → access_by columns part ≡ None
+        → (next : List ℕ) → accesses_after (Csv columns) count (part ++ 10 ∷ next) ≡ None
+    no-field-ends so blank f next =
+        let before : headers columns - count ≡ 0 = omega (arith, so) in
+        let rest = accesses_by columns (lines_of next) in
+        ap (λ n. accesses_by columns (drop n (lines_of (part ++ 10 ∷ next)))) before
+        ∙ ap (accesses_by columns) (ended-lines part next whole)
+        ∙ ap (λ b. cond b rest (consed (access_by columns part) rest)) blank
+        ∙ ap (λ k. consed k rest) f
+
+  -- a record of csv ends as its line does
+  pub line-of-csv : (format : TraceFormat) (columns : Columns) → format ≡ Csv columns
+      → ((next : List ℕ) → joined keys (accesses_after (Csv columns) count (part ++ 10 ∷ next)) ≡ joined more (accesses_after (Csv columns) counted next)) → Ends format
+  line-of-csv format columns e ends next = rw e (ends next)
 
   pub piece-ends : (format : TraceFormat) → format ≡ OracleGeneral → IsWholeRecord format part → more ≡ keys ++ record_of part ∷ [] → Ends format
   piece-ends Lines e whole m next = absurd (cc)
-  piece-ends (Csv column sizes) e whole m next = absurd (cc)
+  piece-ends (Csv columns) e whole m next = absurd (cc)
   piece-ends OracleGeneral e whole m next = piece-first part next whole keys count counted ∙ ap (λ ks. joined ks (accesses_after OracleGeneral counted next)) (sym m)
+
+-- and a line of csv that is bad is a bad record
+pub bad-of-csv : (count : ℕ) (part : List ℕ) (format : TraceFormat) (columns : Columns) → format ≡ Csv columns
+    → ((next : List ℕ) → accesses_after (Csv columns) count (part ++ 10 ∷ next) ≡ None) → (next : List ℕ) → accesses_after format count (part ++ (between format ++ next)) ≡ None
+bad-of-csv count part format columns e none next = rw e (none next)
 
 -- a whole record is begun, and one of 24 bytes isn't of lines
 pub whole-line : (format : TraceFormat) (part : List ℕ) → IsOfLines format → IsBegun format part → IsWholeRecord format part
 whole-line Lines part l h = h
-whole-line (Csv column sizes) part l h = h
+whole-line (Csv columns) part l h = h
 whole-line OracleGeneral part l h = absurd l
 
 pub begun-line : (format : TraceFormat) (part : List ℕ) → IsOfLines format → HasNoEnd part → IsBegun format part
 begun-line Lines part l h = h
-begun-line (Csv column sizes) part l h = h
+begun-line (Csv columns) part l h = h
 begun-line OracleGeneral part l h = absurd l
 
 pub line-begun : (format : TraceFormat) (part : List ℕ) → IsOfLines format → IsBegun format part → HasNoEnd part
 line-begun Lines part l h = h
-line-begun (Csv column sizes) part l h = h
+line-begun (Csv columns) part l h = h
 line-begun OracleGeneral part l h = absurd l
 
 pub after-line : (format : TraceFormat) → IsOfLines format → between format ≡ 10 ∷ []
 after-line Lines l = refl
-after-line (Csv column sizes) l = refl
+after-line (Csv columns) l = refl
 after-line OracleGeneral l = absurd l
 
 -- nothing of a record
 pub none-begun : (format : TraceFormat) → IsBegun format []
 none-begun Lines = no-line
-none-begun (Csv column sizes) = no-line
+none-begun (Csv columns) = no-line
 none-begun OracleGeneral = omega arith
 
 -- the last line is as if it had its end
@@ -201,22 +231,20 @@ last-ends format part count l h some = cases format l h where
 
   cases : (format : TraceFormat) → IsOfLines format → IsBegun format part → accesses_after format count part ≡ accesses_after format count (part ++ (between format ++ []))
   cases Lines l h = ap (λ ls. Some (map unsized ls)) (same h)
-  cases (Csv column sizes) l h = ap (λ ls. accesses_of (non_zero_usize_get column) (option_map non_zero_usize_get sizes) (drop (1 - count) ls)) (same h)
+  cases (Csv columns) l h = ap (λ ls. accesses_by columns (drop (headers columns - count) ls)) (same h)
   cases OracleGeneral l h = absurd l
 
 -- nothing is left
 pub none-left : (format : TraceFormat) (count : ℕ) → accesses_after format count [] ≡ Some []
 none-left Lines count = ap (λ ls. Some (map unsized ls)) (lines_of-empty [] refl)
-none-left (Csv column sizes) count =
-    let c = non_zero_usize_get column in
-    let z = option_map non_zero_usize_get sizes in
-    ap (λ ls. accesses_of c z (drop (1 - count) ls)) (lines_of-empty [] refl) ∙ ap (accesses_of c z) (drop_all (1 - count) [] (omega arith))
+none-left (Csv columns) count =
+    ap (λ ls. accesses_by columns (drop (headers columns - count) ls)) (lines_of-empty [] refl) ∙ ap (accesses_by columns) (drop_all (headers columns - count) [] (omega arith))
 none-left OracleGeneral count = refl
 
 -- part of a record is left
 pub part-left : (format : TraceFormat) (part : List ℕ) (count : ℕ) → format ≡ OracleGeneral → IsBegun format part → 0 < length part → accesses_after format count part ≡ None
 part-left Lines part count e h some = absurd (cc)
-part-left (Csv column sizes) part count e h some = absurd (cc)
+part-left (Csv columns) part count e h some = absurd (cc)
 part-left OracleGeneral part count e h some =
     let below : length part < 24 = h in
     let left : (length part % 24 ≡ 0) → ⊥ = λ z. omega (arith, below, some, z) in
@@ -334,6 +362,8 @@ given-up old new left remain format NotText m f b = b
 given-up old new left remain format NoCapacity m f b = b
 given-up old new left remain format UnusedShares m f b = b
 given-up old new left remain format (Shares _) m f b = b
+given-up old new left remain format (SampledShares _) m f b = b
+given-up old new left remain format LargeSizes m f b = b
 
 -- the byte at a place, and those after it
 rest-at : (bytes : List ℕ) (i : ℕ) (next : List ℕ) → i < length bytes → drop i bytes ++ next ≡ get_or bytes i 0 ∷ (drop (i + 1) bytes ++ next)
@@ -355,7 +385,7 @@ bytes-done format keys count part bytes i h next = ap (λ xs. joined keys (acces
 
 after-piece : (format : TraceFormat) → format ≡ OracleGeneral → between format ≡ []
 after-piece Lines e = absurd (cc)
-after-piece (Csv column sizes) e = absurd (cc)
+after-piece (Csv columns) e = absurd (cc)
 after-piece OracleGeneral e = refl
 
 -- the last byte of a record that is bad

@@ -1,11 +1,11 @@
 -- The hits with shares of Clock2Q+, and shares with no more hits.
-use Rattle.std.proofs.Common.{◌≡◌, ℕ, ◌-◌, ◌≤◌, List, ap, subst, ◌∙◌, arith}
+use Rattle.std.proofs.Common.{◌≡◌, ℕ, ◌-◌, ◌<◌, ◌≤◌, List, ap, subst, ◌∙◌, arith}
 use Rattle.std.specs.Prelude.{Option}
 use Rattle.std.specs.List.{All}
 use Rattle.clock2q_simulation.specs.declared.policy.Policy.{Policy}
 use Rattle.clock2q_simulation.specs.declared.policy.Policy.TheVariants.{Clock2Q}
 use Rattle.clock2q_simulation.specs.declared.shares.ChosenShares.{ChosenShares}
-use Rattle.clock2q_simulation.specs.BestShares.{HasNoMore, clock2q_hits_after}
+use Rattle.clock2q_simulation.specs.BestShares.{HasFewer, HasNoMore, clock2q_hits_after}
 use Rattle.clock2q_simulation.specs.ChosenShares.{shares_for}
 use Rattle.clock2q_simulation.specs.MachineHits.{machine_hits}
 use Rattle.clock2q_simulation.specs.Rows.{AreHitsAfter}
@@ -27,3 +27,7 @@ module _ (skipped : ℕ) (numbers : List ℕ) (room : ℕ) where
 
   pub no_more_than : (hits more : ℕ) (shares : ChosenShares) → hits ≤ more → HasNoMore skipped numbers room hits shares → HasNoMore skipped numbers room more shares
   no_more_than hits more shares grown no_more = λ fits. omega (arith, grown, no_more fits)
+
+  -- and it hits fewer than a larger number
+  pub fewer_of_all : (hits more : ℕ) (tried : List ChosenShares) → hits < more → All (HasNoMore skipped numbers room hits) tried → All (HasFewer skipped numbers room more) tried
+  fewer_of_all hits more tried grown each = λ k d within fits. omega (arith, grown, each k d within fits)

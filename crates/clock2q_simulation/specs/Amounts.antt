@@ -126,7 +126,7 @@ asked_by word = asked_between word (ends_of word)
 abbrev pub takes_value : List ℕ → Bool
 takes_value word = bytes_eq word (codes "--policies") || bytes_eq word (codes "--shares") || bytes_eq word (codes "--policy") || bytes_eq word (codes "--skip")
     || bytes_eq word (codes "--window") || bytes_eq word (codes "--format") || bytes_eq word (codes "--column") || bytes_eq word (codes "--size-column")
-    || bytes_eq word (codes "--sample")
+    || bytes_eq word (codes "--separator") || bytes_eq word (codes "--sample")
 
 -- whether a word is an option: a dash followed by another byte
 abbrev pub is_option : List ℕ → Bool

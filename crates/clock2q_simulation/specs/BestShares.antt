@@ -1,5 +1,5 @@
 -- The shares of Clock2Q+ that hit most, of some that are tried.
-use Rattle.std.specs.Prelude.{◌≡◌, ℕ, ◌-◌, ◌≤◌, Bool, true, false, List, [], Option, Some, None, map, take}
+use Rattle.std.specs.Prelude.{◌≡◌, ℕ, ◌-◌, ◌<◌, ◌≤◌, Bool, true, false, List, [], Option, Some, None, IfSome, map, slice_get, take}
 use Rattle.std.specs.List.{All}
 use Rattle.std.specs.NonZero.{non_zero_usize_get}
 use Rattle.clock2q_machine.specs.Policies.{IsPolicy}
@@ -18,6 +18,17 @@ module _ (skipped : ℕ) (numbers : List ℕ) (room : ℕ) where
   abbrev pub HasNoMore : ℕ → ChosenShares → Type 0
   HasNoMore hits shares = IsPolicy (shares_for (Some shares) room) → clock2q_hits_after (Some shares) ≤ hits
 
+  -- and these have fewer
+  abbrev pub HasFewer : ℕ → ChosenShares → Type 0
+  HasFewer hits shares = IsPolicy (shares_for (Some shares) room) → clock2q_hits_after (Some shares) < hits
+
+  -- shares are the first of those tried that hit most, and hit more than the usual ones
+  pub record AreFirst (tried : List ChosenShares) (usual hits : ℕ) (shares : ChosenShares) : Type 0 where
+    pub place : ℕ
+    pub there : slice_get tried place ≡ Some shares
+    pub fewer : All (HasFewer hits) (take place tried)
+    pub gain : usual < hits
+
   -- the usual hits are those of the usual shares, and the most hits those of the best shares: neither the usual ones nor
   -- any that are tried hit more
   pub record AreBest (tried : List ChosenShares) (best : BestShares) : Type 0 where
@@ -26,6 +37,7 @@ module _ (skipped : ℕ) (numbers : List ℕ) (room : ℕ) where
     pub hits : best.hits ≡ clock2q_hits_after best.shares
     pub no_fewer : best.usual ≤ best.hits
     pub most : All (HasNoMore best.hits) tried
+    pub first : IfSome best.shares (AreFirst tried best.usual best.hits)
 
 -- there are the best shares for each row, in order, at its capacity
 pub record AreAllBest {A : Type 0} (tried : List ChosenShares) (skipped : ℕ) (numbers : List ℕ) (rows : List (Row A)) (all : List BestShares) : Type 0 where

@@ -1,4 +1,4 @@
--- What the bytes of a line of comma-separated values do to the fields that are still to come, and to the key.
+-- What the bytes of a line of values with a separator do to the fields that are still to come, and to the key.
 use Rattle.std.specs.Prelude.{◌≡◌, ℕ, zero, suc, ◌<◌, List, [], ◌++◌, slice_get, Option, Some, None}
 use Rattle.std.specs.Option.{option_map, option_and_then}
 use Rattle.clock2q_simulation.specs.declared.csv.Place.TheVariants.{Start}
@@ -7,11 +7,11 @@ use Rattle.clock2q_simulation.specs.declared.csv.Step.TheVariants.{Add, Skip, En
 use Rattle.clock2q_simulation.specs.Formats.{fields_from, with_byte, with_end}
 
 -- the fields from a byte on, by what the byte is and those of the rest
-abbrev pub after_step : Option Step → ℕ → List ℕ → Option (List (List ℕ))
-after_step None byte rest = None
-after_step (Some (Add next)) byte rest = with_byte byte (fields_from next rest)
-after_step (Some (Skip next)) byte rest = fields_from next rest
-after_step (Some End) byte rest = with_end (fields_from Start rest)
+abbrev pub after_step : ℕ → Option Step → ℕ → List ℕ → Option (List (List ℕ))
+after_step separator None byte rest = None
+after_step separator (Some (Add next)) byte rest = with_byte byte (fields_from separator next rest)
+after_step separator (Some (Skip next)) byte rest = fields_from separator next rest
+after_step separator (Some End) byte rest = with_end (fields_from separator Start rest)
 
 -- the key, from what there is of it, if its column is the left-th of these fields; it is before them if none is left
 abbrev pub found : ℕ → List ℕ → List (List ℕ) → Option (List ℕ)

@@ -7,6 +7,7 @@ use Rattle.std.specs.Simd.{first_chunks}
 use Rattle.clock2q_ports.specs.Lines.{lines_of}
 use Rattle.clock2q_simulation.specs.declared.csv.Place.{Place}
 use Rattle.clock2q_simulation.specs.declared.csv.Place.TheVariants.{Start, Plain, Quoted, Closed}
+use Rattle.clock2q_simulation.specs.declared.format.Columns.{Columns}
 use Rattle.clock2q_simulation.specs.declared.format.TraceFormat.{TraceFormat}
 use Rattle.clock2q_simulation.specs.declared.format.TraceFormat.TheVariants.{Lines, Csv, OracleGeneral}
 use Rattle.clock2q_simulation.specs.Amounts.{ends_in, front, number_in}
@@ -34,50 +35,66 @@ with_byte byte fields = option_map (lengthened byte) fields
 abbrev pub with_end : Option (List (List ℕ)) → Option (List (List ℕ))
 with_end fields = option_map (λ fields. [] ∷ fields) fields
 
--- the rest of a field of which the next byte is at a place, and the fields after it; a quote is 34, a comma 44. A field
--- is between quotes, with each quote in it doubled, or has no quote
-abbrev pub fields_from : Place → List ℕ → Option (List (List ℕ))
-fields_from Quoted [] = None
-fields_from Start [] = Some ([] ∷ [])
-fields_from Plain [] = Some ([] ∷ [])
-fields_from Closed [] = Some ([] ∷ [])
-fields_from Start (byte ∷ rest) = if byte == 34 then fields_from Quoted rest else if byte == 44 then with_end (fields_from Start rest) else with_byte byte (fields_from Plain rest)
-fields_from Plain (byte ∷ rest) = if byte == 34 then None else if byte == 44 then with_end (fields_from Start rest) else with_byte byte (fields_from Plain rest)
-fields_from Quoted (byte ∷ rest) = if byte == 34 then fields_from Closed rest else with_byte byte (fields_from Quoted rest)
-fields_from Closed (byte ∷ rest) = if byte == 34 then with_byte 34 (fields_from Quoted rest) else if byte == 44 then with_end (fields_from Start rest) else None
+-- the rest of a field of which the next byte is at a place, and the fields after it, with a separator between two; a
+-- quote is 34. A field is between quotes, with each quote in it doubled, or has no quote
+abbrev pub fields_from : ℕ → Place → List ℕ → Option (List (List ℕ))
+fields_from separator Quoted [] = None
+fields_from separator Start [] = Some ([] ∷ [])
+fields_from separator Plain [] = Some ([] ∷ [])
+fields_from separator Closed [] = Some ([] ∷ [])
+fields_from separator Start (byte ∷ rest) = if byte == 34 then fields_from separator Quoted rest else if byte == separator then with_end (fields_from separator Start rest) else with_byte byte (fields_from separator Plain rest)
+fields_from separator Plain (byte ∷ rest) = if byte == 34 then None else if byte == separator then with_end (fields_from separator Start rest) else with_byte byte (fields_from separator Plain rest)
+fields_from separator Quoted (byte ∷ rest) = if byte == 34 then fields_from separator Closed rest else with_byte byte (fields_from separator Quoted rest)
+fields_from separator Closed (byte ∷ rest) = if byte == 34 then with_byte 34 (fields_from separator Quoted rest) else if byte == separator then with_end (fields_from separator Start rest) else None
 
 -- a line without the carriage return at its end, if it has one
 abbrev pub without_return : List ℕ → List ℕ
 without_return line = if ends_in 13 line then front line else line
 
--- the fields of a line of comma-separated values, and the one in a column, counted from 1
-abbrev pub fields_of : List ℕ → Option (List (List ℕ))
-fields_of line = fields_from Start (without_return line)
+-- a blank line has no other byte
+abbrev pub is_blank : List ℕ → Bool
+is_blank line = length (without_return line) == 0
 
-abbrev pub field : ℕ → List ℕ → Option (List ℕ)
-field column line = option_and_then (λ fields. slice_get fields (column - 1)) (fields_of line)
+-- the fields of a line of values with a separator, and the one in a column, counted from 1
+abbrev pub fields_of : ℕ → List ℕ → Option (List (List ℕ))
+fields_of separator line = fields_from separator Start (without_return line)
+
+abbrev pub field : ℕ → ℕ → List ℕ → Option (List ℕ)
+field separator column line = option_and_then (λ fields. slice_get fields (column - 1)) (fields_of separator line)
 
 -- the size in a column of a line, as digits, if its lines have one
-abbrev pub size_in : Option ℕ → List ℕ → Option ℕ
-size_in None line = Some 1
-size_in (Some column) line = option_and_then number_in (field column line)
+abbrev pub size_in : ℕ → Option ℕ → List ℕ → Option ℕ
+size_in separator None line = Some 1
+size_in separator (Some column) line = option_and_then number_in (field separator column line)
 
 -- the access of a line, by the columns of its key and of its size, if the line has both
 abbrev pub access_with : Option (List ℕ) → Option ℕ → Option Access
 access_with (Some key) (Some size) = Some (access key size)
 access_with _ _ = None
 
-abbrev pub access_in : ℕ → Option ℕ → List ℕ → Option Access
-access_in column sizes line = access_with (field column line) (size_in sizes line)
+abbrev pub access_in : ℕ → ℕ → Option ℕ → List ℕ → Option Access
+access_in separator column sizes line = access_with (field separator column line) (size_in separator sizes line)
 
--- the accesses of lines, if each has one
+-- the accesses of lines, if each that isn't blank has one
 abbrev pub consed : Option Access → Option (List Access) → Option (List Access)
 consed (Some first) (Some accesses) = Some (first ∷ accesses)
 consed _ _ = None
 
-abbrev pub accesses_of : ℕ → Option ℕ → List (List ℕ) → Option (List Access)
-accesses_of column sizes [] = Some []
-accesses_of column sizes (line ∷ lines) = consed (access_in column sizes line) (accesses_of column sizes lines)
+abbrev pub accesses_of : ℕ → ℕ → Option ℕ → List (List ℕ) → Option (List Access)
+accesses_of separator column sizes [] = Some []
+accesses_of separator column sizes (line ∷ lines) =
+    if is_blank line then accesses_of separator column sizes lines else consed (access_in separator column sizes line) (accesses_of separator column sizes lines)
+
+-- the same by columns
+abbrev pub access_by : Columns → List ℕ → Option Access
+access_by columns line = access_in columns.separator (non_zero_usize_get columns.key) (option_map non_zero_usize_get columns.size) line
+
+abbrev pub accesses_by : Columns → List (List ℕ) → Option (List Access)
+accesses_by columns lines = accesses_of columns.separator (non_zero_usize_get columns.key) (option_map non_zero_usize_get columns.size) lines
+
+-- how many of the first lines are headers
+abbrev pub headers : Columns → ℕ
+headers columns = if columns.has_header then 1 else 0
 
 -- a record of oracleGeneral: a time of 4 bytes, an id of 8, a size of 4, a next access of 8, little endian
 abbrev pub id_of : List ℕ → List ℕ
@@ -89,10 +106,10 @@ size_of part = from_le_bytes w32 (get_or part 12 0 ∷ get_or part 13 0 ∷ get_
 abbrev pub record_of : List ℕ → Access
 record_of part = access (id_of part) (size_of part)
 
--- the accesses of what is left of a text of which some records were read; the first line of csv is a header
+-- the accesses of what is left of a text of which some records were read
 abbrev pub accesses_after : TraceFormat → ℕ → List ℕ → Option (List Access)
 accesses_after Lines count text = Some (map unsized (lines_of text))
-accesses_after (Csv column sizes) count text = accesses_of (non_zero_usize_get column) (option_map non_zero_usize_get sizes) (drop (1 - count) (lines_of text))
+accesses_after (Csv columns) count text = accesses_by columns (drop (headers columns - count) (lines_of text))
 accesses_after OracleGeneral count text = if length text % 24 == 0 then Some (map record_of (first_chunks 24 (length text / 24) text)) else None
 
 -- the accesses of a text
@@ -102,5 +119,5 @@ accesses_in format text = accesses_after format 0 text
 -- whether the records of a format have sizes
 abbrev pub has_sizes : TraceFormat → Bool
 has_sizes Lines = false
-has_sizes (Csv column sizes) = is_some sizes
+has_sizes (Csv columns) = is_some columns.size
 has_sizes OracleGeneral = true

@@ -12,6 +12,7 @@ pub mod KeyedHasher
 pub mod KnownHits
 pub mod KnownKeys
 pub mod MachineHits
+pub mod PolicyNames
 pub mod Ratios
 pub mod Reading
 pub mod Rows

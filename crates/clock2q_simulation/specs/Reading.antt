@@ -5,7 +5,7 @@ use Rattle.std.specs.Option.{option_map}
 use Rattle.std.specs.Io.KnownBytes.{Consumes, IsAtEnd}
 use Rattle.clock2q_ports.specs.Ports.{Traffic, traffic_after}
 use Rattle.clock2q_simulation.specs.declared.error.SimulationError.{SimulationError}
-use Rattle.clock2q_simulation.specs.declared.error.SimulationError.TheVariants.{Argument, NotText, NoCapacity, UnusedShares, Shares, Capacity, Memory, Open, Read, Line, Size, Record, Write}
+use Rattle.clock2q_simulation.specs.declared.error.SimulationError.TheVariants.{Argument, NotText, NoCapacity, UnusedShares, Shares, SampledShares, Capacity, Memory, Open, Read, Line, Size, Record, LargeSizes, Write}
 use Rattle.clock2q_simulation.specs.declared.format.TraceFormat.{TraceFormat}
 use Rattle.clock2q_simulation.specs.declared.format.TraceFormat.TheVariants.{Lines, Csv, OracleGeneral}
 use Rattle.clock2q_simulation.specs.Formats.{Access, accesses_after, accesses_in}
@@ -17,25 +17,25 @@ HasNoEnd line = All (λ byte. (byte == 10) ≡ false) line
 -- some bytes are the beginning of a record, and may be all of it but for a line end
 abbrev pub IsBegun : TraceFormat → List ℕ → Type 0
 IsBegun Lines part = HasNoEnd part
-IsBegun (Csv _ _) part = HasNoEnd part
+IsBegun (Csv _) part = HasNoEnd part
 IsBegun OracleGeneral part = length part < 24
 
 -- some bytes are a whole record, but for a line end
 abbrev pub IsWholeRecord : TraceFormat → List ℕ → Type 0
 IsWholeRecord Lines part = HasNoEnd part
-IsWholeRecord (Csv _ _) part = HasNoEnd part
+IsWholeRecord (Csv _) part = HasNoEnd part
 IsWholeRecord OracleGeneral part = length part ≡ 24
 
 -- what is between two records
 abbrev pub between : TraceFormat → List ℕ
 between Lines = 10 ∷ []
-between (Csv _ _) = 10 ∷ []
+between (Csv _) = 10 ∷ []
 between OracleGeneral = []
 
 -- a format of lines
 abbrev pub IsOfLines : TraceFormat → Type 0
 IsOfLines Lines = Unit {0}
-IsOfLines (Csv _ _) = Unit {0}
+IsOfLines (Csv _) = Unit {0}
 IsOfLines OracleGeneral = ⊥
 
 -- accesses with those of the rest after them
@@ -63,6 +63,8 @@ IsBad NotText bad = ⊥
 IsBad NoCapacity bad = ⊥
 IsBad UnusedShares bad = ⊥
 IsBad (Shares _) bad = ⊥
+IsBad (SampledShares _) bad = ⊥
+IsBad LargeSizes bad = ⊥
 
 module _ (old new : Traffic) (left remain : Option (List ℕ)) (format : TraceFormat) where
   -- the whole input was read, once up to its end, and the accesses are those of its records
@@ -95,6 +97,8 @@ module _ (old new : Traffic) (left remain : Option (List ℕ)) (format : TraceFo
   IsGivenUp NoCapacity = ⊥
   IsGivenUp UnusedShares = ⊥
   IsGivenUp (Shares _) = ⊥
+  IsGivenUp (SampledShares _) = ⊥
+  IsGivenUp LargeSizes = ⊥
 
   abbrev pub ReadsTrace : {X : Type 0} → (X → List Access) → Result X SimulationError → Type 0
   ReadsTrace accesses (Ok trace) = AreRead (accesses trace)

@@ -1,25 +1,38 @@
 -- A trace read, and the text written about it.
-use Rattle.std.specs.Prelude.{◌≡◌, ℕ, Bool, List, Option, map}
-use Rattle.std.specs.declared.num.NonZeroUsize.{NonZeroUsize}
+use Rattle.std.specs.Prelude.{◌≡◌, ℕ, List, Option, None, length, map}
 use Rattle.clock2q_ports.specs.Ports.{Traffic}
 use Rattle.clock2q_ports.specs.Transfer.{IsSent}
 use Rattle.clock2q_simulation.specs.Reading.{AreRead}
 use Rattle.clock2q_simulation.specs.declared.amount.Amount.{Amount}
-use Rattle.clock2q_simulation.specs.declared.best_shares.BestShares.{BestShares}
 use Rattle.clock2q_simulation.specs.declared.format.TraceFormat.{TraceFormat}
-use Rattle.clock2q_simulation.specs.declared.policy.Policy.{Policy}
-use Rattle.clock2q_simulation.specs.declared.row.Row.{Row}
-use Rattle.clock2q_simulation.specs.declared.sample.Sample.{Sample}
+use Rattle.clock2q_simulation.specs.declared.options.Options.{Options}
+use Rattle.clock2q_simulation.specs.declared.outcome.Outcome.{Outcome}
 use Rattle.clock2q_simulation.specs.declared.shares.ChosenShares.{ChosenShares}
-use Rattle.clock2q_simulation.specs.declared.window.Windows.{Windows}
 use Rattle.clock2q_simulation.specs.BestShares.{AreAskedBest}
-use Rattle.clock2q_simulation.specs.Bytes.{AllHaveBytes, HaveBytes}
+use Rattle.clock2q_simulation.specs.Bytes.{AllHaveBytes, HaveBytes, asked_between}
 use Rattle.clock2q_simulation.specs.ByteRows.{AreAskedByteRows}
 use Rattle.clock2q_simulation.specs.Formats.{Access}
 use Rattle.clock2q_simulation.specs.Rows.{AreRows}
-use Rattle.clock2q_simulation.specs.Sample.{scaled}
-use Rattle.clock2q_simulation.specs.Trace.{Numbered, sizes_of}
+use Rattle.clock2q_simulation.specs.Sample.{sampled, scaled, scaled_shares, shown}
+use Rattle.clock2q_simulation.specs.Trace.{AreNumbers, Numbered, keys_of, sizes_of}
 use Rattle.clock2q_simulation.specs.Windows.{AreAskedWindows}
+
+-- the trace of the sampled keys alone, without a sample
+abbrev pub filtered : Numbered → Numbered
+filtered trace = record { accesses = sampled trace.sample trace.accesses; sample = None; is_sized = trace.is_sized; numbers = trace.numbers; different = trace.different }
+
+-- the figures, the rows, the windows, their bytes and the best shares are those of a trace, with these shares and capacities
+pub record IsRun {A : Type 0} (tried : List ChosenShares) (options : Options A) (trace : Numbered) (shares : Option ChosenShares) (capacities : List Amount) (outcome : Outcome A) : Type 0 where
+  pub numbers : AreNumbers (keys_of trace.accesses) trace.numbers
+  pub accesses : outcome.summary.accesses ≡ length trace.numbers
+  pub keys : outcome.summary.keys ≡ trace.different
+  pub sizes : outcome.summary.bytes ≡ asked_between 0 (length trace.numbers) (sizes_of trace)
+  pub rows : AreRows options.policies.items shares options.skipped trace capacities outcome.rows.items
+  pub byte_rows : AreAskedByteRows options.skipped trace options.policies.items options.byte_capacities.items outcome.byte_rows.items
+  pub bytes : HaveBytes shares trace.numbers (sizes_of trace) options.skipped outcome.rows.items
+  pub windows : AreAskedWindows options.policies.items shares trace.numbers options.skipped options.window outcome.rows.items outcome.windows.items
+  pub window_bytes : AllHaveBytes shares trace.numbers (sizes_of trace) outcome.windows.items
+  pub best : AreAskedBest tried options.skipped trace.numbers options.best_shares outcome.rows.items outcome.best_shares.items
 
 module _ (given gives : Traffic) (left remain : Option (List ℕ)) (format : TraceFormat) where
   -- the whole input was read, as the accesses of its records
@@ -27,21 +40,15 @@ module _ (given gives : Traffic) (left remain : Option (List ℕ)) (format : Tra
     pub accesses : List Access
     pub read : AreRead given gives left remain format accesses
 
-  -- the rows, the windows, their bytes and the best shares are those of a trace with the accesses that were read
-  pub record IsReplayed {A : Type 0} (sample : Option Sample) (policies : List Policy)
-      (shares : Option ChosenShares) (skipped : ℕ) (window : Option NonZeroUsize) (is_best : Bool)
-      (tried : List ChosenShares) (capacities : List Amount) (byte_capacities : List NonZeroUsize)
-      (made made_in_bytes : List (Row A)) (all : List (Windows A))
-      (most : List BestShares) : Type 0 where
+module _ (given gives : Traffic) (left remain : Option (List ℕ)) where
+  -- the whole input was read, and the result is the run on the trace of the sampled keys alone, with every capacity and
+  -- share as much smaller as the sample is
+  pub record IsReplayed {A : Type 0} (tried : List ChosenShares) (options : Options A) (outcome : Outcome A) : Type 0 where
     pub trace : Numbered
-    pub read : AreRead given gives left remain format trace.accesses
-    pub sampled : trace.sample ≡ sample
-    pub rows : AreRows policies shares skipped trace (map (scaled sample) capacities) made
-    pub byte_rows : AreAskedByteRows skipped trace policies byte_capacities made_in_bytes
-    pub bytes : HaveBytes shares trace.numbers (sizes_of trace) skipped made
-    pub windows : AreAskedWindows policies shares trace.numbers skipped window made all
-    pub window_bytes : AllHaveBytes shares trace.numbers (sizes_of trace) all
-    pub best : AreAskedBest tried skipped trace.numbers is_best made most
+    pub read : AreRead given gives left remain options.trace_format trace.accesses
+    pub sampled : trace.sample ≡ options.sample
+    pub run : IsRun tried options (filtered trace) (scaled_shares options.sample options.shares) (map (scaled options.sample) options.capacities.items) outcome
+    pub capacities : outcome.capacities.items ≡ map (shown options.sample trace.different) options.capacities.items
 
 -- a whole text was written and flushed
 pub record IsWritten (took takes : Traffic) (held holds : Option (List ℕ)) : Type 0 where

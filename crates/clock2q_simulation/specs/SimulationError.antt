@@ -5,7 +5,7 @@ use Rattle.clock2q_cache.specs.declared.error.CacheError.TheVariants as cache
 use Rattle.clock2q_simulation.specs.declared.amount.Unit.TheVariants.{Keys}
 use Rattle.clock2q_simulation.specs.declared.error.ArgumentError.TheVariants.{LargeCapacity}
 use Rattle.clock2q_simulation.specs.declared.error.SimulationError.{SimulationError}
-use Rattle.clock2q_simulation.specs.declared.error.SimulationError.TheVariants.{Argument, NotText, NoCapacity, UnusedShares, Shares, Capacity, Memory, Open, Read, Line, Size, Record, Write}
+use Rattle.clock2q_simulation.specs.declared.error.SimulationError.TheVariants.{Argument, NotText, NoCapacity, UnusedShares, Shares, SampledShares, Capacity, Memory, Open, Read, Line, Size, Record, LargeSizes, Write}
 use Rattle.clock2q_simulation.specs.Amounts.{amount}
 
 abbrev pub status_of : SimulationError → ℕ
@@ -15,9 +15,11 @@ status_of NotText = 2
 status_of NoCapacity = 2
 status_of UnusedShares = 2
 status_of (Shares _) = 2
+status_of (SampledShares _) = 2
 status_of (Line _ _) = 2
 status_of (Size _ _) = 2
 status_of (Record _) = 2
+status_of LargeSizes = 2
 status_of Memory = 3
 status_of (Capacity _) = 3
 status_of Open = 4

@@ -116,7 +116,7 @@ fn count_of(word: &str) -> Option<usize>
 }
 
 /// Returns the percentage that a word spells without its percent sign, in millionths.
-fn millionths_of(word: &str) -> Option<usize>
+pub(crate) fn millionths_of(word: &str) -> Option<usize>
     ensures millionths { result ≡ millionths_in word.now }
 {
     let Some((whole, decimals)) = word.split_once('.') else {

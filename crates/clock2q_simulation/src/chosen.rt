@@ -23,6 +23,7 @@ pub(crate) enum Valued {
     Format,
     Column,
     SizeColumn,
+    Separator,
     Sample,
 }
 
@@ -45,6 +46,8 @@ impl Valued {
             Some(Valued::Column)
         } else if name == "--size-column" {
             Some(Valued::SizeColumn)
+        } else if name == "--separator" {
+            Some(Valued::Separator)
         } else if name == "--sample" {
             Some(Valued::Sample)
         } else {
@@ -96,6 +99,7 @@ impl<A: Allocator> Chosen<A> {
             Valued::Format => self.trace_format.has_name(),
             Valued::Column => self.trace_format.has_column(),
             Valued::SizeColumn => self.trace_format.has_size_column(),
+            Valued::Separator => self.trace_format.has_separator(),
             Valued::Sample => self.sample.is_some(),
         };
         if is_repeated {
@@ -122,6 +126,7 @@ impl<A: Allocator + Copy> Chosen<A> {
             Valued::Format => self.trace_format.take_name(value, index)?,
             Valued::Column => self.trace_format.take_column(value, index)?,
             Valued::SizeColumn => self.trace_format.take_size_column(value, index)?,
+            Valued::Separator => self.trace_format.take_separator(value, index)?,
             Valued::Sample => self.sample = Some(sample_of(value, index)?),
         }
         Ok(())
@@ -131,6 +136,9 @@ impl<A: Allocator + Copy> Chosen<A> {
     pub(crate) fn take_flag(&mut self, option: &str, index: usize) -> Result<(), SimulationError> {
         if option == "--best-shares" {
             return self.take_best_shares(index);
+        }
+        if option == "--no-header" {
+            return self.trace_format.take_no_header(index);
         }
         let Some(format) = format_of(option) else {
             return Err(SimulationError::Argument(ArgumentError::UnknownOption, index));

@@ -1,8 +1,8 @@
-//! A line of comma-separated values.
+//! A line of values with a separator between them.
 ghost use Rattle.std.specs.Prelude.{◌≡◌, ◌∷◌, ℕ, List, [], IfErr, IfOk, OnOk, MatchBool, Some, None};
 ghost use Rattle.std.specs.NonZero.{non_zero_usize_get};
 ghost use Rattle.std.specs.Option.{option_map};
-ghost use Rattle.clock2q_simulation.specs.Formats.{field, fields_from, size_in, without_return};
+ghost use Rattle.clock2q_simulation.specs.Formats.{field, fields_from, is_blank, size_in, without_return};
 ghost use Rattle.clock2q_simulation.specs.Fields.{IsEarly, after_step, found_in};
 ghost use Rattle.clock2q_simulation.specs.Reading.{IsBad};
 
@@ -31,24 +31,24 @@ pub(crate) enum Step {
     Add(Place),
     /// A quote around the field, or the first of two.
     Skip(Place),
-    /// The comma after the field.
+    /// The separator after the field.
     End,
 }
 
 impl Place {
     /// Returns what the next byte is, or `None` if it can't be there.
-    fn step(self, byte: u8) -> Option<Step>
-        ensures step { (rest : List ℕ) → fields_from self (byte ∷ rest) ≡ after_step result byte rest }
+    fn step(self, byte: u8, separator: u8) -> Option<Step>
+        ensures step { (rest : List ℕ) → fields_from separator self (byte ∷ rest) ≡ after_step separator result byte rest }
     {
         match self {
             Place::Start => match byte {
                 b'"' => Some(Step::Skip(Place::Quoted)),
-                b',' => Some(Step::End),
+                _ if byte == separator => Some(Step::End),
                 _ => Some(Step::Add(Place::Plain)),
             },
             Place::Plain => match byte {
                 b'"' => None,
-                b',' => Some(Step::End),
+                _ if byte == separator => Some(Step::End),
                 _ => Some(Step::Add(Place::Plain)),
             },
             Place::Quoted => match byte {
@@ -57,7 +57,7 @@ impl Place {
             },
             Place::Closed => match byte {
                 b'"' => Some(Step::Add(Place::Quoted)),
-                b',' => Some(Step::End),
+                _ if byte == separator => Some(Step::End),
                 _ => None,
             },
         }
@@ -65,7 +65,7 @@ impl Place {
 
     /// Returns true if a line may end there.
     fn may_end(self) -> bool
-        ensures end { MatchBool result (fields_from self [] ≡ Some ([] ∷ [])) (fields_from self [] ≡ None) }
+        ensures end { (separator : ℕ) → MatchBool result (fields_from separator self [] ≡ Some ([] ∷ [])) (fields_from separator self [] ≡ None) }
     {
         match self {
             Place::Quoted => false,
@@ -83,6 +83,13 @@ fn trimmed(line: &[u8]) -> &[u8]
         return &line[..end - 1];
     }
     line
+}
+
+/// Returns true if a line has no byte but a carriage return at its end.
+pub(crate) fn is_blank(line: &[u8]) -> bool
+    ensures blank { result ≡ is_blank line.now }
+{
+    trimmed(line).is_empty()
 }
 
 /// The reader of one column: the key that it read last, or what it has read of one.
@@ -108,15 +115,20 @@ impl<A: Allocator> ColumnReader<A> {
 
     /// Reads the field in a column of a line as the key. Returns false if the line isn't fields, or
     /// has fewer.
-    pub(crate) fn read(&mut self, line: &[u8], column: NonZeroUsize) -> Result<bool, AllocError>
-        ensures field { IfOk result (λ is_there. MatchBool is_there (field (non_zero_usize_get column) line.now ≡ Some self.new.key.items) (field (non_zero_usize_get column) line.now ≡ None)) }
+    pub(crate) fn read(
+        &mut self,
+        line: &[u8],
+        separator: u8,
+        column: NonZeroUsize,
+    ) -> Result<bool, AllocError>
+        ensures field { IfOk result (λ is_there. MatchBool is_there (field separator (non_zero_usize_get column) line.now ≡ Some self.new.key.items) (field separator (non_zero_usize_get column) line.now ≡ None)) }
     {
         self.key.clear();
         self.place = Place::Start;
         self.left = column.get();
         let text = trimmed(line);
         for byte in text {
-            if !self.take(*byte)? {
+            if !self.take(*byte, separator)? {
                 return Ok(false);
             }
         }
@@ -128,16 +140,17 @@ impl<A: Allocator> ColumnReader<A> {
     pub(crate) fn read_size(
         &mut self,
         line: &[u8],
+        separator: u8,
         column: Option<NonZeroUsize>,
         number: usize,
     ) -> Result<usize, SimulationError>
-        ensures size { IfOk result (λ size. size_in (option_map non_zero_usize_get column) line.now ≡ Some size) }
-        ensures bad { IfErr result (λ refusal. IsBad refusal (size_in (option_map non_zero_usize_get column) line.now ≡ None)) }
+        ensures size { IfOk result (λ size. size_in separator (option_map non_zero_usize_get column) line.now ≡ Some size) }
+        ensures bad { IfErr result (λ refusal. IsBad refusal (size_in separator (option_map non_zero_usize_get column) line.now ≡ None)) }
     {
         let Some(column) = column else {
             return Ok(1);
         };
-        if !self.read(line, column)? {
+        if !self.read(line, separator, column)? {
             return Err(SimulationError::Line(number, column.get()));
         }
         match number_of(&self.key) {
@@ -147,15 +160,15 @@ impl<A: Allocator> ColumnReader<A> {
     }
 
     /// Takes the next byte of the line. Returns false if it can't be there.
-    fn take(&mut self, byte: u8) -> Result<bool, AllocError>
+    fn take(&mut self, byte: u8, separator: u8) -> Result<bool, AllocError>
         requires early { IsEarly self.old.left self.old.key.items }
         ensures early { OnOk result (IsEarly self.new.left self.new.key.items) }
         ensures taken { IfOk result (λ is_taken. MatchBool is_taken ((rest : List ℕ)
-            → found_in self.old.left self.old.key.items (fields_from self.old.place (byte ∷ rest))
-            ≡ found_in self.new.left self.new.key.items (fields_from self.new.place rest))
-            ((rest : List ℕ) → fields_from self.old.place (byte ∷ rest) ≡ None)) }
+            → found_in self.old.left self.old.key.items (fields_from separator self.old.place (byte ∷ rest))
+            ≡ found_in self.new.left self.new.key.items (fields_from separator self.new.place rest))
+            ((rest : List ℕ) → fields_from separator self.old.place (byte ∷ rest) ≡ None)) }
     {
-        let Some(step) = self.place.step(byte) else {
+        let Some(step) = self.place.step(byte, separator) else {
             return Ok(false);
         };
         match step {

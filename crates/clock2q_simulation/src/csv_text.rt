@@ -68,7 +68,7 @@ fn write_rows<A: Allocator>(
         return write_all_windows(text, outcome, name);
     }
     for (index, row) in outcome.rows.iter().enumerate() {
-        let capacity = outcome.capacity_of(row.capacity);
+        let capacity = outcome.capacity_at(index);
         let best = outcome.best_shares.get(index);
         write_row(text, capacity, row, outcome.is_sized, None, best, name)?;
     }
@@ -109,8 +109,8 @@ fn write_all_windows<A: Allocator>(
     outcome: &Outcome<'_, A>,
     name: Option<&str>,
 ) -> Result<(), AllocError> {
-    for windows in outcome.windows.iter() {
-        let capacity = outcome.capacity_of(windows.capacity);
+    for (index, windows) in outcome.windows.iter().enumerate() {
+        let capacity = outcome.capacity_at(index);
         write_windows(text, capacity, windows, outcome.is_sized, name)?;
     }
     Ok(())

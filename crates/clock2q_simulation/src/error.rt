@@ -22,7 +22,7 @@ pub enum ArgumentError {
     #[error("unknown option")]
     UnknownOption,
     /// It isn't an amount of at least 1, and has no two dots either.
-    #[error("not a capacity (1 to 16777215, 1k, 1M, 0.0001% to 100%, or 10..1M)")]
+    #[error("not a capacity (1 to 16777215, 1k, 1M, 0.0001% to 100%, or 10..1M); before a trace's name put ./")]
     NotCapacity,
     /// It is more than [`MAX_CAPACITY`](clock2q_cache::MAX_CAPACITY) keys, or an end of it is.
     #[error("a capacity above 16777215")]
@@ -75,6 +75,15 @@ pub enum ArgumentError {
     /// It asks for a column of sizes, and no argument for the format csv.
     #[error("a column of sizes, which only --format=csv has")]
     UnusedSizes,
+    /// It isn't what can be between two values.
+    #[error("not a separator (one character of ASCII other than a quote, or tab)")]
+    NotSeparator,
+    /// It asks for a separator, and no argument for the format csv.
+    #[error("a separator, which only --format=csv has")]
+    UnusedSeparator,
+    /// It says that there is no header, and no argument asks for the format csv.
+    #[error("a header, which only --format=csv has")]
+    UnusedHeader,
     /// It ends with a B, and isn't a number of bytes of at least 1.
     #[error("not a capacity in bytes (as 500B, 64kB or 1GiB)")]
     NotBytes,
@@ -88,7 +97,7 @@ pub enum ArgumentError {
     #[error("a capacity in bytes, not with --window, --svg, --sample or --best-shares")]
     CrowdedBytes,
     /// It isn't a part of all keys.
-    #[error("not a part of the keys (0.000001 to 0.999999, or 1% to 100%)")]
+    #[error("not a part of the keys (0.000001 to 0.999999, or 0.0001% to 100%)")]
     NotSample,
     /// It asks for the best shares, and another argument for shares, windows or a picture.
     #[error("not with --shares, --window or --svg")]
@@ -126,6 +135,10 @@ pub enum SimulationError {
     /// The chosen shares don't fit together in a cache of this capacity.
     #[error("clock2q-simulate: --shares: shares that don't fit a capacity of {0}")]
     Shares(usize),
+    /// The chosen shares don't fit together in the cache that is as much smaller as the sample, at this
+    /// capacity.
+    #[error("clock2q-simulate: --shares: shares that don't fit the sample's part of a capacity of {0}")]
+    SampledShares(Amount),
     /// This capacity is no key, or more than [`MAX_CAPACITY`](clock2q_cache::MAX_CAPACITY).
     #[error("clock2q-simulate: {0}: a capacity above 16777215")]
     Capacity(Amount),
@@ -138,9 +151,9 @@ pub enum SimulationError {
     /// The trace could not be read to its end.
     #[error("clock2q-simulate: read failed")]
     Read,
-    /// A line of a trace isn't comma-separated values, or has too few: its number and the column of
+    /// A line of a trace isn't values with separators, or has too few: its number and the column of
     /// the keys or of the sizes, both counted from 1.
-    #[error("line {0}: not comma-separated values with a column {1}")]
+    #[error("line {0}: not separated values with a column {1}")]
     Line(usize, usize),
     /// A line of a trace has something else than a size in the column of the sizes: its number and
     /// the column, both counted from 1.
@@ -149,6 +162,9 @@ pub enum SimulationError {
     /// A trace ends inside a record, which begins after this many bytes.
     #[error("offset {0}: less than the 24 bytes of a record")]
     Record(usize),
+    /// The sizes of a trace's accesses have a sum of more than 64 bits, or one of them has.
+    #[error("sizes of more than 64 bits in all")]
+    LargeSizes,
     /// The write failed. A prefix of the result, or all of it, may have been written.
     #[error("clock2q-simulate: write failed")]
     Write,
@@ -169,9 +185,11 @@ impl SimulationError {
             | SimulationError::NoCapacity
             | SimulationError::UnusedShares
             | SimulationError::Shares(_)
+            | SimulationError::SampledShares(_)
             | SimulationError::Line(_, _)
             | SimulationError::Size(_, _)
-            | SimulationError::Record(_) => 2,
+            | SimulationError::Record(_)
+            | SimulationError::LargeSizes => 2,
             SimulationError::Memory | SimulationError::Capacity(_) => 3,
             SimulationError::Open | SimulationError::Read | SimulationError::Write => 4,
         }
@@ -258,7 +276,8 @@ impl fmt::Display for ErrorReport<'_> {
             (
                 refusal @ (SimulationError::Line(_, _)
                 | SimulationError::Size(_, _)
-                | SimulationError::Record(_)),
+                | SimulationError::Record(_)
+                | SimulationError::LargeSizes),
                 trace,
             ) => {
                 let name = trace.map_or(STANDARD_INPUT, |index| argument_at(self.arguments, index));

@@ -1,6 +1,6 @@
 //! The formats of traces, and the arguments that ask for one.
 ghost use Rattle.std.specs.Prelude.{◌≡◌};
-ghost use Rattle.clock2q_simulation.specs.Formats.{has_sizes};
+ghost use Rattle.clock2q_simulation.specs.Formats.{has_sizes, headers};
 
 use crate::amount::Amount;
 use crate::error::{ArgumentError, SimulationError};
@@ -18,11 +18,10 @@ use std::num::NonZeroUsize;
 pub enum TraceFormat {
     /// A key a line. A line ends with the byte 10, which the last one may lack.
     Lines,
-    /// Lines of comma-separated values, of which the first is a header and the others have their
-    /// keys in the first of these columns, counted from 1, and their sizes in bytes, as decimal
-    /// numbers, in the second one, if there is one. A field may be between quotes, with each quote
-    /// in it doubled, but has no line end. A carriage return at a line's end isn't part of it.
-    Csv(NonZeroUsize, Option<NonZeroUsize>),
+    /// Lines of values with a separator between them, in columns. A value may be between quotes, with
+    /// each quote in it doubled, but has no line end. A carriage return at a line's end isn't part of
+    /// it. A blank line is left out.
+    Csv(Columns),
     /// Records of 24 bytes, little endian: the time in 4 bytes, the key in 8, the size in 4, the
     /// next access in 8. This is libCacheSim's format of that name.
     OracleGeneral,
@@ -35,9 +34,39 @@ impl TraceFormat {
     {
         match self {
             TraceFormat::Lines => false,
-            TraceFormat::Csv(_, size_column) => size_column.is_some(),
+            TraceFormat::Csv(columns) => columns.size.is_some(),
             TraceFormat::OracleGeneral => true,
         }
+    }
+}
+
+/// The columns of lines of values, and what is between them.
+///
+/// # Example
+///
+/// ```
+/// let options = parse_options(rt.alloc(), &arguments)?; // of `--format=csv --column=2 100`
+/// let TraceFormat::Csv(columns) = options.trace_format else { return Err(..) };
+/// assert_eq!(rt; (columns.separator, columns.has_header), (b',', true));
+/// ```
+#[derive(Clone, Copy, Debug, PartialEq, Eq)]
+pub struct Columns {
+    /// The column of the keys, counted from 1.
+    pub key: NonZeroUsize,
+    /// The column of the sizes in bytes, as decimal numbers, if there is one.
+    pub size: Option<NonZeroUsize>,
+    /// The byte between two values.
+    pub separator: u8,
+    /// True if the first line is a header, which is no access.
+    pub has_header: bool,
+}
+
+impl Columns {
+    /// Returns how many of the first lines are headers.
+    pub(crate) fn headers(self) -> usize
+        ensures headers { result ≡ headers self }
+    {
+        if self.has_header { 1 } else { 0 }
     }
 }
 
@@ -62,6 +91,9 @@ pub(crate) struct AskedFormat {
     name: Option<Placed<FormatName>>,
     column: Option<Placed<NonZeroUsize>>,
     size_column: Option<Placed<NonZeroUsize>>,
+    separator: Option<Placed<u8>>,
+    // The index of the argument that says that there is no header.
+    no_header: Option<usize>,
 }
 
 impl AskedFormat {
@@ -70,6 +102,8 @@ impl AskedFormat {
         name: None,
         column: None,
         size_column: None,
+        separator: None,
+        no_header: None,
     };
 
     /// Returns true if a format was named.
@@ -85,6 +119,11 @@ impl AskedFormat {
     /// Returns true if a column of sizes was asked for.
     pub(crate) fn has_size_column(self) -> bool {
         self.size_column.is_some()
+    }
+
+    /// Returns true if a separator was asked for.
+    pub(crate) fn has_separator(self) -> bool {
+        self.separator.is_some()
     }
 
     /// Takes the name of a format.
@@ -117,6 +156,27 @@ impl AskedFormat {
         Ok(())
     }
 
+    /// Takes the byte between two values.
+    pub(crate) fn take_separator(
+        &mut self,
+        word: &str,
+        index: usize,
+    ) -> Result<(), SimulationError> {
+        let Some(value) = separator_of(word) else {
+            return Err(SimulationError::Argument(ArgumentError::NotSeparator, index));
+        };
+        self.separator = Some(Placed { value, index });
+        Ok(())
+    }
+
+    /// Takes the option that says that there is no header.
+    pub(crate) fn take_no_header(&mut self, index: usize) -> Result<(), SimulationError> {
+        match self.no_header.replace(index) {
+            None => Ok(()),
+            Some(_) => Err(SimulationError::Argument(ArgumentError::RepeatedOption, index)),
+        }
+    }
+
     /// Returns the format that all arguments ask for.
     pub(crate) fn finish(self) -> Result<TraceFormat, SimulationError> {
         match self.name {
@@ -124,7 +184,12 @@ impl AskedFormat {
                 let Some(column) = self.column else {
                     return Err(SimulationError::Argument(ArgumentError::NoColumn, name.index));
                 };
-                Ok(TraceFormat::Csv(column.value, self.size_column.map(|column| column.value)))
+                Ok(TraceFormat::Csv(Columns {
+                    key: column.value,
+                    size: self.size_column.map(|column| column.value),
+                    separator: self.separator.map_or(b',', |separator| separator.value),
+                    has_header: self.no_header.is_none(),
+                }))
             }
             Some(name) if name.value == FormatName::OracleGeneral => {
                 self.refuse_columns()?;
@@ -137,7 +202,7 @@ impl AskedFormat {
         }
     }
 
-    /// Refuses columns.
+    /// Refuses columns and what is said of their lines.
     fn refuse_columns(self) -> Result<(), SimulationError> {
         if let Some(column) = self.column {
             return Err(SimulationError::Argument(ArgumentError::UnusedColumn, column.index));
@@ -145,7 +210,26 @@ impl AskedFormat {
         if let Some(column) = self.size_column {
             return Err(SimulationError::Argument(ArgumentError::UnusedSizes, column.index));
         }
+        if let Some(separator) = self.separator {
+            return Err(SimulationError::Argument(ArgumentError::UnusedSeparator, separator.index));
+        }
+        if let Some(index) = self.no_header {
+            return Err(SimulationError::Argument(ArgumentError::UnusedHeader, index));
+        }
         Ok(())
+    }
+}
+
+/// Returns the byte that a word spells: its only one, or that of a tab.
+fn separator_of(word: &str) -> Option<u8> {
+    if word == "tab" {
+        return Some(b'\t');
+    }
+    match word.as_bytes() {
+        [byte] if byte.is_ascii() && *byte != b'"' && *byte != b'\n' && *byte != b'\r' => {
+            Some(*byte)
+        }
+        _ => None,
     }
 }
 

@@ -40,10 +40,12 @@ The formats of traces, for --format:
 
   lines          a key a line, of any bytes; the default
   csv            comma-separated values: the keys are in the column --column=N,
-                 1 for the first. The first line is a header, which is skipped.
-                 A value may be between quotes, with each quote in it doubled,
-                 but has no line end. The column --size-column=N has the size of
-                 each access in bytes, as 4096.
+                 1 for the first. The first line is a header, which is skipped,
+                 unless there is --no-header; blank lines are skipped too.
+                 --separator=CHARACTER, or tab, is for another than a comma. A
+                 value may be between quotes, with each quote in it doubled, but
+                 has no line end. The column --size-column=N has the size of each
+                 access in bytes, as 4096.
   oracleGeneral  libCacheSim's records of 24 bytes, little endian: a time of 4
                  bytes, the key of 8, a size of 4, a next access of 8
 

@@ -36,7 +36,7 @@ fn write_outcome<A: Allocator>(
     text.push_str(", \"rows\": [")?;
     for (index, row) in outcome.rows.iter().enumerate() {
         text.push_str(if index > 0 { ",\n" } else { "\n" })?;
-        let capacity = outcome.capacity_of(row.capacity);
+        let capacity = outcome.capacity_at(index);
         write!(text, "    {{\"capacity\": {capacity}, ")?;
         write_policies(text, row, outcome.is_sized)?;
         if let Some(best) = outcome.best_shares.get(index) {

@@ -47,7 +47,7 @@ pub use byte_amount::bytes_of;
 pub use byte_rows::byte_rows_of;
 pub use clock::{clock_outcomes, clock2q_outcomes};
 pub use error::{ArgumentError, ErrorReport, SimulationError};
-pub use format::TraceFormat;
+pub use format::{Columns, TraceFormat};
 pub use help::{FORMATS_HELP, HELP, POLICIES_HELP, help_for};
 pub use keyed_hasher::{KeyedHashBuilder, KeyedHasher};
 pub use options::{Format, Options, parse_options};

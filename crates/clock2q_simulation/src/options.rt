@@ -1,7 +1,7 @@
 //! The arguments of the program.
 ghost use Rattle.std.specs.List.{All};
 ghost use Rattle.std.specs.NonZero.{non_zero_usize_get};
-ghost use Rattle.std.specs.Prelude.{◌≡◌, ◌<◌, ◌+◌, [], ◌∷◌, ◌++◌, ℕ, false, is_some, Some, MatchOption, IfOk, OnOk, List, length, map, string_bytes};
+ghost use Rattle.std.specs.Prelude.{◌≡◌, ◌<◌, ◌+◌, [], ◌∷◌, ◌++◌, ℕ, false, is_some, Some, MatchOption, IfOk, IfSome, OnOk, List, length, map, string_bytes, unwrap_or};
 ghost use Rattle.clock2q_simulation.specs.ChosenShares.{Fits};
 ghost use Rattle.clock2q_simulation.specs.Amounts.{IsCapacity, asked_from, asked_by, is_capacity, is_in_bytes, is_option, joined, takes_value};
 ghost use Rattle.clock2q_simulation.specs.ByteAmounts.{bytes_from, bytes_in, joined_bytes};
@@ -269,6 +269,14 @@ impl<A: Allocator + Copy> Asked<A> {
         ensures fit { IfOk result (λ options. MatchOption options.shares (Unit {0}) (λ shares. All (Fits (Some shares)) options.capacities.items)) }
         ensures asked { IfOk result (λ options. options.capacities ≡ self.capacities) }
         ensures bytes { IfOk result (λ options. options.byte_capacities ≡ self.byte_capacities) }
+        ensures traces { IfOk result (λ options. options.traces ≡ self.traces) }
+        ensures form { IfOk result (λ options. options.format ≡ unwrap_or self.chosen.format Format.Table) }
+        ensures policies { IfOk result (λ options. IfSome self.chosen.policies (λ policies. options.policies ≡ policies)) }
+        ensures shares { IfOk result (λ options. options.shares ≡ self.chosen.shares) }
+        ensures skipped { IfOk result (λ options. options.skipped ≡ unwrap_or self.chosen.skipped 0) }
+        ensures window { IfOk result (λ options. options.window ≡ self.chosen.window) }
+        ensures sample { IfOk result (λ options. options.sample ≡ self.chosen.sample) }
+        ensures best { IfOk result (λ options. options.best_shares ≡ is_some self.chosen.best_shares) }
     {
         self.chosen.check_best_shares()?;
         self.chosen.check_traces(&self.traces)?;

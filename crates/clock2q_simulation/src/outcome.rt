@@ -1,12 +1,12 @@
 //! The result of one trace.
-ghost use Rattle.std.specs.NonZero.{non_zero_usize_get};
-ghost use Rattle.std.specs.Prelude.{◌≡◌, ◌<◌, ◌↔◌, ◌≢◌, IfErr, IfOk, IsErrOf, map};
+ghost use Rattle.std.specs.Prelude.{◌≡◌, ◌<◌, ◌≤◌, ◌-◌, ◌^◌, ◌↔◌, ◌≢◌, IfErr, IfOk, IsErrOf, get_or, map};
 ghost use Rattle.clock2q_simulation.specs.BestShares.{AreAskedBest};
 ghost use Rattle.clock2q_simulation.specs.Bytes.{AllHaveBytes, HaveBytes};
 ghost use Rattle.clock2q_simulation.specs.ByteRows.{AreAskedByteRows};
+ghost use Rattle.clock2q_simulation.specs.Formats.{has_sizes};
 ghost use Rattle.clock2q_simulation.specs.Rows.{AreRows};
-ghost use Rattle.clock2q_simulation.specs.Sample.{scaled, unscaled};
-ghost use Rattle.clock2q_simulation.specs.Simulated.{IsReplayed};
+ghost use Rattle.clock2q_simulation.specs.Sample.{scaled, scaled_shares, shown};
+ghost use Rattle.clock2q_simulation.specs.Simulated.{IsReplayed, filtered};
 ghost use Rattle.clock2q_simulation.specs.SimulationError.{IsOfNoDevice};
 ghost use Rattle.clock2q_simulation.specs.Trace.{sizes_of};
 ghost use Rattle.clock2q_simulation.specs.Windows.{AreAskedWindows};
@@ -18,7 +18,7 @@ use crate::options::Options;
 use crate::progress::Progress;
 use crate::reading::read_sample;
 use crate::row::Row;
-use crate::sample::{Sample, all_scaled, unscaled};
+use crate::sample::{Sample, all_scaled, all_shown, scaled, scaled_shares};
 use crate::simulation::rows_of;
 use crate::summary::{Summary, summary_of};
 use crate::trace::Trace;
@@ -27,7 +27,6 @@ use clock2q_ports::Source;
 use std::alloc::Allocator;
 use std::hash::BuildHasher;
 use std::io::Write;
-use std::num::NonZeroUsize;
 use std::time::Clock;
 
 /// The figures of one trace, and its hits at each capacity.
@@ -48,6 +47,9 @@ pub struct Outcome<'a, A: Allocator> {
     pub sample: Option<Sample>,
     /// True if its accesses have sizes.
     pub is_sized: bool,
+    /// The capacity of each row for all keys: the number of keys that was asked for, and of a percentage
+    /// the keys of all that it is.
+    pub capacities: Vec<usize, A>,
     /// The hits at each capacity, in the order of the capacities. With a sample they are those of
     /// caches as much smaller.
     pub rows: Vec<Row<A>, A>,
@@ -60,11 +62,14 @@ pub struct Outcome<'a, A: Allocator> {
 }
 
 impl<A: Allocator> Outcome<'_, A> {
-    /// Returns the capacity for all keys of a cache that was replayed.
-    pub fn capacity_of(&self, replayed: NonZeroUsize) -> usize
-        ensures capacity { result ≡ unscaled self.now.sample (non_zero_usize_get replayed) }
+    /// Returns the capacity of a row for all keys, or 0 if there is no such row.
+    pub fn capacity_at(&self, index: usize) -> usize
+        ensures capacity { result ≡ get_or self.now.capacities.items index 0 }
     {
-        unscaled(self.sample, replayed.get())
+        match self.capacities.get(index) {
+            Some(capacity) => *capacity,
+            None => 0,
+        }
     }
 }
 
@@ -73,8 +78,9 @@ impl<A: Allocator> Outcome<'_, A> {
 ///
 /// # Errors
 ///
-/// Those of [`read_sample`], then those of [`rows_of`], of [`all_windows_of`] and of
-/// [`all_best_shares_of`].
+/// Those of [`read_sample`], then `LargeSizes` if the sizes of the trace's accesses have a sum of more
+/// than 64 bits; then those of [`rows_of`], of [`all_windows_of`] and of [`all_best_shares_of`], but
+/// `SampledShares` for `Shares` if there is a sample.
 ///
 /// # Cost
 ///
@@ -88,11 +94,12 @@ pub fn replay_source<'a, R: Source, P: Write, C: Clock, S: BuildHasher + Drop, A
     reader: &mut R,
     progress: &mut Progress<P, C>,
 ) -> Result<Outcome<'a, A>, SimulationError>
-    ensures ok { IfOk result (λ outcome. IsReplayed (R.given reader.old) (R.given reader.new) (R.remaining reader.old) (R.remaining reader.new) options.now.trace_format
-        options.now.sample options.now.policies.items options.now.shares options.now.skipped
-        options.now.window options.now.best_shares TRIED_SHARES options.now.capacities.items
-        options.now.byte_capacities.items
-        outcome.rows.items outcome.byte_rows.items outcome.windows.items outcome.best_shares.items) }
+    ensures ok { IfOk result (λ outcome. IsReplayed (R.given reader.old) (R.given reader.new) (R.remaining reader.old) (R.remaining reader.new)
+        TRIED_SHARES options.now outcome) }
+    ensures named { IfOk result (λ outcome. outcome.name.now ≡ name.now) }
+    ensures sample { IfOk result (λ outcome. outcome.sample ≡ options.now.sample) }
+    ensures sized { IfOk result (λ outcome. outcome.is_sized ≡ has_sizes options.now.trace_format) }
+    ensures bounded { IfOk result (λ outcome. outcome.summary.bytes < 2 ^ 64 - 1) }
 
     // A failed source is always reported as `Read`, and nothing else is.
     ensures read { ((R.given reader.old).failures < (R.given reader.new).failures) ↔ IsErrOf result SimulationError.Read }
@@ -108,8 +115,17 @@ pub fn replay_source<'a, R: Source, P: Write, C: Clock, S: BuildHasher + Drop, A
         progress,
     )?;
     let summary = summary_of(alloc, &trace)?;
-    progress.warn_of(name, &summary, options.skipped);
-    show_name(options, name, summary.accesses, progress);
+    if summary.bytes == usize::MAX {
+        return Err(SimulationError::LargeSizes);
+    }
+    progress.warn_of(name, &summary, options.skipped, options.sample.is_some());
+    show_name(options, name, trace.numbers().len(), progress);
+    let capacities = all_shown(
+        alloc,
+        options.sample,
+        trace.key_count(),
+        &options.capacities,
+    )?;
     let rows = asked_rows(alloc, options, &trace, progress)?;
     let byte_rows = asked_byte_rows(alloc, options, &trace)?;
     let windows = asked_windows(alloc, options, &rows, &trace)?;
@@ -119,6 +135,7 @@ pub fn replay_source<'a, R: Source, P: Write, C: Clock, S: BuildHasher + Drop, A
         summary,
         sample: options.sample,
         is_sized: trace.has_sizes(),
+        capacities,
         rows,
         byte_rows,
         windows,
@@ -138,29 +155,59 @@ fn show_name<P: Write, C: Clock, A: Allocator>(
     }
 }
 
-/// Returns a row for each capacity, as much smaller as the sample is.
+/// Returns a row for each capacity, with the shares that are asked for, both as much smaller as the
+/// sample is.
 fn asked_rows<P: Write, C: Clock, A: Allocator + Copy>(
     alloc: A,
     options: &Options<A>,
     trace: &Trace<A>,
     progress: &mut Progress<P, C>,
 ) -> Result<Vec<Row<A>, A>, SimulationError>
-    ensures rows { IfOk result (λ rows. AreRows options.now.policies.items options.now.shares options.now.skipped trace.now
+    ensures rows { IfOk result (λ rows. AreRows options.now.policies.items (scaled_shares options.now.sample options.now.shares) options.now.skipped (filtered trace.now)
         (map (scaled options.now.sample) options.now.capacities.items) rows.items) }
-    ensures bytes { IfOk result (λ rows. HaveBytes options.now.shares trace.now.numbers
+    ensures bytes { IfOk result (λ rows. HaveBytes (scaled_shares options.now.sample options.now.shares) trace.now.numbers
         (sizes_of trace.now) options.now.skipped rows.items) }
     ensures devices { IfErr result IsOfNoDevice }
 {
     let capacities = all_scaled(alloc, options.sample, &options.capacities)?;
-    rows_of(
+    let rows = rows_of(
         alloc,
         trace,
         &capacities,
         &options.policies,
-        options.shares,
+        scaled_shares(options.sample, options.shares),
         options.skipped,
         progress,
-    )
+    );
+    match rows {
+        Ok(rows) => Ok(rows),
+        Err(refusal) => Err(asked_refusal(options, trace.key_count(), refusal)),
+    }
+}
+
+/// Returns the refusal of a capacity that was asked for, if a cache as much smaller as the sample was
+/// refused.
+fn asked_refusal<A: Allocator>(
+    options: &Options<A>,
+    keys: usize,
+    refusal: SimulationError,
+) -> SimulationError
+    requires few { keys ≤ 2 ^ 32 }
+    requires devices { IsOfNoDevice refusal }
+    ensures devices { IsOfNoDevice result }
+{
+    let SimulationError::Shares(room) = refusal else {
+        return refusal;
+    };
+    if options.sample.is_none() {
+        return refusal;
+    }
+    for asked in options.capacities.iter() {
+        if scaled(options.sample, *asked).of(keys) == room {
+            return SimulationError::SampledShares(*asked);
+        }
+    }
+    refusal
 }
 
 /// Returns a row for each capacity in bytes, if the trace has sizes.
@@ -169,7 +216,7 @@ fn asked_byte_rows<A: Allocator + Copy>(
     options: &Options<A>,
     trace: &Trace<A>,
 ) -> Result<Vec<Row<A>, A>, SimulationError>
-    ensures rows { IfOk result (λ rows. AreAskedByteRows options.now.skipped trace.now
+    ensures rows { IfOk result (λ rows. AreAskedByteRows options.now.skipped (filtered trace.now)
         options.now.policies.items options.now.byte_capacities.items rows.items) }
     ensures devices { IfErr result IsOfNoDevice }
 {
@@ -193,15 +240,16 @@ fn asked_windows<A: Allocator + Copy>(
     trace: &Trace<A>,
 ) -> Result<Vec<Windows<A>, A>, SimulationError>
     ensures windows { IfOk result (λ all. AreAskedWindows options.now.policies.items
-        options.now.shares trace.now.numbers options.now.skipped options.now.window rows.now all.items) }
-    ensures bytes { IfOk result (λ all. AllHaveBytes options.now.shares trace.now.numbers
+        (scaled_shares options.now.sample options.now.shares) trace.now.numbers options.now.skipped options.now.window rows.now all.items) }
+    ensures bytes { IfOk result (λ all. AllHaveBytes (scaled_shares options.now.sample options.now.shares) trace.now.numbers
         (sizes_of trace.now) all.items) }
     ensures devices { IfErr result IsOfNoDevice }
 {
     let Some(size) = options.window else {
         return Ok(Vec::new(alloc));
     };
-    let (policies, shares) = (&options.policies, options.shares);
+    let policies = &options.policies;
+    let shares = scaled_shares(options.sample, options.shares);
     all_windows_of(alloc, rows, policies, shares, options.skipped, size, trace)
 }
 

@@ -6,6 +6,7 @@ use crate::chart::{Chart, Curve, HEIGHT, Point, WIDTH};
 use crate::options::Options;
 use crate::outcome::Outcome;
 use crate::policy::Policy;
+use crate::progress::plural_of;
 use crate::row::{Hits, Row};
 use crate::window::Windows;
 use std::alloc::{AllocError, Allocator};
@@ -19,8 +20,8 @@ pub(crate) fn picture<A: Allocator + Copy>(
     outcome: &Outcome<'_, A>,
 ) -> Result<String<A>, AllocError> {
     let mut charts = Vec::new(alloc);
-    for windows in outcome.windows.iter() {
-        let capacity = outcome.capacity_of(windows.capacity);
+    for (index, windows) in outcome.windows.iter().enumerate() {
+        let capacity = outcome.capacity_at(index);
         charts.push(chart_of_windows(alloc, capacity, windows, options)?)?;
     }
     if charts.is_empty() {
@@ -67,13 +68,17 @@ fn chart_of_capacities<A: Allocator + Copy>(
     let capacities = options.capacities.as_slice();
     let is_percent = capacities.iter().all(|capacity| is_percentage(capacity));
     let mut placed = Vec::new(alloc);
-    for (row, capacity) in outcome.rows.iter().zip(capacities) {
-        let keys = outcome.capacity_of(row.capacity);
-        let place = if is_percent { capacity.number } else { keys };
+    for (index, row) in outcome.rows.iter().enumerate() {
+        let shown = outcome.capacity_at(index);
+        let place = match capacities.get(index) {
+            Some(capacity) if is_percent => capacity.number,
+            _ => shown,
+        };
         placed.push(Placed { place, row })?;
     }
     placed.sort_by_key(|placed| placed.place)?;
     let accesses = outcome.rows.first().map_or(0, |row| row.accesses);
+    let plural = plural_of(accesses);
     let sampled = if outcome.sample.is_some() {
         " of a sample"
     } else {
@@ -89,7 +94,7 @@ fn chart_of_capacities<A: Allocator + Copy>(
         (Unit::Keys, String::from_str(alloc, "capacity")?)
     };
     Ok(Chart {
-        title: format!(in alloc; "Hit ratio by capacity ({accesses} accesses{sampled})")?,
+        title: format!(in alloc; "Hit ratio by capacity ({accesses} access{plural}{sampled})")?,
         scale,
         unit,
         axis: axis_of(alloc, &placed)?,
@@ -130,8 +135,9 @@ fn chart_of_windows<A: Allocator + Copy>(
         window.first.saturating_add(window.row.accesses)
     });
     let size = options.window.map_or(0, |size| size.get());
+    let plural = plural_of(size);
     Ok(Chart {
-        title: format!(in alloc; "Hit ratio of each {size} accesses at capacity {capacity}")?,
+        title: format!(in alloc; "Hit ratio of each {size} access{plural} at capacity {capacity}")?,
         scale: String::from_str(alloc, "accesses")?,
         unit: Unit::Keys,
         axis: Axis::linear(first, end),

@@ -6,6 +6,7 @@ ghost use Rattle.clock2q_policies.specs.SecondChance.{clock_outcomes};
 ghost use Rattle.clock2q_simulation.specs.ByteRows.{in_bytes};
 ghost use Rattle.clock2q_simulation.specs.ChosenShares.{shares_for};
 ghost use Rattle.clock2q_simulation.specs.MachineHits.{machine_outcomes};
+ghost use Rattle.clock2q_simulation.specs.PolicyNames.{name_of, policy_named};
 ghost use Rattle.clock2q_simulation.specs.Rows.{IsReplay};
 ghost use Rattle.clock2q_simulation.specs.SimulationError.{IsOfNoDevice};
 
@@ -84,15 +85,30 @@ impl Policy {
     ];
 
     /// Returns the policy that an argument names, such as `lru`.
-    pub fn named(name: &str) -> Option<Policy> {
-        Policy::ALL
-            .iter()
-            .copied()
-            .find(|policy| policy.name() == name)
+    pub fn named(name: &str) -> Option<Policy>
+        ensures named { result ≡ policy_named name.now }
+    {
+        match name {
+            "clock2q" => Some(Policy::Clock2Q),
+            "sieve" => Some(Policy::Sieve),
+            "s3fifo" => Some(Policy::S3Fifo),
+            "lru" => Some(Policy::LeastRecentlyUsed),
+            "opt" => Some(Policy::Optimal),
+            "fifo" => Some(Policy::FirstInFirstOut),
+            "clock" => Some(Policy::Clock),
+            "arc" => Some(Policy::Arc),
+            "2q" => Some(Policy::TwoQ),
+            "lirs" => Some(Policy::Lirs),
+            "lru2" => Some(Policy::Lru2),
+            "wtinylfu" => Some(Policy::WTinyLfu),
+            _ => None,
+        }
     }
 
     /// Returns the name by which an argument chooses the policy.
-    pub fn name(self) -> &'static str {
+    pub fn name(self) -> &'static str
+        ensures name { result.now ≡ name_of self }
+    {
         match self {
             Policy::Clock2Q => "clock2q",
             Policy::Sieve => "sieve",

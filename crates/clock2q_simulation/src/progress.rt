@@ -186,6 +186,8 @@ impl<W: Write, C: Clock> Progress<W, C> {
         let command = match bytes {
             [0x1F, 0x8B, ..] => "zcat",
             [0x28, 0xB5, 0x2F, 0xFD, ..] => "zstdcat",
+            [0xFD, b'7', b'z', b'X', b'Z', 0, ..] => "xzcat",
+            [b'B', b'Z', b'h', _, 0x31, 0x41, 0x59, 0x26, 0x53, 0x59, ..] => "bzcat",
             _ => return,
         };
         self.end();
@@ -195,9 +197,26 @@ impl<W: Write, C: Clock> Progress<W, C> {
         );
     }
 
-    /// Writes a warning if a trace is suspicious, or if all its accesses are skipped, whether progress
-    /// is shown or not.
-    pub(crate) fn warn_of(&mut self, name: &str, summary: &Summary, skipped: usize) {
+    /// Writes a warning that a trace has no access, or none to a key of its sample.
+    fn warn_of_none(&mut self, name: &str, is_sampled: bool) {
+        let what = if is_sampled {
+            "no access to a key of the sample"
+        } else {
+            "an empty trace"
+        };
+        self.end();
+        let _ = writeln!(self.writer, "clock2q-simulate: {name}: warning: {what}");
+    }
+
+    /// Writes a warning if a trace is empty or suspicious, or if all its accesses are skipped, whether
+    /// progress is shown or not.
+    pub(crate) fn warn_of(
+        &mut self,
+        name: &str,
+        summary: &Summary,
+        skipped: usize,
+        is_sampled: bool,
+    ) {
         if summary.is_nearly_all_once() {
             self.end();
             let _ = writeln!(
@@ -205,15 +224,23 @@ impl<W: Write, C: Clock> Progress<W, C> {
                 "clock2q-simulate: {name}: warning: more than 99 of 100 keys are asked for once: is each line a key?"
             );
         }
-        if summary.is_all_skipped(skipped) {
+        if summary.accesses == 0 {
+            self.warn_of_none(name, is_sampled);
+        } else if summary.is_all_skipped(skipped) {
             let accesses = summary.accesses;
+            let plural = plural_of(accesses);
             self.end();
             let _ = writeln!(
                 self.writer,
-                "clock2q-simulate: {name}: warning: --skip={skipped} leaves none of {accesses} accesses to count"
+                "clock2q-simulate: {name}: warning: --skip={skipped} leaves none of {accesses} access{plural} to count"
             );
         }
     }
+}
+
+/// Returns the letters that make more than one of a number of accesses.
+pub(crate) fn plural_of(accesses: usize) -> &'static str {
+    if accesses == 1 { "" } else { "es" }
 }
 
 /// Returns how many seconds the rest of a whole takes, if its part took some time.

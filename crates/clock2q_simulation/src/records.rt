@@ -1,18 +1,15 @@
 //! The records of a trace, put together from blocks of bytes.
-ghost use Rattle.std.specs.NonZero.{non_zero_usize_get};
-ghost use Rattle.std.specs.Option.{option_map};
 ghost use Rattle.std.specs.Prelude.{◌≡◌, ◌<◌, ◌∷◌, ◌++◌, ℕ, List, [], IfErr, IfOk, OnOk, None, Some, length};
-ghost use Rattle.clock2q_simulation.specs.Formats.{Access, access_in, accesses_after, has_sizes, record_of};
+ghost use Rattle.clock2q_simulation.specs.Formats.{Access, access_by, accesses_after, has_sizes, record_of};
 ghost use Rattle.clock2q_simulation.specs.Reading.{HasNoEnd, IsBad, IsBegun, IsOfLines, IsWholeRecord, TakesBytes, between, joined};
 
-use crate::csv::ColumnReader;
+use crate::csv::{ColumnReader, is_blank};
 use crate::error::SimulationError;
-use crate::format::TraceFormat;
+use crate::format::{Columns, TraceFormat};
 use crate::sample::Sample;
 use crate::trace::{GrowingTrace, Trace};
 use std::alloc::Allocator;
 use std::hash::BuildHasher;
-use std::num::NonZeroUsize;
 
 /// The number of bytes of a record of `OracleGeneral`.
 const RECORD: usize = 24;
@@ -188,7 +185,7 @@ impl<S: BuildHasher + Drop, A: Allocator + Copy> Records<S, A> {
         Ok(())
     }
 
-    /// Adds the access of the record, unless it is a header.
+    /// Adds the access of the record, unless it is a header or a blank line.
     fn add_access(&mut self) -> Result<(), SimulationError>
         requires whole { IsWholeRecord self.old.format self.old.begun.items }
         ensures format { self.new.format ≡ self.old.format }
@@ -203,11 +200,33 @@ impl<S: BuildHasher + Drop, A: Allocator + Copy> Records<S, A> {
         ensures bad { IfErr result (λ refusal. IsBad refusal ((next : List ℕ) → accesses_after self.old.format self.old.count (self.old.begun.items ++ (between self.old.format ++ next)) ≡ None)) }
     {
         match self.format {
-            TraceFormat::Csv(..) if self.count == 0 => Ok(()),
-            TraceFormat::Csv(column, size_column) => self.add_fields(column, size_column),
+            TraceFormat::Csv(columns) => self.add_line(columns),
             TraceFormat::Lines => Ok(self.trace.push(&self.begun)?),
             TraceFormat::OracleGeneral => self.add_piece(),
         }
+    }
+
+    /// Adds the access of a line of fields, unless it is a header or blank.
+    fn add_line(&mut self, columns: Columns) -> Result<(), SimulationError>
+        requires line { HasNoEnd self.old.begun.items }
+        ensures format { self.new.format ≡ self.old.format }
+        ensures sample { self.new.trace.sample ≡ self.old.trace.sample }
+        ensures sized { self.new.trace.is_sized ≡ self.old.trace.is_sized }
+        ensures count { self.new.count ≡ self.old.count }
+        ensures ended { OnOk result ((counted : ℕ) → 0 < counted → (next : List ℕ)
+            → joined self.old.trace.accesses
+            (accesses_after (TraceFormat.Csv columns) self.old.count (self.old.begun.items ++ 10 ∷ next))
+            ≡ joined self.new.trace.accesses (accesses_after (TraceFormat.Csv columns) counted next)) }
+        ensures bad { IfErr result (λ refusal. IsBad refusal ((next : List ℕ)
+            → accesses_after (TraceFormat.Csv columns) self.old.count (self.old.begun.items ++ 10 ∷ next) ≡ None)) }
+    {
+        if self.count < columns.headers() {
+            return Ok(());
+        }
+        if is_blank(&self.begun) {
+            return Ok(());
+        }
+        self.add_fields(columns)
     }
 
     /// Adds the access of a record of one length.
@@ -229,24 +248,23 @@ impl<S: BuildHasher + Drop, A: Allocator + Copy> Records<S, A> {
     }
 
     /// Adds the access of a line of fields.
-    fn add_fields(
-        &mut self,
-        column: NonZeroUsize,
-        size_column: Option<NonZeroUsize>,
-    ) -> Result<(), SimulationError>
-        ensures access { OnOk result ((access : Access) × (access_in (non_zero_usize_get column) (option_map non_zero_usize_get size_column) self.old.begun.items ≡ Some access)
+    fn add_fields(&mut self, columns: Columns) -> Result<(), SimulationError>
+        ensures access { OnOk result ((access : Access) × (access_by columns self.old.begun.items ≡ Some access)
             × (self.new.trace.accesses ≡ self.old.trace.accesses ++ access ∷ [])) }
         ensures count { self.new.count ≡ self.old.count }
         ensures format { self.new.format ≡ self.old.format }
         ensures sample { self.new.trace.sample ≡ self.old.trace.sample }
         ensures sized { self.new.trace.is_sized ≡ self.old.trace.is_sized }
-        ensures bad { IfErr result (λ refusal. IsBad refusal (access_in (non_zero_usize_get column) (option_map non_zero_usize_get size_column) self.old.begun.items ≡ None)) }
+        ensures bad { IfErr result (λ refusal. IsBad refusal (access_by columns self.old.begun.items ≡ None)) }
     {
         let line = self.count.saturating_add(1);
-        if !self.keys.read(&self.begun, column)? {
-            return Err(SimulationError::Line(line, column.get()));
+        let separator = columns.separator;
+        if !self.keys.read(&self.begun, separator, columns.key)? {
+            return Err(SimulationError::Line(line, columns.key.get()));
         }
-        let size = self.sizes.read_size(&self.begun, size_column, line)?;
+        let size = self
+            .sizes
+            .read_size(&self.begun, separator, columns.size, line)?;
         Ok(self.trace.push_sized(&self.keys.key, size)?)
     }
 

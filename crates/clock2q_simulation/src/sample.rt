@@ -1,11 +1,12 @@
 //! A part of all keys, chosen by their hashes: a cache as much smaller hits about as often on it.
 ghost use Rattle.std.specs.List.{fold};
-ghost use Rattle.std.specs.Prelude.{◌≡◌, ◌<◌, ◌≤◌, IfOk, IfSome, Some, map};
+ghost use Rattle.std.specs.Prelude.{◌≡◌, ◌<◌, ◌≤◌, ◌^◌, IfOk, IfSome, Some, map};
 ghost use Rattle.clock2q_simulation.specs.Amounts.{amount};
 ghost use Rattle.clock2q_simulation.specs.declared.amount.Unit.TheVariants.{Millionths};
-ghost use Rattle.clock2q_simulation.specs.Sample.{after_byte, is_in_sample, is_sampled, sampling_hash, scaled, stirred, unscaled};
+ghost use Rattle.clock2q_simulation.specs.Sample.{after_byte, is_in_sample, is_sampled, part_in, rate_in, sample_in, sampling_hash, scaled, scaled_share, scaled_shares, shown, six_decimals_in, stirred, unscaled};
 
-use crate::amount::{Amount, Unit, number_of};
+use crate::amount::{Amount, Unit, millionths_of, number_of};
+use crate::shares::ChosenShares;
 use clock2q_cache::MAX_CAPACITY;
 use std::alloc::{AllocError, Allocator};
 
@@ -31,14 +32,15 @@ impl Sample {
     /// Returns the sample that a word spells: a part of one with at most six decimals, as `0.01`, or
     /// a percentage, as `1%`.
     pub fn written(word: &str) -> Option<Sample>
+        ensures sample { result ≡ sample_in word.now }
         ensures some { IfSome result (λ sample. 0 < sample.millionths) }
         ensures within { IfSome result (λ sample. sample.millionths ≤ 1000000) }
     {
-        let millionths = match word.strip_prefix("0.") {
-            Some(decimals) if !decimals.ends_with('%') => millionths_of(decimals)?,
-            _ => percentage_of(word)?,
-        };
-        (0 < millionths && millionths <= 1_000_000).then_some(Sample { millionths })
+        let millionths = rate_of(word)?;
+        if 0 < millionths && millionths <= 1_000_000 {
+            return Some(Sample { millionths });
+        }
+        None
     }
 
     /// Returns true if a key is in the sample.
@@ -115,8 +117,63 @@ pub(crate) fn unscaled(sample: Option<Sample>, capacity: usize) -> usize
     }
 }
 
+/// Returns the capacities that the rows of capacities for all keys show, in order, if a trace has this
+/// many different keys.
+pub(crate) fn all_shown<A: Allocator>(
+    alloc: A,
+    sample: Option<Sample>,
+    keys: usize,
+    capacities: &[Amount],
+) -> Result<Vec<usize, A>, AllocError>
+    requires few { keys ≤ 2 ^ 32 }
+    ensures shown { IfOk result (λ all. all.items ≡ map (shown sample keys) capacities.now) }
+{
+    let mut all = Vec::new(alloc);
+    for capacity in capacities {
+        all.push(shown(sample, keys, *capacity))?;
+    }
+    Ok(all)
+}
+
+/// Returns the capacity that the row of a capacity for all keys shows.
+fn shown(sample: Option<Sample>, keys: usize, capacity: Amount) -> usize
+    requires few { keys ≤ 2 ^ 32 }
+    ensures shown { result ≡ shown sample keys capacity }
+{
+    match capacity.unit {
+        Unit::Keys => capacity.number,
+        Unit::Millionths => unscaled(sample, capacity.of(keys)),
+    }
+}
+
+/// Returns the shares that shares of caches for all keys become.
+pub(crate) fn scaled_shares(
+    sample: Option<Sample>,
+    shares: Option<ChosenShares>,
+) -> Option<ChosenShares>
+    ensures scaled { result ≡ scaled_shares sample shares }
+{
+    match shares {
+        Some(shares) => Some(ChosenShares {
+            small: scaled_share(sample, shares.small),
+            window: scaled_share(sample, shares.window),
+        }),
+        None => None,
+    }
+}
+
+/// Returns the share that a share of a cache for all keys becomes.
+fn scaled_share(sample: Option<Sample>, share: Amount) -> Amount
+    ensures scaled { result ≡ scaled_share sample share }
+{
+    if share.number == 0 {
+        return share;
+    }
+    scaled(sample, share)
+}
+
 /// Returns the capacity that a capacity for all keys becomes.
-fn scaled(sample: Option<Sample>, capacity: Amount) -> Amount
+pub(crate) fn scaled(sample: Option<Sample>, capacity: Amount) -> Amount
     ensures scaled { result ≡ scaled sample capacity }
 {
     match sample {
@@ -150,8 +207,30 @@ fn stirred(hash: u64) -> u64
     hash.wrapping_add(hash / 4_294_967_296).wrapping_mul(FACTOR)
 }
 
+/// Returns the millionths of the keys that a word asks for.
+fn rate_of(word: &str) -> Option<usize>
+    ensures rate { result ≡ rate_in word.now }
+{
+    match word.strip_suffix('%') {
+        Some(percentage) => millionths_of(percentage),
+        None => part_of(word.as_bytes()),
+    }
+}
+
+/// Returns a part of one in millionths.
+fn part_of(word: &[u8]) -> Option<usize>
+    ensures part { result ≡ part_in word.now }
+{
+    if 1 < word.len() && word[0] == b'0' && word[1] == b'.' {
+        return six_decimals_of(&word[2..]);
+    }
+    None
+}
+
 /// Returns the decimals of a part of one in millionths, if there are one to six.
-fn millionths_of(decimals: &str) -> Option<usize> {
+fn six_decimals_of(decimals: &[u8]) -> Option<usize>
+    ensures decimals { result ≡ six_decimals_in decimals.now }
+{
     let worth = match decimals.len() {
         1 => 100_000,
         2 => 10_000,
@@ -161,14 +240,5 @@ fn millionths_of(decimals: &str) -> Option<usize> {
         6 => 1,
         _ => return None,
     };
-    Some(number_of(decimals.as_bytes())?.saturating_mul(worth))
-}
-
-/// Returns the percentage that a word spells, in millionths.
-fn percentage_of(word: &str) -> Option<usize> {
-    let amount = Amount::written(word)?;
-    match amount.unit {
-        Unit::Millionths => Some(amount.number),
-        Unit::Keys => None,
-    }
+    Some(number_of(decimals)?.saturating_mul(worth))
 }

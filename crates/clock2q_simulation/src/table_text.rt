@@ -5,6 +5,7 @@ use crate::byte_amount::bytes_text;
 use crate::options::Options;
 use crate::outcome::Outcome;
 use crate::policy::Policy;
+use crate::progress::plural_of;
 use crate::row::{Hits, Row};
 use crate::summary::Summary;
 use crate::window::Windows;
@@ -113,7 +114,7 @@ fn write_figures<A: Allocator>(
     if let Some(sample) = outcome.sample {
         write!(text, "a sample of {} of the keys: ", sample.part())?;
     }
-    let accesses_plural = if accesses == 1 { "" } else { "es" };
+    let accesses_plural = plural_of(accesses);
     let keys_plural = if keys == 1 { "" } else { "s" };
     write!(text, "{accesses} access{accesses_plural}")?;
     if outcome.is_sized {
@@ -175,7 +176,7 @@ fn write_rows<A: Allocator + Copy>(
         return write_all_windows(text, outcome, name);
     }
     for (index, row) in outcome.rows.iter().enumerate() {
-        let capacity = outcome.capacity_of(row.capacity);
+        let capacity = outcome.capacity_at(index);
         let best = outcome.best_shares.get(index);
         write_row(text, capacity, row, outcome.is_sized, None, best, name)?;
     }
@@ -211,8 +212,8 @@ fn write_all_windows<A: Allocator>(
     outcome: &Outcome<'_, A>,
     name: Option<&str>,
 ) -> Result<(), AllocError> {
-    for windows in outcome.windows.iter() {
-        let capacity = outcome.capacity_of(windows.capacity);
+    for (index, windows) in outcome.windows.iter().enumerate() {
+        let capacity = outcome.capacity_at(index);
         write_windows(text, capacity, windows, outcome.is_sized, name)?;
     }
     Ok(())

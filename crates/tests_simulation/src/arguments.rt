@@ -3,7 +3,7 @@
 use crate::traces::non_zero;
 use clock2q_cache::MAX_CAPACITY;
 use clock2q_simulation::{
-    Amount, ErrorReport, FORMATS_HELP, Format, HELP, Options, POLICIES_HELP, Policy,
+    Amount, Columns, ErrorReport, FORMATS_HELP, Format, HELP, Options, POLICIES_HELP, Policy,
     SimulationError, TraceFormat, Unit, help_for, parse_options,
 };
 use std::alloc::Global;
@@ -194,13 +194,29 @@ fn amounts_show(rt: HostRuntime) -> Result<(), Fail> {
 /// The formats of traces.
 #[test]
 fn formats(rt: HostRuntime) -> Result<(), Fail> {
-    let second = TraceFormat::Csv(non_zero(2), None);
+    let usual = Columns {
+        key: non_zero(2),
+        size: None,
+        separator: b',',
+        has_header: true,
+    };
+    let second = TraceFormat::Csv(usual);
+    let bare = TraceFormat::Csv(Columns {
+        size: Some(non_zero(1)),
+        separator: b'\t',
+        has_header: false,
+        ..usual
+    });
     for (line, wanted) in [
         ("5", TraceFormat::Lines),
         ("5 --format=lines", TraceFormat::Lines),
         ("--format oracleGeneral 5", TraceFormat::OracleGeneral),
         ("--column 2 5 --csv --format csv", second),
         ("5 --format=csv --column=02", second),
+        (
+            "5 --no-header --separator=tab --format=csv --column=2 --size-column=1",
+            bare,
+        ),
     ] {
         same_at(options_of(rt.alloc(), line)?.trace_format, wanted, line)?;
     }

@@ -53,10 +53,16 @@ const FIRST: &str = "5 --format=csv --column=1";
 
 const SECOND: &str = "5 --format=csv --column=2";
 
+const BARE: &str = "5 --format=csv --column=1 --no-header";
+
+const SEMICOLONS: &str = "5 --format=csv --column=2 --separator=;";
+
+const TABS: &str = "5 --separator tab --no-header --format=csv --column=1";
+
 /// Values with commas and quotes, empty ones, and carriage returns at the lines' ends.
 #[test]
 fn values(rt: HostRuntime) -> Result<(), Fail> {
-    let cases: [(&str, &[u8], &[u32]); 11] = [
+    let cases: [(&str, &[u8], &[u32]); 17] = [
         (FIRST, b"", &[]),
         (FIRST, b"key", &[]),
         (FIRST, b"key\na\nb\na", &[0, 1, 0]),
@@ -76,6 +82,12 @@ fn values(rt: HostRuntime) -> Result<(), Fail> {
         (SECOND, b"t,k\n1,\n2,\"\"\n,\n,\"\"\"\"\n", &[0, 0, 0, 1]),
         (SECOND, b"t,k\r\n1,a\r\n2,\"a\"\r\n3,a", &[0, 0, 0]),
         (FIRST, b"a \"header\nx\n y\nx\n", &[0, 1, 0]),
+        (FIRST, b"key\na\n\nb\r\n\r\na\n\n", &[0, 1, 0]),
+        (FIRST, b"key\n\"\"\n\n\"\"\n", &[0, 0]),
+        (BARE, b"a\nb\na\n", &[0, 1, 0]),
+        (BARE, b"\na\nb\na", &[0, 1, 0]),
+        (SEMICOLONS, b"t;k\n1;a,b\n2;\"a;b\"\n3;a,b\n", &[0, 1, 0]),
+        (TABS, b"a\tk\nb,\tk\na\tl\n", &[0, 1, 0]),
     ];
     for (line, bytes, wanted) in cases {
         has_numbers(rt.alloc(), line, bytes, wanted)?;
@@ -147,20 +159,24 @@ fn written(alloc: Global, line: &str, bytes: &[u8]) -> Result<(usize, Vec<u8>), 
 /// The first bytes of compressed files, and some that only resemble them.
 #[test]
 fn compressed(rt: HostRuntime) -> Result<(), Fail> {
-    let gzip =
-        "clock2q-simulate: -: warning: looks compressed: try zcat FILE | ./clock2q-simulate .. -\n";
-    let zstd =
-        "clock2q-simulate: -: warning: looks compressed: try zstdcat FILE | ./clock2q-simulate .. -\n";
-    let cases: [(&[u8], &str); 6] = [
-        (b"\x1F\x8B\n\x1F\x8B\n", gzip),
-        (b"\x28\xB5\x2F\xFD\n\x28\xB5\x2F\xFD\n", zstd),
+    let cases: [(&[u8], &str); 10] = [
+        (b"\x1F\x8B\n\x1F\x8B\n", "zcat"),
+        (b"\x28\xB5\x2F\xFD\n\x28\xB5\x2F\xFD\n", "zstdcat"),
+        (b"\xFD7zXZ\0\n\xFD7zXZ\0\n", "xzcat"),
+        (b"BZh91AY&SY\nBZh91AY&SY\n", "bzcat"),
+        (b"\xFD7zXZ\n\0\n", ""),
+        (b"BZh9\nBZh9\n", ""),
         (b"\x1F\n\x8B\n\x1F\n", ""),
         (b"\x28\xB5\x2F\n\x28\xB5\x2F\n", ""),
         (b"a\n\x1F\x8B\na\n", ""),
         (b"a\na\n", ""),
     ];
-    for (bytes, wanted) in cases {
+    for (bytes, command) in cases {
         let (_, errors) = written(rt.alloc(), "5", bytes)?;
+        let warning = format!(in rt.alloc();
+            "clock2q-simulate: -: warning: looks compressed: try {command} FILE | ./clock2q-simulate .. -\n"
+        )?;
+        let wanted = if command == "" { "" } else { warning.as_str() };
         same(errors.as_slice(), wanted.as_bytes())?;
     }
     Ok(())

@@ -28,6 +28,7 @@ fn words_of_pictures(rt: HostRuntime) -> Result<(), Fail> {
         ("2 100% --svg", "percent of", false),
         ("2 4 --svg", ">4</text>", true),
         ("2 3 --svg", "(8 accesses)", true),
+        ("2 3 --svg --skip=7", "(1 access)", true),
         (
             "2 3 --svg --window=3",
             "each 3 accesses at capacity 2",

@@ -1,7 +1,9 @@
 //! Samples of the keys: which keys are in one, and that only those are replayed.
 
-use crate::texts::{writes, written};
-use clock2q_simulation::Sample;
+use crate::arguments::{has_message, options_of, words_of};
+use crate::texts::{replayed, writes, written};
+use clock2q_cache::DefaultHashBuilder;
+use clock2q_simulation::{Progress, Sample};
 use std::alloc::Global;
 use std::test::Fail;
 use testing::{same, same_at};
@@ -96,20 +98,61 @@ fn lines_of(alloc: Global, sample: Sample) -> Result<(String, String), Fail> {
     Ok((all, kept))
 }
 
-/// A sample's rows are those of a trace of its keys alone in smaller caches.
+/// A sample's rows are those of a trace of its keys alone in smaller caches, whose shares are as much
+/// smaller too if they are numbers of keys.
 #[test]
 fn sampled_rows(rt: HostRuntime) -> Result<(), Fail> {
     let sample = Sample::written("0.25").ok_or("no sample")?;
     let (all, kept) = lines_of(rt.alloc(), sample)?;
-    let sampled = written(rt.alloc(), "--json --sample=0.25 40", all.as_bytes())?;
-    let alone = written(rt.alloc(), "--json 10", kept.as_bytes())?;
-    let sampled = String::from_utf8(sampled)?;
-    let alone = String::from_utf8(alone)?;
-    same(
-        sampled.as_str().split_once("40").map(|parts| parts.1),
-        alone.as_str().split_once("10").map(|parts| parts.1),
-    )?;
+    for (larger, smaller) in [
+        ("40", "10"),
+        (
+            "40 --shares=small=20,window=9",
+            "10 --shares=small=5,window=2",
+        ),
+        (
+            "40 --shares=small=50%,window=9",
+            "10 --shares=small=50%,window=2",
+        ),
+        (
+            "40 --shares=small=0,window=0",
+            "10 --shares=small=0,window=0",
+        ),
+    ] {
+        let line = format!(in rt.alloc(); "--json --sample=0.25 {larger}")?;
+        let sampled = String::from_utf8(written(rt.alloc(), &line, all.as_bytes())?)?;
+        let line = format!(in rt.alloc(); "--json {smaller}")?;
+        let alone = String::from_utf8(written(rt.alloc(), &line, kept.as_bytes())?)?;
+        same_at(
+            rows_after(&sampled, "\"capacity\": 40"),
+            rows_after(&alone, "\"capacity\": 10"),
+            larger,
+        )?;
+    }
     Ok(())
+}
+
+/// Returns what is written after some words.
+fn rows_after<'a>(text: &'a str, words: &str) -> Option<&'a str> {
+    text.split_once(words).map(|parts| parts.1)
+}
+
+/// A row has the capacity that was asked for, and so does a refusal of shares that no longer fit.
+#[test]
+fn asked_capacities(rt: HostRuntime) -> Result<(), Fail> {
+    let line = "7 100% --csv --sample=0.3 --policies=lru";
+    let rows = "capacity,accesses,lru_hits,lru_ratio\n7,0,0,0.0000\n3,0,0,0.0000\n";
+    writes(rt.alloc(), line, b"", rows)?;
+    let line = "9 7 --sample=0.25 --shares=small=6,window=3";
+    let words = words_of(rt.alloc(), line)?;
+    let options = options_of(rt.alloc(), line)?;
+    let mut progress = Progress::new(Vec::new(rt.alloc()), false);
+    let hasher = DefaultHashBuilder::new();
+    let outcome = replayed(rt.alloc(), &options, hasher, b"a\n", &mut progress);
+    let refusal = outcome.err().ok_or("not refused")?;
+    let wanted =
+        "clock2q-simulate: --shares: shares that don't fit the sample's part of a capacity of 7";
+    has_message(rt.alloc(), &words, refusal, None, wanted)
 }
 
 /// A percentage is of the sample's keys, and is shown as one of all keys; a sample of all keys

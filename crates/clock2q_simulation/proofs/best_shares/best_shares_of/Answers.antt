@@ -1,12 +1,14 @@
-use Rattle.std.proofs.Common.{◌≤◌, ◌+◌, ◌∙◌, take, get_or, subst, arith, rules}
+use Rattle.std.proofs.Common.{◌≤◌, ◌+◌, ◌∙◌, take, get_or, subst, sym, arith, rules}
+use Rattle.std.specs.Option.{IfSome}
+use Rattle.std.proofs.lemmas.Option.{slice_get-get_or}
 use Rattle.std.specs.List.{All}
 use Rattle.std.specs.NonZero.{non_zero_usize_get}
 use Rattle.std.proofs.lemmas.List.{take_all, take_more}
 use Rattle.clock2q_simulation.specs.declared.amount.Unit.TheVariants.{Keys}
 use Rattle.clock2q_simulation.specs.declared.shares.ChosenShares.{ChosenShares}
 use Rattle.clock2q_simulation.specs.Amounts.{amount}
-use Rattle.clock2q_simulation.specs.BestShares.{HasNoMore}
-use Rattle.clock2q_simulation.proofs.TriedShares.{no_more_of_all, no_more_than}
+use Rattle.clock2q_simulation.specs.BestShares.{AreFirst, HasNoMore}
+use Rattle.clock2q_simulation.proofs.TriedShares.{fewer_of_all, no_more_of_all, no_more_than}
 use Rattle.clock2q_simulation.proofs.Zipped.{All-more}
 use Rattle.clock2q_simulation.proofs.best_shares.best_shares_of.Goals.{then-most-hits, else-most-hits}
 use Rattle.clock2q_simulation.proofs.best_shares.best_shares_of.Goals as goal
@@ -32,6 +34,17 @@ loop-shares-preserved g c =
       each = All-more (HasNoMore c.args.skipped numbers room most) (take i all) (get_or all i no_shares) (take (i + 1) all) (take_more all i no_shares c.loop-shares-test.true)
           (no_more_of_all c.args.skipped numbers room c.loop-shares.most most (take i all) grown c.loop-shares.invariant.each)
           (no_more_than c.args.skipped numbers room c.in_ok-hits.hits most (get_or all i no_shares) large c.in_ok-hits.ensures.most);
+      first = elim c.if-most-hits.branch [
+        | then-most-hits w ↦ subst (λ best. IfSome best (AreFirst c.args.skipped numbers room all c.in_ok-usual.usual most)) (sym w.best-is) (
+            record {
+              place = i;
+              there = slice_get-get_or all i no_shares c.loop-shares-test.true;
+              fewer = fewer_of_all c.args.skipped numbers room c.loop-shares.most most (take i all) (omega (arith, w.most-is, w.if-most-hits.true)) c.loop-shares.invariant.each;
+              gain = omega (arith, w.most-is, w.if-most-hits.true, c.loop-shares.invariant.no_fewer);
+            }
+            )
+        | else-most-hits w ↦ rw (w.best-is, w.most-is) c.loop-shares.invariant.first
+      ];
     }
 
 pub returns-clause-best : goal.returns-clause-best
@@ -44,4 +57,5 @@ returns-clause-best g c = record {
       (non_zero_usize_get c.args.capacity) c.loop-shares.most))
       (take_all c.loop-shares.shares-index c.args.tried.now c.loop-shares-test.false)
       c.loop-shares.invariant.each;
+  first = c.loop-shares.invariant.first;
 }

@@ -8,5 +8,5 @@ use Rattle.clock2q_simulation.proofs.csv.ColumnReader.read.Given as goal
 abbrev pub invariant-loop-byte : goal.invariant-loop-byte
 invariant-loop-byte g l = record {
   early : IsEarly l.self.left l.self.key.items;
-  found : found_in l.self.left l.self.key.items (fields_from l.self.place (drop l.byte-index l.text)) ≡ field (non_zero_usize_get l.fn.column) l.line;
+  found : found_in l.self.left l.self.key.items (fields_from l.fn.separator l.self.place (drop l.byte-index l.text)) ≡ field l.fn.separator (non_zero_usize_get l.fn.column) l.line;
 }

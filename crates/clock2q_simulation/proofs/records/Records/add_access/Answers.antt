@@ -1,43 +1,28 @@
-use Rattle.std.proofs.Common.{◌≡◌, ◌∙◌, ◌<◌, ◌∷◌, ◌++◌, [], Some, None, refl, sym, ap, subst, arith}
-use Rattle.std.specs.NonZero.{non_zero_usize_get}
-use Rattle.std.specs.Option.{option_map}
-use Rattle.clock2q_simulation.specs.Formats.{Access, access_in, record_of, unsized}
-use Rattle.clock2q_simulation.proofs.RecordByRecord.{IsCsv, bad-result, fields-end, header-ends, line-ends, no-field-ends, ok-result, piece-ends}
+use Rattle.std.proofs.Common.{◌≡◌, ◌∙◌, ◌<◌, ◌∷◌, ◌++◌, ℕ, List, [], None, ap}
+use Rattle.clock2q_simulation.specs.declared.format.TraceFormat.TheVariants.{Csv}
+use Rattle.clock2q_simulation.specs.Formats.{accesses_after, record_of, unsized}
+use Rattle.clock2q_simulation.specs.Reading.{joined}
+use Rattle.clock2q_simulation.proofs.RecordByRecord.{bad-of-csv, bad-result, line-ends, line-of-csv, ok-result, piece-ends}
 use Rattle.clock2q_simulation.proofs.records.Records.add_access.Goals as goal
 
 pub returns-in-Csv-clause-ended : goal.returns-in-Csv-clause-ended
-returns-in-Csv-clause-ended g c counted some next =
+returns-in-Csv-clause-ended g c =
     let self = c.args.self.now in
-    let column = non_zero_usize_get c.in-Csv.field-0 in
-    let sizes = option_map non_zero_usize_get c.in-Csv.field-1 in
-    let csv : IsCsv column sizes self.format = subst (IsCsv column sizes) (sym c.in-Csv.is) (refl, refl) in
-    header-ends self.trace.accesses self.trace.accesses self.count counted self.begun.items self.format column sizes csv c.requires.whole c.if-self-eq0.true some refl next
+    let columns = c.in-Csv.columns in
+    let more = c.add_line.new.self.trace.accesses in
+    ok-result c.add_line.result
+    (λ (ends : (counted : ℕ) → 0 < counted → (next : List ℕ) → joined self.trace.accesses (accesses_after (Csv columns) self.count (self.begun.items ++ 10 ∷ next)) ≡ joined more (accesses_after (Csv columns) counted next)).
+    λ counted some next. line-of-csv self.trace.accesses more self.count counted self.begun.items self.format columns c.in-Csv.is (ends counted some) next)
+    c.add_line.ensures.ended
 
-pub returns-in-Csv-2-clause-ended : goal.returns-in-Csv-2-clause-ended
-returns-in-Csv-2-clause-ended g c =
+pub returns-in-Csv-clause-bad : goal.returns-in-Csv-clause-bad
+returns-in-Csv-clause-bad g c =
     let self = c.args.self.now in
-    let column = non_zero_usize_get c.in-Csv-2.column in
-    let sizes = option_map non_zero_usize_get c.in-Csv-2.size_column in
-    let csv : IsCsv column sizes self.format = subst (IsCsv column sizes) (sym c.in-Csv-2.is) (refl, refl) in
-    let later : 0 < self.count = omega (arith, c.if-self-eq0.false) in
-    let more = c.add_fields.new.self.trace.accesses in
-    ok-result c.add_fields.result
-    (λ (is : (access : Access) × (access_in column sizes self.begun.items ≡ Some access) × (more ≡ self.trace.accesses ++ access ∷ [])).
-    λ counted some next. fields-end self.trace.accesses more self.count counted self.begun.items self.format column sizes is.0 csv c.requires.whole later some is.1 is.2 next)
-    c.add_fields.ensures.access
-
-pub returns-in-Csv-2-clause-bad : goal.returns-in-Csv-2-clause-bad
-returns-in-Csv-2-clause-bad g c =
-    let self = c.args.self.now in
-    let column = non_zero_usize_get c.in-Csv-2.column in
-    let sizes = option_map non_zero_usize_get c.in-Csv-2.size_column in
-    let csv : IsCsv column sizes self.format = subst (IsCsv column sizes) (sym c.in-Csv-2.is) (refl, refl) in
-    let later : 0 < self.count = omega (arith, c.if-self-eq0.false) in
-    bad-result c.add_fields.result
-    (λ (none : access_in column sizes self.begun.items
-    ≡ None). λ next. no-field-ends self.trace.accesses self.trace.accesses self.count 0
-    self.begun.items self.format column sizes csv c.requires.whole later none next)
-    c.add_fields.ensures.bad
+    let columns = c.in-Csv.columns in
+    bad-result c.add_line.result
+    (λ (none : (next : List ℕ) → accesses_after (Csv columns) self.count (self.begun.items ++ 10 ∷ next) ≡ None).
+    λ next. bad-of-csv self.count self.begun.items self.format columns c.in-Csv.is none next)
+    c.add_line.ensures.bad
 
 pub returns-in_ok-push-in-Lines-clause-ended : goal.returns-in_ok-push-in-Lines-clause-ended
 returns-in_ok-push-in-Lines-clause-ended g c counted some next =
