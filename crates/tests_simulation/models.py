@@ -1,6 +1,6 @@
 #!/usr/bin/env python3
 """models.py: prints data/modelled, cases of simulations whose hits policies over lists work out here, which are
-searched and shifted. `./models.py >data/modelled` writes it anew, and .ci/models compares the two.
+searched and shifted. `./models.py >data/modelled` writes it anew, and .ci/written compares the two.
 """
 
 
