@@ -7,6 +7,8 @@
 
 #[cfg(test)]
 mod devices;
+#[cfg(test)]
+mod hashers;
 mod player;
 #[cfg(test)]
 mod refused_runs;

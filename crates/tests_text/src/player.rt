@@ -1,8 +1,6 @@
 //! Cases of texts, a line each, served under hashers that spread keys well, badly and at random.
 
-use clock2q_cache::Cache;
-use clock2q_command::{Device, ServeError, run, serve, serve_with};
-use clock2q_text::{Script, parse, reply_text};
+use clock2q_command::{Device, ServeError, serve, serve_with};
 use std::alloc::{AllocError, Global};
 use std::hash::{BuildHasher, RandomState};
 use testing::{LinearHashBuilder, SpellingError, spelled};
@@ -100,34 +98,13 @@ impl Case {
     }
 }
 
-/// The same under hashers that spread keys badly, for the text and for the commands that it spells.
+/// The same under hashers that spread keys badly.
 fn other_spread(alloc: Global, case: &Case) -> Result<Option<Vec<u8>>, AllocError> {
     for spread in SPREADS {
         let got = served_under(alloc, &case.text, spread)?;
         if got != case.wanted {
             return Ok(Some(got));
         }
-        match replies_under(alloc, &case.text, spread) {
-            Some(got) if got != case.wanted => return Ok(Some(got)),
-            _ => {}
-        }
     }
     Ok(None)
-}
-
-/// Returns the replies of a cache with a hasher to the commands of a text, as a text. Returns
-/// `None` if the text has no list of commands for a cache with the usual shares.
-fn replies_under(alloc: Global, text: &[u8], spread: LinearHashBuilder) -> Option<Vec<u8>> {
-    let script = parse(alloc, text).ok()?;
-    let Script {
-        capacity,
-        chosen,
-        commands,
-    } = script;
-    if chosen.is_some() {
-        return None;
-    }
-    let mut cache = Cache::with_hasher(alloc, capacity, spread).ok()?;
-    let replies = run(alloc, &mut cache, commands).ok()?;
-    reply_text(alloc, &replies).ok()
 }
