@@ -1,6 +1,6 @@
 -- Which resident leaves next, and what a cache's fields become when it leaves though no key comes.
 use Rattle.std.proofs.Common.{◌≡◌, ℕ, suc, ◌+◌, ◌-◌, ◌<◌, ◌==◌, Bool, true, false, not, ◌&&◌, cond, eqb, Option, Some, None, List, [], ◌∷◌, ◌++◌, map, length, take, reverse, inl, inr, refl, sym, ap, ◌∙◌, subst, arith, eq-eqb, eqb-true, length-append}
-use Rattle.clock2q_cache.proofs.Names.{if◌then◌else◌, nat_lt, none_is, slice_get, slice_get_some, IfSome, IsEquivalence, last_or, option_map, AllByRecursion, cases_Bool, lt-ltb, ltb-true, Age, take-map, All-from_recursion, recursion_from_All, All-take, without, among-without_test, and_true, and_false, eqb_swap, KeyPlaces, hash_at, key_at, without_handle, length-taken, QueueState, slots_of, from_victim, inspections_of, counts_of, Spends, Remembered, most_beside, Shares, history_share, SmallEntry, Machine, is_promoted, IsWhole, machine_of, queued_slots, with_keys_small, with_keys_main, IsStored, IsCache, list_any}
+use Rattle.clock2q_cache.proofs.Names.{if◌then◌else◌, nat_lt, none_is, slice_get, slice_get_some, IfSome, IsEquivalence, last_or, option_map, AllByRecursion, cases_Bool, lt-ltb, ltb-true, Age, take-map, All-from_recursion, recursion_from_All, All-take, without, among-without_test, and_true, and_false, eqb_swap, KeyPlaces, hash_at, key_at, without_handle, length-taken, QueueState, slots_of, from_victim, inspections_of, counts_of, Spends, Remembered, most_beside, Shares, SmallEntry, Machine, is_promoted, IsWhole, machine_of, queued_slots, with_keys_small, with_keys_main, IsStored, IsCache, list_any}
 use Rattle.std.proofs.lemmas.List.{length-reverse}
 use Rattle.clock2q_queues.proofs.Joining.{length-without}
 use Rattle.clock2q_queues.specs.Cells.{Rises}
@@ -175,9 +175,9 @@ module _ {K V : Type 0} {eq : K → K → Bool} {hash : K → ℕ} {shares : Sha
     retired-is : machine_of shares q1 keys.entries entries1 free' ≡ tail_evicted (Some (tail_entry laws kept tail last)) m
     retired-is =
         let s : with_keys_small (key_at keys.entries) (front laws kept tail last) ≡ take (length m.small - 1) m.small = front_entries laws kept tail last in
-        let r : map (λ (e : ℕ × K). e.1) entries1 ≡ take (history_share shares) ((tail_key laws kept tail last).0 ∷ m.history) =
+        let r : map (λ (e : ℕ × K). e.1) entries1 ≡ take shares.history ((tail_key laws kept tail last).0 ∷ m.history) =
         sym (take-map (λ (e : ℕ × K). e.1) h.limit ((old, key) ∷ h.entries)) ∙ ap (λ n. take n (key ∷ m.history)) kept.sized.remembers
-        ∙ ap (λ z. take (history_share shares) (z ∷ m.history)) (sym (tail_is laws kept tail last key key_is)) in
+        ∙ ap (λ z. take shares.history (z ∷ m.history)) (sym (tail_is laws kept tail last key key_is)) in
         cc
 
     pub retired-machine : machine_of shares q' keys.entries h'.entries free' ≡ tail_evicted (last_or None m.small) m

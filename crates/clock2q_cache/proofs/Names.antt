@@ -39,7 +39,7 @@ pub use Rattle.clock2q_machine.specs.Bounds.{inspections_for, goes_on, takes_vic
 pub use Rattle.clock2q_machine.specs.Calls.{Put, Call, Get, GetAt, Set, Remove, Retain, Prefill, Try, Clear, With}
 pub use Rattle.clock2q_machine.specs.Entries.{SmallEntry, MainEntry}
 pub use Rattle.clock2q_machine.specs.Machine.{Machine, Placement, vacancy, vacant_slot, into_main, into_small, into_small_at, joining_main, replacing_victim, stored, empty, goes_to_main, slot_of, value_of, hit, inserted, placement, prefilled, residents, resident_count, forgotten, reused, resident_at, evicting_tail, promoting_tail, by_slot, vacated, vacated_all, removed_at}
-pub use Rattle.clock2q_machine.specs.Shares.{Shares, main_share, history_share}
+pub use Rattle.clock2q_machine.specs.Shares.{Shares, main_share}
 pub use Rattle.clock2q_machine.specs.Steps.{put, slotted, fetched, replaced_at, is_at, slotted_at, fetched_value, refused_slots, retained, after, hit_at, replaced}
 pub use Rattle.clock2q_machine.specs.Whole.{IsWhole, known_count, standings}
 pub use Rattle.clock2q_machine.proofs.Laws.{slot_at_most, inserted_value, reused_value, inserted_there, replaced_there}

@@ -1,6 +1,6 @@
 -- Which resident is at a slot, and what an insertion does to the index.
 use Rattle.std.proofs.Common.{arith, ◌≡◌, ℕ, ◌==◌, Bool, true, false, eqb, Option, Some, None, List, [], ◌∷◌, map, inl, inr, refl, sym, ap, ◌∙◌, eqb-true, eq-eqb}
-use Rattle.clock2q_cache.proofs.Names.{find, last_or, AllByRecursion, IsEquivalence, cases_Bool, KeyPlaces, key_at, hash_at, QueueState, slots_of, Remembered, Places, oldest_hash, pushed_places, among_first, eqb_swap, Shares, history_share, Machine, resident_at, machine_of, queued_slots, IsCache, if◌then◌else◌, IfSome, option_map, is_promoted, SmallEntry, remembering, left_by, entered, key_out, list_any}
+use Rattle.clock2q_cache.proofs.Names.{find, last_or, AllByRecursion, IsEquivalence, cases_Bool, KeyPlaces, key_at, hash_at, QueueState, slots_of, Remembered, Places, oldest_hash, pushed_places, among_first, eqb_swap, Shares, Machine, resident_at, machine_of, queued_slots, IsCache, if◌then◌else◌, IfSome, option_map, is_promoted, SmallEntry, remembering, left_by, entered, key_out, list_any}
 use Rattle.clock2q_directory.specs.Index as known
 use Rattle.clock2q_cache.proofs.WithKeys.{HaveKeys, have_later, paired, paired-cons}
 use Rattle.clock2q_cache.proofs.Stored.{have_keys, hash-of-key}
@@ -62,8 +62,8 @@ module _ {K V : Type 0} {eq : K → K → Bool} {hash : K → ℕ} {shares : Sha
       → pushed_places h.limit old slot (oldest_hash (λ (e : ℕ × K). e.0) h.entries) p ≡ remembering hash k slot m p
   pushed-key p slot k {old} key_is hash_is =
       ap (λ z. pushed_places z old slot (oldest_hash (λ (e : ℕ × K). e.0) h.entries) p) kept.sized.remembers
-      ∙ ap (λ z. pushed_places (history_share shares) z slot (oldest_hash (λ (e : ℕ × K). e.0) h.entries) p) (hash-of-key hash keys.entries slot old k kept.stored.hashed hash_is key_is)
-      ∙ ap (λ z. pushed_places (history_share shares) (hash k) slot z p) (oldest-hashed hash None None h.entries refl kept.hashed)
+      ∙ ap (λ z. pushed_places shares.history z slot (oldest_hash (λ (e : ℕ × K). e.0) h.entries) p) (hash-of-key hash keys.entries slot old k kept.stored.hashed hash_is key_is)
+      ∙ ap (λ z. pushed_places shares.history (hash k) slot z p) (oldest-hashed hash None None h.entries refl kept.hashed)
 
   module _ (p : Places) (key : K) (slot : ℕ) {hsh : ℕ} {p' : Places} (is : hsh ≡ hash key) where
     -- a key enters at a slot that has no resident

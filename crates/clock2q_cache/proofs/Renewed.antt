@@ -1,6 +1,6 @@
 -- A key that takes the slot of another: of Main's victim, or of Small's tail.
 use Rattle.std.proofs.Common.{◌≡◌, ℕ, suc, ◌+◌, ◌-◌, ◌^◌, ◌<◌, ◌≤◌, ◌==◌, Bool, true, false, cond, eqb, Option, Some, None, List, [], ◌∷◌, ◌++◌, map, length, take, drop, refl, sym, ap, ◌∙◌, subst, arith, eq-eqb, length-append}
-use Rattle.clock2q_cache.proofs.Names.{length-written, Entry, Known, slots, key_at-own, key_at-others, values-written, length-values, if◌then◌else◌, slice_get, IfSome, IsEquivalence, last_or, AllByRecursion, take-map, length-map, take-append-drop, slots_of-append, slots_of-mapped, sum_by-append, total, with_handle, without_handle, Age, is_promoted, KeyPlaces, entry, hash_at, key_at, admitted, set_front, from_victim, QueueState, slots_of, Remembered, is_remembered, most_beside, list_any-append, eqb_self, among_first, below_of, length-put, length-taken, Shares, main_share, history_share, SmallEntry, MainEntry, Machine, Placement, vacancy, into_main, into_small, into_small_at, joining_main, replacing_victim, evicting_tail, promoting_tail, stored, known_count, machine_of, queued_slots, with_keys_small, with_keys_main, IsStored, IsCache, Writes, IsPlaced, some_is, placed-replacing, placed-evicting, placed-promoting, weight-last, All-from_recursion, recursion_from_All, All-take, tail_promoted, list_any}
+use Rattle.clock2q_cache.proofs.Names.{length-written, Entry, Known, slots, key_at-own, key_at-others, values-written, length-values, if◌then◌else◌, slice_get, IfSome, IsEquivalence, last_or, AllByRecursion, take-map, length-map, take-append-drop, slots_of-append, slots_of-mapped, sum_by-append, total, with_handle, without_handle, Age, is_promoted, KeyPlaces, entry, hash_at, key_at, admitted, set_front, from_victim, QueueState, slots_of, Remembered, is_remembered, most_beside, list_any-append, eqb_self, among_first, below_of, length-put, length-taken, Shares, main_share, SmallEntry, MainEntry, Machine, Placement, vacancy, into_main, into_small, into_small_at, joining_main, replacing_victim, evicting_tail, promoting_tail, stored, known_count, machine_of, queued_slots, with_keys_small, with_keys_main, IsStored, IsCache, Writes, IsPlaced, some_is, placed-replacing, placed-evicting, placed-promoting, weight-last, All-from_recursion, recursion_from_All, All-take, tail_promoted, list_any}
 use Rattle.clock2q_directory.specs.Directory.{IsResident, IsWithinRoom}
 use Rattle.clock2q_cache.proofs.Changed.{known-any}
 use Rattle.clock2q_cache.proofs.Finding.{none-has, counted-map}
@@ -262,9 +262,9 @@ module _ {K V : Type 0} {eq : K → K → Bool} {hash : K → ℕ} {shares : Sha
         let q1 : QueueState = record q { small = admitted q.window slot (front slot last); accesses = q'.accesses } in
         let h1 : Remembered K = record h { entries = take h.limit ((old, old_key) ∷ h.entries); places = h'.places; accesses = h'.accesses } in
         let beside : most_beside h1 ≡ most_beside h = sym (ap (λ (z : Remembered K). most_beside z) pushed) ∙ beside_is in
-        let r : map (λ (e : ℕ × K). e.1) h1.entries ≡ take (history_share shares) ((tail_key slot last).0 ∷ m.history) =
+        let r : map (λ (e : ℕ × K). e.1) h1.entries ≡ take shares.history ((tail_key slot last).0 ∷ m.history) =
         sym (take-map (λ (e : ℕ × K). e.1) h.limit ((old, old_key) ∷ h.entries)) ∙ ap (λ n. take n (old_key ∷ m.history)) kept.sized.remembers
-        ∙ ap (λ z. take (history_share shares) (z ∷ m.history)) (sym (tail_is slot last old_key key_is)) in
+        ∙ ap (λ z. take shares.history (z ∷ m.history)) (sym (tail_is slot last old_key key_is)) in
         let p = evicting_tail key (tail_entry slot last) m in
         let e : machine_of shares q1 keys'.entries h1.entries free ≡ stored p.slot w.held p.machine =
         cc (small_joined slot last (tail-not_in_front slot last), main_other q.main (tail-not_in_main slot last), values) in

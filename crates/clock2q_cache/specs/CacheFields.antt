@@ -9,7 +9,7 @@ use Rattle.clock2q_directory.specs.Indexes.{IsIndex}
 use Rattle.clock2q_queues.specs.Queues.{QueueState, slots_of}
 use Rattle.clock2q_handles.specs.Homes.{capacity}
 use Rattle.clock2q_directory.specs.History.{Remembered, most_beside}
-use Rattle.clock2q_machine.specs.Shares.{Shares, history_share}
+use Rattle.clock2q_machine.specs.Shares.{Shares}
 use Rattle.clock2q_machine.specs.Entries.{SmallEntry, MainEntry}
 use Rattle.clock2q_machine.specs.Machine.{Machine}
 use Rattle.clock2q_machine.specs.Whole.{IsWhole}
@@ -52,7 +52,7 @@ pub record IsSized (shares : Shares) (q : QueueState) (limit beside homes keys_r
   pub as_many : q.slots ≡ shares.capacity
   pub window : q.window ≡ shares.window
   pub windowed : 0 < shares.small → 0 < shares.window
-  pub remembers : limit ≡ history_share shares
+  pub remembers : limit ≡ shares.history
   pub spacious : shares.capacity + beside ≤ capacity homes
   pub room_for_keys : shares.capacity ≤ keys_room
   pub room_for_free : shares.capacity ≤ free_room

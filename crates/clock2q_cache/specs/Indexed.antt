@@ -8,7 +8,6 @@ use Rattle.clock2q_handles.specs.Homes.{candidates, capacity, total}
 use Rattle.clock2q_directory.specs.Indexes.{is_alike}
 use Rattle.clock2q_directory.specs.Index.{is_shared}
 use Rattle.clock2q_machine.specs.Machine.{residents}
-use Rattle.clock2q_machine.specs.Shares.{history_share}
 use Rattle.clock2q_cache.specs.CacheState.{CacheState, residents_in, remembered_in}
 use Rattle.clock2q_cache.specs.Hashes.{hash_of}
 
@@ -29,5 +28,5 @@ module _ {K V S H : Type 0} (key : HashMembers K) (build : builder.Ghosts S H) (
 -- their table, the remembered keys and one that enters before another leaves; otherwise the remembered keys have a table
 -- of their own
 pub record IsSpacious {K V S : Type 0} (c : CacheState K V S) : Type 0 where
-  pub residents : c.machine.shares.capacity + (if is_shared c.known.index then history_share c.machine.shares + 1 else 0) ≤ capacity (length (residents_in c.known))
-  pub remembered : is_shared c.known.index ≡ false → history_share c.machine.shares ≤ capacity (length (remembered_in c.known))
+  pub residents : c.machine.shares.capacity + (if is_shared c.known.index then c.machine.shares.history + 1 else 0) ≤ capacity (length (residents_in c.known))
+  pub remembered : is_shared c.known.index ≡ false → c.machine.shares.history ≤ capacity (length (remembered_in c.known))

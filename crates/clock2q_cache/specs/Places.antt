@@ -9,7 +9,6 @@ use Rattle.clock2q_machine.specs.Entries.{SmallEntry}
 use Rattle.clock2q_cache.specs.Hashes.{hash_of}
 use Rattle.clock2q_directory.specs.Index as known
 use Rattle.clock2q_directory.specs.History.{Places, place_of, places_looked_up, freed_place, pushed_places, oldest_hash}
-use Rattle.clock2q_machine.specs.Shares.{history_share}
 use Rattle.clock2q_machine.specs.Machine.{Machine, resident_at, slot_of, vacancy, goes_to_main, forgotten, placement}
 use Rattle.clock2q_cache.specs.CacheState.{CacheState}
 
@@ -26,7 +25,7 @@ module _ {K V : Type 0} where
   module _ (hash : K → ℕ) where
     -- a key leaves its slot for the history
     abbrev pub remembering : K → ℕ → Machine K V → Places → Places
-    remembering key slot m p = pushed_places (history_share m.shares) (hash key) slot (oldest_hash hash m.history) p
+    remembering key slot m p = pushed_places m.shares.history (hash key) slot (oldest_hash hash m.history) p
 
     -- the slot is vacated: by a key that goes into the history, or by the resident that was there
     abbrev pub vacated_for : Option K → ℕ → Machine K V → Places → Places

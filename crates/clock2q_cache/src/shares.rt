@@ -1,6 +1,6 @@
 //! How a cache's capacity is divided among its queues.
 ghost use Rattle.std.specs.Prelude.{◌≡◌, ◌<◌, ◌≤◌, ◌^◌, MatchOption};
-ghost use Rattle.clock2q_machine.specs.Shares.{usual_shares, main_share, history_share};
+ghost use Rattle.clock2q_machine.specs.Shares.{usual_shares, main_share};
 ghost use Rattle.clock2q_machine.specs.Policies.{IsPolicy, shares_of};
 
 use std::marker::Model;
@@ -88,7 +88,7 @@ impl Shares {
     }
 
     pub(crate) fn history(self) -> usize
-        ensures { result ≡ history_share self }
+        ensures { result ≡ self.history }
     {
         self.capacity / 2
     }

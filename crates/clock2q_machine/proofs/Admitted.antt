@@ -5,8 +5,8 @@ use Rattle.std.specs.Cmp.{IsEquivalence}
 use Rattle.std.specs.Option.{option_and_then}
 use Rattle.std.specs.List.{AllByRecursion}
 use Rattle.std.proofs.lemmas.List.{append_assoc}
-use Rattle.clock2q_machine.specs.Shares.{history_share}
 use Rattle.clock2q_machine.specs.Calls.{Put, Value}
+use Rattle.clock2q_machine.specs.Shares.{main_share}
 use Rattle.clock2q_machine.specs.Machine.{Machine, inserted, slot_of}
 use Rattle.clock2q_machine.specs.Steps.{replaced_at, answer, answers, after, after_all}
 use Rattle.clock2q_machine.specs.Bounds.{set_bits}
@@ -77,7 +77,7 @@ module _ {K V : Type 0} (eq : K → K → Bool) (laws : IsEquivalence eq) where
   apart_at (q ∷ front) p back apart = apart_at front p back apart.1
 
   module _ (m : Machine K V) (h : IsWhole eq m) (full : IsFullCache m) (puts : List (K × V)) (scans : IsScan eq puts m)
-      (known : length puts ≤ m.shares.small + history_share m.shares) (fits : length puts + set_bits m ≤ m.shares.capacity) where
+      (known : length puts ≤ m.shares.small + m.shares.history) (fits : length puts + set_bits m ≤ m.shares.capacity) where
     new : AreNew eq puts m
     new = scan_new eq laws puts m h scans
 
@@ -116,3 +116,11 @@ module _ {K V : Type 0} (eq : K → K → Bool) (laws : IsEquivalence eq) where
     loop_hits times =
         all_hit (rounds times puts) (after_all eq (scan puts) once) (lasting-run eq laws (scan puts) once whole)
         (all_rounds (λ p. is_some (slot_of (eq p.0) (after_all eq (scan puts) once)) ≡ true) times puts held_twice)
+
+  -- A history as long as Main's share admits every loop that fits beside Main's hit keys: from the third round on each
+  -- access hits.
+  module _ (m : Machine K V) (h : IsWhole eq m) (full : IsFullCache m) (puts : List (K × V)) (scans : IsScan eq puts m)
+      (remembers : main_share m.shares ≤ m.shares.history) (fits : length puts + set_bits m ≤ m.shares.capacity) where
+    pub loop_that_fits : (times : ℕ)
+      → AllByRecursion (λ reply. is_hit reply ≡ true) (answers eq (scan (rounds times puts)) (after_all eq (scan puts) (after_all eq (scan puts) m)))
+    loop_that_fits = loop_hits m h full puts scans (omega (arith, remembers, fits, h.small_below)) fits

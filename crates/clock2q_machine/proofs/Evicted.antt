@@ -6,7 +6,7 @@ use Rattle.std.specs.Option.{option_map}
 use Rattle.std.proofs.lemmas.Bool.{lt-ltb, eqb-false, both_ways}
 use Rattle.std.proofs.lemmas.List.{length-take}
 use Rattle.std.proofs.lemmas.List.Sums.{sum_by-cons, sum_by-take-le}
-use Rattle.clock2q_machine.specs.Shares.{main_share, history_share}
+use Rattle.clock2q_machine.specs.Shares.{main_share}
 use Rattle.clock2q_machine.specs.Entries.{SmallEntry, MainEntry, first_of, from_victim, with_bit}
 use Rattle.clock2q_machine.specs.Machine.{Machine, resident_count, vacancy, victim_leaves, keeps_tail, leaves_now, tail_evicted, victim_evicted, evicted}
 use Rattle.clock2q_machine.specs.Whole.{IsWhole}
@@ -80,7 +80,7 @@ module _ {K V : Type 0} (eq : K → K → Bool) (m : Machine K V) (h : IsWhole e
         small_below = h.small_below;
         small_within = omega (arith, shorter, h.small_within);
         main_within = h.main_within;
-        history_within = omega (arith, length-take (history_share m.shares) (tail.key ∷ m.history));
+        history_within = omega (arith, length-take m.shares.history (tail.key ∷ m.history));
         made_within = h.made_within;
         slots_counted = omega (arith, shorter, h.slots_counted);
         slots_once = λ slot.
@@ -91,7 +91,7 @@ module _ {K V : Type 0} (eq : K → K → Bool) (m : Machine K V) (h : IsWhole e
               arith,
               h.keys_once key,
               (weight-last (λ e. one_if (eq key e.key)) None m.small tail some last).0,
-              sum_by-take-le (λ k. one_if (eq key k)) (tail.key ∷ m.history) (history_share m.shares),
+              sum_by-take-le (λ k. one_if (eq key k)) (tail.key ∷ m.history) m.shares.history,
               sum_by-cons (λ k. one_if (eq key k)) tail.key m.history,
             );
       }
@@ -167,7 +167,7 @@ module _ {K V : Type 0} (m : Machine K V) where
       [ true ↦ freed_by_victim t es r | false ↦ freed_by_tail t r ]
 
   -- Small's tail is remembered, if it leaves
-  pub tail_remembered : (tail : SmallEntry K) → last_or None m.small ≡ Some tail → victim_leaves m ≡ false → (evicted m).history ≡ take (history_share m.shares) (tail.key ∷ m.history)
+  pub tail_remembered : (tail : SmallEntry K) → last_or None m.small ≡ Some tail → victim_leaves m ≡ false → (evicted m).history ≡ take m.shares.history (tail.key ∷ m.history)
   tail_remembered tail last stays =
       ap (λ b. (if b then victim_evicted (last_or None m.small) (from_victim m.main) m else tail_evicted (last_or None m.small) m).history) stays ∙ ap (λ t. (tail_evicted t m).history) last
 

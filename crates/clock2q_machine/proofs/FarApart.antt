@@ -9,7 +9,6 @@ use Rattle.std.proofs.lemmas.Bool.{cases_lt}
 use Rattle.std.proofs.lemmas.List.{take-map, take_all}
 use Rattle.std.proofs.lemmas.List.Sums.{sum_by-cons, sum_by-take-le}
 use Rattle.clock2q_machine.specs.Ages.{Young, grown_older}
-use Rattle.clock2q_machine.specs.Shares.{history_share}
 use Rattle.clock2q_machine.specs.Entries.{SmallEntry, small_admitted, with_age}
 use Rattle.clock2q_machine.specs.Calls.{Put, Value}
 use Rattle.clock2q_machine.specs.Machine.{Machine}
@@ -78,8 +77,8 @@ module _ {K V : Type 0} (is : K → Bool) where
   abbrev Fades : ℕ → Machine K V → Type 0
   Fades a m =
       (known_count is m ≡ 0)
-      ⊎ (((place : ℕ) × IsInSmall place m × (m.shares.small + history_share m.shares ≤ place + a))
-      ⊎ ((newest : ℕ) × IsPast newest m × (history_share m.shares ≤ newest + a)))
+      ⊎ (((place : ℕ) × IsInSmall place m × (m.shares.small + m.shares.history ≤ place + a))
+      ⊎ ((newest : ℕ) × IsPast newest m × (m.shares.history ≤ newest + a)))
 
   fades_later : (a b : ℕ) (m : Machine K V) → a ≤ b → Fades a m → Fades b m
   fades_later a b m le (inl unknown) = inl unknown
@@ -93,7 +92,7 @@ module _ {K V : Type 0} (is : K → Bool) where
   ]
 
   -- at the end it is unknown
-  faded : (m : Machine K V) → length m.small ≤ m.shares.small → length m.history ≤ history_share m.shares → Fades 0 m → known_count is m ≡ 0
+  faded : (m : Machine K V) → length m.small ≤ m.shares.small → length m.history ≤ m.shares.history → Fades 0 m → known_count is m ≡ 0
   faded m small_fits history_fits (inl unknown) = unknown
   faded m small_fits history_fits (inr (inl f)) = absurd (omega (arith, f.2, small_fits, within_small f.0 m f.1))
   faded m small_fits history_fits (inr (inr f)) =
@@ -126,7 +125,7 @@ module _ {K V : Type 0} (is : K → Bool) where
             omega (
               arith,
               ap (λ h. count_by is (take (suc newest) h)) l.history,
-              sum_take_take (λ k. one_if (is k)) (suc newest) (history_share m.shares) (tail.key ∷ m.history),
+              sum_take_take (λ k. one_if (is k)) (suc newest) m.shares.history (tail.key ∷ m.history),
               sum_by-cons (λ k. one_if (is k)) tail.key (take newest m.history),
               without_tail,
               p.small,
@@ -174,10 +173,10 @@ module _ {K V : Type 0} (is : K → Bool) where
     fades_on a fits once unknown_still (inr (inl f)) =
         let within = within_small f.0 m f.1 in
         elim (cases_lt (suc f.0) (length m.small)) [
-          | inl inside ↦ inr (inl (suc f.0, in_small_still f.0 inside f.1, omega (arith, f.2, ap (λ s. s.small) same, ap history_share same)))
-          | inr end ↦ inr (inr (0, leaves_small once f.0 end f.1, omega (arith, f.2, fits, within, ap history_share same)))
+          | inl inside ↦ inr (inl (suc f.0, in_small_still f.0 inside f.1, omega (arith, f.2, ap (λ s. s.small) same, ap (λ s. s.history) same)))
+          | inr end ↦ inr (inr (0, leaves_small once f.0 end f.1, omega (arith, f.2, fits, within, ap (λ s. s.history) same)))
         ]
-    fades_on a fits once unknown_still (inr (inr f)) = inr (inr (suc f.0, past_still f.0 f.1, omega (arith, f.2, ap history_share same)))
+    fades_on a fits once unknown_still (inr (inr f)) = inr (inr (suc f.0, past_still f.0 f.1, omega (arith, f.2, ap (λ s. s.history) same)))
 
   -- the key itself enters Small
   pub enters_in_front : (key : K) (tail : SmallEntry K) (m n : Machine K V) → is key ≡ true → EntersFor key tail m n → IsInSmall 0 n
@@ -189,9 +188,9 @@ module _ {K V : Type 0} (is : K → Bool) where
         unset = ap (λ small. promoted_count (take 1 small)) e.small ∙ promoted_in_front is m.shares.window key e.slot 0 front;
       }
 
-  begins_to_fade : (key : K) (tail : SmallEntry K) (m n : Machine K V) → is key ≡ true → n.shares ≡ m.shares → EntersFor key tail m n → Fades (m.shares.small + history_share m.shares) n
+  begins_to_fade : (key : K) (tail : SmallEntry K) (m n : Machine K V) → is key ≡ true → n.shares ≡ m.shares → EntersFor key tail m n → Fades (m.shares.small + m.shares.history) n
   begins_to_fade key tail m n passes same e =
-      inr (inl (0, enters_in_front key tail m n passes e, omega (arith, ap (λ s. s.small) same, ap history_share same)))
+      inr (inl (0, enters_in_front key tail m n passes e, omega (arith, ap (λ s. s.small) same, ap (λ s. s.history) same)))
 
 -- Lists of keys that are far apart.
 
@@ -216,28 +215,28 @@ module _ {K V : Type 0} (eq : K → K → Bool) where
           (new_enters eq laws p.0 m h unknown p.1 full) i h.small_within (h.keys_once q.0) (still_unknown eq laws p.0 m h unknown p.1 q.0 differs)
 
       -- the same key may come again once this many others have come
-      fade_late : (i : ℕ) (q : K × V) → m.shares.small + history_share m.shares ≤ i → Fades (eq q.0) (suc i) m → Fades (eq q.0) i put_in
+      fade_late : (i : ℕ) (q : K × V) → m.shares.small + m.shares.history ≤ i → Fades (eq q.0) (suc i) m → Fades (eq q.0) i put_in
       fade_late i q late fades =
           (elim (eq q.0 p.0) as (λ b. eq q.0 p.0 ≡ b → Fades (eq q.0) i put_in) [
             | true ↦ λ same.
-                fades_later (eq q.0) (m.shares.small + history_share m.shares) i put_in late
+                fades_later (eq q.0) (m.shares.small + m.shares.history) i put_in late
                 (begins_to_fade (eq q.0) p.0 (tail_of eq laws p.0 m h unknown p.1 full).0 m put_in same (put_shares eq laws p.0 p.1 m h) (new_enters eq laws p.0 m h unknown p.1 full))
             | false ↦ λ differs. fade_one i q differs fades
           ]) refl
 
-      fade_on : (r i : ℕ) → m.shares.small + history_share m.shares ≤ r + i → (puts : List (K × V)) → Differ p.0 (take r puts) → Fade (suc i) puts m → Fade i puts put_in
+      fade_on : (r i : ℕ) → m.shares.small + m.shares.history ≤ r + i → (puts : List (K × V)) → Differ p.0 (take r puts) → Fade (suc i) puts m → Fade i puts put_in
       fade_on r i enough [] differ fade = tt
       fade_on zero i enough (q ∷ puts) differ fade = (fade_late i q (omega (arith, enough)) fade.0, fade_on zero (suc i) (omega (arith, enough)) puts tt fade.1)
       fade_on (suc r) i enough (q ∷ puts) differ fade = (fade_one i q differ.0 fade.0, fade_on r (suc i) (omega (arith, enough)) puts differ.1 fade.1)
 
-    far_new : (n : ℕ) (puts : List (K × V)) (m : Machine K V) → IsWhole eq m → IsFullCache m → m.shares.small + history_share m.shares ≤ n → AreFarApart eq n puts → Fade 0 puts m → AreNew eq puts m
+    far_new : (n : ℕ) (puts : List (K × V)) (m : Machine K V) → IsWhole eq m → IsFullCache m → m.shares.small + m.shares.history ≤ n → AreFarApart eq n puts → Fade 0 puts m → AreNew eq puts m
     far_new n [] m h full enough far fade = tt
     far_new n (p ∷ puts) m h full enough far fade =
         let unknown = faded (eq p.0) m h.small_within h.history_within fade.0 in
         let same = put_shares eq laws p.0 p.1 m h in (
           unknown,
           far_new n puts (after eq (Put p.0 p.1) m) (lasting-after eq laws (Put p.0 p.1) m h) (full_still eq laws p.0 m h unknown p.1 full)
-              (omega (arith, enough, ap (λ s. s.small) same, ap history_share same)) far.1 (fade_on p m h full unknown n 0 (omega (arith, enough)) puts far.0 fade.1),
+              (omega (arith, enough, ap (λ s. s.small) same, ap (λ s. s.history) same)) far.1 (fade_on p m h full unknown n 0 (omega (arith, enough)) puts far.0 fade.1),
         )
 
     unknown_fade : (i : ℕ) (puts : List (K × V)) (m : Machine K V) → AllByRecursion (λ p. known_count (eq p.0) m ≡ 0) puts → Fade i puts m
@@ -247,8 +246,8 @@ module _ {K V : Type 0} (eq : K → K → Bool) where
     -- keys that a full cache doesn't know, and that come back after as many others as Small and the history hold, are new
     -- each time
     pub far_apart_new : (puts : List (K × V)) (m : Machine K V) → IsWhole eq m → IsFullCache m → AllByRecursion (λ p. known_count (eq p.0) m ≡ 0) puts
-        → AreFarApart eq (m.shares.small + history_share m.shares) puts → AreNew eq puts m
-    far_apart_new puts m h full unknown far = far_new (m.shares.small + history_share m.shares) puts m h full (omega arith) far (unknown_fade 0 puts m unknown)
+        → AreFarApart eq (m.shares.small + m.shares.history) puts → AreNew eq puts m
+    far_apart_new puts m h full unknown far = far_new (m.shares.small + m.shares.history) puts m h full (omega arith) far (unknown_fade 0 puts m unknown)
 
   -- new keys miss
   pub new_misses : (puts : List (K × V)) (m : Machine K V) → AreNew eq puts m → AllByRecursion (λ answer. answer ≡ Value None) (answers eq (scan puts) m)

@@ -6,7 +6,6 @@ use Rattle.std.specs.List.{count_by, list_any, last_or, AllByRecursion}
 use Rattle.std.proofs.lemmas.Bool.{cases_lt}
 use Rattle.std.proofs.lemmas.List.{take_all}
 use Rattle.std.proofs.lemmas.List.Sums.{sum_by-cons, sum_by-take-le}
-use Rattle.clock2q_machine.specs.Shares.{history_share}
 use Rattle.clock2q_machine.specs.Entries.{SmallEntry}
 use Rattle.clock2q_machine.specs.Calls.{Put}
 use Rattle.clock2q_machine.specs.Machine.{Machine, slot_of, vacancy, goes_to_main}
@@ -73,7 +72,7 @@ module _ {K V : Type 0} (eq : K → K → Bool) (laws : IsEquivalence eq) where
 
     -- Small's tail is remembered
     remembered_as_tail : (q : K) (tail : SmallEntry K) (m n : Machine K V) → last_or None m.small ≡ Some tail → 0 < length m.small → EntersFor q tail m n → (place : ℕ) → length m.small ≡ suc place
-        → 0 < history_share m.shares → IsInSmall (eq key) place m → (is_remembered (eq key) n ≡ true) × (newer (eq key) n.history ≡ 0)
+        → 0 < m.shares.history → IsInSmall (eq key) place m → (is_remembered (eq key) n ≡ true) × (newer (eq key) n.history ≡ 0)
     remembered_as_tail q tail m n last some e place end room s = by_leaves e.leaves where
       all : take (suc place) m.small ≡ m.small
       all = take_all (suc place) m.small (omega (arith, end))
@@ -92,13 +91,13 @@ module _ {K V : Type 0} (eq : K → K → Bool) (laws : IsEquivalence eq) where
 
       by_leaves : LeavesForHistory tail m n ⊎ LeavesForMain tail m n → (is_remembered (eq key) n ≡ true) × (newer (eq key) n.history ≡ 0)
       by_leaves (inl l) =
-          let first = newest_first (eq key) tail.key is_tail (history_share m.shares) room m.history in
+          let first = newest_first (eq key) tail.key is_tail m.shares.history room m.history in
           (ap (list_any (eq key)) l.history ∙ first.0, ap (newer (eq key)) l.history ∙ first.1)
       by_leaves (inr l) = absurd (omega (arith, promoted_without m.small tail some last, ap one_if l.goes, ap promoted_count all, s.unset))
 
     -- the keys that follow
     kept_after : (puts : List (K × V)) (place : ℕ) (m : Machine K V) → IsWhole eq m → IsFullCache m → AreNew eq puts m → Differ eq key puts → IsInSmall (eq key) place m → place < m.shares.small
-        → place + length puts < m.shares.small + history_share m.shares
+        → place + length puts < m.shares.small + m.shares.history
         → (is_in_small (eq key) (after_all eq (scan puts) m) ≡ true) ⊎ ((m.shares.small ≤ place + length puts) × (is_remembered (eq key) (after_all eq (scan puts) m) ≡ true))
     kept_after [] place m h full new differ s within fits = inl (found_in_small place m s)
     kept_after (q ∷ puts) place m h full new differ s within fits =
@@ -113,7 +112,7 @@ module _ {K V : Type 0} (eq : K → K → Bool) (laws : IsEquivalence eq) where
           | inl inside ↦
               elim (kept_after puts (suc place) n whole (full_still eq laws q.0 m h new.0 q.1 full) new.1 differ.1
               (in_small_still (eq key) q.0 tail.0 m n (laws.symm key q.0 ∙ differ.0) tail.1 some same enters place (omega (arith, inside, long)) s)
-              (omega (arith, inside, ap (λ t. t.small) same)) (omega (arith, fits, ap (λ t. t.small) same, ap history_share same))) [
+              (omega (arith, inside, ap (λ t. t.small) same)) (omega (arith, fits, ap (λ t. t.small) same, ap (λ s. s.history) same))) [
                 | inl there ↦ inl there
                 | inr gone ↦ inr (omega (arith, gone.0, ap (λ t. t.small) same), gone.1)
               ]
@@ -121,13 +120,13 @@ module _ {K V : Type 0} (eq : K → K → Bool) (laws : IsEquivalence eq) where
               let newest = remembered_as_tail q.0 tail.0 m n tail.1 some enters place (omega (arith, long, end, within)) (omega (arith, fits, end)) s in
               inr (
                 omega (arith, end),
-                remembered_still eq laws key (scan puts) n (lets_be key puts differ.1) newest.0 (omega (arith, newest.1, evictions-le puts n, fits, end, ap history_share same)),
+                remembered_still eq laws key (scan puts) n (lets_be key puts differ.1) newest.0 (omega (arith, newest.1, evictions-le puts n, fits, end, ap (λ s. s.history) same)),
               )
         ]
 
   -- each key is in Small if fewer come after it than Small holds, and is remembered otherwise
   pub first_round : (front : List (K × V)) (p : K × V) (back : List (K × V)) (m : Machine K V) → IsWhole eq m → IsFullCache m → AreNew eq (front ++ p ∷ back) m → Differ eq p.0 back
-      → length back < m.shares.small + history_share m.shares → let later = after_all eq (scan (front ++ p ∷ back)) m in
+      → length back < m.shares.small + m.shares.history → let later = after_all eq (scan (front ++ p ∷ back)) m in
       (is_in_small (eq p.0) later ≡ true) ⊎ ((m.shares.small ≤ length back) × (is_remembered (eq p.0) later ≡ true))
   first_round [] p back m h full new differ fits =
       let n = after eq (Put p.0 p.1) m in
@@ -135,14 +134,14 @@ module _ {K V : Type 0} (eq : K → K → Bool) (laws : IsEquivalence eq) where
       let same = put_shares eq laws p.0 p.1 m h in
       elim (kept_after p.0 back 0 n (lasting-after eq laws (Put p.0 p.1) m h) (full_still eq laws p.0 m h new.0 p.1 full) new.1 differ
       (enters_in_front (eq p.0) p.0 (tail_of eq laws p.0 m h new.0 p.1 full).0 m n (laws.refl p.0) enters)
-      (omega (arith, full.small_share, ap (λ t. t.small) same)) (omega (arith, fits, ap (λ t. t.small) same, ap history_share same))) [
+      (omega (arith, full.small_share, ap (λ t. t.small) same)) (omega (arith, fits, ap (λ t. t.small) same, ap (λ s. s.history) same))) [
         | inl there ↦ inl there
         | inr gone ↦ inr (omega (arith, gone.0, ap (λ t. t.small) same), gone.1)
       ]
   first_round (q ∷ front) p back m h full new differ fits =
       let same = put_shares eq laws q.0 q.1 m h in
       elim (first_round front p back (after eq (Put q.0 q.1) m) (lasting-after eq laws (Put q.0 q.1) m h) (full_still eq laws q.0 m h new.0 q.1 full) new.1 differ
-      (omega (arith, fits, ap (λ t. t.small) same, ap history_share same))) [
+      (omega (arith, fits, ap (λ t. t.small) same, ap (λ s. s.history) same))) [
         | inl there ↦ inl there
         | inr gone ↦ inr (omega (arith, gone.0, ap (λ t. t.small) same), gone.1)
       ]

@@ -5,7 +5,7 @@ use Rattle.std.specs.Prelude.{if◌then◌else◌, is_some, nat_lt}
 use Rattle.std.specs.Cmp.{IsEquivalence}
 use Rattle.std.specs.List.{list_any, last_or, filter, AllByRecursion}
 use Rattle.std.proofs.lemmas.List.{length-map}
-use Rattle.clock2q_machine.specs.Shares.{main_share, history_share}
+use Rattle.clock2q_machine.specs.Shares.{main_share}
 use Rattle.clock2q_machine.specs.Ages.{touched, grown_older, is_promoted}
 use Rattle.clock2q_machine.specs.Entries.{SmallEntry, MainEntry, small_admitted, from_victim, with_age}
 use Rattle.clock2q_machine.specs.Calls.{Call, Put, Get, Peek, Contains, GetAt, Set, With, Try, SlotFor, Remove, Retain, Clear, Evict, Prefill, Len, IsEmpty, Capacity}
@@ -217,7 +217,7 @@ module _ {K : Type 0} (is : K → Bool) where
 module _ {K V : Type 0} (is : K → Bool) where
   -- the key is remembered, and stays so while this many more are
   abbrev Remembers : ℕ → Machine K V → Type 0
-  Remembers a m = (is_remembered is m ≡ true) × (newer is m.history + a < history_share m.shares)
+  Remembers a m = (is_remembered is m ≡ true) × (newer is m.history + a < m.shares.history)
 
   remembers_less : (n : ℕ) (a : ℕ) (m : Machine K V) → Remembers (n + a) m → Remembers a m
   remembers_less n a m was = (was.0, omega (arith, was.1))
@@ -243,7 +243,7 @@ module _ {K V : Type 0} (is : K → Bool) where
             (λ b. (if b then 0 else 1 + newer is m.history) ≤
             1 + newer is m.history) [ true ↦ omega arith | false ↦ omega arith ],
       ) in
-      let cut = newer_taken is (tail.key ∷ m.history) (history_share m.shares) in_front.0 (omega (arith, in_front.1, was.1)) in
+      let cut = newer_taken is (tail.key ∷ m.history) m.shares.history in_front.0 (omega (arith, in_front.1, was.1)) in
       (cut.0, omega (arith, cut.1, in_front.1, was.1))
 
   remembers_small : (a : ℕ) (key : K) (m : Machine K V) (v : Option ℕ) (t : Option (SmallEntry K)) → Remembers (eviction false v t + a) m → Remembers a (into_small_at key v t m).machine
@@ -334,7 +334,7 @@ module _ {K V : Type 0} (eq : K → K → Bool) (laws : IsEquivalence eq) (k : K
 
   -- a key is remembered while fewer keys than the history has room for were evicted after it
   pub remembered_still : (calls : List (Call K V)) (m : Machine K V) → AllByRecursion (LetsBe eq k) calls
-      → is_remembered (eq k) m ≡ true → newer (eq k) m.history + summed eq (evictions_of eq) calls m < history_share m.shares → is_remembered (eq k) (after_all eq calls m) ≡ true
+      → is_remembered (eq k) m ≡ true → newer (eq k) m.history + summed eq (evictions_of eq) calls m < m.shares.history → is_remembered (eq k) (after_all eq calls m) ≡ true
   remembered_still [] m lets in_it few = in_it
   remembered_still (call ∷ calls) m lets in_it few =
       let n = after eq call m in

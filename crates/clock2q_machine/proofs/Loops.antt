@@ -3,7 +3,6 @@ use Rattle.std.proofs.Common.{◌≡◌, ℕ, zero, suc, ◌+◌, ◌-◌, ◌<�
 use Rattle.std.specs.Cmp.{IsEquivalence}
 use Rattle.std.specs.List.{AllByRecursion}
 use Rattle.std.proofs.lemmas.List.{append_assoc}
-use Rattle.clock2q_machine.specs.Shares.{history_share}
 use Rattle.clock2q_machine.specs.Calls.{Value}
 use Rattle.clock2q_machine.specs.Machine.{Machine}
 use Rattle.clock2q_machine.specs.Steps.{answers, after_all}
@@ -73,14 +72,14 @@ module _ {K V : Type 0} (eq : K → K → Bool) (laws : IsEquivalence eq) (m : M
     far_rounds zero = tt
     far_rounds (suc times) = far_from times [] puts refl (far_rounds times)
 
-  module _ (h : IsWhole eq m) (full : IsFullCache m) (puts : List (K × V)) (scans : IsScan eq puts m) (longer : m.shares.small + history_share m.shares < length puts) (times : ℕ) where
+  module _ (h : IsWhole eq m) (full : IsFullCache m) (puts : List (K × V)) (scans : IsScan eq puts m) (longer : m.shares.small + m.shares.history < length puts) (times : ℕ) where
     abbrev looped : List (K × V)
     looped = rounds times puts
 
     loop_new : AreNew eq looped m
     loop_new =
         far_apart_new eq laws looped m h full (all_rounds (λ p. known_count (eq p.0) m ≡ 0) times puts (scan_unknown puts scans))
-        (far_rounds (m.shares.small + history_share m.shares) puts longer scans times)
+        (far_rounds (m.shares.small + m.shares.history) puts longer scans times)
 
     -- from a full cache a loop of more unknown keys than Small and the history hold together never hits
     pub loop_never_hits : AllByRecursion (λ answer. answer ≡ Value None) (answers eq (scan looped) m)

@@ -7,7 +7,7 @@ use Rattle.std.proofs.lemmas.Bool.{lt-ltb}
 use Rattle.std.proofs.lemmas.List.Sums.{sum_by-cons}
 use Rattle.std.proofs.Math.ListN.{length-set}
 use Rattle.clock2q_machine.specs.Ages.{is_promoted}
-use Rattle.clock2q_machine.specs.Shares.{main_share, history_share}
+use Rattle.clock2q_machine.specs.Shares.{main_share}
 use Rattle.clock2q_machine.specs.Entries.{SmallEntry, MainEntry, small_admitted, from_victim, behind_hand}
 use Rattle.clock2q_machine.specs.Calls.{Put}
 use Rattle.clock2q_machine.specs.Machine.{Machine, Placement, forgotten, placement, inserted, goes_to_main, into_main, into_small, into_small_at, evicting_tail, promoting_tail, slot_of, vacancy, vacant_slot}
@@ -43,7 +43,7 @@ module _ {K V : Type 0} where
   pub record LeavesForHistory (tail : SmallEntry K) (m n : Machine K V) : Type 0 where
     pub goes : is_promoted tail.age ≡ false
     pub main : n.main ≡ m.main
-    pub history : n.history ≡ take (history_share m.shares) (tail.key ∷ m.history)
+    pub history : n.history ≡ take m.shares.history (tail.key ∷ m.history)
 
   -- it is promoted to Main, whose victim leaves
   pub record LeavesForMain (tail : SmallEntry K) (m n : Machine K V) : Type 0 where

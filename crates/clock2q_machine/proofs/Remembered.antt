@@ -5,7 +5,7 @@ use Rattle.std.specs.Cmp.{IsEquivalence}
 use Rattle.std.specs.List.{count_by, list_any, last_or}
 use Rattle.std.proofs.lemmas.List.Sums.{sum_by-cons, sum_by-take-le}
 use Rattle.clock2q_machine.specs.Ages.{is_promoted}
-use Rattle.clock2q_machine.specs.Shares.{main_share, history_share}
+use Rattle.clock2q_machine.specs.Shares.{main_share}
 use Rattle.clock2q_machine.specs.Entries.{SmallEntry, MainEntry, from_victim}
 use Rattle.clock2q_machine.specs.Calls.{Call, Put, Get, Peek, Contains, GetAt, Set, With, Try, SlotFor, Remove, Retain, Clear, Evict, Prefill, Len, IsEmpty, Capacity}
 use Rattle.clock2q_machine.specs.Machine.{Machine, hit, forgotten, stored, placement, inserted, reused, goes_to_main, into_main, into_small, into_small_at, evicting_tail, promoting_tail, replacing_victim, joining_main, slot_of, vacancy, vacated, vacated_all, removed_at, by_slot, victim_leaves, victim_evicted, tail_evicted}
@@ -37,7 +37,7 @@ module _ {K V : Type 0} where
   remembered_promoting is key tail (victim ∷ others) m = refl
 
   remembered_evicting : (is : K → Bool) (key : K) (tail : SmallEntry K) (m : Machine K V) → count_by is (evicting_tail key tail m).machine.history ≤ count_by is m.history + one_if (is tail.key)
-  remembered_evicting is key tail m = omega (arith, sum_by-take-le (λ k. one_if (is k)) (tail.key ∷ m.history) (history_share m.shares), sum_by-cons (λ k. one_if (is k)) tail.key m.history)
+  remembered_evicting is key tail m = omega (arith, sum_by-take-le (λ k. one_if (is k)) (tail.key ∷ m.history) m.shares.history, sum_by-cons (λ k. one_if (is k)) tail.key m.history)
 
   remembered_small : (is : K → Bool) (key : K) (m : Machine K V) (v : Option ℕ) (t : Option (SmallEntry K))
       → count_by is (into_small_at key v t m).machine.history ≤ count_by is m.history + of_tail is t
@@ -154,12 +154,12 @@ module _ {K V : Type 0} (is : K → Bool) where
   newest_wanted None n hits inserts newest one = newest one
   newest_wanted (Some slot) n hits inserts newest one = absurd (omega (arith, one))
 
-  module _ (m : Machine K V) (tail : SmallEntry K) (last : last_or None m.small ≡ Some tail) (passes : is tail.key ≡ true) (some : 0 < history_share m.shares) where
+  module _ (m : Machine K V) (tail : SmallEntry K) (last : last_or None m.small ≡ Some tail) (passes : is tail.key ≡ true) (some : 0 < m.shares.history) where
     module _ (test : K → Bool) (key : K) where
       newest_tail : (b : Bool) → one_unless (false || false || b) ≡ 1
           → IsNewest (if b then promoting_tail key tail (from_victim m.main) (forgotten test m) else evicting_tail key tail (forgotten test m)).machine
       newest_tail true one = absurd (omega (arith, one))
-      newest_tail false one = newest_taken is tail.key (forgotten test m).history (history_share m.shares) passes some
+      newest_tail false one = newest_taken is tail.key (forgotten test m).history m.shares.history passes some
 
       newest_small : (v : Option ℕ) → one_unless (false || is_some v || goes_on (Some tail)) ≡ 1 → IsNewest (into_small_at key v (Some tail) (forgotten test m)).machine
       newest_small (Some slot) one = absurd (omega (arith, one))
@@ -180,11 +180,11 @@ module _ {K V : Type 0} (is : K → Bool) where
     newest_evicted : (b : Bool) → one_unless (b || not (is_some (last_or None m.small))) ≡ 1
         → IsNewest (if b then victim_evicted (last_or None m.small) (from_victim m.main) m else tail_evicted (last_or None m.small) m)
     newest_evicted true one = absurd (omega (arith, one))
-    newest_evicted false one = subst (λ t. IsNewest (tail_evicted t m)) (sym last) (newest_taken is tail.key m.history (history_share m.shares) passes some)
+    newest_evicted false one = subst (λ t. IsNewest (tail_evicted t m)) (sym last) (newest_taken is tail.key m.history m.shares.history passes some)
 
 module _ {K V : Type 0} (eq : K → K → Bool) (laws : IsEquivalence eq) (m : Machine K V) where
   -- a key that a call evicts from Small is remembered, if the history has room for any, and none is newer
-  pub evicted_newest : (call : Call K V) (tail : SmallEntry K) → last_or None m.small ≡ Some tail → evictions_of eq call m ≡ 1 → 0 < history_share m.shares
+  pub evicted_newest : (call : Call K V) (tail : SmallEntry K) → last_or None m.small ≡ Some tail → evictions_of eq call m ≡ 1 → 0 < m.shares.history
       → (is_remembered (eq tail.key) (after eq call m) ≡ true) × (newer (eq tail.key) (after eq call m).history ≡ 0)
   evicted_newest call tail last one some = by_call call one where
     wanted : (key : K) → ℕ

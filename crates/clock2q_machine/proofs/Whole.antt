@@ -8,7 +8,7 @@ use Rattle.std.proofs.lemmas.Bool.{cases_lt, lt-ltb, le-ltb, leb-false, eqb-fals
 use Rattle.std.proofs.lemmas.List.{length-map, length-take}
 use Rattle.std.proofs.lemmas.List.Sums.{sum_by-cons, sum_by-take-le, length-filter, count_by-le-length}
 use Rattle.std.proofs.Math.ListN.{length-set}
-use Rattle.clock2q_machine.specs.Shares.{main_share, history_share}
+use Rattle.clock2q_machine.specs.Shares.{main_share}
 use Rattle.clock2q_machine.specs.Ages.{Age, Young, is_promoted}
 use Rattle.clock2q_machine.specs.Entries.{SmallEntry, MainEntry, small_hit, main_hit, small_admitted, from_victim, behind_hand, with_age, with_bit}
 use Rattle.clock2q_machine.specs.Machine.{Machine, Placement, hit, forgotten, stored, vacancy, vacant_slot, goes_to_main, into_main, into_small, into_small_at, evicting_tail, promoting_tail, replacing_victim, joining_main, slot_of}
@@ -121,7 +121,7 @@ module _ {K V : Type 0} where
     pub values : p.machine.values ≡ m.values
     pub small_within : length p.machine.small ≤ m.shares.small
     pub main_within : length p.machine.main ≤ main_share m.shares
-    pub history_within : length p.machine.history ≤ history_share m.shares
+    pub history_within : length p.machine.history ≤ m.shares.history
     pub known : (is : K → Bool) → known_count is p.machine ≤ known_count is m + cond (is key) 1 0
     pub slots : KeepsSlots m p ⊎ MakesSlot m p
     pub comes : ComesIn key m p
@@ -352,12 +352,12 @@ module _ {K V : Type 0} where
           values = refl;
           small_within = rw (front_length tail.slot) h.small_within;
           main_within = h.main_within;
-          history_within = omega (arith, length-take (history_share m.shares) (tail.key ∷ m.history));
+          history_within = omega (arith, length-take m.shares.history (tail.key ∷ m.history));
           known =
               λ is. omega (
                 arith,
                 front_weight (λ e. one_if (is e.key)) (λ e age. refl) tail.slot,
-                sum_by-take-le (λ k. one_if (is k)) (tail.key ∷ m.history) (history_share m.shares),
+                sum_by-take-le (λ k. one_if (is k)) (tail.key ∷ m.history) m.shares.history,
                 sum_by-cons (λ k. one_if (is k)) tail.key m.history,
               );
           slots = inl (record {

@@ -3,6 +3,7 @@ use Rattle.std.proofs.Common.{◌≡◌, ℕ, true, false, eqb, List, [], ◌∷
 use Rattle.std.specs.Prelude.{Some, None}
 use Rattle.std.specs.List.{range_with_len}
 use Rattle.clock2q_machine.specs.Shares.{usual_shares}
+use Rattle.clock2q_machine.specs.Policies.{shares_of, shares_with}
 use Rattle.clock2q_machine.specs.Machine.{Machine, empty}
 use Rattle.clock2q_machine.specs.Calls.{Call, Answer, Put, Get, Peek, Contains, GetAt, Set, With, Try, SlotFor, Remove, Retain, Len, IsEmpty, Capacity, Value, Stored, Tried, Slot, Flag, Number, Done}
 use Rattle.clock2q_machine.specs.Steps.{answers, after_all}
@@ -29,7 +30,11 @@ replies_when_full capacity calls = answers eqb calls (state capacity (puts 1 cap
 
 -- a new cache with chosen shares
 abbrev pub chosen : ℕ → ℕ → ℕ → Machine ℕ ℕ
-chosen capacity small window = empty (record { capacity = capacity; small = small; window = window })
+chosen capacity small window = empty (shares_of capacity small window)
+
+-- a cache with chosen shares and a chosen history, after these calls
+abbrev pub remembering : ℕ → ℕ → ℕ → ℕ → List (Call ℕ ℕ) → Machine ℕ ℕ
+remembering capacity small window history calls = after_all eqb calls (empty (shares_with capacity small window history))
 
 one_value : replies 2 (Put 1 10 ∷ Put 1 11 ∷ Get 1 ∷ Len ∷ []) ≡ Value None ∷ Value (Some 10) ∷ Value (Some 11) ∷ Number 1 ∷ []
 one_value = refl

@@ -4,7 +4,7 @@ use Rattle.std.specs.Prelude.{ℕ, ◌+◌, ◌-◌, Bool, true, not, ◌&&◌, 
 use Rattle.std.specs.List.{filter, find, list_any, last_or, filter_map, fold, range_with_len}
 use Rattle.std.specs.Option.{option_map, option_and_then}
 use Rattle.std.specs.Coded.{Coded, code_by, coded×, coded_list, coded_ℕ}
-use Rattle.clock2q_machine.specs.Shares.{Shares, main_share, history_share, shares_code}
+use Rattle.clock2q_machine.specs.Shares.{Shares, main_share, shares_code}
 use Rattle.clock2q_machine.specs.Ages.{is_promoted}
 use Rattle.clock2q_machine.specs.Entries.{SmallEntry, MainEntry, small_hit, main_hit, small_admitted, first_of, from_victim, behind_hand, small_entry_code, main_entry_code}
 
@@ -75,7 +75,7 @@ module _ {K V : Type 0} where
     slot = tail.slot;
     machine = admitted key tail.slot (record m {
       small = take (length m.small - 1) m.small;
-      history = take (history_share m.shares) (tail.key ∷ m.history);
+      history = take m.shares.history (tail.key ∷ m.history);
     });
   }
 
@@ -185,7 +185,7 @@ module _ {K V : Type 0} where
   tail_evicted None m = m
   tail_evicted (Some tail) m = record m {
     small = take (length m.small - 1) m.small;
-    history = take (history_share m.shares) (tail.key ∷ m.history);
+    history = take m.shares.history (tail.key ∷ m.history);
     free = tail.slot ∷ m.free;
   }
 

@@ -1,7 +1,7 @@
 -- The invariant of every cache's machine.
 use Rattle.std.specs.Prelude.{◌≡◌, ℕ, ◌+◌, ◌<◌, ◌≤◌, ◌==◌, nat_lt, if◌then◌else◌, Bool, length}
 use Rattle.std.specs.List.{count_by}
-use Rattle.clock2q_machine.specs.Shares.{main_share, history_share}
+use Rattle.clock2q_machine.specs.Shares.{main_share}
 use Rattle.clock2q_machine.specs.Machine.{Machine}
 
 module _ {K V : Type 0} where
@@ -19,7 +19,7 @@ module _ {K V : Type 0} where
     pub small_below : m.shares.small < m.shares.capacity
     pub small_within : length m.small ≤ m.shares.small
     pub main_within : length m.main ≤ main_share m.shares
-    pub history_within : length m.history ≤ history_share m.shares
+    pub history_within : length m.history ≤ m.shares.history
     pub made_within : length m.values ≤ m.shares.capacity
     pub slots_counted : length m.small + length m.main + length m.free ≡ length m.values
     pub slots_once : (slot : ℕ) → standings slot m ≡ (if nat_lt slot (length m.values) then 1 else 0)

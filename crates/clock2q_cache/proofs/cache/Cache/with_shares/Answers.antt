@@ -1,12 +1,12 @@
 -- Nothing is resident, remembered or free, and the layers are as large as the shares say.
 use Rattle.std.proofs.Common.{[], ◌^◌, ◌<◌, ap, ◌∙◌, arith, inl, inr}
-use Rattle.clock2q_cache.proofs.Names.{cases_lt, KeyPlaces, Remembered, QueueState, for-new, new-none, emptied-slots, Known, history_share, hash_of}
+use Rattle.clock2q_cache.proofs.Names.{cases_lt, KeyPlaces, Remembered, QueueState, for-new, new-none, emptied-slots, Known, hash_of}
 use Rattle.clock2q_cache.proofs.Changed.{kept-empty}
 use Rattle.clock2q_cache.proofs.cache.Cache.with_shares.Goals as goal
 
 pub invariant_of-result : goal.invariant_of-result
 invariant_of-result g c =
-    let p = history_share c.args.shares in
+    let p = c.args.shares.history in
     let least : 0 < c.args.shares.capacity = omega (arith, c.window.ensures.policy.below) in
     let few : c.args.shares.capacity < 2 ^ 24 = omega (arith, c.requires) in
     let short : p < 2 ^ 24 = omega (arith, few) in
