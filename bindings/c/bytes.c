@@ -120,6 +120,13 @@ uint32_t (clock2q_bytes_with_policy)(clock2q_bytes *handle, size_t capacity, siz
     return answer == CLOCK2Q_DONE ? make_over(slots, handle) : answer;
 }
 
+uint32_t (clock2q_bytes_with_history)(clock2q_bytes *handle, size_t capacity, size_t small, size_t window,
+                                      size_t history) {
+    clock2q_tokens slots = CLOCK2Q_TOKENS_NONE;
+    uint32_t answer = clock2q_tokens_with_history(&slots, capacity, small, window, history);
+    return answer == CLOCK2Q_DONE ? make_over(slots, handle) : answer;
+}
+
 bool (clock2q_bytes_use_hash)(clock2q_bytes *handle, clock2q_bytes_hash *hash, const void *context) {
     struct cache *cache = handle->at;
     if (clock2q_tokens_len(&cache->slots) != 0) return false;

@@ -52,7 +52,7 @@ typedef struct {
 
 #define CLOCK2Q_NONE {0}
 
-/* What clock2q_new and clock2q_with_policy answer. Only after CLOCK2Q_DONE there is a cache. */
+/* What clock2q_new, clock2q_with_policy and clock2q_with_history answer. Only after CLOCK2Q_DONE there is a cache. */
 enum {
     CLOCK2Q_DONE = 0,
     CLOCK2Q_NO_MEMORY = 1,    /* nothing is kept of what was taken */
@@ -97,6 +97,12 @@ uint32_t clock2q_new(clock2q_cache *cache, size_t capacity);
  * admitted. Needs none there. CLOCK2Q_BAD_POLICY unless small < capacity, window <= small, and both
  * or neither of them are 0. Costs what clock2q_new does. */
 uint32_t clock2q_with_policy(clock2q_cache *cache, size_t capacity, size_t small, size_t window);
+
+/* Makes a cache as clock2q_with_policy does, which remembers up to `history` evicted keys in place of
+ * half the capacity: with capacity - small of them a full cache admits every loop of new keys that
+ * fits. CLOCK2Q_BAD_POLICY also if history > capacity. */
+uint32_t clock2q_with_history(clock2q_cache *cache, size_t capacity, size_t small, size_t window,
+                              size_t history);
 
 /* Finds the slot of a key and records a hit, or gives the key a slot, which another key may lose.
  * Returns where it is; clock2q_enter below writes that instead. Needs a cache. Costs one hash;
@@ -183,9 +189,11 @@ typedef struct {
     bool has_entered;
 } clock2q_admitted;
 
-/* Makes a cache for `capacity` tokens, as clock2q_new and clock2q_with_policy do. */
+/* Makes a cache for `capacity` tokens, as clock2q_new, clock2q_with_policy and clock2q_with_history do. */
 uint32_t clock2q_tokens_new(clock2q_tokens *cache, size_t capacity);
 uint32_t clock2q_tokens_with_policy(clock2q_tokens *cache, size_t capacity, size_t small, size_t window);
+uint32_t clock2q_tokens_with_history(clock2q_tokens *cache, size_t capacity, size_t small, size_t window,
+                                     size_t history);
 
 /* Finds the slot that comes after `nth` others among those of the tokens with this hash. Each of them
  * is found for one `nth`, and nothing else; their order is the same until a token enters or leaves.
@@ -269,6 +277,8 @@ static inline clock2q_tokens clock2q_tokens_checked_value(clock2q_tokens cache) 
 #define clock2q_new(cache, capacity) clock2q_new(clock2q_checked(cache, false), capacity)
 #define clock2q_with_policy(cache, capacity, small, window) \
     clock2q_with_policy(clock2q_checked(cache, false), capacity, small, window)
+#define clock2q_with_history(cache, capacity, small, window, history) \
+    clock2q_with_history(clock2q_checked(cache, false), capacity, small, window, history)
 #define clock2q_enter_key(cache, key) clock2q_enter_key(clock2q_checked(cache, true), key)
 #define clock2q_find_key(cache, key) clock2q_find_key(clock2q_checked(cache, true), key)
 #define clock2q_at(cache, slot, key) clock2q_at(clock2q_checked(cache, true), slot, key)
@@ -284,6 +294,8 @@ static inline clock2q_tokens clock2q_tokens_checked_value(clock2q_tokens cache) 
 #define clock2q_tokens_new(cache, capacity) clock2q_tokens_new(clock2q_tokens_checked(cache, false), capacity)
 #define clock2q_tokens_with_policy(cache, capacity, small, window) \
     clock2q_tokens_with_policy(clock2q_tokens_checked(cache, false), capacity, small, window)
+#define clock2q_tokens_with_history(cache, capacity, small, window, history) \
+    clock2q_tokens_with_history(clock2q_tokens_checked(cache, false), capacity, small, window, history)
 #define clock2q_tokens_seek(cache, hash, nth) clock2q_tokens_seek(clock2q_tokens_checked(cache, true), hash, nth)
 #define clock2q_tokens_hit(cache, slot) clock2q_tokens_hit(clock2q_tokens_checked(cache, true), slot)
 #define clock2q_tokens_admit(cache, hash) clock2q_tokens_admit(clock2q_tokens_checked(cache, true), hash)

@@ -52,10 +52,12 @@ typedef struct {
 /* Returns a hash of a key, which is the same for equal keys. It doesn't call the cache. */
 typedef uint64_t clock2q_bytes_hash(const void *context, const void *key, size_t length);
 
-/* Makes a cache for `capacity` keys, as clock2q_new and clock2q_with_policy do. Takes one request and
- * 8 bytes a key more than they, from the same place. */
+/* Makes a cache for `capacity` keys, as clock2q_new, clock2q_with_policy and clock2q_with_history do.
+ * Takes one request and 8 bytes a key more than they, from the same place. */
 uint32_t clock2q_bytes_new(clock2q_bytes *cache, size_t capacity);
 uint32_t clock2q_bytes_with_policy(clock2q_bytes *cache, size_t capacity, size_t small, size_t window);
+uint32_t clock2q_bytes_with_history(clock2q_bytes *cache, size_t capacity, size_t small, size_t window,
+                                    size_t history);
 
 /* Has a cache hash its keys with a function of yours, which gets `context` each time, and returns true.
  * Returns false, and changes nothing, if there is a key. Needs a cache. */
@@ -114,6 +116,8 @@ static inline clock2q_bytes clock2q_bytes_checked_value(clock2q_bytes cache) {
 #define clock2q_bytes_new(cache, capacity) clock2q_bytes_new(clock2q_bytes_checked(cache, false), capacity)
 #define clock2q_bytes_with_policy(cache, capacity, small, window) \
     clock2q_bytes_with_policy(clock2q_bytes_checked(cache, false), capacity, small, window)
+#define clock2q_bytes_with_history(cache, capacity, small, window, history) \
+    clock2q_bytes_with_history(clock2q_bytes_checked(cache, false), capacity, small, window, history)
 #define clock2q_bytes_use_hash(cache, hash, context) \
     clock2q_bytes_use_hash(clock2q_bytes_checked(cache, true), hash, context)
 #define clock2q_bytes_enter(cache, key, length, place) \

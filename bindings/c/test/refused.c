@@ -45,6 +45,7 @@ static void bad_numbers(void) {
     must(clock2q_with_policy(&cache, 10, 10, 1) == CLOCK2Q_BAD_POLICY, "no slot for Main");
     must(clock2q_with_policy(&cache, 10, 2, 3) == CLOCK2Q_BAD_POLICY, "a window longer than Small");
     must(clock2q_with_policy(&cache, 10, 2, 0) == CLOCK2Q_BAD_POLICY, "a share without a window");
+    must(clock2q_with_history(&cache, 10, 2, 1, 11) == CLOCK2Q_BAD_POLICY, "a history longer than the cache");
     must(cache.at == NULL, "no cache");
     must(requests == 0, "no memory is asked for");
 }

@@ -6,7 +6,7 @@ use crate::handle::Handle;
 use crate::{
     BAD_CAPACITY, BAD_POLICY, DONE, clock2q_at, clock2q_capacity, clock2q_clear, clock2q_contains,
     clock2q_enter_key, clock2q_find_key, clock2q_len, clock2q_new, clock2q_next_victim,
-    clock2q_peek_key, clock2q_release, clock2q_remove, clock2q_with_policy,
+    clock2q_peek_key, clock2q_release, clock2q_remove, clock2q_with_history, clock2q_with_policy,
 };
 use std::alloc::Global;
 use std::test::Fail;
@@ -107,6 +107,12 @@ fn refused_caches(rt: HostRuntime) -> Result<(), Fail> {
     let mut made = Handle::none(alloc);
     let status = clock2q_with_policy(alloc, &mut made, 10, 5, 2);
     assert_eq!(rt; let_go(made, status), DONE);
+    let mut too_long = Handle::none(alloc);
+    let status = clock2q_with_history(alloc, &mut too_long, 10, 5, 2, 11);
+    assert_eq!(rt; let_go(too_long, status), BAD_POLICY);
+    let mut whole = Handle::none(alloc);
+    let status = clock2q_with_history(alloc, &mut whole, 10, 5, 2, 10);
+    assert_eq!(rt; let_go(whole, status), DONE);
     Ok(())
 }
 

@@ -1,17 +1,18 @@
 //! How a cache's capacity is divided among its queues.
 ghost use Rattle.std.specs.Prelude.{◌≡◌, ◌<◌, ◌≤◌, ◌^◌, MatchOption};
-ghost use Rattle.clock2q_machine.specs.Shares.{usual_shares, main_share};
-ghost use Rattle.clock2q_machine.specs.Policies.{IsPolicy, shares_of};
+ghost use Rattle.clock2q_machine.specs.Shares.{usual_shares, usual_history, main_share};
+ghost use Rattle.clock2q_machine.specs.Policies.{IsPolicy, shares_with};
 
 use std::marker::Model;
 
-/// The capacity of a cache, Small's share of it, and the window: the number of admissions to Small
-/// for which an entry is young.
+/// The capacity of a cache, Small's share of it, the window (the number of admissions to Small for
+/// which an entry is young) and the number of evicted keys that the history remembers.
 #[derive(Clone, Copy)]
 pub(crate) struct Shares {
     capacity: usize,
     small: usize,
     window: usize,
+    history: usize,
 }
 
 impl Model for Shares {
@@ -20,11 +21,11 @@ impl Model for Shares {
 
     ghost Value = { Parts };
 
-    ghost view = { λ s. record { capacity = s.capacity; small = s.small; window = s.window } };
+    ghost view = { λ s. record { capacity = s.capacity; small = s.small; window = s.window; history = s.history } };
 
-    ghost invariant = { λ s. IsPolicy (record { capacity = s.capacity; small = s.small; window = s.window }) };
+    ghost invariant = { λ s. IsPolicy (record { capacity = s.capacity; small = s.small; window = s.window; history = s.history }) };
 
-    ghost inverse = { λ p. record { capacity = p.capacity; small = p.small; window = p.window } };
+    ghost inverse = { λ p. record { capacity = p.capacity; small = p.small; window = p.window; history = p.history } };
 }
 
 impl Shares {
@@ -42,22 +43,35 @@ impl Shares {
             capacity,
             small,
             window: small.div_ceil(2),
+            history: Shares::usual_history(capacity),
         }
     }
 
-    /// Returns the shares of a cache that is made with all three numbers, or `None` if they don't
-    /// fit together.
-    pub(crate) fn new(capacity: usize, small: usize, window: usize) -> Option<Self>
-        ensures { MatchOption result (¬ IsPolicy (shares_of capacity small window))
-            (λ shares. shares ≡ shares_of capacity small window) }
+    /// Returns how many keys the history remembers if the caller doesn't say.
+    pub(crate) fn usual_history(capacity: usize) -> usize
+        ensures { result ≡ usual_history capacity }
     {
-        if small >= capacity || (small == 0) != (window == 0) || window > small {
+        capacity / 2
+    }
+
+    /// Returns the shares of a cache that is made with all four numbers, or `None` if they don't
+    /// fit together.
+    pub(crate) fn new(capacity: usize, small: usize, window: usize, history: usize) -> Option<Self>
+        ensures { MatchOption result (¬ IsPolicy (shares_with capacity small window history))
+            (λ shares. shares ≡ shares_with capacity small window history) }
+    {
+        if small >= capacity
+            || (small == 0) != (window == 0)
+            || window > small
+            || history > capacity
+        {
             return None;
         }
         Some(Shares {
             capacity,
             small,
             window,
+            history,
         })
     }
 
@@ -88,8 +102,9 @@ impl Shares {
     }
 
     pub(crate) fn history(self) -> usize
-        ensures { result ≡ self.history }
+        ensures share { result ≡ self.history }
+        ensures within { result ≤ self.capacity }
     {
-        self.capacity / 2
+        self.history
     }
 }

@@ -3,7 +3,7 @@ use Rattle.std.specs.Prelude.{◌≡◌, ℕ, Bool, List, [], ◌∷◌, ◌++�
 use Rattle.std.specs.List.{list_all, list_any}
 use Rattle.std.specs.Fmt.{digits}
 use Rattle.clock2q_machine.specs.Shares.{usual_shares}
-use Rattle.clock2q_machine.specs.Policies.{shares_of}
+use Rattle.clock2q_machine.specs.Policies.{shares_of, shares_with}
 use Rattle.clock2q_machine.specs.Calls.{Put, Get, GetAt, Set, With, Try, SlotFor, Remove, Retain, Clear, Prefill, Len, Value, Slot, Stored, Tried, Flag, Number, Done}
 use Rattle.clock2q_ports.specs.Lines.{lines_of}
 use Rattle.clock2q_text.specs.Text.{script_of, words_of, number_of, call_in, shares_in, call_named, output_of, answer_lines}
@@ -135,8 +135,14 @@ chosen_shares : map script_of (codes "new 4 2 1" ∷ codes "new 3 0 0\n" ∷ cod
 unfolding script_of lines_of words_of number_of shares_in
 chosen_shares = refl
 
-bad_shares : map script_of (codes "new 2 1" ∷ codes "new 0 0 0" ∷ codes "new 0 1 1" ∷ codes "new 2 1 1 1" ∷ codes "new 2 1 1 "
-    ∷ codes "new 2  1 1" ∷ codes "new 2 1 x" ∷ codes "new 2 1 18446744073709551616" ∷ []) ≡ replicate 8 (Err 1)
+-- and the history's share
+chosen_history : map script_of (codes "new 4 2 1 4" ∷ codes "new 3 0 0 0\n" ∷ codes "new 2 1 1 99" ∷ [])
+    ≡ map (λ shares. Ok (record { shares = shares; calls = [] })) (shares_with 4 2 1 4 ∷ shares_with 3 0 0 0 ∷ shares_with 2 1 1 99 ∷ [])
+unfolding script_of lines_of words_of number_of shares_in
+chosen_history = refl
+
+bad_shares : map script_of (codes "new 2 1" ∷ codes "new 0 0 0" ∷ codes "new 0 1 1" ∷ codes "new 2 1 1 1 1" ∷ codes "new 2 1 1 x" ∷ codes "new 2 1 1 "
+    ∷ codes "new 2  1 1" ∷ codes "new 2 1 x" ∷ codes "new 2 1 18446744073709551616" ∷ []) ≡ replicate 9 (Err 1)
 unfolding script_of lines_of words_of number_of shares_in
 bad_shares = refl
 

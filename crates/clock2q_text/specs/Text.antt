@@ -6,7 +6,7 @@ use Rattle.std.specs.Str.{bytes_eq, all_ascii_digits}
 use Rattle.std.specs.Str.Parse.{digits_value}
 use Rattle.clock2q_ports.specs.Lines.{lines_of}
 use Rattle.clock2q_machine.specs.Shares.{Shares, usual_shares}
-use Rattle.clock2q_machine.specs.Policies.{shares_of}
+use Rattle.clock2q_machine.specs.Policies.{shares_of, shares_with}
 use Rattle.clock2q_machine.specs.Calls.{Call, Answer, Put, Get, Peek, Contains, GetAt, Set, With, Try, SlotFor, Remove, Retain, Clear, Prefill, Len, IsEmpty, Capacity, Value, Stored, Tried, Slot, Flag, Number, Done}
 
 -- the words of a line: the parts between its spaces, so that a word is empty if a space is first, last or after another
@@ -97,16 +97,21 @@ unfoldable pub call_in : List (List ℕ) → Option (Call ℕ ℕ)
 call_in [] = None
 call_in (name ∷ arguments) = call_named name arguments
 
--- the shares that the numbers after `new` choose: a capacity with its usual shares, or a capacity, Small's share and
--- the window; a capacity is at least 1
+-- the shares that the numbers after a capacity choose: the usual ones if there is none; Small's share and the window;
+-- or these and the history's share
+abbrev pub chosen_from : ℕ → List ℕ → Option Shares
+chosen_from capacity [] = Some (usual_shares capacity)
+chosen_from capacity (small ∷ []) = None
+chosen_from capacity (small ∷ window ∷ []) = Some (shares_of capacity small window)
+chosen_from capacity (small ∷ window ∷ history ∷ []) = Some (shares_with capacity small window history)
+chosen_from capacity (small ∷ window ∷ history ∷ other ∷ numbers) = None
+
+-- the shares that the numbers after `new` choose, the first of which is a capacity of at least 1
 abbrev pub shares_from : List ℕ → Option Shares
 shares_from [] = None
-shares_from (capacity ∷ []) = if capacity == 0 then None else Some (usual_shares capacity)
-shares_from (capacity ∷ small ∷ []) = None
-shares_from (capacity ∷ small ∷ window ∷ []) = if capacity == 0 then None else Some (shares_of capacity small window)
-shares_from (capacity ∷ small ∷ window ∷ other ∷ numbers) = None
+shares_from (capacity ∷ numbers) = if capacity == 0 then None else chosen_from capacity numbers
 
--- the shares that the words `new C` or `new C S W` spell
+-- the shares that the words `new C`, `new C S W` or `new C S W G` spell
 unfoldable pub shares_in : List (List ℕ) → Option Shares
 shares_in [] = None
 shares_in (name ∷ arguments) = if bytes_eq name (codes "new") then option_and_then shares_from (all_read number_of arguments) else None

@@ -4,7 +4,7 @@ ghost use Rattle.std.specs.Option.{option_map};
 ghost use Rattle.clock2q_text.specs.Commands.{call_of};
 ghost use Rattle.clock2q_ports.specs.Lines.{lines_of};
 ghost use Rattle.clock2q_text.specs.Text.{words_of, shares_in, calls_from, script_of};
-ghost use Rattle.clock2q_text.specs.Parsing.{Parses, shares_value, script_value};
+ghost use Rattle.clock2q_text.specs.Parsing.{Parses, Chooses, shares_value, script_value};
 ghost use Rattle.clock2q_text.specs.Cut.{first_and_others};
 
 mod lists;
@@ -16,13 +16,15 @@ use crate::serve_error::ServeError;
 use names::command_of;
 use std::alloc::Allocator;
 use std::num::NonZeroUsize;
-use words::{cut, number, two_numbers};
+use words::{cut, number, one_number};
 
-/// The shares that a first line chooses, if it has more than the capacity.
+/// The shares that a first line chooses, if it has more than the capacity: Small's, the window, and
+/// the history's if the line has that too.
 #[derive(Clone, Copy)]
 pub struct ChosenShares {
     pub small: usize,
     pub window: usize,
+    pub history: Option<usize>,
 }
 
 /// A parsed text: the capacity of a cache, its shares, and its commands.
@@ -75,12 +77,25 @@ fn shares_of(line: &[u8]) -> Option<(NonZeroUsize, Option<ChosenShares>)>
     let Some(words) = others else {
         return Some((capacity, None));
     };
-    let (small, window) = two_numbers(words)?;
-    let chosen = ChosenShares {
+    let chosen = chosen_in(words)?;
+    Some((capacity, Some(chosen)))
+}
+
+/// Returns the shares that the words after a capacity choose.
+fn chosen_in(words: &[u8]) -> Option<ChosenShares>
+    ensures { Chooses result (words_of words.now) }
+{
+    let (small, others) = number(words)?;
+    let (window, others) = number(others?)?;
+    let history = match others {
+        None => None,
+        Some(word) => Some(one_number(word)? as usize),
+    };
+    Some(ChosenShares {
         small: small as usize,
         window: window as usize,
-    };
-    Some((capacity, Some(chosen)))
+        history,
+    })
 }
 
 /// Returns the commands of the lines from line 2 on.

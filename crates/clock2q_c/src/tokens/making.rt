@@ -1,7 +1,7 @@
 //! The calls that make a cache of tokens and release it.
 ghost use Rattle.clock2q_c.specs.Tokens.{tokens_in};
 ghost use Rattle.clock2q_machine.specs.Machine.{empty};
-ghost use Rattle.clock2q_machine.specs.Policies.{IsPolicy, shares_of};
+ghost use Rattle.clock2q_machine.specs.Policies.{IsPolicy, shares_of, shares_with};
 ghost use Rattle.clock2q_machine.specs.Shares.{usual_shares};
 ghost use Rattle.std.specs.Prelude.{◌≡◌, ◌≢◌, ◌<◌, ◌≤◌, ◌↔◌, ◌⊎◌, Some, None, IsSome, IfOk, IsErrOf, IsOkUnless, Err};
 
@@ -85,6 +85,45 @@ pub extern "C" fn clock2q_tokens_with_policy(
     }
 }
 
+/// Makes a cache as [`clock2q_tokens_with_policy`] does, whose history remembers up to `history` evicted
+/// keys in place of half the capacity.
+///
+/// Returns what [`clock2q_tokens_with_policy`] does, and [`BAD_POLICY`] if `history` is more than the
+/// capacity too.
+///
+/// # Cost
+///
+/// That of [`clock2q_tokens_new`], with room for `history` evicted keys.
+#[unsafe(no_mangle)]
+pub extern "C" fn clock2q_tokens_with_history(
+    alloc: Global,
+    handle: &mut TokensHandle,
+    capacity: usize,
+    small: usize,
+    window: usize,
+    history: usize,
+) -> u32
+    requires { handle.old.cache ≡ None }
+    ensures made { result ≡ DONE →
+        tokens_in handle.new.cache ≡ Some (empty (shares_with capacity small window history)) }
+    ensures holds { IsSome handle.new.cache ↔ (result ≡ DONE) }
+    ensures refused { result ≢ DONE → handle.new.cache ≡ None }
+    ensures capacity { (result ≡ BAD_CAPACITY) ↔ ((capacity ≡ 0) ⊎ (MAX_CAPACITY < capacity)) }
+    ensures policy { (result ≡ BAD_POLICY) ↔
+        ((0 < capacity) × (capacity ≤ MAX_CAPACITY) ×
+        ¬ IsPolicy (shares_with capacity small window history)) }
+    ensures memory { result ≢ DONE → result ≢ BAD_CAPACITY → result ≢ BAD_POLICY →
+        result ≡ NO_MEMORY }
+{
+    match boxed_remembering(alloc, capacity, small, window, history) {
+        Ok(cache) => {
+            put(handle, cache);
+            DONE
+        }
+        Err(refusal) => status_of(refusal),
+    }
+}
+
 /// Frees a cache with all its memory, and consumes the handle.
 #[unsafe(no_mangle)]
 pub extern "C" fn clock2q_tokens_release(handle: TokensHandle)
@@ -142,6 +181,36 @@ pub(crate) fn boxed_with<A: Allocator + Copy>(
     in_box(
         alloc,
         Cache::with_policy(alloc, capacity, small, window, hasher)?,
+    )
+}
+
+/// Makes a cache with these shares and this history on the heap.
+///
+/// # Errors
+///
+/// Those of [`boxed_with`].
+pub(crate) fn boxed_remembering<A: Allocator + Copy>(
+    alloc: A,
+    capacity: usize,
+    small: usize,
+    window: usize,
+    history: usize,
+) -> Result<Box<HeldTokens<A>, A>, CacheError>
+    ensures made { IfOk result
+        (λ made. made.value.cache.machine ≡ empty (shares_with capacity small window history)) }
+    ensures capacity { IsErrOf result CacheError.Capacity ↔
+        ((capacity ≡ 0) ⊎ (MAX_CAPACITY < capacity)) }
+    ensures policy { IsErrOf result CacheError.Policy ↔
+        ((0 < capacity) × (capacity ≤ MAX_CAPACITY) ×
+        ¬ IsPolicy (shares_with capacity small window history)) }
+{
+    let Some(capacity) = NonZeroUsize::new(capacity) else {
+        return Err(CacheError::Capacity);
+    };
+    let hasher = BuildHasherDefault::new();
+    in_box(
+        alloc,
+        Cache::with_history(alloc, capacity, small, window, history, hasher)?,
     )
 }
 

@@ -46,7 +46,7 @@ impl<K: Hash + Eq + Drop, V: Drop, S: BuildHasher + Drop, A: Allocator + Copy> C
     ghost use Rattle.std.specs.Prelude.{◌≡◌, ◌≢◌, ◌-◌, ◌^◌, ◌<◌, ◌≤◌, ◌↔◌, Err, IfOk, IsErrOf, IsOkUnless};
     ghost use Rattle.std.specs.NonZero.{non_zero_usize_get};
     ghost use Rattle.clock2q_machine.specs.Shares.{usual_shares};
-    ghost use Rattle.clock2q_machine.specs.Policies.{IsPolicy, shares_of};
+    ghost use Rattle.clock2q_machine.specs.Policies.{IsPolicy, shares_of, shares_with};
     ghost use Rattle.clock2q_cache.specs.CacheState.{uncounted};
     ghost use Rattle.clock2q_machine.specs.Machine.{empty};
 
@@ -107,10 +107,49 @@ impl<K: Hash + Eq + Drop, V: Drop, S: BuildHasher + Drop, A: Allocator + Copy> C
             ((non_zero_usize_get capacity ≤ MAX_CAPACITY) ×
             ¬ IsPolicy (shares_of (non_zero_usize_get capacity) small window)) }
     {
+        let history = Shares::usual_history(capacity.get());
+        Cache::with_history(alloc, capacity, small, window, history, hasher)
+    }
+
+    /// Makes an empty cache as [`with_policy`](Cache::with_policy) does, whose history remembers up
+    /// to `history` evicted keys in place of half the capacity.
+    ///
+    /// A full cache admits a loop of new keys if Small and the history have room for it, so a
+    /// history of `capacity - small` admits every loop that fits beside the keys that were hit. 0
+    /// remembers nothing. Each key of the history takes memory as long as it is remembered.
+    ///
+    /// # Errors
+    ///
+    /// Those of [`with_policy`](Cache::with_policy), and `Policy` if `history` is more than
+    /// `capacity`.
+    ///
+    /// # Cost
+    ///
+    /// That of [`new`](Cache::new), with room for `history` evicted keys.
+    pub fn with_history(
+        alloc: A,
+        capacity: NonZeroUsize,
+        small: usize,
+        window: usize,
+        history: usize,
+        hasher: S,
+    ) -> Result<Self, CacheError>
+        ensures made { IfOk result
+            (λ cache. cache.machine ≡
+            empty (shares_with (non_zero_usize_get capacity) small window history)) }
+        ensures hasher { IfOk result (λ cache. cache.hasher ≡ hasher) }
+        ensures counts { IfOk result (λ cache. cache.counts ≡ uncounted) }
+        ensures capacity { IsErrOf result CacheError.Capacity ↔
+            (MAX_CAPACITY < non_zero_usize_get capacity) }
+        ensures most { MAX_CAPACITY ≡ 2 ^ 24 - 1 }
+        ensures policy { IsErrOf result CacheError.Policy ↔
+            ((non_zero_usize_get capacity ≤ MAX_CAPACITY) ×
+            ¬ IsPolicy (shares_with (non_zero_usize_get capacity) small window history)) }
+    {
         if capacity.get() > MAX_CAPACITY {
             return Err(CacheError::Capacity);
         }
-        let Some(shares) = Shares::new(capacity.get(), small, window) else {
+        let Some(shares) = Shares::new(capacity.get(), small, window, history) else {
             return Err(CacheError::Policy);
         };
         Cache::with_shares(alloc, shares, hasher)

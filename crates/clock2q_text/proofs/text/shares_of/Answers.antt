@@ -1,12 +1,11 @@
-use Rattle.std.proofs.Common.{◌≡◌, ℕ, true, Some, sym, ap, ◌∙◌, codes, arith, rules}
-use Rattle.std.specs.Option.{option_map}
+use Rattle.std.proofs.Common.{◌≡◌, ℕ, true, [], Some, sym, ap, ◌∙◌, codes, arith, rules}
 use Rattle.std.specs.Str.{bytes_eq}
 use Rattle.clock2q_machine.specs.Shares.{usual_shares}
-use Rattle.clock2q_machine.specs.Policies.{shares_of}
 use Rattle.clock2q_text.specs.Cut.{words_after}
+use Rattle.clock2q_text.specs.Parsing.{chosen_value}
 use Rattle.clock2q_text.specs.Text.{words_of, shares_in}
 use Rattle.clock2q_text.proofs.Calling.{words_of-cut, words_are_some}
-use Rattle.clock2q_text.proofs.Sharing.{Chosen, shares_in-other, shares_in-new, shares-bad, shares-zero, shares-usual, shares-chosen}
+use Rattle.clock2q_text.proofs.Sharing.{Chosen, shares_in-other, shares_in-new, shares-bad, shares-zero, shares-chosen}
 use Rattle.clock2q_text.proofs.text.shares_of.Goals as goal
 
 pub returns-then-ne : goal.returns-then-ne
@@ -27,7 +26,7 @@ returns-in_err-capacity c =
     let from : shares_in (words_of c.args.line.now) ≡ Chosen (words_after c.cut.result.1) =
     ap shares_in (words_of-cut c.args.line.now c.cut.result.0.now c.cut.result.1 c.cut.ensures.parts) ∙ shares_in-new c.cut.result.0.now (words_after c.cut.result.1) new in
     rw c.from_residual-in_err-capacity.ensures
-    (sym (from ∙ ap (λ o. Chosen (words_after o)) c.in_ok-arguments.was ∙ shares-bad (words_of c.in_ok-arguments.field-0.now) (sym c.in_err-capacity.ensures.first)))
+    (sym (from ∙ ap (λ o. Chosen (words_after o)) c.in_ok-arguments.was ∙ shares-bad (words_of c.in_ok-arguments.field-0.now) (words_are_some c.in_ok-arguments.field-0.now) (sym c.in_err-capacity.ensures.first)))
 
 pub returns-in_err-capacity-2 : goal.returns-in_err-capacity-2
 returns-in_err-capacity-2 c =
@@ -44,28 +43,28 @@ returns-in_default c =
     ap shares_in (words_of-cut c.args.line.now c.cut.result.0.now c.cut.result.1 c.cut.ensures.parts) ∙ shares_in-new c.cut.result.0.now (words_after c.cut.result.1) new in
     ap (λ k. Some (usual_shares k)) c.in_ok-capacity-2.ensures
     ∙ sym (from ∙ ap (λ o. Chosen (words_after o)) c.in_ok-arguments.was
-    ∙ shares-usual (words_of c.in_ok-arguments.field-0.now) c.in_ok-capacity.capacity (sym c.in_ok-capacity.ensures.first ∙ ap (λ o. Some (c.in_ok-capacity.capacity, words_after o)) c.in_default.is)
+    ∙ shares-chosen (words_of c.in_ok-arguments.field-0.now) c.in_ok-capacity.capacity [] (sym c.in_ok-capacity.ensures.first ∙ ap (λ o. Some (c.in_ok-capacity.capacity, words_after o)) c.in_default.is)
     (λ z. omega (arith, z, c.in_ok-capacity-2.capacity.ok, c.in_ok-capacity-2.ensures)))
 
-pub returns-in_err-small : goal.returns-in_err-small
-returns-in_err-small c =
+pub returns-in_err-chosen : goal.returns-in_err-chosen
+returns-in_err-chosen c =
     let new : bytes_eq c.cut.result.0.now (codes "new") ≡ true = search rules in
     let from : shares_in (words_of c.args.line.now) ≡ Chosen (words_after c.cut.result.1) =
     ap shares_in (words_of-cut c.args.line.now c.cut.result.0.now c.cut.result.1 c.cut.ensures.parts) ∙ shares_in-new c.cut.result.0.now (words_after c.cut.result.1) new in
-    rw c.from_residual-in_err-small.ensures (sym (from ∙ ap (λ o. Chosen (words_after o)) c.in_ok-arguments.was
+    rw c.from_residual-in_err-chosen.ensures (sym (from ∙ ap (λ o. Chosen (words_after o)) c.in_ok-arguments.was
     ∙ shares-chosen (words_of c.in_ok-arguments.field-0.now) c.in_ok-capacity.capacity (words_of c.in-Some.words.now)
     (sym c.in_ok-capacity.ensures.first ∙ ap (λ o. Some (c.in_ok-capacity.capacity, words_after o)) c.in-Some.is)
-    (λ z. omega (arith, z, c.in_ok-capacity-2.capacity.ok, c.in_ok-capacity-2.ensures)) (words_are_some c.in-Some.words.now)
-    ∙ ap (option_map (λ (p : ℕ × ℕ). shares_of c.in_ok-capacity.capacity p.0 p.1)) (sym c.in_err-small.ensures)))
+    (λ z. omega (arith, z, c.in_ok-capacity-2.capacity.ok, c.in_ok-capacity-2.ensures))
+    ∙ sym (c.in_err-chosen.ensures c.in_ok-capacity.capacity)))
 
 pub returns : goal.returns
 returns c =
     let new : bytes_eq c.cut.result.0.now (codes "new") ≡ true = search rules in
     let from : shares_in (words_of c.args.line.now) ≡ Chosen (words_after c.cut.result.1) =
     ap shares_in (words_of-cut c.args.line.now c.cut.result.0.now c.cut.result.1 c.cut.ensures.parts) ∙ shares_in-new c.cut.result.0.now (words_after c.cut.result.1) new in
-    ap (λ k. Some (shares_of k c.in_ok-small.small c.in_ok-small.window)) c.in_ok-capacity-2.ensures
+    ap (λ k. Some (chosen_value k c.in_ok-chosen.chosen)) c.in_ok-capacity-2.ensures
     ∙ sym (from ∙ ap (λ o. Chosen (words_after o)) c.in_ok-arguments.was
     ∙ shares-chosen (words_of c.in_ok-arguments.field-0.now) c.in_ok-capacity.capacity (words_of c.in-Some.words.now)
     (sym c.in_ok-capacity.ensures.first ∙ ap (λ o. Some (c.in_ok-capacity.capacity, words_after o)) c.in-Some.is)
-    (λ z. omega (arith, z, c.in_ok-capacity-2.capacity.ok, c.in_ok-capacity-2.ensures)) (words_are_some c.in-Some.words.now)
-    ∙ ap (option_map (λ (p : ℕ × ℕ). shares_of c.in_ok-capacity.capacity p.0 p.1)) (sym c.in_ok-small.ensures))
+    (λ z. omega (arith, z, c.in_ok-capacity-2.capacity.ok, c.in_ok-capacity-2.ensures))
+    ∙ sym (c.in_ok-chosen.ensures c.in_ok-capacity.capacity))
