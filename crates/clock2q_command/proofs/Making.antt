@@ -23,11 +23,12 @@ within : (n : ℕ) (Refused : Type 0) → (most_keys < n → Refused) → (Refus
 within n Refused refuses h = ⊎_elim (λ less. less) (λ more. absurd (h (refuses (omega arith)))) (cases_lt n (suc most_keys))
 
 -- the usual shares fit together
-usual_policy : (n small : ℕ) → 0 < n → small ≡ usual_small n → IsPolicy (record { capacity = n; small = small; window = (small + 1) / 2 })
+usual_policy : (n small : ℕ) → 0 < n → small ≡ usual_small n → IsPolicy (record { capacity = n; small = small; window = (small + 1) / 2; history = n / 2 })
 usual_policy n small some is = record {
   below = below (ltb 1 n) refl (is);
   both = ((λ e. omega (arith, e)), (λ e. omega (arith, e)));
   within = omega arith;
+  remembered = omega arith;
 } where
   below : (b : Bool) → ltb 1 n ≡ b → small ≡ cond b (max (n / 10) 1) 0 → small < n
   below true t e = let more : 1 < n = ltb-true 1 n t in omega (arith, e, more)
@@ -38,18 +39,25 @@ IsPolicy-usual n some = usual_policy n (usual_small n) some refl
 
 -- shares fit together, or they don't
 policy_cases : (shares : Shares) → IsPolicy shares ⊎ (IsPolicy shares → ⊥)
-policy_cases shares =
-    ⊎_elim (λ below.
-    ⊎_elim (λ longer. inr (λ p. omega (arith, longer, p.within))) (λ short. windowed below short (cases_lt 0 shares.window))
-    (cases_lt shares.small shares.window)) (λ above. inr (λ p. omega (arith, above, p.below)))
-    (cases_lt shares.small shares.capacity) where
-      small : shares.small < shares.capacity → shares.window ≤ shares.small → shares.window ≤ 0 → (0 < shares.small) ⊎ (shares.small ≤ 0) → IsPolicy shares ⊎ (IsPolicy shares → ⊥)
-      small below short none (inl some) = inr (λ p. let empty_small : shares.small ≡ 0 = p.both.1 (omega (arith, none)) in omega (arith, empty_small, some))
-      small below short none (inr empty_small) = inl (record { below = below; both = ((λ e. omega (arith, none)), (λ e. omega (arith, empty_small))); within = short })
+policy_cases shares = remembered (cases_lt shares.capacity shares.history) where
+  module _ (below : shares.small < shares.capacity) (short : shares.window ≤ shares.small) (few : shares.history ≤ shares.capacity) where
+    small : shares.window ≤ 0 → (0 < shares.small) ⊎ (shares.small ≤ 0) → IsPolicy shares ⊎ (IsPolicy shares → ⊥)
+    small none (inl some) = inr (λ p. let empty_small : shares.small ≡ 0 = p.both.1 (omega (arith, none)) in omega (arith, empty_small, some))
+    small none (inr empty_small) = inl (record { below = below; both = ((λ e. omega (arith, none)), (λ e. omega (arith, empty_small))); within = short; remembered = few })
 
-      windowed : shares.small < shares.capacity → shares.window ≤ shares.small → (0 < shares.window) ⊎ (shares.window ≤ 0) → IsPolicy shares ⊎ (IsPolicy shares → ⊥)
-      windowed below short (inl some) = inl (record { below = below; both = ((λ e. omega (arith, e, some, short)), (λ e. omega (arith, e, some))); within = short })
-      windowed below short (inr none) = small below short none (cases_lt 0 shares.small)
+    windowed : (0 < shares.window) ⊎ (shares.window ≤ 0) → IsPolicy shares ⊎ (IsPolicy shares → ⊥)
+    windowed (inl some) = inl (record { below = below; both = ((λ e. omega (arith, e, some, short)), (λ e. omega (arith, e, some))); within = short; remembered = few })
+    windowed (inr none) = small none (cases_lt 0 shares.small)
+
+  shared : shares.history ≤ shares.capacity → (shares.small < shares.capacity) ⊎ (shares.capacity ≤ shares.small) → (shares.small < shares.window) ⊎ (shares.window ≤ shares.small)
+      → IsPolicy shares ⊎ (IsPolicy shares → ⊥)
+  shared few (inr above) windows = inr (λ p. omega (arith, above, p.below))
+  shared few (inl below) (inl longer) = inr (λ p. omega (arith, longer, p.within))
+  shared few (inl below) (inr short) = windowed below short few (cases_lt 0 shares.window)
+
+  remembered : (shares.capacity < shares.history) ⊎ (shares.history ≤ shares.capacity) → IsPolicy shares ⊎ (IsPolicy shares → ⊥)
+  remembered (inl many) = inr (λ p. omega (arith, many, p.remembered))
+  remembered (inr few) = shared few (cases_lt shares.small shares.capacity) (cases_lt shares.small shares.window)
 
 module _ {X K V : Type 0} (machine : X → Machine K V) where
   -- a cache that `new` made or refused
@@ -60,7 +68,7 @@ module _ {X K V : Type 0} (machine : X → Machine K V) where
   Makes-usual n (Err Capacity) some made capacity policy = λ less. let more : most_keys < n = capacity.0 refl in omega (arith, less, more)
   Makes-usual n (Err Policy) some made capacity policy = absurd (policy refl)
 
-  -- one that `with_policy` made or refused
+  -- one that `with_policy` or `with_history` made or refused
   pub Makes-chosen : (shares : Shares) (r : Result X CacheError) → IfOk r (λ cache. machine cache ≡ empty shares) →
       IsErrOf r Capacity ↔ (most_keys < shares.capacity) → IsErrOf r Policy ↔
       ((shares.capacity ≤ most_keys) × (IsPolicy shares → ⊥)) → Makes shares machine r

@@ -23,9 +23,19 @@ fn new_cache<S: BuildHasher + Drop, A: Allocator>(
 ) -> Result<Cache<u64, u64, S, &A>, CacheError>
     ensures { Makes (shares_value capacity chosen) (λ cache. cache.machine) result }
 {
-    match chosen {
-        None => Cache::with_hasher(alloc, capacity, hasher),
-        Some(chosen) => { Cache::with_policy(alloc, capacity, chosen.small, chosen.window, hasher) }
+    let Some(
+        ChosenShares {
+            small,
+            window,
+            history,
+        },
+    ) = chosen
+    else {
+        return Cache::with_hasher(alloc, capacity, hasher);
+    };
+    match history {
+        None => Cache::with_policy(alloc, capacity, small, window, hasher),
+        Some(history) => Cache::with_history(alloc, capacity, small, window, history, hasher),
     }
 }
 

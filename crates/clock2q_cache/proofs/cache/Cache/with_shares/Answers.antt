@@ -1,5 +1,5 @@
 -- Nothing is resident, remembered or free, and the layers are as large as the shares say.
-use Rattle.std.proofs.Common.{[], ◌^◌, ◌<◌, ap, ◌∙◌, arith, inl, inr}
+use Rattle.std.proofs.Common.{[], ◌^◌, ◌<◌, ◌≡◌, ap, ◌∙◌, arith, ⊎_elim}
 use Rattle.clock2q_cache.proofs.Names.{cases_lt, KeyPlaces, Remembered, QueueState, for-new, new-none, emptied-slots, Known, hash_of}
 use Rattle.clock2q_cache.proofs.Changed.{kept-empty}
 use Rattle.clock2q_cache.proofs.cache.Cache.with_shares.Goals as goal
@@ -11,6 +11,8 @@ invariant_of-result g c =
     let few : c.args.shares.capacity < 2 ^ 24 = omega (arith, c.requires) in
     let short : p < 2 ^ 24 = omega (arith, few, c.window.ensures.policy.remembered) in
     let d = rw (c.capacity-slots.ensures, c.history.ensures.share) at c.in_ok-directory.ensures.made in
+    let windowed : 0 < c.args.shares.small → 0 < c.args.shares.window = λ some. ⊎_elim (λ above. above)
+      (λ below. let none : c.args.shares.small ≡ 0 = c.window.ensures.policy.both.1 (omega (arith, below)) in omega (arith, some, none)) (cases_lt 0 c.args.shares.window) in
     let h = ap (λ (z : Known _ _). z.history) d in
     let keys = ap (λ (z : Known _ _). z.residents) d in
     let n = new-none c.args.shares.capacity p least few short in
@@ -21,7 +23,7 @@ invariant_of-result g c =
     (record {
       as_many = ap (λ (z : QueueState). z.slots) c.in_ok-queues.ensures.made ∙ c.capacity-slots.ensures;
       window = ap (λ (z : QueueState). z.window) c.in_ok-queues.ensures.made ∙ c.window.ensures.window;
-      windowed = λ some. elim (cases_lt 0 c.args.shares.window) [ inl above ↦ above | inr below ↦ absurd (omega (arith, some, c.window.ensures.policy.both.1 (omega (arith, below)))) ];
+      windowed = windowed;
       remembers = ap (λ (z : Remembered _). z.limit) h;
       spacious = rw h room.slots;
       room_for_keys = omega (arith, ap (λ (z : KeyPlaces _ _). z.room) keys);
