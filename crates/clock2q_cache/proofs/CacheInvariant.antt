@@ -23,10 +23,10 @@ module _ {K : Type 0} (h : Remembered K) {h' : Remembered K} {index : IndexState
   now-slots same = ap (λ (z : Remembered K). slots z.places.index) is ∙ same
 
 -- the slots after one replaced another
-pub slots-renewed : {K : Type 0} (h : Remembered K) {h' : Remembered K} (old hsh : ℕ) {slot : ℕ}
-    → h' ≡ record h { places = record h.places { index = known.entered_from h.places.index hsh slot (left old slot h.places.index) } } → slot < 2 ^ 24
+pub slots-renewed : {K : Type 0} (h : Remembered K) {h' : Remembered K} (old hsh : ℕ) (b : Bool) {slot : ℕ}
+    → h' ≡ record h { places = record h.places { index = known.entered_from h.places.index b hsh slot (left old slot h.places.index) } } → slot < 2 ^ 24
     → slots h'.places.index ≡ with_handle (without_handle eqb (slots h.places.index) old slot) hsh slot
-slots-renewed h old hsh {slot} is below = now-slots h is (slots-entered (left old slot h.places.index) hsh slot (omega (arith, below))
+slots-renewed h old hsh b {slot} is below = now-slots h is (slots-entered (left old slot h.places.index) hsh slot (omega (arith, below))
     ∙ ap (λ z. with_handle z hsh slot) (slots-left h.places.index old slot (omega (arith, below))))
 
 -- the layers are as large as before

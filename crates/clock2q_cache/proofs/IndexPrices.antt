@@ -1,15 +1,15 @@
 -- What a call that may insert a key costs the index at most.
-use Rattle.std.proofs.Common.{◌≡◌, ℕ, ◌+◌, ◌*◌, ◌≤◌, ◌||◌, Bool, true, false, not, Option, Some, None, List, [], ◌∷◌, length, inl, inr, refl, sym, ap, ◌∙◌, subst, arith}
+use Rattle.std.proofs.Common.{◌≡◌, ℕ, ◌+◌, ◌*◌, ◌≤◌, ◌||◌, ◌&&◌, Bool, true, false, not, Option, Some, None, List, [], ◌∷◌, length, inl, inr, refl, sym, ap, ◌∙◌, subst, arith}
 use Rattle.std.specs.declared.hash.Hasher as hasher
 use Rattle.std.specs.declared.hash.BuildHasher as builder
-use Rattle.clock2q_cache.proofs.Names.{cases_Bool, or_parts, filter, list_any, last_or, last_some, option_map, is_some, none_is, if◌then◌else◌, IfSome, IsEquivalence, HashMembers, Places, place_of, oldest_hash, SmallEntry, MainEntry, Machine, placement, inserted, forgotten, slot_of, resident_at, resident_made, goes_to_main, get-within, replaced, after, Put, IsWhole, CacheState, hash_of, key_out, left_by, discarded, hash_in, looked_for, known_at, known_with, known_taken}
+use Rattle.clock2q_cache.proofs.Names.{cases_Bool, or_parts, filter, list_any, last_or, last_some, option_map, is_some, none_is, if◌then◌else◌, IfSome, IsEquivalence, HashMembers, Places, place_of, oldest_hash, SmallEntry, MainEntry, Machine, placement, inserted, forgotten, slot_of, resident_at, resident_made, goes_to_main, get-within, replaced, after, Put, IsWhole, CacheState, hash_of, key_out, left_by, discarded, hash_in, looked_for, known_at, known_once, known_taken}
 use Rattle.clock2q_machine.specs.Entries.{first_of}
 use Rattle.clock2q_machine.specs.Leaving.{leaves_for, leaves_for_small, leaver}
 use Rattle.clock2q_machine.proofs.MachineInvariant.{lasting-inserted}
 use Rattle.clock2q_machine.proofs.Entering.{slots_apart, differs, entered_there}
 use Rattle.clock2q_machine.proofs.Victims.{others_stay}
-use Rattle.clock2q_directory.specs.Index.{IndexState, IsWithinCapacity, looked_up, most_reached}
-use Rattle.clock2q_directory.proofs.Prices.{reached_oldest, freed-dear, freed-accesses, pushed-accesses}
+use Rattle.clock2q_directory.specs.Index.{IndexState, IsWithinCapacity, is_shared, looked_up, most_reached}
+use Rattle.clock2q_directory.proofs.Prices.{inserted-most, reached_oldest, freed-dear, freed-accesses, pushed-accesses}
 use Rattle.clock2q_cache.specs.Costs.{reached, reached_if, walked, slots_for, slots_to_take}
 use Rattle.clock2q_cache.specs.Places.{vacated_for, out_of}
 use Rattle.clock2q_cache.proofs.Listed.{at_its_slot}
@@ -118,10 +118,10 @@ module _ {K V S H : Type 0} (key : HashMembers K) (build : builder.Ghosts S H) (
   vacated_by absent None is = vacated_there absent (resident_at c.machine slot) refl
   vacated_by absent (Some tail) is = grind (arith, hashed, tail_leaves, known, none-forgotten, before, place-none, slot, rest, pushed-accesses, oldest_reached)
 
-  -- once the key has its slot
-  known_price : slot_of (key.eq k) c.machine ≡ None → (known_at key build hash k slot c).index.accesses
+  -- once the key has its slot, whether or not its gap was found
+  known_price : (b : Bool) → slot_of (key.eq k) c.machine ≡ None → (known_at key build hash k slot b c).index.accesses
       ≤ c.known.index.accesses + (2 * reached key build hash c k + reached_if key build hash c leaving + reached_if key build hash c (last_or None c.machine.history))
-  known_price absent = grind (arith, place_of, vacated_by, known, rest, freed-dear, hashed)
+  known_price b absent = grind (arith, inserted-most (b && is_shared before.index) before.index.shared (hashed k), place_of, vacated_by, known, rest, freed-dear, hashed)
 
 -- a lookup changes no entry
 pub within-looked : {v : IndexState} (x : ℕ) → IsWithinCapacity v → IsWithinCapacity (looked_up x v)
@@ -148,19 +148,19 @@ module _ {K V S H : Type 0} (key : HashMembers K) (build : builder.Ghosts S H) (
       (last_or None old.machine.history)
 
   -- the slots of the index that are read and written until a key has its slot are within the bound on them
-  pub known_with-reaches : (known_with key build hash k old).index.accesses ≤ old.known.index.accesses + slots_for key build hash k old
-  known_with-reaches = by_slot (slot_of (key.eq k) old.machine) refl
+  pub known_once-reaches : (b : Bool) → (known_once key build hash b k old).index.accesses ≤ old.known.index.accesses + slots_for key build hash k old
+  known_once-reaches b = by_slot (slot_of (key.eq k) old.machine) refl
     where
       by_slot : (o : Option ℕ) → slot_of (key.eq k) old.machine ≡ o
-          → (if is_some o then once.known else known_at key build hash k its_slot once).index.accesses ≤ old.known.index.accesses + (walked key build hash old k + (if is_some o then 0 else changes))
+          → (if is_some o then once.known else known_at key build hash k its_slot b once).index.accesses ≤ old.known.index.accesses + (walked key build hash old k + (if is_some o then 0 else changes))
       by_slot (Some s) found = omega arith
-      by_slot None absent = omega (arith, known_price key build hash laws respects once whole as_many (within-looked key_hash within) k absent)
+      by_slot None absent = omega (arith, known_price key build hash laws respects once whole as_many (within-looked key_hash within) k b absent)
 
   -- also if it is looked up twice
   pub known_taken-reaches : (known_taken key build hash k old).index.accesses ≤ old.known.index.accesses + slots_to_take key build hash k old
   known_taken-reaches = by_slot (slot_of (key.eq k) old.machine) refl
     where
-      by_slot : (o : Option ℕ) → slot_of (key.eq k) old.machine ≡ o → (if is_some o then once.known else known_at key build hash k its_slot twice).index.accesses
+      by_slot : (o : Option ℕ) → slot_of (key.eq k) old.machine ≡ o → (if is_some o then once.known else known_at key build hash k its_slot false twice).index.accesses
           ≤ old.known.index.accesses + (walked key build hash old k + (if is_some o then 0 else changes) + (if is_some o then 0 else walked key build hash old k))
       by_slot (Some s) found = omega arith
-      by_slot None absent = omega (arith, known_price key build hash laws respects twice whole as_many (within-looked key_hash (within-looked key_hash within)) k absent)
+      by_slot None absent = omega (arith, known_price key build hash laws respects twice whole as_many (within-looked key_hash (within-looked key_hash within)) k false absent)

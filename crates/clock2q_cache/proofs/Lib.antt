@@ -5,6 +5,7 @@ pub mod Evicting
 pub mod Fetched
 pub mod Filled
 pub mod Finding
+pub mod Gone
 pub mod Indexed
 pub mod IndexPrices
 pub mod Insertions
@@ -17,6 +18,7 @@ pub mod Making
 pub mod MakingRoom
 pub mod Names
 pub mod Places
+pub mod Queued
 pub mod Reaching
 pub mod Renewed
 pub mod Retained

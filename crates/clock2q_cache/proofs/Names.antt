@@ -15,7 +15,7 @@ pub use Rattle.std.specs.Prelude.{if◌then◌else◌, IfNone, nat_le, is_some, 
 pub use denote.Param.Always.{always_mut, mut_next}
 pub use Rattle.clock2q_handles.specs.Homes.{total, capacity, candidates, with_handle, no_entries, without_handle}
 pub use Rattle.clock2q_directory.specs.Directory.{Known}
-pub use Rattle.clock2q_directory.specs.History.{Remembered, most_beside, place_of, found_slot, found_place, IsWholeHistory, Places, oldest_hash, pushed_places, is_remembered}
+pub use Rattle.clock2q_directory.specs.History.{Remembered, most_beside, place_of, found_slot, found_place, found_gap, IsWholeHistory, Places, oldest_hash, pushed_places, is_remembered}
 pub use Rattle.clock2q_directory.specs.Index.{IndexState, is_shared, slots, left}
 pub use Rattle.clock2q_directory.specs.Indexes.{IsIndex, HasHash, is_named, is_alike}
 pub use Rattle.clock2q_directory.specs.Keys.{KeyPlaces, entry, written, hash_at, key_at, with_value, hashed_at, entries_of, is_key_at, comparisons_of, with_key, IsValueFor, Writes}
@@ -58,4 +58,4 @@ pub use Rattle.clock2q_cache.specs.Hashes.{hash_of}
 pub use Rattle.clock2q_cache.specs.Indexed.{HasPlaces, IsIndexed, IsSpacious}
 pub use Rattle.clock2q_cache.specs.Insertions.{Fills, placed_inspections, main_inspections, small_inspections, into_queue, next_is_vacant, makes_slot}
 pub use Rattle.clock2q_cache.specs.Makers.{TakesTimes, MayMake}
-pub use Rattle.clock2q_cache.specs.Places.{hash_in, looked_for, known_at, known_with, known_taken, remembering, left_by, entered, key_out, discarded}
+pub use Rattle.clock2q_cache.specs.Places.{hash_in, looked_for, known_at, known_once, known_with, known_taken, remembering, left_by, entered, key_out, discarded}

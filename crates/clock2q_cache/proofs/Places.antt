@@ -65,23 +65,23 @@ module _ {K V : Type 0} {eq : K → K → Bool} {hash : K → ℕ} {shares : Sha
       ∙ ap (λ z. pushed_places shares.history z slot (oldest_hash (λ (e : ℕ × K). e.0) h.entries) p) (hash-of-key hash keys.entries slot old k kept.stored.hashed hash_is key_is)
       ∙ ap (λ z. pushed_places shares.history (hash k) slot z p) (oldest-hashed hash None None h.entries refl kept.hashed)
 
-  module _ (p : Places) (key : K) (slot : ℕ) {hsh : ℕ} {p' : Places} (is : hsh ≡ hash key) where
+  module _ (p : Places) (key : K) (slot : ℕ) (b : Bool) {hsh : ℕ} {p' : Places} (is : hsh ≡ hash key) where
     -- a key enters at a slot that has no resident
-    pub entered-vacant : list_any (eqb slot) (queued_slots q) ≡ false → p' ≡ record p { index = known.entered hsh slot p.index } → p' ≡ entered hash key slot None m p
+    pub entered-vacant : list_any (eqb slot) (queued_slots q) ≡ false → p' ≡ record p { index = known.entered b hsh slot p.index } → p' ≡ entered hash key slot b None m p
     entered-vacant absent indexed = grind (arith, resident-none)
 
     -- a key takes the slot of a resident, which leaves
     pub entered-renewed : {old : ℕ} → list_any (eqb slot) (queued_slots q) ≡ true → hash_at keys.entries slot ≡ Some old
-        → p' ≡ record p { index = known.entered_from p.index hsh slot (known.left old slot p.index) } → p' ≡ entered hash key slot None m p
+        → p' ≡ record p { index = known.entered_from p.index b hsh slot (known.left old slot p.index) } → p' ≡ entered hash key slot b None m p
     entered-renewed {old} there at indexed = grind (arith, have, hash-of-key, left_by, resident-there)
 
     -- a key takes the slot of Small's tail, whose key goes into the history
     pub entered-evicting : {key_out : K} {old : ℕ} → last_or None (slots_of q.small) ≡ Some slot → key_at keys.entries slot ≡ Some key_out → hash_at keys.entries slot ≡ Some old
-        → (let r = pushed_places h.limit old slot (oldest_hash (λ (e : ℕ × K). e.0) h.entries) p in p' ≡ record r { index = known.entered_from p.index hsh slot r.index })
-        → p' ≡ entered hash key slot (option_map (λ (e : SmallEntry K). e.key) (last_or None m.small)) m p
+        → (let r = pushed_places h.limit old slot (oldest_hash (λ (e : ℕ × K). e.0) h.entries) p in p' ≡ record r { index = known.entered_from p.index b hsh slot r.index })
+        → p' ≡ entered hash key slot b (option_map (λ (e : SmallEntry K). e.key) (last_or None m.small)) m p
     entered-evicting {key_out} {old} last key_is hash_is indexed =
         let out : option_map (λ (e : SmallEntry K). e.key) (last_or None m.small) ≡ Some key_out =
         ap (λ o. option_map (λ (e : SmallEntry K). e.key) o) (last_entry laws kept slot last) ∙ sym (tail_key laws kept slot last).1 ∙ key_is in
-        indexed ∙ ap (λ (r : Places). record r { index = known.entered_from p.index hsh slot r.index }) (pushed-key p slot key_out key_is hash_is)
-        ∙ ap (λ x. let r = remembering hash key_out slot m p in record r { index = known.entered_from p.index x slot r.index }) is
-        ∙ ap (λ o. entered hash key slot o m p) (sym out)
+        indexed ∙ ap (λ (r : Places). record r { index = known.entered_from p.index b hsh slot r.index }) (pushed-key p slot key_out key_is hash_is)
+        ∙ ap (λ x. let r = remembering hash key_out slot m p in record r { index = known.entered_from p.index b x slot r.index }) is
+        ∙ ap (λ o. entered hash key slot b o m p) (sym out)

@@ -1,13 +1,13 @@
 -- How many slots of the index the parts of a call read and write.
-use Rattle.std.proofs.Common.{◌≡◌, ℕ, ◌+◌, ◌≤◌, true, [], length, Option, Some, refl, ap, ◌∙◌, arith}
+use Rattle.std.proofs.Common.{◌≡◌, ℕ, ◌+◌, ◌≤◌, Bool, true, not, [], length, Option, Some, refl, ap, ◌∙◌, arith}
 use Rattle.std.specs.Prelude.{sum_by}
 use Rattle.std.specs.declared.hash.Hasher as hasher
 use Rattle.std.specs.declared.hash.BuildHasher as builder
 use Rattle.clock2q_directory.specs.Index as known
 use Rattle.clock2q_directory.specs.Index.{most_reached, IsWithinCapacity}
 use Rattle.clock2q_directory.proofs.Prices.{left-dear, freed-accesses}
-use Rattle.clock2q_cache.proofs.Names.{HashMembers, IfSome, IsEquivalence, cons_option, sum_by-append, IndexState, Places, place_of, resident_at, slot_of, IsWhole, CacheState, Reaches, reached, walked, slots_for, slots_to_take, hash_of, hash_in, looked_for, known_with, known_taken, discarded, left_by}
-use Rattle.clock2q_cache.proofs.IndexPrices.{within-looked, known_with-reaches, known_taken-reaches}
+use Rattle.clock2q_cache.proofs.Names.{HashMembers, is_some, IfSome, IsEquivalence, cons_option, sum_by-append, IndexState, Places, place_of, resident_at, slot_of, IsWhole, CacheState, Reaches, reached, walked, slots_for, slots_to_take, hash_of, hash_in, looked_for, known_once, known_with, known_taken, discarded, left_by}
+use Rattle.clock2q_cache.proofs.IndexPrices.{within-looked, known_once-reaches, known_taken-reaches}
 use Rattle.clock2q_cache.proofs.Listed.{same-key}
 use Rattle.clock2q_cache.proofs.Retained.{below, below-more}
 
@@ -18,10 +18,15 @@ left-reaches hash x o slot p same = grind arith
 
 module _ {K V S H : Type 0} (key : HashMembers K) (build : builder.Ghosts S H) (hash : hasher.Ghosts H) where
   module _ (k : K) {old new : CacheState K V S} where
-    -- a key has its slot
+    -- a key has its slot, whether or not its gap was found
+    pub reaches-once : (b : Bool) → IsEquivalence key.eq → ((x y : K) → key.eq x y ≡ true → key.hash_input x ≡ key.hash_input y) → IsWhole key.eq old.machine
+        → length old.known.taken ≡ length old.machine.history → IsWithinCapacity old.known.index → new.known ≡ known_once key build hash b k old → Reaches (slots_for key build hash k old) old new
+    reaches-once b laws respects whole as_many within is = grind (arith, known_once-reaches key build hash k old laws respects whole as_many within b)
+
+    -- a key that was looked up has its slot
     pub reaches-with : IsEquivalence key.eq → ((x y : K) → key.eq x y ≡ true → key.hash_input x ≡ key.hash_input y) → IsWhole key.eq old.machine
         → length old.known.taken ≡ length old.machine.history → IsWithinCapacity old.known.index → new.known ≡ known_with key build hash k old → Reaches (slots_for key build hash k old) old new
-    reaches-with laws respects whole as_many within is = grind (arith, known_with-reaches key build hash k old laws respects whole as_many within)
+    reaches-with laws respects whole as_many within is = reaches-once (not (is_some (place_of (key.eq k) old.machine.history old.known.taken))) laws respects whole as_many within is
 
     -- a key that was looked up first among the residents has its slot
     pub reaches-taken : IsEquivalence key.eq → ((x y : K) → key.eq x y ≡ true → key.hash_input x ≡ key.hash_input y) → IsWhole key.eq old.machine

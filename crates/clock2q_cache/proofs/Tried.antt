@@ -5,7 +5,7 @@ use Rattle.std.specs.Borrow.{RattleType, Bor}
 use Rattle.std.specs.declared.alloc.Allocator as alloc
 use Rattle.std.specs.declared.hash.Hasher as hasher
 use Rattle.std.specs.declared.hash.BuildHasher as builder
-use Rattle.clock2q_cache.proofs.Names.{HashMembers, slice_get, UnwrapsOrElse, CacheState, Reaches, Spends, Fetches, hit-absent, slot_of, value_of, some_is, inspections_for, accesses_for, alike, slots_for, walked}
+use Rattle.clock2q_cache.proofs.Names.{HashMembers, slice_get, UnwrapsOrElse, CacheState, Reaches, Spends, Fetches, hit-absent, slot_of, value_of, some_is, inspections_for, accesses_for, alike, slots_for, walked, known_with, looked_for}
 use Rattle.clock2q_cache.proofs.Spent.{costs-of}
 use Rattle.clock2q_cache.specs.CacheLends.{Tries}
 
@@ -37,6 +37,9 @@ module _ (K V S A H : RattleType) (key : HashMembers K.Denot) (build : builder.G
   abbrev pub Slot-asked : Result ℕ E → Type 0
   Slot-asked found = OnErr found (Spends 0 0 (alike key build hash k old) old.counts new.counts)
 
+  abbrev pub Slot-known : Result ℕ E → Type 0
+  Slot-known found = MatchResult found (λ _. new.known ≡ known_with key build hash k old) (λ _. new.known ≡ (looked_for key build hash k old).known)
+
   -- all of that except that the slot is made
   pub record Searched (found : Result ℕ E) : Type 0 where
     pub fetched : Slot-fetched found
@@ -47,6 +50,7 @@ module _ (K V S A H : RattleType) (key : HashMembers K.Denot) (build : builder.G
     pub counts : Slot-counts found
     pub index : Slot-index found
     pub asked : Slot-asked found
+    pub known : Slot-known found
 
   -- what the loan of the slot's value ensures
   abbrev pub Lent : Result ℕ E → Result (Bor V.Denot) E → Type 0
@@ -72,6 +76,6 @@ module _ (K V S A H : RattleType) (key : HashMembers K.Denot) (build : builder.G
   fetches (Ok slot) (Ok value) s lent =
       let f = s.fetched in let same = some_is f.value value.now (sym f.there ∙ lent) in
       let becomes = rw same at f.becomes in
-      record { tries = (becomes, s.hasher, costs-of becomes s.index s.counts); value = rw same at f.had; err = tt; absent = tt }
+      record { tries = (becomes, s.hasher, costs-of becomes s.index s.counts, s.known); value = rw same at f.had; err = tt; absent = tt }
   fetches (Ok slot) (Err e) s lent = absurd lent
   fetches (Err e) result s lent = grind (arith, hit-absent, costs-of)

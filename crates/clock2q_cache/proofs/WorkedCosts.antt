@@ -37,7 +37,7 @@ hash = record { write = λ h bytes. get_or bytes 0 h; finish = λ h. h }
 
 -- two keys fill a cache whose index has 16 slots: both are in Small, or the first of them is in Main
 abbrev full : ℕ → ℕ → CacheState ℕ ℕ ℕ
-full a b = cache_state (state 2 (Put a a ∷ Put b b ∷ [])) (places_with (entered b 1 (entered a 0 (index_state (no_entries 16) []))) [] []) 0 uncounted
+full a b = cache_state (state 2 (Put a a ∷ Put b b ∷ [])) (places_with (entered false b 1 (entered false a 0 (index_state (no_entries 16) []))) [] []) 0 uncounted
 
 -- the bounds for calls on it
 abbrev bounds : List (Call ℕ ℕ) → CacheState ℕ ℕ ℕ → List ℕ

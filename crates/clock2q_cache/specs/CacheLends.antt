@@ -7,8 +7,8 @@ use Rattle.std.specs.declared.hash.Hasher as hasher
 use Rattle.std.specs.declared.hash.BuildHasher as builder
 use mathlib.Core.Option.{none}
 use Rattle.clock2q_machine.specs.Calls.{Call, Put, Get, Set, With, Try}
-use Rattle.clock2q_cache.specs.Costs.{Becomes, Costs, LooksAhead}
-use Rattle.clock2q_cache.specs.Places.{looked_for}
+use Rattle.clock2q_cache.specs.Costs.{Costs, LooksAhead}
+use Rattle.clock2q_cache.specs.Places.{known_with, looked_for}
 use Rattle.clock2q_directory.specs.History.{Places}
 use Rattle.clock2q_machine.specs.Machine.{Machine, stored}
 use Rattle.clock2q_machine.specs.Steps.{replaced, put, fetched}
@@ -20,10 +20,6 @@ module _ (K V S A H : RattleType) (key : HashMembers K.Denot) (build : builder.G
   -- the type of the cache, in the logic
   abbrev pub cache_row : RattleType
   cache_row = the_row K V S A H (record { hash_input = key.hash_input }) (record { eq = key.eq }) build hash heap
-
-  -- once the reference into the cache has ended, the machine is this one, at the cost of the call
-  abbrev pub LeavesMachine : MutBor (CacheState K.Denot V.Denot S.Denot) → Call K.Denot V.Denot → Machine K.Denot V.Denot → Fml
-  LeavesMachine c call m = follows_so cache_row cache_row c.ghost_name none (λ _ _. ⊤) (Becomes key build hash call m c.now)
 
   -- the machine becomes this one and the index this one at the cost of the call, and the hasher stays
   abbrev pub BecomesKnown : Call K.Denot V.Denot → Machine K.Denot V.Denot → Places → CacheState K.Denot V.Denot S.Denot → CacheState K.Denot V.Denot S.Denot → Type 0
@@ -40,8 +36,8 @@ module _ (K V S A H : RattleType) (key : HashMembers K.Denot) (build : builder.G
   -- the key was fetched, at the cost of the call, and has this value; at `Err` the machine is as it was
   abbrev pub Tries : {E : Type 0} → CacheState K.Denot V.Denot S.Denot → K.Denot → Result (Bor V.Denot) E → CacheState K.Denot V.Denot S.Denot → Type 0
   Tries old k r new =
-      MatchResult r (λ value. Becomes key build hash (With k value.now) (fetched (key.eq k) k value.now old.machine) old new)
-      (λ _. Becomes key build hash (Try k None) old.machine old new)
+      MatchResult r (λ value. BecomesKnown (With k value.now) (fetched (key.eq k) k value.now old.machine) (known_with key build hash k old) old new)
+      (λ _. BecomesKnown (Try k None) old.machine (looked_for key build hash k old).known old new)
 
   -- the same once the reference into the cache has ended
   abbrev pub LeavesTried : {E : Type 0} → MutBor (CacheState K.Denot V.Denot S.Denot) → K.Denot → Result (Bor V.Denot) E → Fml
@@ -59,7 +55,9 @@ module _ (K V S A H : RattleType) (key : HashMembers K.Denot) (build : builder.G
 
   -- the key has the value that the caller leaves behind the reference, as after `put`; at `Err` the machine is as it was
   abbrev pub LendsPut : {E : Type 0} → MutBor (CacheState K.Denot V.Denot S.Denot) → K.Denot → Result (MutBor V.Denot) E → Fml
-  LendsPut c k r = LendsSoOk cache_row V c r (λ n w. Becomes key build hash (Put k w) (put (key.eq k) k w c.now.machine) c.now n) (λ n. Becomes key build hash (Try k None) c.now.machine c.now n)
+  LendsPut c k r =
+      LendsSoOk cache_row V c r (λ n w. BecomesKnown (Put k w) (put (key.eq k) k w c.now.machine) (known_with key build hash k c.now) c.now n)
+      (λ n. BecomesKnown (Try k None) c.now.machine (looked_for key build hash k c.now).known c.now n)
 
   -- the key has its slot, where the value is what the caller leaves behind the reference, as after `put`; the counts are raised to their bounds
   abbrev pub LendsTaken : MutBor (CacheState K.Denot V.Denot S.Denot) → K.Denot → MutBor V.Denot → Fml

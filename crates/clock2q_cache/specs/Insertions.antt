@@ -85,26 +85,26 @@ module _ {K V S H : Type 0} (key : HashMembers K) (build : builder.Ghosts S H) (
     pub absent : known_count (key.eq k) c.machine ≡ 0
     pub at : IsGapFor gap x c.known.index
 
-  -- a key was placed with its value, while another left for the history, if it did; the hand made `looks` inspections,
-  -- and at most `links` more links were accessed
-  pub record Enters (k : K) (value : Option V) (p : Placement K V) (out : Option K) (looks links at : ℕ) (old new : CacheState K V S) : Type 0 where
+  -- a key, whose gap a lookup may have found, was placed with its value, while another left for the history, if it did; the
+  -- hand made `looks` inspections, and at most `links` more links were accessed
+  pub record Enters (k : K) (value : Option V) (p : Placement K V) (is_found : Bool) (out : Option K) (looks links at : ℕ) (old new : CacheState K V S) : Type 0 where
     pub slot : at ≡ p.slot
     pub machine : Fills value p old.machine new.machine
-    pub indexes : Reindexes (hash_in key build hash old) k at out old new
+    pub indexes : Reindexes (hash_in key build hash old) k at is_found out old new
     pub hasher : new.hasher ≡ old.hasher
     pub counts : Spends looks (looks + links) 0 old.counts new.counts
 
   -- the key went into Main, or into Small
-  abbrev pub EntersMain : K → Option V → (looks slot : ℕ) → CacheState K V S → CacheState K V S → Type 0
-  EntersMain k value looks slot old new = Enters k value (into_main k old.machine) None looks 28 slot old new
+  abbrev pub EntersMain : K → Option V → (is_found : Bool) → (looks slot : ℕ) → CacheState K V S → CacheState K V S → Type 0
+  EntersMain k value is_found looks slot old new = Enters k value (into_main k old.machine) is_found None looks 28 slot old new
 
-  abbrev pub EntersSmall : K → Option V → Option K → (looks links slot : ℕ) → CacheState K V S → CacheState K V S → Type 0
-  EntersSmall k value out looks links slot old new = Enters k value (into_small k old.machine) out looks links slot old new
+  abbrev pub EntersSmall : K → Option V → (is_found : Bool) → Option K → (looks links slot : ℕ) → CacheState K V S → CacheState K V S → Type 0
+  EntersSmall k value is_found out looks links slot old new = Enters k value (into_small k old.machine) is_found out looks links slot old new
 
   -- or into that of the two that was chosen
-  abbrev pub EntersQueue : (main : Bool) → K → Option V → (slot : ℕ) → CacheState K V S → CacheState K V S → Type 0
-  EntersQueue main k value slot old new =
-      let m = old.machine in Enters k value (into_queue main k m) (out_of main m) (placed_inspections main m) 29 slot old new
+  abbrev pub EntersQueue : (main : Bool) → K → Option V → (is_found : Bool) → (slot : ℕ) → CacheState K V S → CacheState K V S → Type 0
+  EntersQueue main k value is_found slot old new =
+      let m = old.machine in Enters k value (into_queue main k m) is_found (out_of main m) (placed_inspections main m) 29 slot old new
 
   -- a key that is not resident is erased from the history, and goes into Main or into Small
   pub record Admits (k : K) (x : ℕ) (main : Bool) (old new : CacheState K V S) : Type 0 where

@@ -331,6 +331,7 @@ impl<K: Hash + Eq, V, S: BuildHasher, A: Allocator> Cache<K, V, S, A> {
         requires { hash ≡
             hash_of S.BuildHasher S.Hasher.Hasher self.old.hasher (K.hash_input key.now) }
         ensures found { IsFoundFor K.eq result key.now hash self.new }
+        ensures gap { found_gap result ≡ None }
         ensures kept { self.new ≡
             record (looked_for K.Hash S.BuildHasher S.Hasher.Hasher key.now self.old) { counts = self.new.counts } }
         ensures counts { Spends 0 0

@@ -1,8 +1,41 @@
--- A gap that a lookup has found lets an insertion read no more than without it.
-use Rattle.std.proofs.Common.{ℕ, ◌≤◌, List, Option, Some, None, arith}
+-- What a gap that a lookup has found spares an index.
+use Rattle.std.proofs.Common.{◌≡◌, ℕ, ◌≤◌, Bool, true, false, ◌&&◌, if◌then◌else◌, List, Option, Some, None, inl, inr, refl, arith}
+use Rattle.std.specs.Prelude.{is_some, IsSome}
+use Rattle.std.proofs.lemmas.Bool.{cases_Bool}
 use Rattle.clock2q_handles.specs.Layout.{walk}
 use Rattle.clock2q_handles.specs.Positions.{GapValue, walk_to_gap}
+use Rattle.clock2q_directory.specs.Accesses.{most_changed, most_inserted}
+use Rattle.clock2q_directory.specs.Index.{IndexState, IsGapFor, is_shared}
 
-pub walk-spared : (homes : List (List (ℕ × ℕ))) (x : ℕ) (gap : Option GapValue) → walk_to_gap gap homes x ≤ walk homes x
-walk-spared homes x None = omega arith
-walk-spared homes x (Some gap) = omega arith
+module _ (homes : List (List (ℕ × ℕ))) (x : ℕ) where
+  -- the walk to the gap
+  pub walk-found : (gap : Option GapValue) → walk_to_gap gap homes x ≡ (if is_some gap then 0 else walk homes x)
+  walk-found None = refl
+  walk-found (Some g) = refl
+
+  -- the same, unless it is of no use
+  pub walk-usable : (gap : Option GapValue) (b : Bool) → walk_to_gap (if b then gap else None) homes x ≡ (if is_some gap && b then 0 else walk homes x)
+  walk-usable None true = refl
+  walk-usable None false = refl
+  walk-usable (Some g) true = refl
+  walk-usable (Some g) false = refl
+
+  -- a gap that is used though it counts as of no use
+  pub walk-spared : (gap : Option GapValue) (b : Bool) → walk_to_gap gap homes x ≤ (if is_some gap && b then 0 else walk homes x)
+  walk-spared None b = omega arith
+  walk-spared (Some g) true = omega arith
+  walk-spared (Some g) false = omega arith
+
+-- in an index of two tables a gap spares nothing
+pub inserted-apart : (b : Bool) (v : IndexState) (x : ℕ) → is_shared v ≡ false → most_inserted (b && is_shared v) v.shared x ≡ most_changed v.shared x
+inserted-apart true v x apart = rw apart refl
+inserted-apart false v x apart = refl
+
+-- a gap that may be used is the one that was found
+module _ (gap used : Option GapValue) (b : Bool) (is : used ≡ (if b then gap else None)) where
+  pub usable-gap : (x : ℕ) (v : IndexState) → IsGapFor gap x v → IsGapFor used x v
+  usable-gap x v at = elim (cases_Bool b) [ inl on ↦ rw (is, on) at | inr off ↦ rw (is, off) tt ]
+
+  -- and slots and places share a table
+  pub usable-shared : IsSome used → b ≡ true
+  usable-shared some = elim (cases_Bool b) [ inl on ↦ on | inr off ↦ absurd (cc) ]

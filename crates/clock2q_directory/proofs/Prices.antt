@@ -1,11 +1,11 @@
 -- What the changes of an index cost at most, in the state before the first of them.
-use Rattle.std.proofs.Common.{ℕ, ◌+◌, ◌≤◌, eqb, Option, Some, None, List, length, inl, inr, arith}
+use Rattle.std.proofs.Common.{ℕ, ◌+◌, ◌≤◌, eqb, Bool, true, false, Option, Some, None, List, length, inl, inr, arith}
 use Rattle.std.specs.List.{last_or}
 use Rattle.std.proofs.lemmas.Bool.{cases_Bool}
 use Rattle.clock2q_handles.specs.Homes.{total, capacity, without_handle}
 use Rattle.clock2q_handles.proofs.Removals.{removed-walk}
 use Rattle.clock2q_handles.proofs.Runs.{removed-room, removed-run}
-use Rattle.clock2q_directory.specs.Accesses.{most_changed}
+use Rattle.clock2q_directory.specs.Accesses.{most_changed, most_inserted}
 use Rattle.clock2q_directory.specs.Index.{IndexState, IsWithinCapacity, is_shared, left, remembered_at, forgotten_at, most_reached}
 use Rattle.clock2q_directory.specs.History.{Places, pushed_places, freed_place, taking_oldest}
 
@@ -13,6 +13,11 @@ module _ (homes : List (List (ℕ × ℕ))) (room : total homes ≤ capacity (le
   -- once an entry has left a table, no change reads and writes more slots than before
   pub removed-changed : (y : ℕ) → most_changed (without_handle eqb homes x h) y ≤ most_changed homes y
   removed-changed y = omega (arith, removed-walk eqb homes x h room y, removed-run eqb homes x h room y)
+
+-- an insertion reads and writes no more slots than any change
+pub inserted-most : (b : Bool) (homes : List (List (ℕ × ℕ))) (x : ℕ) → most_inserted b homes x ≤ most_changed homes x
+inserted-most true homes x = omega arith
+inserted-most false homes x = omega arith
 
 -- no change of either table reads and writes more slots than before, and the entries fit
 pub record IsNoDearer (v w : IndexState) : Type 0 where

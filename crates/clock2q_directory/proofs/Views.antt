@@ -166,14 +166,14 @@ no-places v x none =
 
 -- A slot put in
 
-pub slots-entered : (v : IndexState) (x s : ℕ) → s < first_remembered → slots (entered x s v) ≡ with_handle (slots v) x s
+pub slots-entered : (v : IndexState) (x s : ℕ) → s < first_remembered → slots (entered false x s v) ≡ with_handle (slots v) x s
 slots-entered v x s below = grind (arith, view-with_list, slots-slot_added, listed-view)
 
 -- the places among the slots are unchanged
 pub others-entered : (homes : List (List (ℕ × ℕ))) (x s : ℕ) → s < first_remembered → places_in (with_handle homes x s) ≡ places_in homes
 others-entered homes x s below = view-unseen place_entries refl homes x (listed homes x ++ (top x, s) ∷ []) (places-slot_added x s (listed homes x) below)
 
-pub places-entered : (v : IndexState) (x s : ℕ) → s < first_remembered → places (entered x s v) ≡ places v
+pub places-entered : (v : IndexState) (x s : ℕ) → s < first_remembered → places (entered false x s v) ≡ places v
 places-entered v x s below = ap (λ homes. if is_shared v then homes else v.own) (others-entered v.shared x s below)
 
 -- A slot taken out
@@ -322,8 +322,8 @@ pub record IsLikeBefore (v w : IndexState) : Type 0 where
 like : (v w : IndexState) → length w.shared ≡ length v.shared → length w.own ≡ length v.own → IsLikeBefore v w
 like v w shared own = grind (arith, length-map)
 
-pub entered-like : (v : IndexState) (x s : ℕ) → IsLikeBefore v (entered x s v)
-entered-like v x s = like v (entered x s v) (length-put v.shared x s) refl
+pub entered-like : (v : IndexState) (x s : ℕ) → IsLikeBefore v (entered false x s v)
+entered-like v x s = like v (entered false x s v) (length-put v.shared x s) refl
 
 pub left-like : (v : IndexState) (x s : ℕ) → IsLikeBefore v (left x s v)
 left-like v x s = like v (left x s v) (length-taken v.shared x s) refl

@@ -1,5 +1,5 @@
 -- The places of a history for two keys, worked out by hand: a discarded key's place is taken first, and then the oldest key's.
-use Rattle.std.proofs.Common.{◌≡◌, ℕ, eqb, [], ◌∷◌, map, Some, refl}
+use Rattle.std.proofs.Common.{◌≡◌, ℕ, Bool, eqb, false, true, [], ◌∷◌, map, Some, refl}
 use Rattle.clock2q_handles.specs.Homes.{no_entries, candidates}
 use Rattle.clock2q_handles.specs.Layout.{spill, layout}
 use Rattle.clock2q_directory.specs.Index.{IndexState, index_state, slots, places, entered}
@@ -11,7 +11,7 @@ none = places_with (index_state (no_entries 16) []) [] []
 
 -- a key becomes resident at slot 3 and leaves it
 abbrev out : (hash oldest : ℕ) → Places → Places
-out hash oldest p = pushed_places 2 hash 3 oldest (record p { index = entered hash 3 p.index })
+out hash oldest p = pushed_places 2 hash 3 oldest (record p { index = entered false hash 3 p.index })
 
 -- key 1, and then key 5; each key is its own hash
 abbrev two : Places
@@ -50,11 +50,16 @@ anew_pushed = (refl, refl, refl)
 
 -- keys of one hash make each other dear: the first reads its home, and then reads and writes it; the others walk past the
 -- keys before them, and those are in their run
-colliding : map (λ (v : IndexState). v.accesses) (entered 1 0 none.index ∷ entered 1 1 (entered 1 0 none.index) ∷ entered 1 2 (entered 1 1 (entered 1 0 none.index)) ∷ []) ≡ 3 ∷ 9 ∷ 18 ∷ []
+colliding : map (λ (v : IndexState). v.accesses) (entered false 1 0 none.index ∷ entered false 1 1 (entered false 1 0 none.index) ∷ entered false 1 2 (entered false 1 1 (entered false 1 0 none.index)) ∷ []) ≡ 3 ∷ 9 ∷ 18 ∷ []
 unfolding spill layout
 colliding = refl
 
 -- keys with homes of their own, apart from each other, don't
-apart : (entered 9 2 (entered 5 1 (entered 1 0 none.index))).accesses ≡ 9
+apart : (entered false 9 2 (entered false 5 1 (entered false 1 0 none.index))).accesses ≡ 9
 unfolding spill layout
 apart = refl
+
+-- the second of two keys of one hash walks past the first, unless a lookup has found its gap
+spared : map (λ (b : Bool). (entered b 1 1 (entered true 1 0 none.index)).accesses) (false ∷ true ∷ []) ≡ 8 ∷ 6 ∷ []
+unfolding spill layout
+spared = refl

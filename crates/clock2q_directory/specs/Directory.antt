@@ -1,6 +1,6 @@
 -- The known keys: the remembered ones with the index, and the residents' by slot; and how a key that takes a slot
 -- changes them.
-use Rattle.std.specs.Prelude.{◌≡◌, ℕ, ◌+◌, ◌^◌, ◌<◌, ◌≤◌, true, List, [], ◌∷◌, take, length, Option, Some, IfNone, nat_eq}
+use Rattle.std.specs.Prelude.{◌≡◌, ℕ, ◌+◌, ◌^◌, ◌<◌, ◌≤◌, Bool, true, List, [], ◌∷◌, take, length, Option, Some, IfNone, nat_eq}
 use Rattle.std.specs.Coded.{Coded, code_by, coded×}
 use Rattle.std.specs.List.{list_any, IsDistinct}
 use Rattle.clock2q_handles.specs.Homes.{total, capacity}
@@ -69,9 +69,9 @@ module _ {K V : Type 0} where
     pub places : new.places ≡ pushed_places old.history.limit hash slot (oldest_hash (λ (e : ℕ × K). e.0) old.history.entries) old.history.places
     pub accesses : Rises 0 8 old.history.accesses new.accesses
 
-  -- a key with this hash is in the index at a slot, whose resident left it and is the newest remembered key, unless the
-  -- limit is zero
-  pub record Remembers (hash slot : ℕ) (old : Known K V) (new : Remembered K) : Type 0 where
+  -- a key with this hash, whose gap a lookup may have found, is in the index at a slot, whose resident left it and is the
+  -- newest remembered key, unless the limit is zero
+  pub record Remembers (is_found : Bool) (hash slot : ℕ) (old : Known K V) (new : Remembered K) : Type 0 where
     pub old_hash : ℕ
     pub old_key : K
     pub had_hash : hash_at old.residents.entries slot ≡ Some old_hash
@@ -82,5 +82,5 @@ module _ {K V : Type 0} where
       accesses = new.accesses;
     }
     pub places : new.places ≡ (let p = pushed_places old.history.limit old_hash slot (oldest_hash (λ (e : ℕ × K). e.0) old.history.entries) old.history.places in
-        record p { index = entered_from old.history.places.index hash slot p.index })
+        record p { index = entered_from old.history.places.index is_found hash slot p.index })
     pub accesses : Rises 0 8 old.history.accesses new.accesses

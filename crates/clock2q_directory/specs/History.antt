@@ -48,9 +48,9 @@ taking_oldest hash slot oldest (Some place) p = places_with (remembered_at hash 
 abbrev pub pushed_places : (limit hash slot oldest : ℕ) → Places → Places
 pushed_places limit hash slot oldest p = if nat_lt (length p.taken) limit then taking_free hash slot p else taking_oldest hash slot oldest (last_or None p.taken) p
 
--- a key enters at a slot once its resident has left
-abbrev pub entering_places : (hash slot : ℕ) → Places → Places → Places
-entering_places hash slot before p = record p { index = entered_from before.index hash slot p.index }
+-- a key, whose gap a lookup may have found, enters at a slot once its resident has left
+abbrev pub entering_places : (is_found : Bool) → (hash slot : ℕ) → Places → Places → Places
+entering_places is_found hash slot before p = record p { index = entered_from before.index is_found hash slot p.index }
 
 -- the key at this place is forgotten
 abbrev pub freed_place : ℕ → Option ℕ → Places → Places

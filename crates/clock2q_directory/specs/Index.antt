@@ -1,5 +1,5 @@
 -- The index of a cache: where each known key is, under the key's hash.
-use Rattle.std.specs.Prelude.{◌≡◌, ℕ, ◌+◌, ◌-◌, ◌*◌, ◌^◌, ◌<◌, ◌≤◌, max, nat_eq, nat_lt, nat_le, Bool, true, false, not, ◌==◌, if◌then◌else◌, List, [], map, length, Option, Some, None, IfSome}
+use Rattle.std.specs.Prelude.{◌≡◌, ℕ, ◌+◌, ◌-◌, ◌*◌, ◌^◌, ◌<◌, ◌≤◌, max, nat_eq, nat_lt, nat_le, Bool, true, false, not, ◌==◌, ◌&&◌, if◌then◌else◌, List, [], map, length, Option, Some, None, IfSome}
 use Rattle.std.specs.List.{filter, list_any}
 use Rattle.std.specs.Coded.{Coded, code_by, coded×, coded_ℕ, coded_list}
 use Rattle.clock2q_handles.specs.Homes.{candidates, total, capacity, no_entries, with_handle, without_handle}
@@ -7,7 +7,7 @@ use Rattle.clock2q_handles.specs.Layout.{layout, walk}
 use Rattle.clock2q_handles.specs.Positions.{GapValue, gap_of, handle_replaced}
 use Rattle.clock2q_handles.specs.TableStep.{TableValue, made_for}
 use Rattle.clock2q_directory.specs.declared.handle.Handle.{Handle}
-use Rattle.clock2q_directory.specs.Accesses.{most_changed}
+use Rattle.clock2q_directory.specs.Accesses.{most_changed, most_inserted}
 use mathlib.Core.Path.{refl}
 
 -- a resident's handle is its slot, and a remembered key's handle is this plus its place
@@ -90,13 +90,15 @@ places v = if is_shared v then places_in v.shared else v.own
 abbrev pub beside : IndexState → ℕ
 beside v = if is_shared v then total (places v) else 0
 
--- a key with this hash becomes resident at a slot
-abbrev pub entered : (hash slot : ℕ) → IndexState → IndexState
-entered hash slot v = record v { shared = with_handle v.shared hash slot; accesses = v.accesses + most_changed v.shared hash }
+-- a key with this hash becomes resident at a slot once others have left, at the cost that it has in the index before
+-- that: a gap that a lookup has found spares the walk, if slots and places share a table
+abbrev pub entered_from : (base : IndexState) → (is_found : Bool) → (hash slot : ℕ) → IndexState → IndexState
+entered_from base is_found hash slot v =
+    record v { shared = with_handle v.shared hash slot; accesses = v.accesses + most_inserted (is_found && is_shared base) base.shared hash }
 
--- it becomes resident once others have left, at the cost that it has in the index before that
-abbrev pub entered_from : (base : IndexState) → (hash slot : ℕ) → IndexState → IndexState
-entered_from base hash slot v = record v { shared = with_handle v.shared hash slot; accesses = v.accesses + most_changed base.shared hash }
+-- no other has left
+abbrev pub entered : (is_found : Bool) → (hash slot : ℕ) → IndexState → IndexState
+entered is_found hash slot v = entered_from v is_found hash slot v
 
 -- the resident at a slot leaves
 abbrev pub left : (hash slot : ℕ) → IndexState → IndexState

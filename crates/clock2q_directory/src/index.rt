@@ -1,5 +1,5 @@
 //! The index of a cache: where each known key is, under the key's hash.
-ghost use Rattle.std.specs.Prelude.{◌≡◌, ◌+◌, ◌^◌, ◌<◌, ℕ, true, false, [], Some, IfOk, IfSome, IfNone, nat_eq};
+ghost use Rattle.std.specs.Prelude.{◌≡◌, ◌+◌, ◌^◌, ◌<◌, ℕ, true, false, [], Some, None, IfOk, IfSome, IfNone, if◌then◌else◌, is_some, nat_eq};
 ghost use Rattle.std.specs.List.{list_any};
 ghost use Rattle.clock2q_handles.specs.Homes.{candidates};
 ghost use Rattle.clock2q_handles.specs.Layout.{walk};
@@ -156,9 +156,15 @@ impl<A: Allocator> Index<A> {
         requires below { slot < 2 ^ 31 }
         requires room { HasSlotRoom self.old }
         requires gap { IsGapFor gap hash self.old }
-        ensures entered { self.new ≡ entered hash slot self.old }
+        ensures entered { self.new ≡ entered (is_some gap) hash slot self.old }
     {
-        charge(&self.shared, &self.own, &mut self.charged, &hash);
+        let is_found = gap.is_some();
+        charge(
+            &self.shared,
+            &self.own,
+            &mut self.charged,
+            &(hash, is_found),
+        );
         self.shared.insert_at_gap(gap, hash, slot);
     }
 
@@ -168,16 +174,26 @@ impl<A: Allocator> Index<A> {
         requires held { HasSlotUnder old_hash slot self.old }
         requires gap { IsGapFor gap hash self.old }
         requires room { HasRoomBeside self.old }
-        ensures renewed { self.new ≡ entered_from self.old hash slot (left old_hash slot self.old) }
+        ensures renewed { self.new ≡ entered_from self.old (is_some gap) hash slot (left old_hash slot self.old) }
     {
-        let gap = if self.is_shared() { gap } else { None }; // there may be no room before it leaves
+        let is_found = gap.is_some();
+        let gap = self.usable(gap);
         charge(
             &self.shared,
             &self.own,
             &mut self.charged,
-            &(hash, old_hash),
+            &(hash, old_hash, is_found),
         );
         self.shared.exchange(gap, hash, slot, old_hash, slot);
+    }
+
+    /// Returns a gap if an entry may be inserted there before another leaves, as it may if slots and
+    /// places share a table. A table of the slots alone may have no room for that.
+    #[inline(always)]
+    fn usable(&self, gap: Option<Gap>) -> Option<Gap>
+        ensures usable { result ≡ (if is_shared self.now then gap else None) }
+    {
+        if self.is_shared() { gap } else { None }
     }
 
     /// Removes the slot of a resident that leaves.

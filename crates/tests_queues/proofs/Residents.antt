@@ -56,8 +56,8 @@ module _ {hashes : ℕ} {h : Remembered ℕ} {r : KeyPlaces ℕ (Unit {0})} (k :
   fits = record { room = omega (arith, k.indexed.counted, k.room); few = omega (arith, k.indexed.counted, k.few) }
 
   -- a key is written to the first place, and takes slot 0
-  module _ (hash key : ℕ) (base : IndexState) (h' : Remembered ℕ) (r' : KeyPlaces ℕ (Unit {0})) (wrote : r'.entries ≡ written 0 (entry hash key tt) r.entries) (room : r'.room ≡ r.room)
-      (added : h' ≡ record h { places = record h.places { index = entered_from base hash 0 h.places.index } }) where
+  module _ (hash key : ℕ) {b : Bool} (base : IndexState) (h' : Remembered ℕ) (r' : KeyPlaces ℕ (Unit {0})) (wrote : r'.entries ≡ written 0 (entry hash key tt) r.entries) (room : r'.room ≡ r.room)
+      (added : h' ≡ record h { places = record h.places { index = entered_from base b hash 0 h.places.index } }) where
     now : slots h'.places.index ≡ with_handle (slots h.places.index) hash 0
     now = ap (λ (z : Remembered ℕ). slots z.places.index) added ∙ slots-entered h.places.index hash 0 (omega arith)
 
@@ -212,9 +212,9 @@ cleared-alone {hashes} {h} {h'} {r} {r'} k cleared keys =
     }
 
 -- another key took the slot of the resident, which is remembered
-pub remembered-resident : {key other hashes : ℕ} {d : Known ℕ (Unit {0})} {h' : Remembered ℕ} {r' : KeyPlaces ℕ (Unit {0})} → HasResident key hashes d.history d.residents
-    → Remembers (other % hashes) 0 d h' → Writes (other % hashes) other (Some tt) 0 d.residents.entries r'.entries → r'.room ≡ d.residents.room → HasResident other hashes h' r'
-remembered-resident {key} {other} {hashes} {d} {h'} {r'} k m w room =
+pub remembered-resident : {key other hashes : ℕ} {b : Bool} {d : Known ℕ (Unit {0})} {h' : Remembered ℕ} {r' : KeyPlaces ℕ (Unit {0})} → HasResident key hashes d.history d.residents
+    → Remembers b (other % hashes) 0 d h' → Writes (other % hashes) other (Some tt) 0 d.residents.entries r'.entries → r'.room ≡ d.residents.room → HasResident other hashes h' r'
+remembered-resident {key} {other} {hashes} {b} {d} {h'} {r'} k m w room =
     let hash_is = same_hash k m.had_hash in
     let key_is = same_key k m.had_key in
     let oldest = oldest_hash (λ (e : ℕ × ℕ). e.0) d.history.entries in
@@ -224,16 +224,16 @@ remembered-resident {key} {other} {hashes} {d} {h'} {r'} k m w room =
     let hashed : AllByRecursion (λ e. e.0 ≡ e.1 % hashes) h'.entries =
     rw entries (all-take (λ e. e.0 ≡ e.1 % hashes) d.history.limit ((m.old_hash, m.old_key) ∷ d.history.entries) (hash_is ∙ ap (λ z. z % hashes) (sym key_is), k.taken.hashed)) in
     let alone : IsAlone hashes h1 d.residents = left-alone k h1 d.residents oldest hashed refl (ap (λ (z : Remembered ℕ). z.limit) m.becomes) refl refl in
-    let places : h'.places ≡ record pushed { index = entered_from d.history.places.index (other % hashes) 0 pushed.index } =
-    m.places ∙ ap (λ x. let p = pushed_places d.history.limit x 0 oldest d.history.places in record p { index = entered_from d.history.places.index (other % hashes) 0 p.index }) hash_is in
+    let places : h'.places ≡ record pushed { index = entered_from d.history.places.index b (other % hashes) 0 pushed.index } =
+    m.places ∙ ap (λ x. let p = pushed_places d.history.limit x 0 oldest d.history.places in record p { index = entered_from d.history.places.index b (other % hashes) 0 p.index }) hash_is in
     entered-resident alone (other % hashes) other d.history.places.index h' r' w.becomes room (ap (λ (z : Places). record h' { places = z }) places) refl
 
 -- and if it is not remembered
-pub renewed-resident : {key other hashes x : ℕ} {d : Known ℕ (Unit {0})} {h' : Remembered ℕ} {r' : KeyPlaces ℕ (Unit {0})} → HasResident key hashes d.history d.residents
-    → hash_at d.residents.entries 0 ≡ Some x → h' ≡ record d.history { places = record d.history.places { index = entered_from d.history.places.index (other % hashes) 0 (left x 0 d.history.places.index) } }
+pub renewed-resident : {key other hashes x : ℕ} {b : Bool} {d : Known ℕ (Unit {0})} {h' : Remembered ℕ} {r' : KeyPlaces ℕ (Unit {0})} → HasResident key hashes d.history d.residents
+    → hash_at d.residents.entries 0 ≡ Some x → h' ≡ record d.history { places = record d.history.places { index = entered_from d.history.places.index b (other % hashes) 0 (left x 0 d.history.places.index) } }
     → {value : Option (Unit {0})} → Writes (other % hashes) other value 0 d.residents.entries r'.entries → r'.room ≡ d.residents.room → HasResident other hashes h' r'
-renewed-resident {key} {other} {hashes} {x} {d} {h'} {r'} k at is w room =
+renewed-resident {key} {other} {hashes} {x} {b} {d} {h'} {r'} k at is w room =
     let h = d.history in
     let h1 : Remembered ℕ = record h { places = record h.places { index = left (key % hashes) 0 h.places.index } } in
     entered-resident (withdrawn-alone k h1 refl) (other % hashes) other h.places.index h' r' w.becomes room
-    (is ∙ ap (λ z. record h { places = record h.places { index = entered_from h.places.index (other % hashes) 0 (left z 0 h.places.index) } }) (same_hash k at)) refl
+    (is ∙ ap (λ z. record h { places = record h.places { index = entered_from h.places.index b (other % hashes) 0 (left z 0 h.places.index) } }) (same_hash k at)) refl

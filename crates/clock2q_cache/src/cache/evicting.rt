@@ -6,7 +6,8 @@ use std::alloc::Allocator;
 use std::hash::{BuildHasher, Hash};
 
 impl<K: Hash + Eq + Copy, V: Drop, S: BuildHasher, A: Allocator> Cache<K, V, S, A> {
-    ghost use Rattle.std.specs.Prelude.{◌≡◌, ◌≢◌, ◌+◌, ◌<◌, ◌↔◌, length, IfSome, IsSome, None, Some};
+    ghost use Rattle.std.specs.Prelude.{◌≡◌, ◌≢◌, ◌+◌, ◌<◌, ◌↔◌, false, is_some, length, IfSome, IsSome, None, Some};
+    ghost use Rattle.clock2q_directory.specs.History.{found_gap};
     ghost use Rattle.std.specs.List.{list_any};
     ghost use Rattle.std.specs.Option.{option_map};
     ghost use Rattle.clock2q_machine.specs.Bounds.{inspections_for};
@@ -65,7 +66,7 @@ impl<K: Hash + Eq + Copy, V: Drop, S: BuildHasher, A: Allocator> Cache<K, V, S, 
         ensures machine { self.new.machine ≡ inserted (K.eq key) key value self.old.machine }
         ensures known { self.new.known ≡
             known_at K.Hash S.BuildHasher S.Hasher.Hasher key
-            (placement (K.eq key) key self.old.machine).slot self.old }
+            (placement (K.eq key) key self.old.machine).slot (is_some (found_gap found)) self.old }
         ensures hasher { self.new.hasher ≡ self.old.hasher }
         ensures counts { Spends (inspections_for (K.eq key) self.old.machine)
             (inspections_for (K.eq key) self.old.machine + 36) 0 self.old.counts self.new.counts }
@@ -124,7 +125,7 @@ impl<K: Hash + Eq + Copy, V: Drop, S: BuildHasher, A: Allocator> Cache<K, V, S, 
             leaves_for (list_any (K.eq key) self.old.machine.history) self.old.machine }
         ensures machine { self.new.machine ≡ inserted (K.eq key) key value self.old.machine }
         ensures known { self.new.known ≡
-            known_at K.Hash S.BuildHasher S.Hasher.Hasher key result.0
+            known_at K.Hash S.BuildHasher S.Hasher.Hasher key result.0 false
             (looked_for K.Hash S.BuildHasher S.Hasher.Hasher key self.old) }
         ensures hasher { self.new.hasher ≡ self.old.hasher }
         ensures counts { Spends (inspections_for (K.eq key) self.old.machine)

@@ -13,11 +13,11 @@ impl<K: Hash + Eq + Drop, V: Drop, S: BuildHasher, A: Allocator> Cache<K, V, S, 
     ghost use Rattle.clock2q_machine.specs.Bounds.{inspections_for};
     ghost use Rattle.clock2q_machine.specs.Calls.{With};
     ghost use Rattle.clock2q_machine.specs.Leaving.{leaves_wanted};
-    ghost use Rattle.clock2q_cache.specs.CacheLends.{LeavesMachine, LeavesTried, LendsPut, LendsTaken};
+    ghost use Rattle.clock2q_cache.specs.CacheLends.{LeavesKnown, LeavesTried, LendsPut, LendsTaken};
     ghost use Rattle.clock2q_cache.specs.Hashes.{hash_of};
     ghost use Rattle.clock2q_cache.specs.Closures.{Fetches, TakesSlot};
     ghost use Rattle.clock2q_cache.specs.Costs.{Reaches, Spends, accesses_for, alike, slots_for, walked};
-    ghost use Rattle.clock2q_cache.specs.Places.{known_taken};
+    ghost use Rattle.clock2q_cache.specs.Places.{known_taken, known_with, looked_for};
     ghost use Rattle.clock2q_machine.specs.Machine.{slot_of, value_of};
     ghost use Rattle.clock2q_machine.specs.Steps.{put, fetched, slotted, slotted_at};
 
@@ -32,8 +32,9 @@ impl<K: Hash + Eq + Drop, V: Drop, S: BuildHasher, A: Allocator> Cache<K, V, S, 
     pub fn get_or_insert_with<F: FnOnce() -> V>(&mut self, key: K, f: F) -> &V
         requires { slot_of (K.eq key) self.old.machine ≡ None → F.pre f }
         ensures* machine { sem 𝓛
-            (LeavesMachine K.row V.row S.row A.row S.Hasher.row K.Hash S.BuildHasher S.Hasher.Hasher A.Allocator self.entry
-            (With key result.now) (fetched (K.eq key) key result.now self.old.machine)) }
+            (LeavesKnown K.row V.row S.row A.row S.Hasher.row K.Hash S.BuildHasher S.Hasher.Hasher A.Allocator self.entry
+            (With key result.now) (fetched (K.eq key) key result.now self.old.machine)
+            (known_with K.Hash S.BuildHasher S.Hasher.Hasher key self.old)) }
         ensures value { UnwrapsOrElse (value_of (K.eq key) self.old.machine) (F.post f) result.now }
     {
         let slot = self.find_or_insert(key, f);
@@ -193,6 +194,8 @@ impl<K: Hash + Eq + Drop, V: Drop, S: BuildHasher, A: Allocator> Cache<K, V, S, 
         ensures fetched { Fetches (K.eq key) key
             (F.post f) self.old.machine result self.new.machine }
         ensures made { result < length self.new.machine.values }
+        ensures known { self.new.known ≡
+            known_with K.Hash S.BuildHasher S.Hasher.Hasher key self.old }
         ensures hasher { self.new.hasher ≡ self.old.hasher }
         ensures index { Reaches
             (slots_for K.Hash S.BuildHasher S.Hasher.Hasher key self.old) self.old self.new }
@@ -283,6 +286,11 @@ impl<K: Hash + Eq + Drop, V: Drop, S: BuildHasher, A: Allocator> Cache<K, V, S, 
             (walked K.Hash S.BuildHasher S.Hasher.Hasher self.old key) self.old self.new) }
         ensures asked { OnErr result
             (Spends 0 0 (alike K.Hash S.BuildHasher S.Hasher.Hasher key self.old) self.old.counts self.new.counts) }
+        ensures known { MatchResult result
+            (λ _. self.new.known ≡
+            known_with K.Hash S.BuildHasher S.Hasher.Hasher key self.old)
+            (λ _. self.new.known ≡
+            (looked_for K.Hash S.BuildHasher S.Hasher.Hasher key self.old).known) }
     {
         let hash = self.hash(&key);
         let found = self.lookup(hash, &key);

@@ -32,7 +32,7 @@ impl<K: Hash + Eq + Drop, V: Drop, S: BuildHasher, A: Allocator> Cache<K, V, S, 
         ensures slot { result ≡ (placement (K.eq key) key self.old.machine).slot }
         ensures machine { self.new.machine ≡ inserted (K.eq key) key value self.old.machine }
         ensures known { self.new.known ≡
-            known_at K.Hash S.BuildHasher S.Hasher.Hasher key result self.old }
+            known_at K.Hash S.BuildHasher S.Hasher.Hasher key result (is_some (found_gap found)) self.old }
         ensures hasher { self.new.hasher ≡ self.old.hasher }
         ensures counts { Spends (inspections_for (K.eq key) self.old.machine)
             (inspections_for (K.eq key) self.old.machine + 36) 0 self.old.counts self.new.counts }
@@ -62,7 +62,7 @@ impl<K: Hash + Eq + Drop, V: Drop, S: BuildHasher, A: Allocator> Cache<K, V, S, 
             is_some (leaves_for (list_any (K.eq key) self.old.machine.history) self.old.machine) }
         ensures machine { Reuses (K.eq key) key (F.post make) self.old.machine self.new.machine }
         ensures known { self.new.known ≡
-            known_at K.Hash S.BuildHasher S.Hasher.Hasher key result.0
+            known_at K.Hash S.BuildHasher S.Hasher.Hasher key result.0 false
             (looked_for K.Hash S.BuildHasher S.Hasher.Hasher key self.old) }
         ensures hasher { self.new.hasher ≡ self.old.hasher }
         ensures counts { Spends (inspections_for (K.eq key) self.old.machine)
@@ -94,7 +94,7 @@ impl<K: Hash + Eq + Drop, V: Drop, S: BuildHasher, A: Allocator> Cache<K, V, S, 
         requires small { main ≡ false → goes_to_main false self.old.machine ≡ false }
         requires had { IfNone value
             ((into_queue main key self.old.machine).slot < length self.old.machine.values) }
-        ensures entered { EntersQueue K.Hash S.BuildHasher S.Hasher.Hasher main key value result.0 self.old self.new }
+        ensures entered { EntersQueue K.Hash S.BuildHasher S.Hasher.Hasher main key value (is_some gap) result.0 self.old self.new }
         ensures left { Notes F.FnOnce leaves
             (leaves_placed main self.old.machine) result.0 result.1 }
     {
@@ -178,7 +178,7 @@ impl<K: Hash + Eq + Drop, V: Drop, S: BuildHasher, A: Allocator> Cache<K, V, S, 
         requires callable { F.IsAlwaysCallable leaves }
         requires unknown { IsUnknown K.Hash S.BuildHasher S.Hasher.Hasher key hash gap self.old }
         requires full { length self.old.machine.main ≡ main_share self.old.machine.shares }
-        ensures entered { EntersMain K.Hash S.BuildHasher S.Hasher.Hasher key value
+        ensures entered { EntersMain K.Hash S.BuildHasher S.Hasher.Hasher key value (is_some gap)
             (inspections self.old.machine.main) result.0 self.old self.new }
         ensures left { Notes F.FnOnce leaves (leaves_for_main self.old.machine) result.0 result.1 }
     {
@@ -198,7 +198,7 @@ impl<K: Hash + Eq + Drop, V: Drop, S: BuildHasher, A: Allocator> Cache<K, V, S, 
         requires had { IfNone value
             ((into_queue main key self.old.machine).slot < length self.old.machine.values) }
         ensures entered { Enters K.Hash S.BuildHasher S.Hasher.Hasher key value
-            (into_queue main key self.old.machine) None 0 28 result self.old self.new }
+            (into_queue main key self.old.machine) (is_some gap) None 0 28 result self.old self.new }
     {
         let slot = take_vacancy(&mut self.free, self.directory.made());
         self.directory.enter(gap, slot, hash, key, value);
@@ -237,7 +237,7 @@ impl<K: Hash + Eq + Drop, V: Drop, S: BuildHasher, A: Allocator> Cache<K, V, S, 
         requires full { vacancy self.old.machine ≡ None }
         requires out { IfSome (last_or None self.old.machine.small)
             (λ tail. is_promoted tail.age ≡ false) }
-        ensures entered { EntersSmall K.Hash S.BuildHasher S.Hasher.Hasher key value
+        ensures entered { EntersSmall K.Hash S.BuildHasher S.Hasher.Hasher key value (is_some gap)
             (option_map (λ tail. tail.key)
             (last_or None self.old.machine.small)) 0 28 result.0 self.old self.new }
         ensures left { Notes F.FnOnce leaves
@@ -264,7 +264,7 @@ impl<K: Hash + Eq + Drop, V: Drop, S: BuildHasher, A: Allocator> Cache<K, V, S, 
         requires full { vacancy self.old.machine ≡ None }
         requires on { IfSome (last_or None self.old.machine.small)
             (λ tail. is_promoted tail.age ≡ true) }
-        ensures entered { EntersSmall K.Hash S.BuildHasher S.Hasher.Hasher key value None
+        ensures entered { EntersSmall K.Hash S.BuildHasher S.Hasher.Hasher key value (is_some gap) None
             (inspections self.old.machine.main) 28 result.0 self.old self.new }
         ensures left { Notes F.FnOnce leaves
             (leaves_placed false self.old.machine) result.0 result.1 }

@@ -12,7 +12,7 @@ impl<K: Hash + Eq, V, S: BuildHasher, A: Allocator> Cache<K, V, S, A> {
     ghost use Rattle.clock2q_cache.specs.Costs.{Spends, Costs};
     ghost use Rattle.clock2q_cache.specs.Hashes.{hash_of};
     ghost use Rattle.clock2q_cache.specs.Places.{left_by};
-    ghost use Rattle.clock2q_cache.specs.Removals.{known_without};
+    ghost use Rattle.clock2q_cache.specs.Removals.{known_among, known_without};
     ghost use Rattle.clock2q_machine.specs.Machine.{slot_of, resident_at, resident_count, vacated, removed};
 
     /// Removes a key, and returns true if it was resident.
@@ -57,6 +57,8 @@ impl<K: Hash + Eq, V, S: BuildHasher, A: Allocator> Cache<K, V, S, A> {
     pub fn retain<F: FnMut(&K, &V) -> bool>(&mut self, mut keep: F)
         requires callable { MayBeAsked F.FnMut keep self.old.machine }
         ensures retained { Retains F.FnMut keep self.old.machine self.new.machine }
+        ensures known { self.new.known ≡
+            known_among K.Hash S.BuildHasher S.Hasher.Hasher self.new.machine self.old }
         ensures hasher { self.new.hasher ≡ self.old.hasher }
         ensures costs { (bits : List Bool) →
             Costs K.Hash S.BuildHasher S.Hasher.Hasher (Retain bits) self.old self.new }

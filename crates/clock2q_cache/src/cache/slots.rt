@@ -124,6 +124,7 @@ impl<K: Hash + Eq + Drop, V: Drop, S: BuildHasher, A: Allocator> Cache<K, V, S, 
     ghost use Rattle.clock2q_machine.specs.Steps.{put};
     ghost use Rattle.clock2q_cache.specs.Costs.{Costs};
     ghost use Rattle.clock2q_cache.specs.Hashes.{hash_of};
+    ghost use Rattle.clock2q_cache.specs.Places.{known_once};
     ghost use Rattle.clock2q_cache.specs.SlotsByHash.{slots_with_hash};
 
     /// Inserts a key with a value if no resident's key has its hash, and returns its slot and true.
@@ -150,6 +151,9 @@ impl<K: Hash + Eq + Drop, V: Drop, S: BuildHasher, A: Allocator> Cache<K, V, S, 
         ensures within { result.0 < self.new.machine.shares.capacity }
         ensures machine { result.1 ≡ true →
             self.new.machine ≡ put (K.eq key) key value self.old.machine }
+        ensures known { result.1 ≡ true →
+            self.new.known ≡
+            known_once K.Hash S.BuildHasher S.Hasher.Hasher false key self.old }
         ensures hasher { self.new.hasher ≡ self.old.hasher }
         ensures costs { result.1 ≡ true →
             Costs K.Hash S.BuildHasher S.Hasher.Hasher (Put key value) self.old self.new }

@@ -136,7 +136,7 @@ impl<K: Eq, V, A: Allocator> Directory<K, V, A> {
 }
 
 impl<K: Eq + Drop, V: Drop, A: Allocator> Directory<K, V, A> {
-    ghost use Rattle.std.specs.Prelude.{◌≡◌, ◌+◌, false, Some};
+    ghost use Rattle.std.specs.Prelude.{◌≡◌, ◌+◌, false, Some, is_some};
     ghost use Rattle.clock2q_directory.specs.Keys.{hash_at, key_at, Writes};
     ghost use Rattle.clock2q_directory.specs.Index.{entered, entered_from, left, IsGapFor};
     ghost use Rattle.clock2q_directory.specs.History.{is_remembered};
@@ -149,7 +149,7 @@ impl<K: Eq + Drop, V: Drop, A: Allocator> Directory<K, V, A> {
         requires vacant { IsVacant value slot self.old }
         requires gap { IsGapFor gap hash self.old.history.places.index }
         ensures index { self.new.history ≡
-            record self.old.history { places = record self.old.history.places { index = entered hash slot self.old.history.places.index } } }
+            record self.old.history { places = record self.old.history.places { index = entered (is_some gap) hash slot self.old.history.places.index } } }
         ensures entries { Writes hash key value slot self.old.residents.entries self.new.residents.entries }
         ensures kept { self.new.residents ≡
             record self.old.residents {
@@ -179,7 +179,7 @@ impl<K: Eq + Drop, V: Drop, A: Allocator> Directory<K, V, A> {
         ensures index { self.new.history ≡
             record self.old.history {
               places = record self.old.history.places {
-                index = entered_from self.old.history.places.index hash slot
+                index = entered_from self.old.history.places.index (is_some gap) hash slot
                     (left result.0 slot self.old.history.places.index);
               };
             } }
@@ -203,7 +203,7 @@ impl<K: Eq + Drop, V: Drop, A: Allocator> Directory<K, V, A> {
         requires room { IsWithinRoom self.old.history }
         requires absent { (old : K) → key_at self.old.residents.entries slot ≡ Some old →
             is_remembered K.eq old self.old.history.entries ≡ false }
-        ensures index { Remembers hash slot self.old self.new.history }
+        ensures index { Remembers (is_some gap) hash slot self.old self.new.history }
         ensures entries { Writes hash key value slot self.old.residents.entries self.new.residents.entries }
         ensures kept { self.new.residents ≡
             record self.old.residents {

@@ -6,7 +6,7 @@ use clock2q_handles::Gap;
 use std::alloc::Allocator;
 
 impl<A: Allocator> Index<A> {
-    ghost use Rattle.std.specs.Prelude.{◌≡◌, true, false};
+    ghost use Rattle.std.specs.Prelude.{◌≡◌, Bool, true, false, is_some};
     ghost use Rattle.clock2q_directory.specs.Index.{entered_from, forgotten_if, is_shared, remembered_at, HasPlaceRoom, HasRoomBeside, HasSlotRoom, IsGapFor, MaySucceed};
 
     /// Adds the slot of a key that becomes resident in place of another, which is remembered at a
@@ -25,7 +25,7 @@ impl<A: Allocator> Index<A> {
         requires beside { HasRoomBeside self.old }
         requires room { HasPlaceRoom (forgotten_if oldest place self.old) }
         requires gap { IsGapFor gap hash self.old }
-        ensures renewed { self.new ≡ entered_from self.old hash slot
+        ensures renewed { self.new ≡ entered_from self.old (is_some gap) hash slot
             (remembered_at old_hash slot place (forgotten_if oldest place self.old)) }
     {
         if self.is_shared() {
@@ -51,7 +51,7 @@ impl<A: Allocator> Index<A> {
         requires may { MaySucceed slot old_hash place oldest self.old }
         requires beside { HasRoomBeside self.old }
         requires room { HasPlaceRoom (forgotten_if oldest place self.old) }
-        ensures renewed { self.new ≡ entered_from self.old hash slot
+        ensures renewed { (is_found : Bool) → self.new ≡ entered_from self.old is_found hash slot
             (remembered_at old_hash slot place (forgotten_if oldest place self.old)) }
     {
         self.forget(oldest, place);
@@ -80,10 +80,10 @@ impl<A: Allocator> Index<A> {
         requires may { MaySucceed slot old_hash place oldest self.old }
         requires room { HasSlotRoom self.old }
         requires gap { IsGapFor gap hash self.old }
-        ensures renewed { self.new ≡ entered_from self.old hash slot
+        ensures renewed { self.new ≡ entered_from self.old (is_some gap) hash slot
             (remembered_at old_hash slot place (forgotten_if oldest place self.old)) }
     {
-        let seen = (hash, old_hash, place, oldest);
+        let seen = (hash, old_hash, place, oldest, gap.is_some());
         charge(&self.shared, &self.own, &mut self.charged, &seen);
         let handle = Handle::Remembered(place).pack();
         match oldest {

@@ -121,21 +121,35 @@ impl<A: Allocator> Index<A> {
     /// Adds the slot of a key that becomes resident, at the gap for its hash if a lookup found that.
     #[inline(always)]
     pub fn add_slot(&mut self, gap: Option<Gap>, hash: u64, slot: u32) {
-        charge(&self.shared, &self.own, &mut self.charged, &hash);
+        let is_found = gap.is_some();
+        charge(
+            &self.shared,
+            &self.own,
+            &mut self.charged,
+            &(hash, is_found),
+        );
         self.shared.insert_at_gap(gap, hash, slot);
     }
 
     /// Adds the slot of a key that becomes resident in place of another, which leaves.
     #[inline(always)]
     pub fn renew(&mut self, gap: Option<Gap>, hash: u64, slot: u32, old_hash: u64) {
-        let gap = if self.is_shared() { gap } else { None }; // there may be no room before it leaves
+        let is_found = gap.is_some();
+        let gap = self.usable(gap);
         charge(
             &self.shared,
             &self.own,
             &mut self.charged,
-            &(hash, old_hash),
+            &(hash, old_hash, is_found),
         );
         self.shared.exchange(gap, hash, slot, old_hash, slot);
+    }
+
+    /// Returns a gap if an entry may be inserted there before another leaves, as it may if slots and
+    /// places share a table. A table of the slots alone may have no room for that.
+    #[inline(always)]
+    fn usable(&self, gap: Option<Gap>) -> Option<Gap> {
+        if self.is_shared() { gap } else { None }
     }
 
     /// Removes the slot of a resident that leaves.

@@ -1,6 +1,6 @@
 -- The tail's key goes into the history, and the new key takes its slot.
 use Rattle.std.proofs.Common.{◌+◌, ◌≡◌, ℕ, eqb, false, Some, refl, ap, ◌∙◌, arith, vec_capacity}
-use Rattle.clock2q_cache.proofs.Names.{oldest_hash, pushed_places, if◌then◌else◌, with_handle, without_handle, is_shared, slots, Remembered, Places, most_beside, slots-pushed, shared-pushed, slots-entered, into_small}
+use Rattle.clock2q_cache.proofs.Names.{is_some, oldest_hash, pushed_places, if◌then◌else◌, with_handle, without_handle, is_shared, slots, Remembered, Places, most_beside, slots-pushed, shared-pushed, slots-entered, into_small}
 use Rattle.clock2q_cache.proofs.CacheInvariant.{m, IsDone}
 use Rattle.clock2q_cache.proofs.Renewed.{is-resident, within-room, slot-below, tail-in, tail-unremembered, tail_is, leaves-by, evicted-done}
 use Rattle.clock2q_cache.proofs.Insertions.{evicted-spends}
@@ -61,7 +61,7 @@ returns g c =
       entered = record {
         slot = d.at;
         machine = d.fills;
-        indexes = entered-evicting g.met.K.Eq.laws c.self.invariant i.directory.history.places c.args.key c.reuse_tail-tail.result
+        indexes = entered-evicting g.met.K.Eq.laws c.self.invariant i.directory.history.places c.args.key c.reuse_tail-tail.result (is_some c.args.gap)
             (rw (← c.self.view_is) at c.requires.unknown.hashed) c.reuse_tail-tail.ensures.tail r.had_key r.had_hash r.places;
         hasher = refl;
         counts = evicted-spends i.queues i.directory.history i.directory.residents c.reuse_tail-tail.ensures.queues c.reuse_tail-tail.ensures.accesses r.becomes r.accesses c.remember.ensures.kept;

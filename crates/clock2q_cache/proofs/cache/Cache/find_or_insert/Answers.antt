@@ -1,7 +1,7 @@
 -- The value is at the slot where the key was found, or at the one that it took.
 use Rattle.std.proofs.Common.{sym, ap, ◌∙◌, arith}
 use Rattle.clock2q_cache.proofs.Names.{slice_get_within, inserted}
-use Rattle.clock2q_cache.proofs.Finding.{no-slot}
+use Rattle.clock2q_cache.proofs.Finding.{gap-found, no-slot}
 use Rattle.clock2q_cache.proofs.Fetched.{hit-fetches, new-fetches}
 use Rattle.clock2q_cache.proofs.Insertions.{hit-spends, insert-spends}
 use Rattle.clock2q_cache.proofs.Reaching.{reaches-with}
@@ -28,13 +28,20 @@ returns-in-Resident-clause-counts g c = grind (arith, hit-spends, c.lookup-found
 pub returns-in-Resident-clause-index : goal.returns-in-Resident-clause-index
 returns-in-Resident-clause-index g c = grind (arith, reaches-looked, c.record_hit.ensures.kept, c.lookup-found.ensures.kept)
 
+pub returns-in-Resident-clause-known : goal.returns-in-Resident-clause-known
+returns-in-Resident-clause-known g c = grind (arith, c.in-Resident.ensures.slot, c.record_hit.ensures.kept, c.lookup-found.ensures.kept)
+
+pub returns-clause-known : goal.returns-clause-known
+returns-clause-known g c =
+    let none = no-slot c.lookup-found.result c.in_default.not-Resident in
+    let gap = gap-found c.lookup-found.result _ c.in_default.not-Resident (c.lookup-found.ensures.place (sym none)) (c.lookup-found.ensures.ended (sym none)) in
+    rw (← (none ∙ c.lookup-found.ensures.slot)) (rw (c.insert.ensures.slot, c.lookup-found.ensures.kept, gap) at c.insert.ensures.known)
+
 pub returns-clause-index : goal.returns-clause-index
 returns-clause-index g c =
-    let absent = no-slot c.lookup-found.result c.in_default.not-Resident ∙ c.lookup-found.ensures.slot in
     reaches-with (record { eq = g.K.PartialEq.eq; hash_input = g.K.Hash.hash_input }) g.S.BuildHasher g.S.Hasher.Hasher c.args.key
     g.met.K.Eq.laws g.met.K.Hash.respects_eq c.lookup-found.ensures.whole c.lookup-found.ensures.as_many
-    c.lookup-found.ensures.within
-    (rw (← absent) (rw (c.insert.ensures.slot, c.lookup-found.ensures.kept) at c.insert.ensures.known))
+    c.lookup-found.ensures.within (returns-clause-known g c)
 
 pub returns-clause-counts : goal.returns-clause-counts
 returns-clause-counts g c =

@@ -10,6 +10,6 @@ returns g c =
     let f = e.fetched in
     let same = some_is f.value c.value.result.now (sym f.there ∙ c.value.ensures) in
     let becomes = rw same at f.becomes in (
-      (refl, λ _. tt, (becomes, e.hasher, costs-of becomes e.index e.counts)),
+      (refl, λ _. tt, (becomes, e.hasher, costs-of becomes e.index e.counts, e.known)),
       record { machine = tt; value = rw same at f.had },
     )

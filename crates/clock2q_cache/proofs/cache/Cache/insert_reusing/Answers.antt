@@ -19,4 +19,4 @@ returns-clause-machine g c =
 pub returns-clause-known : goal.returns-clause-known
 returns-clause-known g c =
     let s = c.choose_queue-main.ensures.sent in
-    rw (s.hasher, s.sent.erased, s.sent.goes, s.known, c.find_place-found.ensures.kept, c.requires.absent.hashed) at c.insert_unknown-slot.ensures.entered.indexes
+    rw (c.gap.ensures.gap, c.find_place-found.ensures.gap, s.hasher, s.sent.erased, s.sent.goes, s.known, c.find_place-found.ensures.kept, c.requires.absent.hashed) at c.insert_unknown-slot.ensures.entered.indexes

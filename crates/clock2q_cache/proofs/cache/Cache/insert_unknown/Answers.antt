@@ -1,9 +1,7 @@
 -- A full cache has an entry in Small, if Small has a share.
 use Rattle.std.proofs.Common.{sym, arith}
-use Rattle.clock2q_cache.proofs.Places.{key-out}
 use Rattle.clock2q_cache.proofs.Changed.{small-some}
-use Rattle.clock2q_cache.proofs.Insertions.{tail-inspections, looked-spends}
-use Rattle.clock2q_cache.proofs.Spent.{spends-more}
+use Rattle.clock2q_cache.proofs.Queued.{joins-small, promotes-tail, evicts-tail}
 use Rattle.clock2q_cache.proofs.Evicting.{vacant-leaver}
 use Rattle.clock2q_cache.proofs.cache.Cache.insert_unknown.Goals as goal
 
@@ -17,17 +15,17 @@ pub evict_tail-requires-clause-some : goal.evict_tail-requires-clause-some
 evict_tail-requires-clause-some g c = grind (arith, c.tail_is_promoted.ensures.machine, small-some, c.has_vacancy.ensures.whole, c.if-has_vacancy.ensures.vacant, c.requires.small, c.if-main.false)
 
 pub returns-then-has_vacancy-clause-entered : goal.returns-then-has_vacancy-clause-entered
-returns-then-has_vacancy-clause-entered g c = grind (arith, c.join-then-has_vacancy.ensures.entered, c.if-has_vacancy.ensures.vacant, spends-more)
+returns-then-has_vacancy-clause-entered g c = rw c.if-main.false (joins-small (sym c.if-has_vacancy.ensures.vacant) c.join-then-has_vacancy.ensures.entered)
 
 pub returns-then-tail_is_promoted-clause-entered : goal.returns-then-tail_is_promoted-clause-entered
 returns-then-tail_is_promoted-clause-entered g c =
     let some = small-some _ c.args.self.now.machine c.has_vacancy.ensures.whole (sym c.if-has_vacancy.ensures.vacant) (c.requires.small c.if-main.false) in
-    grind (arith, c.if-main.false, c.promote_tail.ensures.entered, c.tail_is_promoted.ensures.kept, c.tail_is_promoted.ensures.counts, key-out, tail-inspections, c.if-has_vacancy.ensures.vacant, c.if-tail_is_promoted.ensures.value, looked-spends)
+    rw c.if-main.false (promotes-tail (sym c.if-has_vacancy.ensures.vacant) some c.tail_is_promoted.ensures.kept c.tail_is_promoted.ensures.counts c.if-tail_is_promoted.ensures.value c.promote_tail.ensures.entered)
 
 pub returns-else-tail_is_promoted-clause-entered : goal.returns-else-tail_is_promoted-clause-entered
 returns-else-tail_is_promoted-clause-entered g c =
     let some = small-some _ c.args.self.now.machine c.has_vacancy.ensures.whole (sym c.if-has_vacancy.ensures.vacant) (c.requires.small c.if-main.false) in
-    grind (arith, c.if-main.false, c.evict_tail.ensures.entered, c.tail_is_promoted.ensures.kept, c.tail_is_promoted.ensures.counts, key-out, tail-inspections, c.if-has_vacancy.ensures.vacant, c.if-tail_is_promoted.ensures.value, looked-spends)
+    rw c.if-main.false (evicts-tail (sym c.if-has_vacancy.ensures.vacant) some c.tail_is_promoted.ensures.kept c.tail_is_promoted.ensures.counts c.if-tail_is_promoted.ensures.value c.evict_tail.ensures.entered)
 
 pub returns-then-has_vacancy-clause-left : goal.returns-then-has_vacancy-clause-left
 returns-then-has_vacancy-clause-left g c = rw c.if-main.false (record { noted = vacant-leaver c.args.self.now.machine (sym c.if-has_vacancy.ensures.vacant) })

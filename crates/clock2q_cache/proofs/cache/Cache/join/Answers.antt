@@ -1,6 +1,6 @@
 -- The new key's slot is the vacancy.
 use Rattle.std.proofs.Common.{refl, ap, vec_capacity, arith}
-use Rattle.clock2q_cache.proofs.Names.{slots, Remembered, slots-entered, into_main, into_small}
+use Rattle.clock2q_cache.proofs.Names.{is_some, slots, Remembered, slots-entered, into_main, into_small}
 use Rattle.clock2q_cache.proofs.CacheInvariant.{m, IsFree, IsDone, done-reindexed, reindexed, now-slots, free-to-join, made-to-join, main-done, small-done}
 use Rattle.clock2q_cache.proofs.Insertions.{joined-spends}
 use Rattle.clock2q_cache.proofs.Places.{entered-vacant}
@@ -73,7 +73,7 @@ returns-then-main g c =
       entered = record {
         slot = d.at;
         machine = d.fills;
-        indexes = entered-vacant g.met.K.Eq.laws c.self.invariant c.self.inside.directory.history.places c.args.key c.take_vacancy-slot.result
+        indexes = entered-vacant g.met.K.Eq.laws c.self.invariant c.self.inside.directory.history.places c.args.key c.take_vacancy-slot.result (is_some c.args.gap)
             (rw (← c.self.view_is) at c.requires.unknown.hashed) f.absent (ap (λ (z : Remembered _). z.places) c.enter.ensures.index);
         hasher = refl;
         counts = joined-spends c.self.inside.queues c.self.inside.directory.history c.self.inside.directory.residents 1 6 c.append.ensures.queues c.append.ensures.accesses
@@ -90,7 +90,7 @@ returns g c =
       entered = record {
         slot = d.at;
         machine = d.fills;
-        indexes = entered-vacant g.met.K.Eq.laws c.self.invariant c.self.inside.directory.history.places c.args.key c.take_vacancy-slot.result
+        indexes = entered-vacant g.met.K.Eq.laws c.self.invariant c.self.inside.directory.history.places c.args.key c.take_vacancy-slot.result (is_some c.args.gap)
             (rw (← c.self.view_is) at c.requires.unknown.hashed) f.absent (ap (λ (z : Remembered _). z.places) c.enter.ensures.index);
         hasher = refl;
         counts = joined-spends c.self.inside.queues c.self.inside.directory.history c.self.inside.directory.residents 3 10 c.admit.ensures.queues c.admit.ensures.accesses

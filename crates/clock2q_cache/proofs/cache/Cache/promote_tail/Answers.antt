@@ -1,6 +1,6 @@
 -- The tail moves on to Main, and the new key takes the slot of Main's victim.
 use Rattle.std.proofs.Common.{◌≡◌, ◌+◌, true, Some, None, refl, sym, arith, vec_capacity, ap, ◌∙◌}
-use Rattle.clock2q_cache.proofs.Names.{made_below, last_or, slots_of, slots, Remembered, into_small}
+use Rattle.clock2q_cache.proofs.Names.{is_some, made_below, last_or, slots_of, slots, Remembered, into_small}
 use Rattle.clock2q_cache.proofs.CacheInvariant.{made-still, m, IsDone, done-reindexed, reindexed, slots-renewed, length_in_small}
 use Rattle.clock2q_cache.proofs.Renewed.{is-resident, within-room, slot-below, no-tail, victim-in, victim-leaves, leaves-by, victim-not_in_front, victim-not_behind, tail-in, tail-not_in_front, tail-not_in_rest, promoted-done}
 use Rattle.clock2q_cache.proofs.Insertions.{victim-spends}
@@ -73,7 +73,7 @@ done g c tail =
     done-reindexed g.met.K.Eq.laws c.self.invariant (reindexed c.self.inside.directory.history r.index refl)
     (promoted-done g.met.K.Eq.laws c.self.invariant (rw (← c.self.view_is) at c.requires.unknown.hashed) (rw (← c.self.view_is) at c.requires.unknown.absent)
     (victim-in g.met.K.Eq.laws c.self.invariant c.take_victim-slot.result victim) r.hash
-    (slots-renewed c.self.inside.directory.history c.renew-old.result.0 c.args.hash r.index below) r.entries r.kept tail victim
+    (slots-renewed c.self.inside.directory.history c.renew-old.result.0 c.args.hash (is_some c.args.gap) r.index below) r.entries r.kept tail victim
     (rw (← c.self.view_is) at c.requires.full) (rw (← c.self.view_is) at c.requires.on)
     (rw (c.append.ensures.queues, c.in-Some.ensures.queues, c.take_victim-slot.ensures.queues, (still g c tail).0, (still g c tail).1) at c.admit.ensures.queues))
 
@@ -95,7 +95,7 @@ returns g c =
       entered = record {
         slot = d.at;
         machine = d.fills;
-        indexes = entered-renewed g.met.K.Eq.laws c.self.invariant c.self.inside.directory.history.places c.args.key c.take_victim-slot.result (rw (← c.self.view_is) at c.requires.unknown.hashed)
+        indexes = entered-renewed g.met.K.Eq.laws c.self.invariant c.self.inside.directory.history.places c.args.key c.take_victim-slot.result (is_some c.args.gap) (rw (← c.self.view_is) at c.requires.unknown.hashed)
             (victim-in g.met.K.Eq.laws c.self.invariant c.take_victim-slot.result c.take_victim-slot.ensures.victim) r.hash (ap (λ (z : Remembered _). z.places) r.index);
         hasher = refl;
         counts = victim-spends g.met.K.Eq.laws c.self.invariant 28 c.take_victim-slot.ensures.inspections

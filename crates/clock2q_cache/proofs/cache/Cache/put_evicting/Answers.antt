@@ -2,7 +2,7 @@
 use Rattle.std.proofs.Common.{sym, ap, ◌∙◌, arith, rules}
 use Rattle.clock2q_cache.proofs.Names.{none_is, CacheState}
 use Rattle.clock2q_machine.proofs.Laws.{put_there}
-use Rattle.clock2q_cache.proofs.Finding.{no-slot}
+use Rattle.clock2q_cache.proofs.Finding.{gap-found, no-slot}
 use Rattle.clock2q_cache.proofs.Insertions.{hit-spends, insert-spends}
 use Rattle.clock2q_cache.proofs.Evicting.{none-had, had-before, victim-handed}
 use Rattle.clock2q_cache.proofs.Reaching.{reaches-with}
@@ -38,8 +38,9 @@ returns-clause-resident g c =
 
 pub returns-in_default-clause-known : goal.returns-in_default-clause-known
 returns-in_default-clause-known g c =
-    let absent = no-slot c.lookup-found.result c.in_default.not-Resident ∙ c.lookup-found.ensures.slot in
-    rw (← absent) (rw (c.lookup-found.ensures.kept) at c.insert_evicting.ensures.known)
+    let none = no-slot c.lookup-found.result c.in_default.not-Resident in
+    let gap = gap-found c.lookup-found.result _ c.in_default.not-Resident (c.lookup-found.ensures.place (sym none)) (c.lookup-found.ensures.ended (sym none)) in
+    rw (← (none ∙ c.lookup-found.ensures.slot)) (rw (c.lookup-found.ensures.kept, gap) at c.insert_evicting.ensures.known)
 
 pub returns-clause-known : goal.returns-clause-known
 returns-clause-known g c = grind (arith, c.in-Resident.ensures.slot, c.replace.ensures.kept, c.record_hit.ensures.kept, c.lookup-found.ensures.kept)

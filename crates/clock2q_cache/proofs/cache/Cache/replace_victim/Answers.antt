@@ -1,6 +1,6 @@
 -- The key goes to the end of Main, at the victim's slot.
 use Rattle.std.proofs.Common.{arith, refl, ap, ◌∙◌, vec_capacity}
-use Rattle.clock2q_cache.proofs.Names.{slots, Remembered, into_main}
+use Rattle.clock2q_cache.proofs.Names.{is_some, slots, Remembered, into_main}
 use Rattle.clock2q_cache.proofs.CacheInvariant.{m, IsDone, done-reindexed, reindexed, slots-renewed}
 use Rattle.clock2q_cache.proofs.Renewed.{is-resident, within-room, slot-below, victim-in, victim-leaves, replaced-done}
 use Rattle.clock2q_cache.proofs.Insertions.{victim-spends}
@@ -30,7 +30,7 @@ done g c =
     done-reindexed g.met.K.Eq.laws c.self.invariant (reindexed c.self.inside.directory.history c.renew-old.ensures.index refl)
     (replaced-done g.met.K.Eq.laws c.self.invariant (rw (← c.self.view_is) at c.requires.unknown.hashed) (rw (← c.self.view_is) at c.requires.unknown.absent)
     (victim-in g.met.K.Eq.laws c.self.invariant c.reuse_victim-victim.result victim) c.renew-old.ensures.hash
-    (slots-renewed c.self.inside.directory.history c.renew-old.result.0 c.args.hash c.renew-old.ensures.index below)
+    (slots-renewed c.self.inside.directory.history c.renew-old.result.0 c.args.hash (is_some c.args.gap) c.renew-old.ensures.index below)
     c.renew-old.ensures.entries c.renew-old.ensures.kept victim
     (rw (← c.self.view_is) at c.requires.full) c.reuse_victim-victim.ensures.queues)
 
@@ -48,7 +48,7 @@ returns g c =
       entered = record {
         slot = d.at;
         machine = d.fills;
-        indexes = entered-renewed g.met.K.Eq.laws c.self.invariant c.self.inside.directory.history.places c.args.key c.reuse_victim-victim.result
+        indexes = entered-renewed g.met.K.Eq.laws c.self.invariant c.self.inside.directory.history.places c.args.key c.reuse_victim-victim.result (is_some c.args.gap)
             (rw (← c.self.view_is) at c.requires.unknown.hashed) there c.renew-old.ensures.hash (ap (λ (z : Remembered _). z.places) c.renew-old.ensures.index);
         hasher = refl;
         counts = victim-spends g.met.K.Eq.laws c.self.invariant 28 c.reuse_victim-victim.ensures.inspections (omega (arith, looked), omega (arith, looked))

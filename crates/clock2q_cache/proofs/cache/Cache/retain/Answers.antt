@@ -1,8 +1,9 @@
 -- The closure is called for each resident, which leaves if it is refused.
 use Rattle.std.proofs.Common.{◌≡◌, ◌+◌, ◌*◌, ◌<◌, ◌≤◌, false, Option, None, Some, arith, List, length, refl, ap, sym, ◌∙◌, subst}
-use Rattle.clock2q_cache.proofs.Names.{is_some, Spends, reached, resident_at}
+use Rattle.clock2q_cache.proofs.Names.{is_some, Spends, hash_in, reached, resident_at}
 use Rattle.std.specs.Prelude.{sum_by}
 use Rattle.clock2q_cache.proofs.Retained.{below, retains-none, retains-past, retains-asks, retains-kept, retains-refused, retains-all}
+use Rattle.clock2q_cache.proofs.Gone.{gone_below, gone-none, gone-stays, gone-left}
 use Rattle.clock2q_cache.proofs.Reaching.{left-none, left-stays, left-more}
 use Rattle.clock2q_cache.proofs.Vacated.{fewer-residents}
 use Rattle.clock2q_cache.proofs.Spent.{slot-stays, slot-leaves, retain-costs}
@@ -16,6 +17,7 @@ loop-slot-init g c = (
   record { inspections = omega arith; accesses = (omega arith, omega arith); comparisons = (omega arith, omega arith) },
   omega arith,
   left-none c.len.ensures.within,
+  refl,
 )
 
 pub is_resident-requires : goal.is_resident-requires
@@ -47,6 +49,8 @@ loop-slot-preserved g c =
           fewer-residents c.loop-slot.self.machine c.loop-slot.slot (sym c.is_resident.ensures ∙ w.if-is_resident.true),
         )),
         left-more c.loop-slot.invariant.4 c.loop-slot.self w.vacate.new.self refl c.loop-slot.invariant.1 (h.later c.loop-slot.slot (omega arith)) w.vacate.ensures.known,
+        rw w.vacate.ensures.machine (gone-left _ c.args.self.now.machine _ c.loop-slot.self.machine c.loop-slot.slot (h.later c.loop-slot.slot (omega arith)) c.loop-slot.invariant.5
+            (rw c.loop-slot.invariant.1 at w.vacate.ensures.known)),
       )
       | then-is_resident+else-not-stays w ↦ rw (w.keep-is, w.self-is) (
         retains-kept g.F.FnMut c.args.keep c.args.self.now.machine c.loop-slot.slot c.loop-slot.keep c.loop-slot.self.machine h made
@@ -55,6 +59,7 @@ loop-slot-preserved g c =
         slot-stays c.loop-slot.slot c.loop-slot.invariant.2,
         c.loop-slot.invariant.3,
         left-stays c.loop-slot.invariant.4,
+        gone-stays _ c.args.self.now.machine _ c.loop-slot.self.machine c.loop-slot.slot (h.later c.loop-slot.slot (omega arith)) c.loop-slot.invariant.5 _ w.key.ensures,
       )
       | else-is_resident w ↦ rw (w.keep-is, w.self-is) (
         retains-past g.F.FnMut c.args.keep c.args.self.now.machine c.loop-slot.slot c.loop-slot.keep c.loop-slot.self.machine h made
@@ -63,6 +68,8 @@ loop-slot-preserved g c =
         slot-stays c.loop-slot.slot c.loop-slot.invariant.2,
         c.loop-slot.invariant.3,
         left-stays c.loop-slot.invariant.4,
+        gone-none _ c.args.self.now.machine _ c.loop-slot.self.machine c.loop-slot.slot (h.later c.loop-slot.slot (omega arith)) c.loop-slot.invariant.5
+            (none-there (resident_at c.loop-slot.self.machine c.loop-slot.slot) (sym c.is_resident.ensures ∙ w.if-is_resident.false)),
       )
     ]
   where
@@ -77,6 +84,7 @@ returns g c =
     let all : c.loop-slot.slot ≡ length c.args.self.now.machine.values = omega (arith, c.loop-slot-test.false, c.loop-slot.auto.slot-end, c.made-slot-end.ensures) in
     record {
       retained = r;
+      known = c.loop-slot.invariant.5 ∙ ap (λ n. gone_below (hash_in (record { eq = g.K.PartialEq.eq; hash_input = g.K.Hash.hash_input }) g.S.BuildHasher g.S.Hasher.Hasher c.args.self.now) c.args.self.now.machine c.args.self.now.known c.loop-slot.self.machine n) all;
       hasher = c.loop-slot.invariant.1;
       costs = λ bits.
           retain-costs r.bits r.becomes

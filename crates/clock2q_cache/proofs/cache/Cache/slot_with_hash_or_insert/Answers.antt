@@ -5,7 +5,7 @@ use Rattle.clock2q_machine.proofs.Entering.{entered_there}
 use Rattle.clock2q_machine.proofs.MachineInvariant.{lasting-inserted, resident_made}
 use Rattle.clock2q_cache.proofs.Names.{inserted, is_some, if◌then◌else◌, CacheState, candidates, remembered_in, replaced}
 use Rattle.clock2q_cache.proofs.Insertions.{insert-spends}
-use Rattle.clock2q_cache.proofs.Reaching.{reaches-with}
+use Rattle.clock2q_cache.proofs.Reaching.{reaches-once}
 use Rattle.clock2q_cache.proofs.Spent.{costs-of}
 use Rattle.clock2q_cache.proofs.WithHash.{none-of, none-unless}
 use Rattle.clock2q_cache.proofs.cache.Cache.slot_with_hash_or_insert.Goals as goal
@@ -25,6 +25,10 @@ returns-clause-resident g c = λ entered.
     (entered_there eq g.met.K.Eq.laws m c.len.ensures.whole c.args.key (returns-clause-absent g c refl) c.args.value false
     (lasting-inserted eq g.met.K.Eq.laws c.args.key m c.len.ensures.whole (returns-clause-absent g c refl) c.args.value))
 
+pub returns-clause-known : goal.returns-clause-known
+returns-clause-known g c = λ entered.
+    rw (← (sym (returns-clause-absent g c refl))) (rw (c.insert.ensures.slot, c.find_place-found.ensures.kept, c.find_place-found.ensures.gap) at c.insert.ensures.known)
+
 pub returns-clause-costs : goal.returns-clause-costs
 returns-clause-costs g c = λ entered.
     let is = g.K.PartialEq.eq c.args.key in
@@ -33,10 +37,9 @@ returns-clause-costs g c = λ entered.
     let asked = ap (λ h. length (candidates (remembered_in c.args.self.now.known) h)) c.hash-hash.ensures in
     costs-of (c.insert.ensures.machine ∙ ap (inserted is c.args.key c.args.value) kept
     ∙ ap (λ o. if is_some o then replaced is c.args.value c.args.self.now.machine else inserted is c.args.key c.args.value c.args.self.now.machine) none)
-    (reaches-with (record { eq = g.K.PartialEq.eq; hash_input = g.K.Hash.hash_input }) g.S.BuildHasher g.S.Hasher.Hasher
-    c.args.key g.met.K.Eq.laws g.met.K.Hash.respects_eq c.len.ensures.whole c.len.ensures.indexed.as_many
-    c.len.ensures.within
-    (rw (← none) (rw (c.insert.ensures.slot, c.find_place-found.ensures.kept) at c.insert.ensures.known)))
+    (reaches-once (record { eq = g.K.PartialEq.eq; hash_input = g.K.Hash.hash_input }) g.S.BuildHasher g.S.Hasher.Hasher
+    c.args.key false g.met.K.Eq.laws g.met.K.Hash.respects_eq c.len.ensures.whole c.len.ensures.indexed.as_many
+    c.len.ensures.within (returns-clause-known g c refl))
     (insert-spends is c.args.self.now.machine c.find_place-found.ensures.counts none kept c.insert.ensures.counts (omega (arith, asked)))
 
 pub returns-clause-within : goal.returns-clause-within

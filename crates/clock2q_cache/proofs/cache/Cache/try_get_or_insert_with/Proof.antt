@@ -8,7 +8,7 @@ use Rattle.std.specs.contracts.result.Result as result
 use Rattle.std.proofs.result.Result.TheLaws.{the_row_laws as result_laws}
 use Rattle.clock2q_cache.proofs.Walks.{a_type, named, dcons, dnil, Val, vptr, inst_fn, SProp, ent, id⊢, right, Lft, Share, GName, ftrue, flft, fres, WpFn, fact, ◌⊑◌, ⊑_trans, meet_⊑_left, meet_⊑_right, tables, sem, ‵, raw, ◌⊛◌, some, later, ◌$◌, ◌∵◌, !, qed, by, move, keep, use1, use2, use3, split, split3, join, fsplit, fsplit3, fjoin, pick, await, rewrite, suffices, stop, addr, of_opd, no_more, and_then, returns, enter, alloc_all, pass_all, free_all, look_at, get, through, sets, lands_as, no, RattleType, owns, Is, shows, MutRef, ShrRef, mut_vals, as_bor, param, layout, bounded, param_laws, types_at, type_at, plain, mut_ref_to, nothing, heard, peeks, triple_of, calls_at, Lasts, lasts, framed, Stays, stay_dropped, walk_of, Goes-spent_ref, Goes-dropped, proved_at, leaves, one, hears, learns, says, knows}
 use Rattle.clock2q_cache.proofs.Shared.{rests_so, Kept, lends_within, comes_within, shares_for_good, u32_laws, ref_laws}
-use Rattle.clock2q_cache.proofs.Tried.{Slot-fetched, Slot-made, Slot-err, Slot-absent, Slot-machine, Slot-counts, Slot-index, Slot-asked, Lent, Has-value, Is-err, Is-absent, fetches}
+use Rattle.clock2q_cache.proofs.Tried.{Slot-fetched, Slot-made, Slot-err, Slot-absent, Slot-machine, Slot-counts, Slot-index, Slot-asked, Slot-known, Lent, Has-value, Is-err, Is-absent, fetches}
 use Rattle.clock2q_machine.specs.Machine.{slot_of}
 use Rattle.clock2q_cache.specs.CacheLends.{Tries, LeavesTried}
 use Rattle.clock2q_cache.specs.contracts.cache.Cache.{the_row}
@@ -62,6 +62,7 @@ try_get_or_insert_with_spec 𝓤 𝓛 𝓜 𝓡 wired K V S A H F E LK LV LS LA 
     let Counts : R.Denot → Found.Denot → Type 0 = Slot-counts K' V' S' A' H' members build hasher heap key post r.now in
     let Index : R.Denot → Found.Denot → Type 0 = Slot-index K' V' S' A' H' members build hasher heap key post r.now in
     let Comparisons : R.Denot → Found.Denot → Type 0 = Slot-asked K' V' S' A' H' members build hasher heap key post r.now in
+    let Known : R.Denot → Found.Denot → Type 0 = Slot-known K' V' S' A' H' members build hasher heap key post r.now in
     let At-slot : R.Denot → Found.Denot → Out.Denot → Type 0 = Lent K' V' S' A' H' members build hasher heap key post r.now in
     let Value : R.Denot → Out.Denot → Type 0 = Has-value K' V' S' A' H' members build hasher heap key post r.now in
     let Error : R.Denot → Out.Denot → Type 0 = Is-err K' V' S' A' H' members build hasher heap key post r.now in
@@ -105,13 +106,13 @@ try_get_or_insert_with_spec 𝓤 𝓛 𝓜 𝓡 wired K V S A H F E LK LV LS LA 
     (and_then ! (get ! refl) (and_then ! (get ! refl) (and_then ! (get ! refl) (no_more !)))) (λ v.
     use1 𝓛 (later (some (λ (x : Found.Denot). ((‵ (flft α (right q)) ⊛ rest) ⊛ ‵ (Found.own_val x (v ∷ []))) ⊛ some (λ (ws : Lasts T y.0.0 y.0.3). ‵ (lasts T y.0.0 y.0.3 ws) ⊛
     raw (fact 𝓤 (Fetched ws.0 x)) ⊛ raw (fact 𝓤 (Made ws.0 x)) ⊛ raw (fact 𝓤 (Failed ws.0 x)) ⊛ raw (fact 𝓤 (Absent ws.0 x)) ⊛
-    raw (fact 𝓤 (Unchanged ws.0 x)) ⊛ raw (fact 𝓤 (ws.0.hasher ≡ r.now.hasher)) ⊛ raw (fact 𝓤 (Counts ws.0 x)) ⊛ raw (fact 𝓤 (Index ws.0 x)) ⊛ raw (fact 𝓤 (Comparisons ws.0 x)))))) (id⊢ 𝓤 _) $
+    raw (fact 𝓤 (Unchanged ws.0 x)) ⊛ raw (fact 𝓤 (ws.0.hasher ≡ r.now.hasher)) ⊛ raw (fact 𝓤 (Counts ws.0 x)) ⊛ raw (fact 𝓤 (Index ws.0 x)) ⊛ raw (fact 𝓤 (Comparisons ws.0 x)) ⊛ raw (fact 𝓤 (Known ws.0 x)))))) (id⊢ 𝓤 _) $
     await ! tt $ pick ! (λ x. split ! $ split ! $ split ! $ move ! (2 ∷ []) $ peeks ! Found (Is Found) (shows 𝓛 Found) x (v ∷ []) (λ is.
     let fits = ((Found-laws.lawful 𝓛).typed x (v ∷ []) is).0 in lands_as ! refl refl fits $
     -- [what was found; the loan's token; the other tokens; the last values; what is kept]
     move ! (3 ∷ []) $ pick ! (λ ws. let n : R.Denot = ws.0 in let r' : MutBor R.Denot = record r { now = n } in
     split ! $ move ! (1 ∷ []) $ learns ! (Fetched n x) (λ is_fetched. learns ! (Made n x) (λ is_made. learns ! (Failed n x) (λ is_err. learns ! (Absent n x) (λ is_absent.
-    learns ! (Unchanged n x) (λ is_machine. learns ! (n.hasher ≡ r.now.hasher) (λ is_hasher. learns ! (Counts n x) (λ is_counts. learns ! (Index n x) (λ is_index. heard ! (Comparisons n x) (λ is_asked. fsplit ! $ fsplit ! $
+    learns ! (Unchanged n x) (λ is_machine. learns ! (n.hasher ≡ r.now.hasher) (λ is_hasher. learns ! (Counts n x) (λ is_counts. learns ! (Index n x) (λ is_index. learns ! (Comparisons n x) (λ is_asked. heard ! (Known n x) (λ is_known. fsplit ! $ fsplit ! $
     -- [the loan's last value; its borrow; the others; what was found; the loan's token; the other tokens; what is kept]
     move ! (4 ∷ 6 ∷ 0 ∷ []) $ use3 𝓛 (later (‵ ((MutRef (named 0) κ R).own_val r' (mut_vals r)) ⊛ ‵ (flft κ q))) (comes_within 𝓛 R κ q r p n) $ await ! tt $ split ! $
     -- [self; κ; the loan's borrow; the others; what was found; the other tokens]
@@ -159,10 +160,10 @@ try_get_or_insert_with_spec 𝓤 𝓛 𝓜 𝓡 wired K V S A H F E LK LV LS LA 
     move ! (1 ∷ 0 ∷ []) $ join ! $ move ! (1 ∷ 0 ∷ []) $ join ! $ move ! (1 ∷ 0 ∷ []) $ join ! $
     -- [the tokens; the last values; the result; self's last value]
     let ends = fetches K' V' S' A' H' members build hasher heap key post r.now n x t
-    (record { fetched = is_fetched; err = is_err; absent = is_absent; machine = is_machine; hasher = is_hasher; counts = is_counts; index = is_index; asked = is_asked }) is_lent in
+    (record { fetched = is_fetched; err = is_err; absent = is_absent; machine = is_machine; hasher = is_hasher; counts = is_counts; index = is_index; asked = is_asked; known = is_known }) is_lent in
     let After : R.Denot → Type 0 = Tries K' V' S' A' H' members build hasher heap r.now key t in
     move ! (3 ∷ []) $ use1 𝓛 (raw (sem 𝓛 (LeavesTried K' V' S' A' H' members build hasher heap r key t))) (rests_so 𝓛 R r.ghost_name After n ends.tries) $
     knows ! (Missing n t) ends.absent $ says ! (Error n t) ends.err $ says ! (Value n t) ends.value $ move ! (1 ∷ 0 ∷ []) $ join ! $
     nothing ! $ nothing ! $ fjoin ! $ nothing ! $ fjoin ! $ nothing ! $ fjoin ! $
     returns ! (look_at ! 0 refl) $ free_all ! refl $ keep ! (2 ∷ 0 ∷ 4 ∷ 1 ∷ []) $
-    by ! (leaves 𝓛 En hs c z u t (tt, (tt, (tt, tt))) (tt, (tt, (tt, tt)))))))))))))))))))))))))))))))))
+    by ! (leaves 𝓛 En hs c z u t (tt, (tt, (tt, tt))) (tt, (tt, (tt, tt))))))))))))))))))))))))))))))))))

@@ -1,5 +1,6 @@
 -- The old key goes into the history, and its slot to the new one.
 use Rattle.std.proofs.Common.{◌≡◌, ◌<◌, ap, sym, ◌∙◌, arith}
+use Rattle.std.specs.Prelude.{is_some}
 use Rattle.clock2q_directory.specs.Index.{first_remembered, forgotten_if, left, remembered_at}
 use Rattle.clock2q_directory.specs.History.{Remembered, remembered_from, entering_places, places_from}
 use Rattle.clock2q_directory.proofs.Histories.{IsHistory-index}
@@ -30,7 +31,7 @@ returns-then-limit-eq0-clause-index g c =
       had_key = c.refill-old_hash.ensures.key;
       becomes = ap (λ es. record (remembered_from c.renew.new.self i.order i.remembered) { entries = es }) (none-kept (old_hash, c.refill-old_hash.result.1) c.self.invariant none);
       places = ap (λ z. places_from z i.order) c.renew.ensures.renewed
-          ∙ ap (λ q. entering_places c.args.hash c.args.slot (places_from i.index i.order) q) (sym (pushed-nowhere old_hash c.args.slot _ c.self.invariant none));
+          ∙ ap (λ q. entering_places (is_some c.args.gap) c.args.hash c.args.slot (places_from i.index i.order) q) (sym (pushed-nowhere old_hash c.args.slot _ c.self.invariant none));
       accesses = (omega arith, omega arith);
     })
 
@@ -57,6 +58,6 @@ returns-clause-index g c =
       had_hash = c.refill-old_hash.ensures.hash;
       had_key = c.refill-old_hash.ensures.key;
       becomes = ap (λ (z : Remembered _). record z { places = places_from c.succeed.new.self order }) r.pushed;
-      places = ap (λ z. places_from z order) c.succeed.ensures.renewed ∙ ap (λ q. entering_places c.args.hash c.args.slot (places_from c.self.inside.index c.self.inside.order) q) r.places;
+      places = ap (λ z. places_from z order) c.succeed.ensures.renewed ∙ ap (λ q. entering_places (is_some c.args.gap) c.args.hash c.args.slot (places_from c.self.inside.index c.self.inside.order) q) r.places;
       accesses = r.accesses;
     })

@@ -1,6 +1,6 @@
 use Rattle.std.proofs.Common.{ap, arith}
 use Rattle.clock2q_handles.specs.Layout.{run}
-use Rattle.clock2q_directory.specs.Index.{index_of}
+use Rattle.clock2q_directory.specs.Index.{index_of, is_shared}
 use Rattle.clock2q_directory.proofs.Gaps.{walk-spared}
 use Rattle.clock2q_directory.proofs.Sorted.{spare-there, sorted-entered}
 use Rattle.clock2q_directory.proofs.index.Index.add_slot.Goals as goal
@@ -20,5 +20,13 @@ invariant_of-self g c =
       sorted = rw e.put (sorted-entered c.args.hash c.args.slot c.requires.below i.sorted);
       shared_laid = e.laid.laid;
       own_laid = i.own_laid;
-      counted = omega (arith, i.counted, c.charge.ensures.charged, e.reads, e.writes.1, walk-spared c.self.inside.shared.homes c.args.hash c.args.gap, ap (λ s. run s c.args.hash) i.shared_laid);
+      counted = omega (
+        arith,
+        i.counted,
+        rw c.is_some-is_found.ensures at c.charge.ensures.charged,
+        e.reads,
+        e.writes.1,
+        walk-spared c.self.inside.shared.homes c.args.hash c.args.gap (is_shared (index_of c.self.inside.shared c.self.inside.own c.self.inside.charged.total)),
+        ap (λ s. run s c.args.hash) i.shared_laid,
+      );
     }

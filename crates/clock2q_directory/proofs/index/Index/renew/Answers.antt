@@ -1,35 +1,29 @@
-use Rattle.std.proofs.Common.{ap, sym, subst, ◌∙◌, arith}
-use Rattle.std.specs.Prelude.{IsSome}
+use Rattle.std.proofs.Common.{ap, sym, ◌∙◌, arith}
 use Rattle.clock2q_handles.specs.Layout.{run}
+use Rattle.clock2q_handles.specs.Positions.{walk_to_gap}
 use Rattle.clock2q_directory.specs.Index.{index_of, is_shared}
-use Rattle.clock2q_directory.proofs.Gaps.{walk-spared}
+use Rattle.clock2q_directory.proofs.Gaps.{usable-gap, usable-shared, walk-usable}
 use Rattle.clock2q_directory.proofs.Views.{held_entry}
 use Rattle.clock2q_directory.proofs.Sorted.{shared-few, spare-there, sorted-entered, sorted-left}
-use Rattle.clock2q_directory.proofs.index.Index.renew.Goals.{then-is_shared, else-is_shared}
 use Rattle.clock2q_directory.proofs.index.Index.renew.Goals as goal
 
-pub exchange-requires-clause-few : goal.exchange-requires-clause-few
-exchange-requires-clause-few g c =
-    let v = index_of c.self.inside.shared c.self.inside.own c.self.inside.charged.total in
-    shared-few v c.self.invariant.sorted (rw (← c.self.view_is) at c.requires.room).few
-
-pub exchange-requires-clause-spare : goal.exchange-requires-clause-spare
-exchange-requires-clause-spare g c some =
+pub exchange-requires : goal.exchange-requires
+exchange-requires g c =
     let v = index_of c.self.inside.shared c.self.inside.own c.self.inside.charged.total in
     let room = rw (← c.self.view_is) at c.requires.room in
-    elim c.if-is_shared.branch [
-      | then-is_shared w ↦ spare-there v c.self.invariant.sorted (room.spare (ap is_shared c.self.view_is ∙ sym c.is_shared.ensures.shared ∙ w.if-is_shared.true))
-      | else-is_shared w ↦ let none = subst IsSome w.gap-is some in absurd (cc)
-    ]
-
-pub exchange-requires-clause-held : goal.exchange-requires-clause-held
-exchange-requires-clause-held g c =
-    let v = index_of c.self.inside.shared c.self.inside.own c.self.inside.charged.total in
-    held_entry v c.args.old_hash c.args.slot (rw (← c.self.view_is) at c.requires.held).there
+    let usable = rw (← c.self.view_is) at c.usable-gap.ensures.usable in
+    record {
+      few = shared-few v c.self.invariant.sorted room.few;
+      gap = usable-gap c.args.gap c.usable-gap.result (is_shared v) usable c.args.hash v (rw (← c.self.view_is) at c.requires.gap);
+      spare = λ some. spare-there v c.self.invariant.sorted (room.spare (usable-shared c.args.gap c.usable-gap.result (is_shared v) usable some));
+      held = held_entry v c.args.old_hash c.args.slot (rw (← c.self.view_is) at c.requires.held).there;
+    }
 
 pub invariant_of-self : goal.invariant_of-self
 invariant_of-self g c =
     let i = c.self.invariant in
+    let v = index_of c.self.inside.shared c.self.inside.own c.self.inside.charged.total in
+    let usable = rw (← c.self.view_is) at c.usable-gap.ensures.usable in
     let e = c.exchange.ensures in
     let below = c.requires.held.below in
     record {
@@ -39,9 +33,9 @@ invariant_of-self g c =
       counted = omega (
         arith,
         i.counted,
-        c.charge.ensures.charged,
+        rw c.is_some-is_found.ensures at c.charge.ensures.charged,
         e.accesses.1,
-        walk-spared c.self.inside.shared.homes c.args.hash c.if-is_shared.gap,
+        ap (λ z. walk_to_gap z v.shared c.args.hash) usable ∙ walk-usable v.shared c.args.hash c.args.gap (is_shared v),
         ap (λ s. run s c.args.hash) i.shared_laid,
         ap (λ s. run s c.args.old_hash) i.shared_laid,
       );

@@ -1,6 +1,10 @@
-use Rattle.std.specs.Prelude.{◌+◌}
-use Rattle.clock2q_directory.specs.Accesses.{most_changed}
+use Rattle.std.specs.Prelude.{◌+◌, ◌&&◌}
+use Rattle.clock2q_directory.specs.Accesses.{most_changed, most_inserted}
+use Rattle.clock2q_directory.specs.Index.{index_state, is_shared}
 use Rattle.clock2q_directory.proofs.index.Index.renew.Given as goal
 
 abbrev pub ghost-charge : goal.ghost-charge
-ghost-charge g a = most_changed a._shared.now.homes a._seen.now.1 + most_changed a._shared.now.homes a._seen.now.0
+ghost-charge g a =
+    let (hash, old_hash, is_found) = a._seen.now in
+    let index = index_state a._shared.now.homes a._own.now.homes in
+    most_changed index.shared old_hash + most_inserted (is_found && is_shared index) index.shared hash

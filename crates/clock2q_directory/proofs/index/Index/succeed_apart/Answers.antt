@@ -4,6 +4,7 @@ use Rattle.clock2q_handles.specs.Homes.{candidates}
 use Rattle.clock2q_handles.specs.Layout.{run}
 use Rattle.clock2q_directory.specs.Accesses.{most_changed}
 use Rattle.clock2q_directory.specs.Index.{index_of, index_state, is_shared, slots, forgotten_if}
+use Rattle.clock2q_directory.proofs.Gaps.{inserted-apart}
 use Rattle.clock2q_directory.proofs.Views.{held_entry}
 use Rattle.clock2q_directory.proofs.Sorted.{shared-few, sorted-entered, sorted-remembered}
 use Rattle.clock2q_directory.proofs.Succession.{same-index, slots-if, shared-if, apart-if, few-apart}
@@ -62,6 +63,11 @@ returns g c =
     let own = apart g (goal.at.returns g c).After-self in
     let base = ap (λ z. most_changed z c.args.hash) (apart-if c.args.place c.args.self.now c.args.oldest c.requires.apart) in
     record {
-      renewed = rw (c.exchange.ensures.exchanged, c.insert_at_gap.ensures.put, c.number.ensures.number, ← now g (goal.at.returns g c).After-self, own)
-          (same-index refl refl (omega (arith, rw own at c.charge.ensures.charged, rw (← now g (goal.at.returns g c).After-self) at base)));
+      renewed = λ is_found. rw (c.exchange.ensures.exchanged, c.insert_at_gap.ensures.put, c.number.ensures.number, ← now g (goal.at.returns g c).After-self, own)
+          (same-index refl refl (omega (
+            arith,
+            rw own at c.charge.ensures.charged,
+            rw (← now g (goal.at.returns g c).After-self) at base,
+            inserted-apart is_found c.args.self.now c.args.hash c.requires.apart,
+          )));
     }

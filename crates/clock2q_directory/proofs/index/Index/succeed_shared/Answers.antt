@@ -1,3 +1,4 @@
+use Rattle.std.specs.Prelude.{is_some}
 use Rattle.std.proofs.Common.{◌≡◌, true, Some, None, ap, ◌∙◌, arith, eqb}
 use Rattle.std.specs.List.{list_any}
 use Rattle.clock2q_handles.specs.Homes.{candidates}
@@ -19,14 +20,14 @@ module _ (g : Over) (c : After-self g) where
   held = (rw (← c.self.view_is) at c.requires.may).held.there
 
 past : (g : Over) (c : After-exchange g) → is_shared (index_of c.self.inside.shared c.self.inside.own c.self.inside.charged.total) ≡ true
-    → IsBeside (Some c.in-Some.oldest) c.args.place c.args.hash c.args.slot c.self.inside.shared c.self.inside.own c.self.inside.charged.total c.exchange.new.self
+    → IsBeside (Some c.in-Some.oldest) c.args.place c.args.hash c.args.slot c.self.inside.shared c.self.inside.own c.self.inside.charged.total (is_some c.args.gap) c.exchange.new.self
 past g c shared =
     let e = c.exchange.ensures in
     beside-past c.args.place c.args.hash c.args.slot c.self.inside.shared c.self.inside.own c.self.inside.charged.total c.self.invariant
     c.args.gap c.in-Some.oldest shared e.accesses (rw c.pack-handle.ensures.packed at e.exchanged)
 
 free : (g : Over) (c : After-insert_at_gap g)
-    → IsBeside None c.args.place c.args.hash c.args.slot c.self.inside.shared c.self.inside.own c.self.inside.charged.total c.insert_at_gap.new.self
+    → IsBeside None c.args.place c.args.hash c.args.slot c.self.inside.shared c.self.inside.own c.self.inside.charged.total (is_some c.args.gap) c.insert_at_gap.new.self
 free g c =
     let e = c.insert_at_gap.ensures in
     beside-free c.args.place c.args.hash c.args.slot c.self.inside.shared c.self.inside.own c.self.inside.charged.total c.self.invariant c.args.gap e.writes e.reads e.put
@@ -65,7 +66,7 @@ invariant_of-self g c =
     let at = x.After-self in
     let e = c.replace_handle.ensures in
     succeeded-indexed (Some c.in-Some.oldest) c.args.place c.args.hash c.args.slot c.args.old_hash c.self.inside.shared c.self.inside.own c.self.inside.charged.total c.self.invariant (shared g at) (held g at) (past g x.After-exchange (shared g at))
-    c.replace_handle.new.self (rw c.pack-handle.ensures.packed at c.replace_handle.ensures.handle_replaced) (rw c.in-Some.is at c.charge.ensures.charged) e.laid.laid e.reads e.writes
+    c.replace_handle.new.self (rw c.pack-handle.ensures.packed at c.replace_handle.ensures.handle_replaced) (rw (c.in-Some.is, c.is_some.ensures) at c.charge.ensures.charged) e.laid.laid e.reads e.writes
 
 pub returns-in-Some : goal.returns-in-Some
 returns-in-Some g c =
@@ -73,7 +74,7 @@ returns-in-Some g c =
     let at = x.After-self in
     record {
       renewed = rw (← c.self.view_is, c.in-Some.is) (succeeded (Some c.in-Some.oldest) c.args.place c.args.hash c.args.slot c.args.old_hash c.self.inside.shared c.self.inside.own c.self.inside.charged.total c.self.invariant (shared g at) (held g at) (past g x.After-exchange (shared g at))
-          c.replace_handle.new.self (rw c.pack-handle.ensures.packed at c.replace_handle.ensures.handle_replaced) (rw c.in-Some.is at c.charge.ensures.charged));
+          c.replace_handle.new.self (rw c.pack-handle.ensures.packed at c.replace_handle.ensures.handle_replaced) (rw (c.in-Some.is, c.is_some.ensures) at c.charge.ensures.charged));
     }
 
 pub replace_handle-requires-in-None : goal.replace_handle-requires-in-None
@@ -88,7 +89,7 @@ invariant_of-self-in-None g c =
     let at = x.After-self in
     let e = c.replace_handle-in-None.ensures in
     succeeded-indexed None c.args.place c.args.hash c.args.slot c.args.old_hash c.self.inside.shared c.self.inside.own c.self.inside.charged.total c.self.invariant (shared g at) (held g at) (free g x.After-insert_at_gap)
-    c.replace_handle-in-None.new.self (rw c.pack-handle.ensures.packed at c.replace_handle-in-None.ensures.handle_replaced) (rw c.in-None.is at c.charge.ensures.charged) e.laid.laid e.reads e.writes
+    c.replace_handle-in-None.new.self (rw c.pack-handle.ensures.packed at c.replace_handle-in-None.ensures.handle_replaced) (rw (c.in-None.is, c.is_some.ensures) at c.charge.ensures.charged) e.laid.laid e.reads e.writes
 
 pub returns-in-None : goal.returns-in-None
 returns-in-None g c =
@@ -96,5 +97,5 @@ returns-in-None g c =
     let at = x.After-self in
     record {
       renewed = rw (← c.self.view_is, c.in-None.is) (succeeded None c.args.place c.args.hash c.args.slot c.args.old_hash c.self.inside.shared c.self.inside.own c.self.inside.charged.total c.self.invariant (shared g at) (held g at) (free g x.After-insert_at_gap)
-          c.replace_handle-in-None.new.self (rw c.pack-handle.ensures.packed at c.replace_handle-in-None.ensures.handle_replaced) (rw c.in-None.is at c.charge.ensures.charged));
+          c.replace_handle-in-None.new.self (rw c.pack-handle.ensures.packed at c.replace_handle-in-None.ensures.handle_replaced) (rw (c.in-None.is, c.is_some.ensures) at c.charge.ensures.charged));
     }

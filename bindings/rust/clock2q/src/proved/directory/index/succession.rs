@@ -60,7 +60,7 @@ impl<A: Allocator> Index<A> {
         place: Place,
         oldest: Option<u64>,
     ) {
-        let seen = (hash, old_hash, place, oldest);
+        let seen = (hash, old_hash, place, oldest, gap.is_some());
         charge(&self.shared, &self.own, &mut self.charged, &seen);
         let handle = Handle::Remembered(place).pack();
         match oldest {
