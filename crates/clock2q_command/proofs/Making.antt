@@ -38,26 +38,30 @@ pub IsPolicy-usual : (n : ℕ) → 0 < n → IsPolicy (usual_shares n)
 IsPolicy-usual n some = usual_policy n (usual_small n) some refl
 
 -- shares fit together, or they don't
-policy_cases : (shares : Shares) → IsPolicy shares ⊎ (IsPolicy shares → ⊥)
-policy_cases shares = remembered (cases_lt shares.capacity shares.history) where
+module _ (shares : Shares) where
+  abbrev Decided : Type 0
+  Decided = IsPolicy shares ⊎ (IsPolicy shares → ⊥)
+
   module _ (below : shares.small < shares.capacity) (short : shares.window ≤ shares.small) (few : shares.history ≤ shares.capacity) where
-    small : shares.window ≤ 0 → (0 < shares.small) ⊎ (shares.small ≤ 0) → IsPolicy shares ⊎ (IsPolicy shares → ⊥)
-    small none (inl some) = inr (λ p. let empty_small : shares.small ≡ 0 = p.both.1 (omega (arith, none)) in omega (arith, empty_small, some))
-    small none (inr empty_small) = inl (record { below = below; both = ((λ e. omega (arith, none)), (λ e. omega (arith, empty_small))); within = short; remembered = few })
+    without : shares.window ≤ 0 → (0 < shares.small) ⊎ (shares.small ≤ 0) → Decided
+    without none (inl some) = inr (λ p. let empty_small : shares.small ≡ 0 = p.both.1 (omega (arith, none)) in omega (arith, empty_small, some))
+    without none (inr empty_small) = inl (record { below = below; both = ((λ e. omega (arith, none)), (λ e. omega (arith, empty_small))); within = short; remembered = few })
 
-    windowed : (0 < shares.window) ⊎ (shares.window ≤ 0) → IsPolicy shares ⊎ (IsPolicy shares → ⊥)
+    windowed : (0 < shares.window) ⊎ (shares.window ≤ 0) → Decided
     windowed (inl some) = inl (record { below = below; both = ((λ e. omega (arith, e, some, short)), (λ e. omega (arith, e, some))); within = short; remembered = few })
-    windowed (inr none) = small none (cases_lt 0 shares.small)
+    windowed (inr none) = without none (cases_lt 0 shares.small)
 
-  shared : shares.history ≤ shares.capacity → (shares.small < shares.capacity) ⊎ (shares.capacity ≤ shares.small) → (shares.small < shares.window) ⊎ (shares.window ≤ shares.small)
-      → IsPolicy shares ⊎ (IsPolicy shares → ⊥)
+  shared : shares.history ≤ shares.capacity → (shares.small < shares.capacity) ⊎ (shares.capacity ≤ shares.small) → (shares.small < shares.window) ⊎ (shares.window ≤ shares.small) → Decided
   shared few (inr above) windows = inr (λ p. omega (arith, above, p.below))
   shared few (inl below) (inl longer) = inr (λ p. omega (arith, longer, p.within))
   shared few (inl below) (inr short) = windowed below short few (cases_lt 0 shares.window)
 
-  remembered : (shares.capacity < shares.history) ⊎ (shares.history ≤ shares.capacity) → IsPolicy shares ⊎ (IsPolicy shares → ⊥)
+  remembered : (shares.capacity < shares.history) ⊎ (shares.history ≤ shares.capacity) → Decided
   remembered (inl many) = inr (λ p. omega (arith, many, p.remembered))
   remembered (inr few) = shared few (cases_lt shares.small shares.capacity) (cases_lt shares.small shares.window)
+
+  policy_cases : Decided
+  policy_cases = remembered (cases_lt shares.capacity shares.history)
 
 module _ {X K V : Type 0} (machine : X → Machine K V) where
   -- a cache that `new` made or refused

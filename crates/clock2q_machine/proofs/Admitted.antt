@@ -122,5 +122,5 @@ module _ {K V : Type 0} (eq : K → K → Bool) (laws : IsEquivalence eq) where
   module _ (m : Machine K V) (h : IsWhole eq m) (full : IsFullCache m) (puts : List (K × V)) (scans : IsScan eq puts m)
       (remembers : main_share m.shares ≤ m.shares.history) (fits : length puts + set_bits m ≤ m.shares.capacity) where
     pub loop_that_fits : (times : ℕ)
-      → AllByRecursion (λ reply. is_hit reply ≡ true) (answers eq (scan (rounds times puts)) (after_all eq (scan puts) (after_all eq (scan puts) m)))
+        → AllByRecursion (λ reply. is_hit reply ≡ true) (answers eq (scan (rounds times puts)) (after_all eq (scan puts) (after_all eq (scan puts) m)))
     loop_that_fits = loop_hits m h full puts scans (omega (arith, remembers, fits, h.small_below)) fits

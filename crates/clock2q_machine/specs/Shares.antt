@@ -38,5 +38,5 @@ usual_shares capacity = record {
 -- shares are stored as the four numbers
 abbrev pub shares_code : Coded Shares
 shares_code = code_by (ℕ × (ℕ × (ℕ × ℕ))) (coded× coded_ℕ (coded× coded_ℕ (coded× coded_ℕ coded_ℕ)))
-  (λ s. (s.capacity, (s.small, (s.window, s.history))))
-  (λ p. record { capacity = p.0; small = p.1.0; window = p.1.1.0; history = p.1.1.1 }) (λ _. refl)
+    (λ s. (s.capacity, (s.small, (s.window, s.history))))
+    (λ p. record { capacity = p.0; small = p.1.0; window = p.1.1.0; history = p.1.1.1 }) (λ _. refl)
