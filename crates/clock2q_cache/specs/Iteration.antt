@@ -1,5 +1,5 @@
 -- The residents of a machine with their values, as an iterator over a cache yields them.
-use Rattle.std.specs.Prelude.{ℕ, ◌-◌, List, length, map, slice_get, Option}
+use Rattle.std.specs.Prelude.{◌≡◌, ℕ, ◌-◌, List, length, map, slice_get, Option}
 use Rattle.std.specs.List.{filter_map, range_with_len}
 use Rattle.std.specs.Option.{option_map, option_and_then}
 use Rattle.clock2q_machine.specs.Machine.{Machine, resident_at, by_slot}
@@ -12,6 +12,12 @@ module _ {K V : Type 0} where
   -- the entries of a slot and of the slots above it, in ascending order
   abbrev pub entries_from : Machine K V → ℕ → List (K × ℕ × V)
   entries_from m slot = filter_map (entry_at m) (range_with_len slot (length m.values - slot))
+
+  -- an iterator has yielded the entries of the slots below this one, has so many left, and has looked at each slot below
+  -- once
+  pub record HasLooked (m : Machine K V) (slot left looks : ℕ) : Type 0 where
+    pub left_is : left ≡ length (entries_from m slot)
+    pub once : looks ≡ slot
 
   -- the entries of all slots
   abbrev pub entries : Machine K V → List (K × ℕ × V)

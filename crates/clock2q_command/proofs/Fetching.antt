@@ -9,6 +9,8 @@ use Rattle.std.specs.declared.hash.Hasher as hasher
 use Rattle.std.specs.declared.hash.BuildHasher as builder
 use Rattle.clock2q_cache.specs.CacheState.{CacheState}
 use Rattle.clock2q_cache.specs.Costs.{Costs, accesses_for, slots_for, walked}
+use Rattle.clock2q_cache.specs.Places.{known_with}
+use Rattle.clock2q_cache.specs.Runs.{known_after}
 use Rattle.clock2q_machine.specs.Bounds.{takes_victim, inspections_for, victims_for}
 use Rattle.clock2q_machine.specs.Calls.{Put, Try}
 use Rattle.clock2q_machine.specs.Entries.{inspections}
@@ -90,6 +92,24 @@ module _ {K V S H : Type 0} (key : HashMembers K) (build : builder.Ghosts S H) (
 
     pub tried-costs : UnwrapsOrElse (value_of (key.eq k) old.machine) made v → Costs key build hash (Try k offered) old new
     tried-costs h = costs_tried (slot_of (key.eq k) old.machine) refl h
+
+-- and it leaves the index that such a put leaves
+module _ {K V S H : Type 0} (key : HashMembers K) (build : builder.Ghosts S H) (hash : hasher.Ghosts H) (k : K) (v : V) (old new : CacheState K V S) (spent : Costs key build hash (Put k v) old new)
+    (put : new.known ≡ known_with key build hash k old) where
+  resident_known : (slot : ℕ) (o : Option V) → slot_of (key.eq k) old.machine ≡ Some slot → new.known ≡ known_after key build hash (Try k o) old
+  resident_known slot None e = rw e at put
+  resident_known slot (Some w) e = put
+
+  offered_known : (o : Option V) → o ≡ Some v → new.known ≡ known_after key build hash (Try k o) old
+  offered_known o e = subst (λ o. new.known ≡ known_after key build hash (Try k o) old) (sym e) put
+
+  module _ (made : V → Type 0) (offered : Option V) (gives : (w : V) → made w → offered ≡ Some w) where
+    known_tried : (o : Option ℕ) → slot_of (key.eq k) old.machine ≡ o → UnwrapsOrElse (option_and_then (slice_get old.machine.values) o) made v → new.known ≡ known_after key build hash (Try k offered) old
+    known_tried None e h = offered_known offered (gives v h)
+    known_tried (Some slot) e h = resident_known slot offered e
+
+    pub tried-known : UnwrapsOrElse (value_of (key.eq k) old.machine) made v → new.known ≡ known_after key build hash (Try k offered) old
+    tried-known h = known_tried (slot_of (key.eq k) old.machine) refl h
 
 -- a key's slot is asked for with a value from a command
 module _ {K V : Type 0} (is : K → Bool) (key : K) (m : Machine K V) (made : V → Type 0) (v : V) (value : V) (gives : (w : V) → made w → w ≡ value) where

@@ -3,7 +3,7 @@ ghost use Rattle.std.specs.List.{AllByRecursion};
 ghost use Rattle.std.specs.Prelude.{◌≡◌, ◌+◌, ◌*◌, ◌<◌, ◌≤◌, IfOk, IfErr, OnOk, OnErr, true, false, drop, get_or, slice_get, length, map};
 ghost use Rattle.clock2q_cache.specs.Costs.{Costs, most_accesses};
 ghost use Rattle.clock2q_cache.specs.Indexed.{IsIndexed, IsSpacious};
-ghost use Rattle.clock2q_cache.specs.Runs.{RunsAtCost};
+ghost use Rattle.clock2q_cache.specs.Runs.{RunsAtCost, known_after};
 ghost use Rattle.clock2q_cache.specs.Visits.{visits_all};
 ghost use Rattle.clock2q_text.specs.Commands.{call_of, answer_of, IsSupplied, AreSupplied};
 ghost use Rattle.clock2q_machine.specs.Bounds.{inspections_for, inspections_of, main_victims, settings, set_bits, summed};
@@ -90,6 +90,8 @@ where
     ensures reply { answer_of result ≡ answer K.eq (call_of command) cache.old.machine }
     ensures machine { cache.new.machine ≡ after K.eq (call_of command) cache.old.machine }
     ensures hasher { cache.new.hasher ≡ cache.old.hasher }
+    ensures known { cache.new.known ≡
+        known_after K.Hash S.BuildHasher S.Hasher.Hasher (call_of command) cache.old }
     ensures costs { Costs K.Hash S.BuildHasher S.Hasher.Hasher
         (call_of command) cache.old cache.new }
     ensures indexed { IsIndexed K.Hash S.BuildHasher S.Hasher.Hasher cache.old }
@@ -138,6 +140,8 @@ where
     ensures value { result ≡ value_of (K.eq key.now) cache.old.machine }
     ensures machine { cache.new.machine ≡ replaced (K.eq key.now) value cache.old.machine }
     ensures hasher { cache.new.hasher ≡ cache.old.hasher }
+    ensures known { cache.new.known ≡
+        known_after K.Hash S.BuildHasher S.Hasher.Hasher (Set key.now value) cache.old }
     ensures costs { Costs K.Hash S.BuildHasher S.Hasher.Hasher
         (Set key.now value) cache.old cache.new }
 {
@@ -157,6 +161,8 @@ where
     ensures value { result ≡ fetched_value (value_of (K.eq key) cache.old.machine) value }
     ensures machine { cache.new.machine ≡ fetched (K.eq key) key value cache.old.machine }
     ensures hasher { cache.new.hasher ≡ cache.old.hasher }
+    ensures known { cache.new.known ≡
+        known_after K.Hash S.BuildHasher S.Hasher.Hasher (With key value) cache.old }
     ensures costs { Costs K.Hash S.BuildHasher S.Hasher.Hasher
         (With key value) cache.old cache.new }
 {
@@ -173,6 +179,8 @@ where
     ensures value { result ≡ tried_value (value_of (K.eq key) cache.old.machine) offered }
     ensures machine { cache.new.machine ≡ tried (K.eq key) key offered cache.old.machine }
     ensures hasher { cache.new.hasher ≡ cache.old.hasher }
+    ensures known { cache.new.known ≡
+        known_after K.Hash S.BuildHasher S.Hasher.Hasher (Try key offered) cache.old }
     ensures costs { Costs K.Hash S.BuildHasher S.Hasher.Hasher
         (Try key offered) cache.old cache.new }
 {
@@ -195,6 +203,8 @@ where
     ensures value { result.1 ≡ fetched_value (slice_get cache.old.machine.values result.0) value }
     ensures machine { cache.new.machine ≡ slotted (K.eq key) key value cache.old.machine }
     ensures hasher { cache.new.hasher ≡ cache.old.hasher }
+    ensures known { cache.new.known ≡
+        known_after K.Hash S.BuildHasher S.Hasher.Hasher (SlotFor key value) cache.old }
     ensures costs { Costs K.Hash S.BuildHasher S.Hasher.Hasher
         (SlotFor key value) cache.old cache.new }
 {
@@ -211,6 +221,8 @@ where
     A: Allocator,
     ensures machine { cache.new.machine ≡ retained bits.now cache.old.machine }
     ensures hasher { cache.new.hasher ≡ cache.old.hasher }
+    ensures known { cache.new.known ≡
+        known_after K.Hash S.BuildHasher S.Hasher.Hasher (Retain bits.now) cache.old }
     ensures costs { Costs K.Hash S.BuildHasher S.Hasher.Hasher
         (Retain bits.now) cache.old cache.new }
 {
@@ -241,6 +253,8 @@ where
     requires some { 0 < length values.now }
     ensures machine { cache.new.machine ≡ prefilled_with values.now cache.old.machine }
     ensures hasher { cache.new.hasher ≡ cache.old.hasher }
+    ensures known { cache.new.known ≡
+        known_after K.Hash S.BuildHasher S.Hasher.Hasher (Prefill values.now) cache.old }
     ensures costs { Costs K.Hash S.BuildHasher S.Hasher.Hasher
         (Prefill values.now) cache.old cache.new }
 {

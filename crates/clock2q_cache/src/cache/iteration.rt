@@ -1,5 +1,6 @@
 //! Iteration over the residents of a cache, read-only.
 use crate::cache::{Cache, DefaultHashBuilder};
+use clock2q_count::Count;
 use std::alloc::{Allocator, Global};
 use std::hash::{BuildHasher, Hash};
 use std::iter::FusedIterator;
@@ -19,17 +20,18 @@ pub struct Iter<'a, K: Hash + Eq, V, S: BuildHasher = DefaultHashBuilder, A: All
     cache: &'a Cache<K, V, S, A>,
     slot: u32,
     left: usize,
+    looks: Count,
 }
 
 impl<'a, K: Hash + Eq, V, S: BuildHasher, A: Allocator> Model for Iter<'a, K, V, S, A> {
     ghost use Rattle.std.specs.Prelude.{◌≡◌, ℕ, List, length};
-    ghost use Rattle.clock2q_cache.specs.Iteration.{entries_from};
+    ghost use Rattle.clock2q_cache.specs.Iteration.{entries_from, HasLooked};
 
     ghost Value = { List (K × ℕ × V) };
 
     ghost view = { λ it. entries_from it.cache.now.machine it.slot };
 
-    ghost invariant = { λ it. it.left ≡ length (entries_from it.cache.now.machine it.slot) };
+    ghost invariant = { λ it. HasLooked it.cache.now.machine it.slot it.left it.looks.total };
 }
 
 /// An iterator over the keys of a cache, by ascending slot.
@@ -88,8 +90,8 @@ impl<K: Hash + Eq, V, S: BuildHasher, A: Allocator> Cache<K, V, S, A> {
     ///
     /// # Cost
     ///
-    /// One step for each slot up to the last resident's. No key is hashed or compared, and no link
-    /// is accessed.
+    /// One look at each slot up to the last resident's, which the iterator counts. No key is hashed or
+    /// compared, and no link is accessed.
     pub fn iter(&self) -> Iter<'_, K, V, S, A>
         ensures by_slot { map key_and_slot result ≡ by_slot self.now.machine }
         ensures values { result ≡ entries self.now.machine }
@@ -99,6 +101,7 @@ impl<K: Hash + Eq, V, S: BuildHasher, A: Allocator> Cache<K, V, S, A> {
             cache: self,
             slot: 0,
             left: self.len(),
+            looks: Count::new(),
         }
     }
 
@@ -130,16 +133,20 @@ impl<K: Hash + Eq, V, S: BuildHasher, A: Allocator> Cache<K, V, S, A> {
         }
     }
 
-    /// Returns the lowest slot that has a resident, starting from a given one.
-    fn next_resident(&self, from: u32) -> Option<u32>
+    /// Returns the lowest slot that has a resident, starting from a given one, and counts each slot
+    /// that it looks at.
+    fn next_resident(&self, from: u32, looks: &mut Count) -> Option<u32>
         ensures resident { IfSome result (λ slot. IsSome (resident_at self.now.machine slot)) }
         ensures made { IfSome result (λ slot. slot < length self.now.machine.values) }
         ensures first { IfSome result
             (λ slot. entries_from self.now.machine from ≡ entries_from self.now.machine slot) }
         ensures next { IfSome result (λ slot. slot + 1 < 2 ^ 32) }
         ensures none { IfNone result (entries_from self.now.machine from ≡ []) }
+        ensures looks { IfSome result
+            (λ slot. looks.new.total + from ≡ looks.old.total + slot + 1) }
     {
         for slot in from..self.made() {
+            looks.tick();
             if self.is_resident(slot) {
                 return Some(slot);
             }
@@ -160,8 +167,11 @@ impl<'a, K: Hash + Eq, V, S: BuildHasher, A: Allocator> Iterator for Iter<'a, K,
     ghost remaining = { item_count (λ left. left) };
 
     fn next(&mut self) -> Option<(&'a K, usize, &'a V)> {
+        if self.left == 0 {
+            return None;
+        }
         let cache = self.cache;
-        let slot = cache.next_resident(self.slot)?;
+        let slot = cache.next_resident(self.slot, &mut self.looks)?;
         self.slot = slot + 1;
         self.left -= 1;
         Some((cache.key(slot), slot as usize, cache.value(slot)))

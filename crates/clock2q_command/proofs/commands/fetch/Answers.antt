@@ -7,4 +7,4 @@ pub returns : goal.returns
 returns g c =
     let h = fetched-given (g.K.PartialEq.eq c.args.key) c.args.key c.args.cache.now.machine _ c.get_or_insert_with.result.now c.args.value (λ w gave. search rules) c.get_or_insert_with.ensures.value in
     let spent = c.get_or_insert_with.follows.holds-at-none.2 in
-    record { value = h.0; machine = c.get_or_insert_with.follows.holds-at-none.0 ∙ h.1; hasher = c.get_or_insert_with.follows.holds-at-none.1; costs = record { counts = spent.counts; index = spent.index; clock = spent.clock } }
+    record { value = h.0; machine = c.get_or_insert_with.follows.holds-at-none.0 ∙ h.1; known = c.get_or_insert_with.follows.holds-at-none.3; hasher = c.get_or_insert_with.follows.holds-at-none.1; costs = record { counts = spent.counts; index = spent.index; clock = spent.clock } }

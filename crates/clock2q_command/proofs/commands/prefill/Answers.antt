@@ -11,6 +11,7 @@ prefill-requires g c = record { callable = made_always _ _ _ (mut_total _ _ (λ 
 pub returns : goal.returns
 returns g c = record {
   machine = prefilled-given _ (λ f. f.0.now) (λ f. f.1) (λ f v f' called. search rules) _ _ _ c.requires.some c.prefill.ensures.made;
+  known = c.prefill.ensures.known;
   hasher = c.prefill.ensures.hasher;
   costs = c.prefill.ensures.costs c.args.values.now;
 }

@@ -47,7 +47,7 @@ loop-command-preserved g c = record {
       (sym c.in-Some.ensures.steps.0) (
         c.execute.ensures.indexed,
         c.execute.ensures.spacious,
-        (c.execute.new.cache, (c.execute.ensures.machine, c.execute.ensures.hasher, c.execute.ensures.costs), ran),
+        (c.execute.new.cache, (c.execute.ensures.machine, c.execute.ensures.hasher, c.execute.ensures.costs), c.execute.ensures.known, ran),
       ));
   hasher = c.execute.ensures.hasher ∙ c.loop-command.invariant.hasher;
   linked = grind (arith, common_steps, c.execute.ensures.costs.counts.accesses.1);

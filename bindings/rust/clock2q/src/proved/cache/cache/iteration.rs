@@ -1,6 +1,7 @@
 // Written by bindings/rust/erase from crates/clock2q_cache/src/cache/iteration.rt; change that, and run erase.
 //! Iteration over the residents of a cache, read-only.
 use crate::proved::cache::cache::{Cache, DefaultHashBuilder};
+use crate::proved::count::Count;
 use crate::proved::rattle::{Allocator, Global};
 use core::hash::{BuildHasher, Hash};
 use core::iter::FusedIterator;
@@ -24,6 +25,7 @@ pub struct Iter<'a, K: Hash + Eq, V, S: BuildHasher = DefaultHashBuilder, A: All
     cache: &'a Cache<K, V, S, A>,
     slot: u32,
     left: usize,
+    looks: Count,
 }
 
 /// An iterator over the keys of a cache, by ascending slot.
@@ -70,14 +72,15 @@ impl<K: Hash + Eq, V, S: BuildHasher, A: Allocator> Cache<K, V, S, A> {
     ///
     /// # Cost
     ///
-    /// One step for each slot up to the last resident's. No key is hashed or compared, and no link
-    /// is accessed.
+    /// One look at each slot up to the last resident's, which the iterator counts. No key is hashed or
+    /// compared, and no link is accessed.
     #[inline]
     pub fn iter(&self) -> Iter<'_, K, V, S, A> {
         Iter {
             cache: self,
             slot: 0,
             left: self.len(),
+            looks: Count::new(),
         }
     }
 
@@ -105,10 +108,12 @@ impl<K: Hash + Eq, V, S: BuildHasher, A: Allocator> Cache<K, V, S, A> {
         }
     }
 
-    /// Returns the lowest slot that has a resident, starting from a given one.
+    /// Returns the lowest slot that has a resident, starting from a given one, and counts each slot
+    /// that it looks at.
     #[inline]
-    fn next_resident(&self, from: u32) -> Option<u32> {
+    fn next_resident(&self, from: u32, looks: &mut Count) -> Option<u32> {
         for slot in from..self.made() {
+            looks.tick();
             if self.is_resident(slot) {
                 return Some(slot);
             }
@@ -122,8 +127,11 @@ impl<'a, K: Hash + Eq, V, S: BuildHasher, A: Allocator> Iterator for Iter<'a, K,
 
     #[inline]
     fn next(&mut self) -> Option<(&'a K, usize, &'a V)> {
+        if self.left == 0 {
+            return None;
+        }
         let cache = self.cache;
-        let slot = cache.next_resident(self.slot)?;
+        let slot = cache.next_resident(self.slot, &mut self.looks)?;
         self.slot = slot + 1;
         self.left -= 1;
         Some((cache.key(slot), slot as usize, cache.value(slot)))
