@@ -1,13 +1,14 @@
 // Written by bindings/rust/erase from crates/clock2q_cache/src/shares.rt; change that, and run erase.
 //! How a cache's capacity is divided among its queues.
 
-/// The capacity of a cache, Small's share of it, and the window: the number of admissions to Small
-/// for which an entry is young.
+/// The capacity of a cache, Small's share of it, the window (the number of admissions to Small for
+/// which an entry is young) and the number of evicted keys that the history remembers.
 #[derive(Clone, Copy)]
 pub(crate) struct Shares {
     capacity: usize,
     small: usize,
     window: usize,
+    history: usize,
 }
 
 impl Shares {
@@ -23,20 +24,31 @@ impl Shares {
             capacity,
             small,
             window: small.div_ceil(2),
+            history: Shares::usual_history(capacity),
         }
     }
 
-    /// Returns the shares of a cache that is made with all three numbers, or `None` if they don't
+    /// Returns how many keys the history remembers if the caller doesn't say.
+    #[inline]
+    pub(crate) fn usual_history(capacity: usize) -> usize {
+        capacity / 2
+    }
+
+    /// Returns the shares of a cache that is made with all four numbers, or `None` if they don't
     /// fit together.
     #[inline]
-    pub(crate) fn new(capacity: usize, small: usize, window: usize) -> Option<Self> {
-        if small >= capacity || (small == 0) != (window == 0) || window > small {
+    pub(crate) fn new(capacity: usize, small: usize, window: usize, history: usize) -> Option<Self> {
+        if small >= capacity
+            || (small == 0) != (window == 0)
+            || window > small
+            || history > capacity {
             return None;
         }
         Some(Shares {
             capacity,
             small,
             window,
+            history,
         })
     }
 
@@ -62,6 +74,6 @@ impl Shares {
 
     #[inline]
     pub(crate) fn history(self) -> usize {
-        self.capacity / 2
+        self.history
     }
 }

@@ -70,10 +70,38 @@ impl<K: Hash + Eq, V, S: BuildHasher, A: Allocator + Copy> Cache<K, V, S, A> {
         window: usize,
         hasher: S,
     ) -> Result<Self, CacheError> {
+        let history = Shares::usual_history(capacity.get());
+        Cache::with_history(alloc, capacity, small, window, history, hasher)
+    }
+
+    /// Makes an empty cache as [`with_policy`](Cache::with_policy) does, whose history remembers up
+    /// to `history` evicted keys in place of half the capacity.
+    ///
+    /// A full cache admits a loop of new keys if Small and the history have room for it, so a
+    /// history of `capacity - small` admits every loop that fits beside the keys that were hit. 0
+    /// remembers nothing. Each key of the history takes memory as long as it is remembered.
+    ///
+    /// # Errors
+    ///
+    /// Those of [`with_policy`](Cache::with_policy), and `Policy` if `history` is more than
+    /// `capacity`.
+    ///
+    /// # Cost
+    ///
+    /// That of [`new`](Cache::new), with room for `history` evicted keys.
+    #[inline]
+    pub fn with_history(
+        alloc: A,
+        capacity: NonZeroUsize,
+        small: usize,
+        window: usize,
+        history: usize,
+        hasher: S,
+    ) -> Result<Self, CacheError> {
         if capacity.get() > MAX_CAPACITY {
             return Err(CacheError::Capacity);
         }
-        let Some(shares) = Shares::new(capacity.get(), small, window) else {
+        let Some(shares) = Shares::new(capacity.get(), small, window, history) else {
             return Err(CacheError::Policy);
         };
         Cache::with_shares(alloc, shares, hasher)
