@@ -18,10 +18,11 @@ LISTED = (
     "clock2q_pages",
     "clock2q_c",
     "clock2q_uses",
-    "clock2q_simulation",
-    "clock2q_policies",
     "clock2q_directory",
     "clock2q_queues",
+    "simulator_io",
+    "simulator_replay",
+    "simulator_policies",
 )
 HEAD = """# Clauses
 

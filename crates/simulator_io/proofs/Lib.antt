@@ -1,0 +1,13 @@
+mod Amounts
+pub mod Bytes
+mod FieldByField
+mod KeyBytes
+mod KnownKeys
+mod LineByLine
+mod Numbering
+mod PolicyNames
+pub mod RecordByRecord
+mod Sampling
+mod WorkedAmounts
+mod WorkedFormats
+pub mod Zipped

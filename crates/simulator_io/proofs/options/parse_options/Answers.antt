@@ -1,0 +1,33 @@
+use Rattle.std.proofs.Common.{◌≡◌, ◌∙◌, ◌+◌, ◌<◌, ◌∷◌, [], Some, ℕ, List, length, map, drop, get_or, ap, sym, arith, rules}
+use Rattle.std.specs.Option.{is_some}
+use Rattle.std.specs.String.{string_bytes}
+use Rattle.std.proofs.lemmas.List.{drop_more, get_or-map, length-map}
+use Rattle.std.specs.NonZero.{non_zero_usize_get}
+use Rattle.simulator_io.specs.Amounts.{asked_from, joined}
+use Rattle.simulator_io.specs.ByteAmounts.{bytes_from, joined_bytes}
+use Rattle.simulator_io.proofs.options.parse_options.Goals as goal
+
+pub loop-index-preserved : goal.loop-index-preserved
+loop-index-preserved g c =
+    let words : List (List ℕ) = map string_bytes c.args.arguments.now in
+    let place = c.loop-index.index in
+    let asked = c.loop-index.asked in
+    let within : place < length words = omega (arith, c.loop-index-test.true, length-map c.args.arguments.now string_bytes) in
+    let word : get_or words place [] ≡ c.as_str.result.now =
+    get_or-map string_bytes c.args.arguments.now place c.index-arguments-index.result []
+    c.loop-index-test.true ∙ search (
+      rules,
+      c.index-arguments-index.is,
+      c.as_str.ensures.value,
+    ) in
+    record {
+      within = c.in_ok-take.ensures.within;
+      asked = c.in_ok-take.ensures.asked (drop (place + 1) words)
+          ∙ sym (ap (λ ws. joined (Some asked.capacities.items) (asked_from (is_some asked.awaited) ws)) (drop_more words place [] within ∙ ap (λ w. w ∷ drop (place + 1) words) word))
+          ∙ c.loop-index.invariant.asked;
+      bytes = c.in_ok-take.ensures.bytes (drop (place + 1) words)
+          ∙ sym (ap (λ ws. joined_bytes (map non_zero_usize_get asked.byte_capacities.items)
+          (bytes_from (is_some asked.awaited) ws)) (drop_more words place [] within
+          ∙ ap (λ w. w ∷ drop (place + 1) words) word))
+          ∙ c.loop-index.invariant.bytes;
+    }

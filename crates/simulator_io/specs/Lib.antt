@@ -1,0 +1,16 @@
+pub mod Amounts
+pub mod ByteAmounts
+pub mod Bytes
+pub mod ChosenShares
+pub mod Fields
+pub mod Formats
+pub mod Help
+pub mod KeyedHasher
+pub mod KnownKeys
+pub mod PolicyNames
+pub mod Ratios
+pub mod Reading
+pub mod Sample
+pub mod SimulationError
+pub mod Trace
+pub mod Written

@@ -1,0 +1,282 @@
+//! What the options among the arguments choose.
+ghost use Rattle.std.specs.Prelude.{◌≡◌, is_some};
+ghost use Rattle.simulator_io.specs.Amounts.{takes_value};
+
+use crate::amount::Amount;
+use crate::capacities::MAX_CAPACITY;
+use crate::error::{ArgumentError, SimulationError};
+use crate::format::{AskedFormat, TraceFormat};
+use crate::options::Format;
+use crate::policy::Policy;
+use crate::sample::Sample;
+use crate::shares::ChosenShares;
+use std::alloc::{AllocError, Allocator};
+use std::num::NonZeroUsize;
+
+/// An option that takes a value.
+#[derive(Clone, Copy, Debug, PartialEq, Eq)]
+pub(crate) enum Valued {
+    Policies,
+    Shares,
+    Skip,
+    Window,
+    Format,
+    Column,
+    SizeColumn,
+    Separator,
+    Sample,
+}
+
+impl Valued {
+    /// Returns the option with a name. The shares also have their former name.
+    pub(crate) fn named(name: &str) -> Option<Valued>
+        ensures named { is_some result ≡ takes_value name.now }
+    {
+        if name == "--policies" {
+            Some(Valued::Policies)
+        } else if name == "--shares" || name == "--policy" {
+            Some(Valued::Shares)
+        } else if name == "--skip" {
+            Some(Valued::Skip)
+        } else if name == "--window" {
+            Some(Valued::Window)
+        } else if name == "--format" {
+            Some(Valued::Format)
+        } else if name == "--column" {
+            Some(Valued::Column)
+        } else if name == "--size-column" {
+            Some(Valued::SizeColumn)
+        } else if name == "--separator" {
+            Some(Valued::Separator)
+        } else if name == "--sample" {
+            Some(Valued::Sample)
+        } else {
+            None
+        }
+    }
+}
+
+/// What the options so far choose.
+#[derive(Drop)]
+pub(crate) struct Chosen<A: Allocator> {
+    pub(crate) format: Option<Format>,
+    pub(crate) policies: Option<Vec<Policy, A>>,
+    pub(crate) shares: Option<ChosenShares>,
+    pub(crate) skipped: Option<usize>,
+    pub(crate) window: Option<NonZeroUsize>,
+    pub(crate) trace_format: AskedFormat,
+    pub(crate) sample: Option<Sample>,
+    /// The index of the argument that asks for the best shares.
+    pub(crate) best_shares: Option<usize>,
+}
+
+impl<A: Allocator> Chosen<A> {
+    /// Nothing is chosen.
+    pub(crate) fn none() -> Chosen<A> {
+        Chosen {
+            format: None,
+            policies: None,
+            shares: None,
+            skipped: None,
+            window: None,
+            trace_format: AskedFormat::NONE,
+            sample: None,
+            best_shares: None,
+        }
+    }
+
+    /// Refuses an option that was given before.
+    pub(crate) fn refuse_second(
+        &self,
+        option: Valued,
+        index: usize,
+    ) -> Result<(), SimulationError> {
+        let is_repeated = match option {
+            Valued::Policies => self.policies.is_some(),
+            Valued::Shares => self.shares.is_some(),
+            Valued::Skip => self.skipped.is_some(),
+            Valued::Window => self.window.is_some(),
+            Valued::Format => self.trace_format.has_name(),
+            Valued::Column => self.trace_format.has_column(),
+            Valued::SizeColumn => self.trace_format.has_size_column(),
+            Valued::Separator => self.trace_format.has_separator(),
+            Valued::Sample => self.sample.is_some(),
+        };
+        if is_repeated {
+            return Err(SimulationError::Argument(ArgumentError::RepeatedOption, index));
+        }
+        Ok(())
+    }
+}
+
+impl<A: Allocator + Copy> Chosen<A> {
+    /// Takes the value of an option.
+    pub(crate) fn take_value(
+        &mut self,
+        alloc: A,
+        option: Valued,
+        value: &str,
+        index: usize,
+    ) -> Result<(), SimulationError> {
+        match option {
+            Valued::Policies => self.policies = Some(policies_of(alloc, value, index)?),
+            Valued::Shares => self.shares = Some(shares_of(value, index)?),
+            Valued::Skip => self.skipped = Some(count_of(value, index)?),
+            Valued::Window => self.window = Some(length_of(value, index)?),
+            Valued::Format => self.trace_format.take_name(value, index)?,
+            Valued::Column => self.trace_format.take_column(value, index)?,
+            Valued::SizeColumn => self.trace_format.take_size_column(value, index)?,
+            Valued::Separator => self.trace_format.take_separator(value, index)?,
+            Valued::Sample => self.sample = Some(sample_of(value, index)?),
+        }
+        Ok(())
+    }
+
+    /// Takes an option that has no value.
+    pub(crate) fn take_flag(&mut self, option: &str, index: usize) -> Result<(), SimulationError> {
+        if option == "--best-shares" {
+            return self.take_best_shares(index);
+        }
+        if option == "--no-header" {
+            return self.trace_format.take_no_header(index);
+        }
+        let Some(format) = format_of(option) else {
+            return Err(SimulationError::Argument(ArgumentError::UnknownOption, index));
+        };
+        match self.format.replace(format) {
+            None => Ok(()),
+            Some(earlier) if earlier == format => {
+                Err(SimulationError::Argument(ArgumentError::RepeatedOption, index))
+            }
+            Some(_) => Err(SimulationError::Argument(ArgumentError::SecondForm, index)),
+        }
+    }
+
+    /// Takes the option that asks for the best shares.
+    fn take_best_shares(&mut self, index: usize) -> Result<(), SimulationError> {
+        match self.best_shares.replace(index) {
+            None => Ok(()),
+            Some(_) => Err(SimulationError::Argument(ArgumentError::RepeatedOption, index)),
+        }
+    }
+
+    /// Refuses the best shares beside an option that leaves them no room.
+    pub(crate) fn check_best_shares(&self) -> Result<(), SimulationError> {
+        let Some(index) = self.best_shares else {
+            return Ok(());
+        };
+        let is_svg = self.format == Some(Format::Svg);
+        if is_svg || self.shares.is_some() || self.window.is_some() {
+            return Err(SimulationError::Argument(ArgumentError::CrowdedShares, index));
+        }
+        match &self.policies {
+            Some(policies) if !policies.contains(&Policy::Clock2Q) => {
+                Err(SimulationError::Argument(ArgumentError::BestOfNone, index))
+            }
+            _ => Ok(()),
+        }
+    }
+}
+
+impl<A: Allocator> Chosen<A> {
+    /// Refuses a second trace beside a picture, by the indices of the arguments that name traces.
+    pub(crate) fn check_traces(&self, traces: &[usize]) -> Result<(), SimulationError> {
+        match (self.format, traces) {
+            (Some(Format::Svg), [_, second, ..]) => {
+                Err(SimulationError::Argument(ArgumentError::SecondTrace, *second))
+            }
+            _ => Ok(()),
+        }
+    }
+
+    /// Refuses a capacity in bytes, if an argument at an index asks for one, of traces without
+    /// sizes, and beside what has no such capacities.
+    pub(crate) fn check_bytes(
+        &self,
+        index: Option<usize>,
+        trace_format: TraceFormat,
+    ) -> Result<(), SimulationError> {
+        let Some(index) = index else {
+            return Ok(());
+        };
+        let is_svg = self.format == Some(Format::Svg);
+        let is_best = self.best_shares.is_some();
+        if is_svg || is_best || self.window.is_some() || self.sample.is_some() {
+            return Err(SimulationError::Argument(ArgumentError::CrowdedBytes, index));
+        }
+        if !trace_format.has_sizes() {
+            return Err(SimulationError::Argument(ArgumentError::UnsizedBytes, index));
+        }
+        match &self.policies {
+            Some(policies) if !policies.iter().any(|policy| policy.has_bytes()) => {
+                Err(SimulationError::Argument(ArgumentError::UndefinedBytes, index))
+            }
+            _ => Ok(()),
+        }
+    }
+}
+
+/// Returns the number of accesses that a value spells.
+fn count_of(value: &str, index: usize) -> Result<usize, SimulationError> {
+    match Amount::written(value).and_then(Amount::count) {
+        Some(count) => Ok(count),
+        None => Err(SimulationError::Argument(ArgumentError::NotCount, index)),
+    }
+}
+
+/// Returns the number of accesses, at least one, that a value spells.
+fn length_of(value: &str, index: usize) -> Result<NonZeroUsize, SimulationError> {
+    let count = Amount::written(value).and_then(Amount::count);
+    match count.and_then(NonZeroUsize::new) {
+        Some(length) => Ok(length),
+        None => Err(SimulationError::Argument(ArgumentError::NotLength, index)),
+    }
+}
+
+/// Returns the sample that a value spells.
+fn sample_of(value: &str, index: usize) -> Result<Sample, SimulationError> {
+    match Sample::written(value) {
+        Some(sample) => Ok(sample),
+        None => Err(SimulationError::Argument(ArgumentError::NotSample, index)),
+    }
+}
+
+/// Returns the shares that a value spells.
+fn shares_of(value: &str, index: usize) -> Result<ChosenShares, SimulationError> {
+    let Some(shares) = ChosenShares::written(value) else {
+        return Err(SimulationError::Argument(ArgumentError::NotShares, index));
+    };
+    if !shares.fit(MAX_CAPACITY) {
+        return Err(SimulationError::Argument(ArgumentError::UnfitShares, index));
+    }
+    Ok(shares)
+}
+
+/// Returns the policies that a comma-separated list names.
+fn policies_of<A: Allocator>(
+    alloc: A,
+    names: &str,
+    index: usize,
+) -> Result<Vec<Policy, A>, SimulationError> {
+    let mut policies = Vec::new(alloc);
+    for name in names.split(',') {
+        let Some(policy) = Policy::named(name) else {
+            return Err(SimulationError::Argument(ArgumentError::UnknownPolicy, index));
+        };
+        if policies.contains(&policy) {
+            return Err(SimulationError::Argument(ArgumentError::RepeatedPolicy, index));
+        }
+        policies.push(policy).map_err(AllocError::from)?;
+    }
+    Ok(policies)
+}
+
+/// Returns the form that an option asks for.
+fn format_of(option: &str) -> Option<Format> {
+    match option {
+        "--csv" => Some(Format::Csv),
+        "--svg" => Some(Format::Svg),
+        "--json" => Some(Format::Json),
+        _ => None,
+    }
+}

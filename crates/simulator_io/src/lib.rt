@@ -1,0 +1,62 @@
+//! What the simulator reads and writes: the program's arguments, traces of keys, and the hits as a
+//! table, as CSV, as JSON or as a picture.
+#![tactic(auto)]
+
+mod amount;
+mod axis;
+mod best_shares;
+mod byte_amount;
+mod capacities;
+mod chart;
+mod chosen;
+mod csv;
+mod csv_text;
+mod error;
+mod format;
+mod help;
+mod json_text;
+mod key_bytes;
+mod key_record;
+mod keyed_hasher;
+mod known_keys;
+mod options;
+mod outcome;
+mod pen;
+mod picture;
+mod policy;
+mod progress;
+mod reading;
+mod records;
+mod results;
+mod row;
+mod sample;
+mod shares;
+mod shown_rows;
+mod summary;
+mod sums;
+mod table_text;
+mod trace;
+mod window;
+
+pub use amount::{Amount, Unit};
+pub use best_shares::BestShares;
+pub use byte_amount::bytes_of;
+pub use capacities::MAX_CAPACITY;
+pub use error::{ArgumentError, ErrorReport, SimulationError};
+pub use format::{Columns, TraceFormat};
+pub use help::{FORMATS_HELP, HELP, POLICIES_HELP, help_for};
+pub use keyed_hasher::{KeyedHashBuilder, KeyedHasher};
+pub use options::{Format, Options, parse_options};
+pub use outcome::{Outcome, STANDARD_INPUT};
+pub use policy::Policy;
+pub use progress::{NoClock, Progress};
+pub use reading::{read_sample, read_trace};
+pub use results::write_outcomes;
+pub use row::{Hits, Row};
+pub use sample::{Sample, all_scaled, all_shown, scaled, scaled_shares};
+pub use shares::ChosenShares;
+pub use shown_rows::{show_name, show_row};
+pub use summary::{Summary, summary_of};
+pub use sums::{asked_bytes, hit_bytes};
+pub use trace::{DefaultHashBuilder, GrowingTrace, Trace};
+pub use window::{Window, Windows};

@@ -1,0 +1,34 @@
+use Rattle.std.proofs.Common.{◌≡◌, true, false, get_or, sym, ◌∙◌}
+use Rattle.std.proofs.lemmas.Bool.{lt-ltb, le-ltb}
+use Rattle.simulator_policies.specs.ByteCaches.{holds}
+use Rattle.simulator_policies.specs.ByteResidents.{entries_by}
+use Rattle.simulator_policies.proofs.ByteHolding.{byte-held-iff}
+use Rattle.simulator_policies.proofs.byte_caches.ByteResidents.access.Goals as goal
+
+pub hit-requires-clause-held : goal.hit-requires-clause-held
+hit-requires-clause-held g c = byte-held-iff _ _ c.args.self.now c.requires.holding c.requires.at c.index.result.now c.index.ensures ∙ lt-ltb _ _ c.if-is_hit.true
+
+pub bring-requires-clause-absent : goal.bring-requires-clause-absent
+bring-requires-clause-absent g c = byte-held-iff _ _ c.args.self.now c.requires.holding c.requires.at c.index.result.now c.index.ensures ∙ le-ltb _ _ c.if-is_hit.false
+
+pub returns-then-is_hit-clause-hit : goal.returns-then-is_hit-clause-hit
+returns-then-is_hit-clause-hit g c = sym (byte-held-iff _ _ c.args.self.now c.requires.holding c.requires.at c.index.result.now c.index.ensures)
+
+pub returns-then-is_hit-clause-held : goal.returns-then-is_hit-clause-held
+returns-then-is_hit-clause-held g c =
+    let is : holds (get_or c.args.trace.now c.args.at 0)
+    (entries_by c.args.trace.now c.args.at c.args.self.now) ≡ true =
+    byte-held-iff _ _ c.args.self.now c.requires.holding c.requires.at c.index.result.now
+    c.index.ensures ∙ lt-ltb _ _ c.if-is_hit.true in
+    rw is c.hit.ensures.held
+
+pub returns-else-is_hit-clause-hit : goal.returns-else-is_hit-clause-hit
+returns-else-is_hit-clause-hit g c = sym (byte-held-iff _ _ c.args.self.now c.requires.holding c.requires.at c.index.result.now c.index.ensures)
+
+pub returns-else-is_hit-clause-held : goal.returns-else-is_hit-clause-held
+returns-else-is_hit-clause-held g c =
+    let is : holds (get_or c.args.trace.now c.args.at 0)
+    (entries_by c.args.trace.now c.args.at c.args.self.now) ≡ false =
+    byte-held-iff _ _ c.args.self.now c.requires.holding c.requires.at c.index.result.now
+    c.index.ensures ∙ le-ltb _ _ c.if-is_hit.false in
+    rw is c.bring.ensures.held

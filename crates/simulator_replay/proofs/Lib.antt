@@ -1,0 +1,7 @@
+mod ByteRows
+mod Curves
+mod KnownHits
+mod Replaying
+mod RowBytes
+mod TriedShares
+mod WindowByWindow

@@ -1,0 +1,14 @@
+-- The hits so far are those after the first accesses.
+use Rattle.std.proofs.Common.{◌≡◌, ◌+◌, ◌-◌, ◌≤◌, take}
+use Rattle.simulator_policies.specs.Policies.{hit_count}
+use Rattle.simulator_replay.proofs.row.hits_between.Given as goal
+
+abbrev pub invariant-loop-index : goal.invariant-loop-index
+invariant-loop-index l = record {
+  within : l.index ≤ l.last;
+  few : l.hits ≤ l.index;
+  counted : l.hits + hit_count (take l.first l.outcomes) ≡ hit_count (take l.index l.outcomes);
+}
+
+abbrev pub decreases-loop-index : goal.decreases-loop-index
+decreases-loop-index l = l.last - l.index

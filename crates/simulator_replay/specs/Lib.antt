@@ -1,0 +1,10 @@
+pub mod BestShares
+pub mod ByteRows
+pub mod CacheRefusals
+pub mod Curves
+pub mod KnownHits
+pub mod MachineHits
+pub mod RowBytes
+pub mod Rows
+pub mod Simulated
+pub mod Windows

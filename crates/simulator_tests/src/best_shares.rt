@@ -1,0 +1,67 @@
+//! The shares that hit most, of those that are tried.
+
+use crate::traces::{non_zero, trace_of, trace_with};
+use clock2q_cache::MAX_CAPACITY;
+use simulator_io::{ChosenShares, Policy, Trace};
+use simulator_replay::{TRIED_SHARES, best_shares_of, replay};
+use std::alloc::Global;
+use std::num::NonZeroUsize;
+use std::test::Fail;
+use testing::same_at;
+
+/// Returns the hits of Clock2Q+ with some shares.
+fn hits_of(
+    alloc: Global,
+    capacity: NonZeroUsize,
+    shares: Option<ChosenShares>,
+    skipped: usize,
+    trace: &Trace<Global>,
+) -> Result<usize, Fail> {
+    let row = replay(alloc, capacity, &[Policy::Clock2Q], shares, skipped, trace)?;
+    Ok(row.hits.first().map_or(0, |hits| hits.hits))
+}
+
+/// Returns the most hits of the tried shares that fit.
+fn most_of(
+    alloc: Global,
+    capacity: NonZeroUsize,
+    skipped: usize,
+    trace: &Trace<Global>,
+) -> Result<usize, Fail> {
+    let mut most = 0;
+    for shares in TRIED_SHARES {
+        if capacity.get() <= MAX_CAPACITY && shares.fit(capacity.get()) {
+            most = most.max(hits_of(alloc, capacity, Some(shares), skipped, trace)?);
+        }
+    }
+    Ok(most)
+}
+
+/// Checks the best shares against a replay with each of those that are tried.
+fn best_are_best(alloc: Global, trace: &Trace<Global>, skipped: usize) -> Result<(), Fail> {
+    for room in [1usize, 2, 10, 21, 100, 300] {
+        let capacity = non_zero(room);
+        let best = best_shares_of(alloc, capacity, &TRIED_SHARES, skipped, trace)?;
+        let usual = hits_of(alloc, capacity, None, skipped, trace)?;
+        let most = most_of(alloc, capacity, skipped, trace)?.max(usual);
+        same_at((best.capacity, best.usual), (capacity, usual), room)?;
+        same_at(best.hits, most, room)?;
+        same_at(
+            hits_of(alloc, capacity, best.shares, skipped, trace)?,
+            most,
+            room,
+        )?;
+        same_at(best.shares.is_some(), usual < most, room)?;
+    }
+    Ok(())
+}
+
+#[test]
+fn none_of_the_tried_hits_more(rt: HostRuntime) -> Result<(), Fail> {
+    let numbers = trace_of(rt.alloc(), 7, 1500, 400)?;
+    let trace = trace_with(rt.alloc(), &numbers)?;
+    for skipped in [0, 700, 1500] {
+        best_are_best(rt.alloc(), &trace, skipped)?;
+    }
+    Ok(())
+}

@@ -1,0 +1,156 @@
+//! Cases of simulations, a line each.
+
+use clock2q_cache::DefaultHashBuilder;
+use clock2q_ports::Device;
+use simulator_io::{ErrorReport, Progress, SimulationError, parse_options};
+use simulator_replay::simulate;
+use std::alloc::{AllocError, Global};
+use std::hash::BuildHasher;
+use std::io::{Read, Result as IoResult};
+use testing::{LinearHashBuilder, SpellingError, spelled};
+
+/// How many bytes of a short trace are given at a time.
+const STEPS: [usize; 2] = [1, 23];
+
+/// The length of the longest short trace, and the number of bytes of any trace that are given at a
+/// time.
+const SHORT: usize = 1000;
+
+/// One hash for all keys.
+const ALIKE: LinearHashBuilder = LinearHashBuilder { times: 0, more: 7 };
+
+/// A reader that gives a few bytes at a time.
+#[derive(Drop)]
+pub(crate) struct Slow<'a> {
+    pub(crate) left: &'a [u8],
+    pub(crate) step: usize,
+}
+
+impl Read for Slow<'_> {
+    fn read(&mut self, buf: &mut [u8]) -> IoResult<usize> {
+        let count = self.step.min(self.left.len()).min(buf.len());
+        let (given, left) = self.left.split_at(count);
+        buf[..count].copy_from_slice(given);
+        self.left = left;
+        Ok(count)
+    }
+}
+
+/// Returns what a line gives in place of what it should, if it does.
+pub(crate) fn other_outcome(alloc: Global, line: &str) -> Result<Option<Vec<u8>>, SpellingError> {
+    let case = Case::from_line(alloc, line)?;
+    Ok(case.other_outcome(alloc)?)
+}
+
+/// Arguments, a trace, and what is written, to standard output and then to standard error.
+#[derive(Drop)]
+struct Case {
+    words: Vec<String>,
+    trace: Vec<u8>,
+    wanted: Vec<u8>,
+}
+
+impl Case {
+    /// Reads a line, whose parts end at bars.
+    fn from_line(alloc: Global, line: &str) -> Result<Case, SpellingError> {
+        let (words, rest) = line.split_once('|').unwrap_or((line, ""));
+        let (trace, wanted) = rest.split_once('|').unwrap_or((rest, "no bar"));
+        Ok(Case {
+            words: words_of(alloc, words)?,
+            trace: spelled(alloc, trace)?,
+            wanted: spelled(alloc, wanted)?,
+        })
+    }
+
+    /// Returns what the case gives in place of what it should, if it does.
+    fn other_outcome(&self, alloc: Global) -> Result<Option<Vec<u8>>, AllocError> {
+        let got = self.outcome(alloc, DefaultHashBuilder::new(), SHORT)?;
+        if got != self.wanted {
+            return Ok(Some(got));
+        }
+        if self.trace.len() > SHORT {
+            return Ok(None);
+        }
+        self.other_outcome_of_short(alloc)
+    }
+
+    /// Does so in pieces of several lengths, and with one hash for all keys.
+    fn other_outcome_of_short(&self, alloc: Global) -> Result<Option<Vec<u8>>, AllocError> {
+        for step in STEPS {
+            let got = self.outcome(alloc, DefaultHashBuilder::new(), step)?;
+            if got != self.wanted {
+                return Ok(Some(got));
+            }
+        }
+        let got = self.outcome(alloc, ALIKE, SHORT)?;
+        Ok(if got == self.wanted { None } else { Some(got) })
+    }
+
+    /// Returns what is written, or the refusal with its status.
+    fn outcome<S: BuildHasher + Drop>(
+        &self,
+        alloc: Global,
+        hasher: S,
+        step: usize,
+    ) -> Result<Vec<u8>, AllocError> {
+        match self.written(alloc, hasher, step) {
+            Ok(written) => Ok(written),
+            Err(refusal) => {
+                let report = ErrorReport {
+                    refusal,
+                    trace: None,
+                    arguments: &self.words,
+                };
+                let shown = format!(in alloc; "!{report}, status {}", refusal.status())?;
+                Vec::from_slice(alloc, shown.as_bytes())
+            }
+        }
+    }
+
+    /// Returns what is written to standard output, and then the warnings.
+    fn written<S: BuildHasher + Drop>(
+        &self,
+        alloc: Global,
+        hasher: S,
+        step: usize,
+    ) -> Result<Vec<u8>, SimulationError> {
+        let options = parse_options(alloc, &self.words)?;
+        let mut warnings = Vec::new(alloc);
+        let mut writer = Device::new(Vec::new(alloc));
+        {
+            let mut progress = Progress::new(&mut warnings, false);
+            let mut reader = Device::new(Slow {
+                left: &self.trace,
+                step,
+            });
+            simulate(
+                alloc,
+                &options,
+                hasher,
+                &mut reader,
+                &mut writer,
+                &mut progress,
+            )?;
+        }
+        let mut written = writer.into_inner();
+        written.extend_from_slice(&warnings)?;
+        Ok(written)
+    }
+}
+
+/// Returns the words of a line of arguments.
+fn words_of(alloc: Global, line: &str) -> Result<Vec<String>, SpellingError> {
+    let mut words = Vec::new(alloc);
+    for word in line.split_whitespace() {
+        push(&mut words, String::from_str(alloc, word)?)?;
+    }
+    Ok(words)
+}
+
+/// Adds a word.
+fn push(words: &mut Vec<String>, word: String) -> Result<(), SpellingError> {
+    match words.push(word) {
+        Ok(()) => Ok(()),
+        Err(_) => Err(SpellingError::Memory),
+    }
+}
