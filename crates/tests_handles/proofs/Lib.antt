@@ -1,2 +1,2 @@
-mod Made
+mod Keyed
 mod OneHash

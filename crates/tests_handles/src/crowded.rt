@@ -4,10 +4,15 @@ ghost use Rattle.std.specs.Prelude.{◌≡◌, ◌+◌, ◌^◌, ◌<◌, length
 use clock2q_handles::{Candidates, Table, TableError};
 use std::alloc::Global;
 use std::marker::Model;
+use std::test::Fail;
+use testing::{same, same_at};
+
+/// The hash of all handles.
+const HASH: u64 = 0xAB00_0000_0000_000F;
 
 /// A table whose handles were all inserted under one hash. Contracts see the number of handles.
 #[derive(Drop)]
-pub(crate) struct Crowded {
+struct Crowded {
     table: Table<u64>,
     hash: u64,
 }
@@ -25,18 +30,21 @@ impl Model for Crowded {
 }
 
 impl Crowded {
-    pub(crate) fn new(alloc: Global, hash: u64) -> Crowded {
+    /// Makes an empty table for handles of a hash.
+    fn new(alloc: Global, hash: u64) -> Crowded {
         Crowded {
             table: Table::new(alloc),
             hash,
         }
     }
 
-    pub(crate) fn capacity(&self) -> usize {
+    /// Returns how many handles fit before the table grows.
+    fn capacity(&self) -> usize {
         self.table.capacity()
     }
 
-    pub(crate) fn insert(&mut self, handle: u64) -> Result<(), TableError> {
+    /// Inserts a handle.
+    fn insert(&mut self, handle: u64) -> Result<(), TableError> {
         let hash = self.hash;
         self.table.insert(
             hash,
@@ -47,13 +55,14 @@ impl Crowded {
         )
     }
 
-    pub(crate) fn remove(&mut self, handle: u64) -> bool {
+    /// Removes a handle, and returns true if it was there.
+    fn remove(&mut self, handle: u64) -> bool {
         self.table.remove(self.hash, handle)
     }
 
     /// Advances a lookup of the hash to its end, and returns the number of candidates. Each handle
     /// is one, and the lookup has read one slot more than there are handles.
-    pub(crate) fn drained(&self) -> (usize, Candidates<'_, u64>)
+    fn drained(&self) -> (usize, Candidates<'_, u64>)
         ensures all { result.0 ≡ self.now }
         ensures reads { 0 < self.now → result.1.reads ≡ self.now + 1 }
     {
@@ -77,9 +86,49 @@ fn drain<'a>(mut walk: Candidates<'a, u64>) -> (usize, Candidates<'a, u64>)
 }
 
 /// Asserts that a lookup has read this number of slots, which is proved at each call.
-pub(crate) fn has_read(walk: &Candidates<'_, u64>, slots: usize)
+fn has_read(walk: &Candidates<'_, u64>, slots: usize)
     requires { walk.now.reads ≡ slots }
 {
     let _ = walk;
     let _ = slots;
+}
+
+/// Inserts the handles below 2,000.
+fn insert_all(crowded: &mut Crowded) -> Result<(), TableError> {
+    for handle in 0..2000 {
+        crowded.insert(handle)?;
+    }
+    Ok(())
+}
+
+/// Removes those that are even.
+fn remove_even(crowded: &mut Crowded) -> Result<(), Fail> {
+    for half in 0..1000 {
+        same_at(crowded.remove(half * 2), true, half)?;
+    }
+    Ok(())
+}
+
+/// A lookup yields this number of handles, and reads one slot more.
+fn reads_each(crowded: &Crowded, count: usize) -> Result<(), Fail>
+    requires some { 0 < count }
+    requires few { count < 2 ^ 32 }
+{
+    let (candidates, walk) = crowded.drained();
+    if candidates != count {
+        return same(candidates, count);
+    }
+    has_read(&walk, count + 1);
+    Ok(())
+}
+
+/// A lookup of one hash, under which 2,000 handles were inserted and half of them removed, reads one
+/// slot more than there are handles.
+pub(crate) fn crowd(alloc: Global) -> Result<(), Fail> {
+    let mut crowded = Crowded::new(alloc, HASH);
+    insert_all(&mut crowded)?;
+    reads_each(&crowded, 2000)?;
+    remove_even(&mut crowded)?;
+    reads_each(&crowded, 1000)?;
+    same(crowded.capacity(), 3072)
 }

@@ -1,8 +1,10 @@
 //! A table as the list of the entries of each home, and where those lists put each entry.
 
-use crate::hashed::{Handle, Seen};
+use crate::handle::{Command, Handle, Reply};
 use crate::layout::Slot;
+use crate::seen::{Notes, Seen};
 use clock2q_handles::TableError;
+use clock2q_table_commands::TableReply;
 use std::alloc::{AllocError, Global};
 
 /// The entries of each home, in the order in which they were inserted.
@@ -13,6 +15,7 @@ pub(crate) struct Plain {
 }
 
 impl Plain {
+    /// Makes empty lists for `entries` entries.
     pub(crate) fn with_capacity(alloc: Global, entries: usize) -> Result<Plain, AllocError> {
         let count = if entries == 0 {
             0
@@ -22,6 +25,7 @@ impl Plain {
         Plain::with_slots(alloc, count)
     }
 
+    /// Makes empty lists for a number of slots.
     fn with_slots(alloc: Global, count: usize) -> Result<Plain, AllocError> {
         let mut homes = Vec::with_capacity(alloc, count)?;
         for _ in 0..count {
@@ -30,6 +34,7 @@ impl Plain {
         Ok(Plain { alloc, homes })
     }
 
+    /// Returns the number of entries.
     pub(crate) fn len(&self) -> usize {
         let mut sum = 0usize;
         for list in &self.homes {
@@ -38,6 +43,7 @@ impl Plain {
         sum
     }
 
+    /// Returns how many entries fit before the lists grow.
     pub(crate) fn capacity(&self) -> usize {
         self.homes.len() / 4 * 3
     }
@@ -54,6 +60,7 @@ impl Plain {
         None
     }
 
+    /// Returns the home of a hash.
     fn home(&self, hash: u64) -> usize {
         (hash as usize).checked_rem(self.homes.len()).unwrap_or(0)
     }
@@ -72,30 +79,48 @@ impl Plain {
         Ok(candidates)
     }
 
-    pub(crate) fn insert(&mut self, handle: Handle, asked: &Seen) -> Result<(), AllocError> {
-        self.make_room(asked)?;
-        self.put(handle)
+    /// Makes the call of a command, and notes what a table's closures should be called on.
+    pub(crate) fn reply(
+        &mut self,
+        command: &Command<Global>,
+        notes: &Notes,
+    ) -> Result<Reply<Global>, AllocError> {
+        match command {
+            Command::Insert(handle) => self.insert(*handle, &notes.asked),
+            Command::Remove(hash, handle) => Ok(TableReply::Removed(self.remove(*hash, *handle))),
+            Command::Find(handle, accepted) => self.find(*handle, accepted, notes),
+            Command::Reserve(additional) => Ok(self.reserve(*additional, &notes.asked)),
+            Command::Get(hash) => Ok(TableReply::Handles(self.candidates(*hash)?)),
+        }
     }
 
-    pub(crate) fn find_or_insert(
+    /// Inserts a handle, last in its home.
+    fn insert(&mut self, handle: Handle, asked: &Seen) -> Result<Reply<Global>, AllocError> {
+        self.make_room(asked)?;
+        self.put(handle)?;
+        Ok(TableReply::Done)
+    }
+
+    /// Finds one of the accepted handles, or else inserts a handle.
+    fn find(
         &mut self,
         handle: Handle,
-        accepted: &[u64],
-        offered: &Seen,
-        asked: &Seen,
-    ) -> Result<(Handle, bool), AllocError> {
-        self.make_room(asked)?;
+        accepted: &[Handle],
+        notes: &Notes,
+    ) -> Result<Reply<Global>, AllocError> {
+        self.make_room(&notes.asked)?;
         for held in &self.candidates(handle.hash)? {
-            offered.note(held.number);
-            if accepted.contains(&held.number) {
-                return Ok((*held, false));
+            notes.offered.note(held.number);
+            if accepted.contains(held) {
+                return Ok(TableReply::Found(*held, false));
             }
         }
         self.put(handle)?;
-        Ok((handle, true))
+        Ok(TableReply::Found(handle, true))
     }
 
-    pub(crate) fn remove(&mut self, hash: u64, handle: Handle) -> bool {
+    /// Removes a handle from the candidates of a hash.
+    fn remove(&mut self, hash: u64, handle: Handle) -> bool {
         let home = self.home(hash);
         match self.homes.get_mut(home) {
             Some(list) => remove_from(list, hash, handle),
@@ -103,35 +128,23 @@ impl Plain {
         }
     }
 
-    pub(crate) fn reserve(&mut self, additional: usize, asked: &Seen) -> Result<(), TableError> {
-        let Some(entries) = self.len().checked_add(additional) else {
-            return Err(TableError::Size);
-        };
+    /// Makes room for `additional` more entries.
+    fn reserve(&mut self, additional: usize, asked: &Seen) -> Reply<Global> {
+        let entries = self.len().saturating_add(additional);
         if entries <= self.capacity() {
-            return Ok(());
+            return TableReply::Done;
         }
         let Some(count) = slots_for(entries) else {
-            return Err(TableError::Size);
+            return TableReply::Refused(TableError::Size);
         };
         match self.rebuild(count, asked) {
-            Ok(()) => Ok(()),
-            Err(_) => Err(TableError::Memory),
+            Ok(()) => TableReply::Done,
+            Err(_) => TableReply::Refused(TableError::Memory),
         }
-    }
-
-    /// Returns the homes that have entries.
-    pub(crate) fn taken_homes(&self) -> Result<Vec<usize>, AllocError> {
-        let mut taken = Vec::new(self.alloc);
-        for (home, list) in self.homes.iter().enumerate() {
-            if !list.is_empty() {
-                taken.push(home)?;
-            }
-        }
-        Ok(taken)
     }
 
     /// Returns where each home's list puts its entries, slot by slot, and how far past their home.
-    pub(crate) fn layout(&self) -> Result<Vec<Slot<Handle>>, AllocError> {
+    pub(crate) fn layout(&self) -> Result<Vec<Slot>, AllocError> {
         let mut slots = vec![in self.alloc; None; self.homes.len()]?;
         let mut spill = self.wrapped();
         for (home, list) in self.homes.iter().enumerate() {
@@ -151,6 +164,7 @@ impl Plain {
         spill
     }
 
+    /// Doubles the slots if one more entry doesn't fit.
     fn make_room(&mut self, asked: &Seen) -> Result<(), AllocError> {
         if self.len() == self.capacity() {
             let count = self.homes.len().saturating_mul(2).max(16);
@@ -167,7 +181,8 @@ impl Plain {
         self.put_each(&slots, asked)
     }
 
-    fn put_each(&mut self, slots: &[Slot<Handle>], asked: &Seen) -> Result<(), AllocError> {
+    /// Inserts the entries of slots.
+    fn put_each(&mut self, slots: &[Slot], asked: &Seen) -> Result<(), AllocError> {
         for slot in slots {
             if let Some((handle, _)) = slot {
                 asked.note(handle.number);
@@ -177,6 +192,7 @@ impl Plain {
         Ok(())
     }
 
+    /// Puts a handle last in its home.
     fn put(&mut self, handle: Handle) -> Result<(), AllocError> {
         let home = self.home(handle.hash);
         if let Some(list) = self.homes.get_mut(home) {
@@ -220,7 +236,7 @@ fn handed_on(spill: usize, list: &[Handle]) -> usize {
 }
 
 /// Puts a home's entries into the slots, one after another from `spill` slots past it on.
-fn put_into(slots: &mut [Slot<Handle>], home: usize, spill: usize, list: &[Handle]) {
+fn put_into(slots: &mut [Slot], home: usize, spill: usize, list: &[Handle]) {
     for (i, handle) in list.iter().enumerate() {
         let past = spill.saturating_add(i);
         let slot = home.saturating_add(past).checked_rem(slots.len());

@@ -1,23 +1,84 @@
-//! Runs of commands to a new table, in which each handle is its own hash.
+//! Cases of lists of commands, which are run on a new table.
 ghost use Rattle.std.specs.Prelude.{◌≡◌};
 
+use crate::calls::{command_of, number_of, two_words, write_reply};
+use crate::handle::{Command, Handle, Reply};
 use clock2q_handles::{Table, TableError};
-use clock2q_table_commands::{TableCommand, TableReply, run_table};
-use std::alloc::Allocator;
+use clock2q_table_commands::run_table;
+use std::alloc::{AllocError, Allocator, Global};
+use std::cell::Cell;
+use testing::Refusing;
 
-/// A handle is its own hash.
-fn hash_of(handle: u64) -> u64
-    ensures { result ≡ handle }
-{
-    handle
+/// Runs the commands of a case on a new table, and writes the replies, or why nothing was run, and the
+/// number of hashes that were asked for.
+///
+/// Before the commands there is the number of entries that the table is made for, and which requests
+/// for memory are refused, if any.
+pub(crate) fn play_run(
+    refusing: &Refusing<Global>,
+    lists: Global,
+    case: &str,
+    replies: &mut String,
+) -> Result<(), AllocError> {
+    let (made, calls) = case.split_once(';').unwrap_or((case, ""));
+    let commands = commands_of(refusing, lists, calls)?;
+    let (entries, refused) = two_words(made);
+    refuse(refusing, refused);
+    let asked = Cell::new(0u64);
+    match run_counted(refusing, number_of(entries) as usize, &commands, &asked) {
+        Ok(given) => write_replies(replies, &given)?,
+        Err(refusal) => write!(replies, "{refusal}\n")?,
+    }
+    write!(replies, "asked {}\n", asked.get())
 }
 
-/// Returns what a new table replies to commands.
-pub(crate) fn replies_of<A: Allocator + Copy>(
+/// Returns the commands that a text spells.
+fn commands_of<'a>(
+    refusing: &'a Refusing<Global>,
+    lists: Global,
+    calls: &str,
+) -> Result<Vec<Command<&'a Refusing<Global>>>, AllocError> {
+    let mut commands = Vec::new(lists);
+    for call in calls.split_terminator(';') {
+        if let Some(command) = command_of(refusing, call)? {
+            commands.push(command)?;
+        }
+    }
+    Ok(commands)
+}
+
+/// Refuses all requests after a number of granted ones, or one of them, if that is spelled.
+fn refuse(refusing: &Refusing<Global>, refused: &str) {
+    let (name, granted) = two_words(refused);
+    match name {
+        "refuse" => refusing.refuse_after(number_of(granted)),
+        "refuse_one" => refusing.refuse_one_after(number_of(granted)),
+        _ => {}
+    }
+}
+
+/// Returns what a new table replies to commands, and counts the hashes that are asked for.
+pub(crate) fn run_counted<A: Allocator + Copy>(
     alloc: A,
     entries: usize,
-    commands: &[TableCommand<u64, Vec<u64, A>>],
-) -> Result<Vec<TableReply<u64, Vec<u64, A>>, A>, TableError> {
+    commands: &[Command<A>],
+    asked: &Cell<u64>,
+) -> Result<Vec<Reply<A>, A>, TableError> {
     let mut table = Table::with_capacity(alloc, entries)?;
-    run_table(alloc, &mut table, hash_of, commands)
+    let counted = |handle: Handle| -> u64
+        ensures { result ≡ handle.hash }
+    {
+        asked.set(asked.get().saturating_add(1));
+        handle.hash
+    };
+    run_table(alloc, &mut table, counted, commands)
+}
+
+/// Writes replies, each with a line end.
+fn write_replies<A: Allocator>(replies: &mut String, given: &[Reply<A>]) -> Result<(), AllocError> {
+    for reply in given {
+        write_reply(replies, reply)?;
+        replies.push_str("\n")?;
+    }
+    Ok(())
 }

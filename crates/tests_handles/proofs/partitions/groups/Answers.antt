@@ -1,8 +1,0 @@
-use Rattle.std.proofs.Common.{refl, lit≤}
-use Rattle.tests_handles.proofs.partitions.groups.Goals as goal
-
-pub partition-requires : goal.partition-requires
-partition-requires g = record { count = record { power = (8, refl); most = lit≤ tt } }
-
-pub partition-requires-3 : goal.partition-requires-3
-partition-requires-3 g = record { count = record { power = (16, refl); most = lit≤ tt } }

@@ -1,0 +1,82 @@
+//! The words that calls of a table are spelled by, and the words of replies.
+
+use crate::handle::{Command, Handle, Reply};
+use clock2q_table_commands::TableReply;
+use std::alloc::{AllocError, Allocator};
+
+/// Returns the two parts of a text, of which the second begins after its first blank.
+pub(crate) fn two_words(text: &str) -> (&str, &str) {
+    text.split_once(' ').unwrap_or((text, ""))
+}
+
+/// Returns the number that a word spells, or 0.
+pub(crate) fn number_of(word: &str) -> u64 {
+    word.parse().unwrap_or(0)
+}
+
+/// Returns the hash that a word spells in hexadecimal digits, or 0.
+pub(crate) fn hash_of(word: &str) -> u64 {
+    u64::from_str_radix(word, 16).unwrap_or(0)
+}
+
+/// Returns the handle that a word spells: its hash, a colon and its number.
+pub(crate) fn handle_of(word: &str) -> Handle {
+    let (hash, number) = word.split_once(':').unwrap_or((word, ""));
+    Handle {
+        hash: hash_of(hash),
+        number: number_of(number),
+    }
+}
+
+/// Returns the handles that a text spells.
+fn handles_of<A: Allocator + Copy>(alloc: A, text: &str) -> Result<Vec<Handle, A>, AllocError> {
+    let mut handles = Vec::new(alloc);
+    for word in text.split_whitespace() {
+        handles.push(handle_of(word))?;
+    }
+    Ok(handles)
+}
+
+/// Returns the command that a text spells, if it spells one.
+pub(crate) fn command_of<A: Allocator + Copy>(
+    alloc: A,
+    call: &str,
+) -> Result<Option<Command<A>>, AllocError> {
+    let (name, words) = two_words(call);
+    let (first, others) = two_words(words);
+    Ok(Some(match name {
+        "put" => Command::Insert(handle_of(first)),
+        "remove" => Command::Remove(hash_of(first), handle_of(others)),
+        "find" => Command::Find(handle_of(first), handles_of(alloc, others)?),
+        "reserve" => Command::Reserve(number_of(first) as usize),
+        "get" => Command::Get(hash_of(first)),
+        _ => return Ok(None),
+    }))
+}
+
+/// Writes a reply.
+pub(crate) fn write_reply<A: Allocator>(
+    replies: &mut String,
+    reply: &Reply<A>,
+) -> Result<(), AllocError> {
+    match reply {
+        TableReply::Done => replies.push_str("ok"),
+        TableReply::Removed(is_removed) => write!(replies, "{is_removed}"),
+        TableReply::Found(found, true) => write!(replies, "new {}", found.number),
+        TableReply::Found(found, false) => write!(replies, "found {}", found.number),
+        TableReply::Handles(handles) => write_handles(replies, handles),
+        TableReply::Refused(refusal) => write!(replies, "{refusal}"),
+    }
+}
+
+/// Writes the numbers of handles.
+fn write_handles(replies: &mut String, handles: &[Handle]) -> Result<(), AllocError> {
+    if handles.is_empty() {
+        return replies.push_str("none");
+    }
+    for (index, handle) in handles.iter().enumerate() {
+        let space = if index == 0 { "" } else { " " };
+        write!(replies, "{space}{}", handle.number)?;
+    }
+    Ok(())
+}
