@@ -66,7 +66,7 @@ check_tools() {
         missing="$missing
   $CC that builds a C program (apt-get install gcc libc6-dev): it says $(printf '%s\n' "$said" | head -n 1)"
     fi
-    for tool in "$AR" "$LD" "$NM" "$OBJCOPY"; do
+    for tool in "$AR" "$LD" "$OBJCOPY" ${erased:+"$NM"}; do
         command -v "$tool" >/dev/null || missing="$missing
   $tool: apt-get install binutils"
     done
@@ -162,13 +162,14 @@ join_proved() {
 
 # Makes one object of what cargo builds and of bytes.c, and of Rust's std what these need.
 join_erased() {
-    CARGO_TARGET_DIR=$work/target cargo build --quiet --offline --locked --release --manifest-path "$rust/Cargo.toml"
-    cp "$work/target/${CARGO_BUILD_TARGET:-.}/release/libclock2q.a" erased.a
+    cargo build --quiet --offline --locked --release --target-dir "$built" --manifest-path "$rust/Cargo.toml"
+    cp "$built/${CARGO_BUILD_TARGET:-.}/release/libclock2q.a" erased.a
     compile "$here/bytes.c"
     "$NM" -g --defined-only erased.a bytes.o 2>/dev/null | sed -n 's/.* T \(clock2q_\)/-u \1/p' >exported
     # shellcheck disable=SC2046 # two words for each name
     "$LD" -r -o clock2q.o --gc-sections $(cat exported) bytes.o erased.a
-    "$OBJCOPY" --strip-debug clock2q.o
+    # some linkers' plugins read Rust's own sections, and take them for those of their compiler
+    "$OBJCOPY" --strip-debug --remove-section='.llvm*' clock2q.o
 }
 
 # Makes the libraries of one object. Its other names are local then, so that none meets one of the caller's or of another
@@ -259,6 +260,7 @@ if builds sqlite3.h -lsqlite3; then
 else
     say "lib/libclock2q_sqlite.so is left out: no sqlite3.h (apt-get install libsqlite3-dev)"
 fi
+built=$(absolute "${CARGO_TARGET_DIR:-$work/target}")
 if [ "$erased" ]; then
     :
 elif [ "$archives" ]; then
