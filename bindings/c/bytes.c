@@ -66,8 +66,8 @@ static inline uint64_t word_of(const unsigned char *bytes, size_t length) {
 }
 
 uint64_t (clock2q_bytes_siphash)(const void *secret, const void *key, size_t length) {
-    const unsigned char *halves = secret;
-    uint64_t k[2] = {word_of(halves, sizeof *k), word_of(halves + sizeof *k, sizeof *k)};
+    uint64_t k[2];
+    memcpy(k, secret, sizeof k);
     uint64_t v[4] = {k[0] ^ UINT64_C(0x736F6D6570736575), k[1] ^ UINT64_C(0x646F72616E646F6D),
                      k[0] ^ UINT64_C(0x6C7967656E657261), k[1] ^ UINT64_C(0x7465646279746573)};
     const unsigned char *bytes = key;
