@@ -167,7 +167,7 @@ join_erased() {
     compile "$here/bytes.c"
     "$NM" -g --defined-only erased.a bytes.o 2>/dev/null | sed -n 's/.* T \(clock2q_\)/-u \1/p' >exported
     # shellcheck disable=SC2046 # two words for each name
-    "$LD" -r -o clock2q.o --gc-sections $(cat exported) bytes.o erased.a
+    "$LD" -r -o clock2q.o --gc-sections --force-group-allocation $(cat exported) bytes.o erased.a
     # some linkers' plugins read Rust's own sections, and take them for those of their compiler
     "$OBJCOPY" --strip-debug --remove-section='.llvm*' clock2q.o
 }
