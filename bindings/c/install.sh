@@ -168,8 +168,8 @@ join_erased() {
     "$NM" -g --defined-only erased.a bytes.o 2>/dev/null | sed -n 's/.* T \(clock2q_\)/-u \1/p' >exported
     # shellcheck disable=SC2046 # two words for each name
     "$LD" -r -o clock2q.o --gc-sections --force-group-allocation $(cat exported) bytes.o erased.a
-    # some linkers' plugins read Rust's own sections, and take them for those of their compiler
-    "$OBJCOPY" --strip-debug --remove-section='.llvm*' clock2q.o
+    # names that only dropped sections use, and Rust's own sections, which plugins of ar take for their compiler's
+    "$OBJCOPY" --strip-unneeded --remove-section='.llvm*' clock2q.o
 }
 
 # Makes the libraries of one object. Its other names are local then, so that none meets one of the caller's or of another

@@ -70,6 +70,7 @@ class BuildOverLibrary(build_ext):
         sources = native()
         if not folders and sources:
             headers, folders = [str(sources / "c")], [built_by_cargo(sources, Path(self.build_temp).resolve() / "native")]
+            extension.extra_link_args += ["-Wl,--gc-sections", "-Wl,--strip-debug"]  # what is left of Rust's std
         archive = next((it for it in (Path(folder, "libclock2q.a") for folder in folders) if it.is_file()), None)
         if archive is None:
             sys.exit("clock2q: no libclock2q.a: install the library, and set CLOCK2Q_LIB_DIR or PKG_CONFIG_PATH to where it is")
