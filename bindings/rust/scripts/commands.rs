@@ -72,10 +72,15 @@ fn command(words: &[&str]) -> Option<Command> {
         ["try", key, "fail"] => Command::Try(number(key)?, None),
         ["try", key, value] => Command::Try(number(key)?, Some(number(value)?)),
         ["slot", key, value] => Command::Slot(number(key)?, number(value)?),
-        ["retain", bits] if !bits.is_empty() => Command::Retain(bits.bytes().map(bit).collect::<Option<_>>()?),
-        ["prefill", values @ ..] if !values.is_empty() => {
-            Command::Prefill(values.iter().map(|value| number(value)).collect::<Option<_>>()?)
+        ["retain", bits] if !bits.is_empty() => {
+            Command::Retain(bits.bytes().map(bit).collect::<Option<_>>()?)
         }
+        ["prefill", values @ ..] if !values.is_empty() => Command::Prefill(
+            values
+                .iter()
+                .map(|value| number(value))
+                .collect::<Option<_>>()?,
+        ),
         ["clear"] => Command::Clear,
         ["len"] => Command::Len,
         ["is_empty"] => Command::IsEmpty,
@@ -97,12 +102,16 @@ fn made(words: &[&str]) -> Option<Made> {
 /// Reads a text whole.
 pub fn read(text: &[u8]) -> Result<(Made, Vec<Command>), Refusal> {
     let text = text.strip_suffix(b"\n").unwrap_or(text);
-    let mut lines = text.split(|byte| *byte == b'\n').enumerate().map(|(at, line)| {
-        let words = std::str::from_utf8(line).map_err(|_| Refusal::BadLine(at + 1))?;
-        Ok((at + 1, words.split(' ').collect::<Vec<_>>()))
-    });
+    let mut lines = text
+        .split(|byte| *byte == b'\n')
+        .enumerate()
+        .map(|(at, line)| {
+            let words = std::str::from_utf8(line).map_err(|_| Refusal::BadLine(at + 1))?;
+            Ok((at + 1, words.split(' ').collect::<Vec<_>>()))
+        });
     let (at, first) = lines.next().unwrap_or(Ok((1, Vec::new())))?;
     let made = made(&first).ok_or(Refusal::BadLine(at))?;
-    let rest = lines.map(|line| line.and_then(|(at, words)| command(&words).ok_or(Refusal::BadLine(at))));
+    let rest =
+        lines.map(|line| line.and_then(|(at, words)| command(&words).ok_or(Refusal::BadLine(at))));
     Ok((made, rest.collect::<Result<_, _>>()?))
 }

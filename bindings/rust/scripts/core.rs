@@ -17,7 +17,8 @@ impl<S: BuildHasher + Default> Core<S> {
         let cache = match made.shares {
             None => Cache::with_hasher(Global, capacity, S::default()),
             Some((small, window)) => {
-                let [small, window] = [small, window].map(|share| usize::try_from(share).unwrap_or(usize::MAX));
+                let [small, window] =
+                    [small, window].map(|share| usize::try_from(share).unwrap_or(usize::MAX));
                 Cache::with_policy(Global, capacity, small, window, S::default())
             }
         };
@@ -37,7 +38,9 @@ impl<S: BuildHasher> Calls for Core<S> {
             Command::Get(key) => value(cache.get(key).copied()),
             Command::Peek(key) => value(cache.peek(key).copied()),
             Command::GetAt(slot, key) => value(cache.get_at(*slot as usize, key).copied()),
-            Command::Set(key, new) => value(cache.get_mut(key).map(|held| std::mem::replace(held, *new))),
+            Command::Set(key, new) => {
+                value(cache.get_mut(key).map(|held| std::mem::replace(held, *new)))
+            }
             Command::Contains(key) => flag(cache.contains(key)),
             Command::Remove(key) => flag(cache.remove(key)),
             Command::With(key, new) => cache.get_or_insert_with(*key, || *new).to_string(),

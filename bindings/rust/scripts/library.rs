@@ -28,7 +28,8 @@ struct Found {
 #[link(name = "clock2q", kind = "static")]
 extern "C" {
     fn clock2q_new(cache: *mut Handle, capacity: usize) -> u32;
-    fn clock2q_with_policy(cache: *mut Handle, capacity: usize, small: usize, window: usize) -> u32;
+    fn clock2q_with_policy(cache: *mut Handle, capacity: usize, small: usize, window: usize)
+        -> u32;
     fn clock2q_enter_key(cache: *mut Handle, key: u64) -> Place;
     fn clock2q_find_key(cache: *mut Handle, key: u64) -> Found;
     fn clock2q_at(cache: *mut Handle, slot: usize, key: u64) -> bool;
@@ -57,7 +58,8 @@ impl Library {
         let status = match made.shares {
             None => unsafe { clock2q_new(&mut handle, capacity) },
             Some((small, window)) => {
-                let [small, window] = [small, window].map(|share| usize::try_from(share).unwrap_or(usize::MAX));
+                let [small, window] =
+                    [small, window].map(|share| usize::try_from(share).unwrap_or(usize::MAX));
                 unsafe { clock2q_with_policy(&mut handle, capacity, small, window) }
             }
         };
@@ -78,7 +80,10 @@ impl Library {
         // SAFETY: there is a cache, here and below, and no other call of it.
         let place = unsafe { clock2q_enter_key(&mut self.handle, key) };
         self.keys[place.slot] = Some(key);
-        (place.slot, place.has_last && place.last == key && !place.evicted)
+        (
+            place.slot,
+            place.has_last && place.last == key && !place.evicted,
+        )
     }
 
     /// Finds the slot of a key, with a hit.
@@ -127,7 +132,10 @@ impl Calls for Library {
                 let is_there = unsafe { clock2q_at(&mut self.handle, *slot as usize, *key) };
                 value(is_there.then(|| self.values[*slot as usize]).flatten())
             }
-            Command::Set(key, new) => value(self.find(*key).and_then(|slot| self.values[slot].replace(*new))),
+            Command::Set(key, new) => value(
+                self.find(*key)
+                    .and_then(|slot| self.values[slot].replace(*new)),
+            ),
             Command::Contains(key) => flag(unsafe { clock2q_contains(&mut self.handle, *key) }),
             Command::Remove(key) => flag(unsafe { clock2q_remove(&mut self.handle, *key) }),
             Command::With(key, new) => {
@@ -135,7 +143,9 @@ impl Calls for Library {
                 self.values[slot].map_or_else(String::new, |held| held.to_string())
             }
             Command::Try(key, new) => {
-                let slot = self.find(*key).or_else(|| new.map(|new| self.fetch(*key, new)));
+                let slot = self
+                    .find(*key)
+                    .or_else(|| new.map(|new| self.fetch(*key, new)));
                 stored(slot.and_then(|slot| self.values[slot]))
             }
             Command::Slot(key, new) => {

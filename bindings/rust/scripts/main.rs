@@ -36,7 +36,8 @@ fn spelled(text: &str) -> Vec<u8> {
         bytes.push(match byte {
             b';' => b'\n',
             b'\\' => {
-                let digits = [rest.next(), rest.next()].map(|digit| digit.expect("two digits") as char);
+                let digits =
+                    [rest.next(), rest.next()].map(|digit| digit.expect("two digits") as char);
                 u8::from_str_radix(&String::from_iter(digits), 16).expect("a byte")
             }
             byte => byte,
@@ -59,9 +60,18 @@ fn served<C: Calls>(text: &[u8], make: impl Fn(Made) -> Result<C, Refusal>) -> V
 fn outcomes(text: &[u8]) -> Vec<(&'static str, Vec<u8>)> {
     use clock2q::proved::cache::DefaultHashBuilder;
     let mut outcomes = vec![
-        ("the core", served(text, core::Core::<DefaultHashBuilder>::new)),
-        ("one hash", served(text, core::Core::<BuildHasherDefault<Times<0>>>::new)),
-        ("keys as hashes", served(text, core::Core::<BuildHasherDefault<Times<1>>>::new)),
+        (
+            "the core",
+            served(text, core::Core::<DefaultHashBuilder>::new),
+        ),
+        (
+            "one hash",
+            served(text, core::Core::<BuildHasherDefault<Times<0>>>::new),
+        ),
+        (
+            "keys as hashes",
+            served(text, core::Core::<BuildHasherDefault<Times<1>>>::new),
+        ),
     ];
     let fills = |command: &Command| matches!(command, Command::Prefill(_));
     if !commands::read(text).is_ok_and(|(_, list)| list.iter().any(fills)) {
@@ -82,7 +92,10 @@ fn main() -> ExitCode {
             over_c += usize::from(over == "the C library");
             if outcome != expected {
                 differ += 1;
-                println!("{over}: {case}\n  gives {:?}", String::from_utf8_lossy(&outcome));
+                println!(
+                    "{over}: {case}\n  gives {:?}",
+                    String::from_utf8_lossy(&outcome)
+                );
             }
         }
     }

@@ -18,7 +18,10 @@ fn pages() {
         }
         Err(refused) => assert_eq!(refused, Refused::Memory),
     }
-    assert_eq!(PageCache::new(MAX_CAPACITY + 1).err(), Some(Refused::Capacity));
+    assert_eq!(
+        PageCache::new(MAX_CAPACITY + 1).err(),
+        Some(Refused::Capacity)
+    );
 }
 
 #[test]
@@ -33,5 +36,8 @@ fn a_map() {
         }
         Err(refused) => assert_eq!(refused, Refused::Memory),
     }
-    assert_eq!(Cache::<u64, u64>::new(MAX_CAPACITY + 1).err(), Some(Refused::Capacity));
+    assert_eq!(
+        Cache::<u64, u64>::new(MAX_CAPACITY + 1).err(),
+        Some(Refused::Capacity)
+    );
 }
