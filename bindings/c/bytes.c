@@ -55,20 +55,25 @@ static inline void sip_word(uint64_t v[4], uint64_t word) {
     v[0] ^= word;
 }
 
+/* Reads at most eight bytes as a number, the lowest first. */
+static inline uint64_t word_of(const unsigned char *bytes, size_t length) {
+    uint64_t word = 0;
+    if (length != 0) memcpy(&word, bytes, length);
+#if defined __BYTE_ORDER__ && __BYTE_ORDER__ == __ORDER_BIG_ENDIAN__
+    word = __builtin_bswap64(word);
+#endif
+    return word;
+}
+
 uint64_t (clock2q_bytes_siphash)(const void *secret, const void *key, size_t length) {
-    uint64_t k[2], word = 0;
+    uint64_t k[2];
     memcpy(k, secret, sizeof k);
     uint64_t v[4] = {k[0] ^ UINT64_C(0x736F6D6570736575), k[1] ^ UINT64_C(0x646F72616E646F6D),
                      k[0] ^ UINT64_C(0x6C7967656E657261), k[1] ^ UINT64_C(0x7465646279746573)};
     const unsigned char *bytes = key;
     size_t left = length;
-    for (; left >= sizeof word; left -= sizeof word, bytes += sizeof word) {
-        memcpy(&word, bytes, sizeof word);
-        sip_word(v, word);
-    }
-    word = 0;
-    if (left != 0) memcpy(&word, bytes, left);
-    sip_word(v, word | (uint64_t)length << 56);
+    for (; left >= sizeof *v; left -= sizeof *v, bytes += sizeof *v) sip_word(v, word_of(bytes, sizeof *v));
+    sip_word(v, word_of(bytes, left) | (uint64_t)length << 56);
     v[2] ^= 0xFF;
     sip_round(v);
     sip_round(v);

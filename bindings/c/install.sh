@@ -1,5 +1,5 @@
 #!/bin/sh
-# install.sh [PREFIX]: proves and builds the library, and installs it below PREFIX (/usr/local):
+# install.sh [--erased] [PREFIX]: proves and builds the library, and installs it below PREFIX (/usr/local):
 #   include/clock2q.h, include/clock2q_bytes.h, include/clock2q.hpp, include/pcache_clock2q.h
 #   lib/libclock2q.a, lib/libclock2q.so, lib/pkgconfig/clock2q.pc, lib/cmake/clock2q
 #   lib/libclock2q_sqlite.so, if SQLite's header and library are there; else an earlier one is removed
@@ -7,15 +7,18 @@
 # DESTDIR goes before PREFIX. Either may begin at the folder where this is called. CC is the C compiler.
 # With CLOCK2Q_ARCHIVES, LIBRARY:KIT, two archives in place of what is built here, nothing is proved. A proof leaves its
 # archive's sum, the kit's, that of the sources and the version of rt beside it, in crates/clock2q_c/out/libclock2q_c.a.proved.
+# With --erased nothing is proved and no rt is needed: cargo builds the library of the proved text without its contracts,
+# on any platform. For another platform than this one CARGO_BUILD_TARGET, CC, AR, LD, NM and OBJCOPY name it and its tools.
 set -eu
 self=$(readlink -f "$0")
 here=${self%/*}
 bindings=${here%/*}
 top=${bindings%/*}
 crate=$top/crates/clock2q_c
+rust=$bindings/rust/clock2q_c
 soname=libclock2q.so.1 # counted up when a name of the library goes or changes
 archives=${CLOCK2Q_ARCHIVES:-}
-CC=${CC:-cc}
+CC=${CC:-cc} AR=${AR:-ar} LD=${LD:-ld} NM=${NM:-nm} OBJCOPY=${OBJCOPY:-objcopy}
 
 say() {
     echo "install.sh: $1" >&2
@@ -48,8 +51,13 @@ builds() {
 
 check_tools() {
     missing=''
-    [ "$archives" ] || command -v rt >/dev/null || missing="$missing
-  rt, the command of the Rattle kit: README.md, Install"
+    if [ "$erased" ]; then
+        command -v cargo >/dev/null || missing="$missing
+  cargo, with Rust 1.73 or later: apt-get install cargo"
+    elif ! [ "$archives" ]; then
+        command -v rt >/dev/null || missing="$missing
+  rt, the command of the Rattle kit: README.md, Install; or --erased, which needs cargo in its place and proves nothing"
+    fi
     if ! command -v "${CC%% *}" >/dev/null; then
         missing="$missing
   $CC, the C compiler: apt-get install gcc libc6-dev"
@@ -58,7 +66,7 @@ check_tools() {
         missing="$missing
   $CC that builds a C program (apt-get install gcc libc6-dev): it says $(printf '%s\n' "$said" | head -n 1)"
     fi
-    for tool in ar ld objcopy; do
+    for tool in "$AR" "$LD" "$OBJCOPY" ${erased:+"$NM"}; do
         command -v "$tool" >/dev/null || missing="$missing
   $tool: apt-get install binutils"
     done
@@ -136,17 +144,40 @@ stop() {
     kill -"$1" $$
 }
 
-# Makes one object of the two archives, of bytes.c and of memory.c, which takes the kit's calls of malloc,
-# realloc and free. Its other names are local then, so that none meets one of the caller's or of another library.
-make_libraries() {
-    printf '%s\n' 'malloc memory_taken' 'realloc memory_resized' 'free memory_given_back' >renamed
-    objcopy --redefine-syms=renamed "$proved" proved.a
-    objcopy --redefine-syms=renamed "$kit" kit.a
+# compile FILE..: makes objects of sources in C.
+compile() {
     # shellcheck disable=SC2086 # CC may have options
-    $CC -std=c11 -O2 -DNDEBUG -Wall -Wextra -Werror -fPIC -I"$here" -c "$here/memory.c" "$here/bytes.c"
-    ld -r -o clock2q.o --whole-archive proved.a --no-whole-archive bytes.o memory.o kit.a
-    objcopy --wildcard --keep-global-symbol='clock2q_*' clock2q.o
-    ar rcs libclock2q.a clock2q.o
+    $CC -std=c11 -O2 -DNDEBUG -Wall -Wextra -Werror -fPIC -I"$here" -c "$@"
+}
+
+# Makes one object of the two archives, of bytes.c and of memory.c, which takes the kit's calls of malloc,
+# realloc and free.
+join_proved() {
+    printf '%s\n' 'malloc memory_taken' 'realloc memory_resized' 'free memory_given_back' >renamed
+    "$OBJCOPY" --redefine-syms=renamed "$proved" proved.a
+    "$OBJCOPY" --redefine-syms=renamed "$kit" kit.a
+    compile "$here/memory.c" "$here/bytes.c"
+    "$LD" -r -o clock2q.o --whole-archive proved.a --no-whole-archive bytes.o memory.o kit.a
+}
+
+# Makes one object of what cargo builds and of bytes.c, and of Rust's std what these need.
+join_erased() {
+    cargo build --quiet --offline --locked --release --target-dir "$built" --manifest-path "$rust/Cargo.toml"
+    cp "$built/${CARGO_BUILD_TARGET:-.}/release/libclock2q.a" erased.a
+    compile "$here/bytes.c"
+    "$NM" -g --defined-only erased.a bytes.o 2>/dev/null | sed -n 's/.* T \(clock2q_\)/-u \1/p' >exported
+    # shellcheck disable=SC2046 # two words for each name
+    "$LD" -r -o clock2q.o --gc-sections --force-group-allocation $(cat exported) bytes.o erased.a
+    # names that only dropped sections use, and Rust's own sections, which plugins of ar take for their compiler's
+    "$OBJCOPY" --strip-unneeded --remove-section='.llvm*' clock2q.o
+}
+
+# Makes the libraries of one object. Its other names are local then, so that none meets one of the caller's or of another
+# library.
+make_libraries() {
+    if [ "$erased" ]; then join_erased; else join_proved; fi
+    "$OBJCOPY" --wildcard --keep-global-symbol='clock2q_*' clock2q.o
+    "$AR" rcs libclock2q.a clock2q.o
     echo "CLOCK2Q_${soname##*.} { global: clock2q_*; local: *; };" >exports
     # shellcheck disable=SC2086
     $CC -shared -o "$soname" -Wl,-soname,"$soname" -Wl,--version-script=exports -Wl,-z,defs clock2q.o
@@ -176,10 +207,10 @@ name_version() {
     cat >"$to/lib/pkgconfig/clock2q.pc" <<PC
 prefix=$prefix
 Name: clock2q
-Description: A proved cache with Clock2Q+ replacement
+Description: $description
 Version: $version
 Cflags: -I"\${prefix}/include"
-Libs: -L"\${prefix}/lib" -lclock2q
+Libs: -L"\${prefix}/lib" -lclock2q$private
 PC
     cat >"$to/lib/cmake/clock2q/clock2qConfigVersion.cmake" <<CMAKE
 set(PACKAGE_VERSION $version)
@@ -193,6 +224,15 @@ endif()
 CMAKE
 }
 
+erased=''
+description='A proved cache with Clock2Q+ replacement' private=''
+if [ "${1-}" = --erased ]; then
+    erased=yes archives=''
+    description='A cache with Clock2Q+ replacement, of a proved text without its contracts'
+    private='
+Libs.private: -lpthread -ldl'
+    shift
+fi
 case ${1-} in
 -h | --help) show_help; exit ;;
 -*) show_help >&2; exit 2 ;;
@@ -220,7 +260,10 @@ if builds sqlite3.h -lsqlite3; then
 else
     say "lib/libclock2q_sqlite.so is left out: no sqlite3.h (apt-get install libsqlite3-dev)"
 fi
-if [ "$archives" ]; then
+built=$(absolute "${CARGO_TARGET_DIR:-$work/target}")
+if [ "$erased" ]; then
+    :
+elif [ "$archives" ]; then
     proved=$(absolute "${archives%%:*}") kit=$(absolute "${archives#*:}")
     for file in "$proved" "$kit"; do
         [ -f "$file" ] || give_up "CLOCK2Q_ARCHIVES names $file, which isn't there"

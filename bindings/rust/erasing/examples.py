@@ -67,4 +67,6 @@ EXAMPLES = {
     'let mut cache: Cache<u64, u64> = Cache::new(rt.alloc(), capacity)?;': (
         [UNUSED, GLOBAL, CACHE, 'let capacity = 100.try_into()?;'],
         []),
+    'let mut hasher = GivenHash::default();': (['use clock2q::proved::c::GivenHash;', 'use std::hash::Hasher;'], []),
+    'let one = Token { hash: 7, number: 0 };': (['use clock2q::proved::c::Token;'], []),
 }
