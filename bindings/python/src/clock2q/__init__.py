@@ -131,11 +131,11 @@ def _async_kind(function):
 def cached(maxsize=128, typed=False, *, key=None, lock=False, ttl=None, timer=None):
     """Keeps a function's last results, at most maxsize of them: @cached or @cached(1000).
 
-    If maxsize is None, all results are kept; if it is 0 or less, none is. Else all memory but that of arguments and
-    results is taken when the function is decorated and when the first result is kept, some 27 bytes for each of
-    maxsize before a result is there, 270 MB for ten millions. Arguments are hashable. If typed, 3 and 3.0 are
-    different. The function gets cache_info(), cache_clear(), cache_parameters() and __wrapped__, as
-    functools.lru_cache has them.
+    If maxsize is None, all results are kept; if it is 0 or less, none is. Arguments are hashable. If typed, 3 and 3.0
+    are different. The function gets cache_info(), cache_clear(), cache_parameters() and __wrapped__, as
+    functools.lru_cache has them. All memory but that of arguments and results is taken when the function is
+    decorated and with its first result: 1 GB for ten millions, of which Linux has 270 MB used at once and the rest
+    as results come.
 
     key(*args, **kwargs) returns what stands for the arguments, which then need no hash.
 

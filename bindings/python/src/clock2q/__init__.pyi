@@ -1,4 +1,4 @@
-from collections.abc import Callable, Hashable, Iterator, MutableMapping
+from collections.abc import Callable, Iterator, MutableMapping
 from typing import (
     Any,
     Final,
@@ -134,7 +134,7 @@ def cached(
     maxsize: Callable[_P, _R],
     typed: bool = False,
     *,
-    key: Callable[..., Hashable] | None = None,
+    key: Callable[..., object] | None = None,
     lock: bool = False,
     ttl: SupportsFloat | None = None,
     timer: Callable[[], SupportsFloat] | None = None,
@@ -144,7 +144,7 @@ def cached(
     maxsize: SupportsIndex | None = 128,
     typed: bool = False,
     *,
-    key: Callable[..., Hashable] | None = None,
+    key: Callable[..., object] | None = None,
     lock: bool = False,
     ttl: SupportsFloat | None = None,
     timer: Callable[[], SupportsFloat] | None = None,
