@@ -574,10 +574,10 @@ class cache {
     // std::invalid_argument unless the capacity is from 1 to CLOCK2Q_MAX_CAPACITY and the policy has
     // small < capacity, window <= small, and both or neither of them 0.
     explicit cache(size_type capacity, const Hash &hash = Hash(), const Equal &equal = Equal(), Listener listener = Listener())
-        : state_(new state(token_cache(capacity), hash, equal, std::move(listener))) {}
+        : state_(new state(capacity, std::nullopt, hash, equal, std::move(listener))) {}
     cache(size_type capacity, policy shares, const Hash &hash = Hash(), const Equal &equal = Equal(),
           Listener listener = Listener())
-        : state_(new state(token_cache(capacity, shares), hash, equal, std::move(listener))) {}
+        : state_(new state(capacity, shares, hash, equal, std::move(listener))) {}
     // The same for a cache with a listener, which comes first.
     template <class Heard = Listener, class = std::enable_if_t<detail::listens<Heard>>>
     cache(size_type capacity, Listener listener, const Hash &hash = Hash(), const Equal &equal = Equal())
@@ -718,14 +718,16 @@ class cache {
     }
 
     // Has the cache hold `capacity` keys at most. Entries leave as by `evict` until there are no more, and are destroyed
-    // then; later two may leave for one that comes. The cache keeps its memory, and as many slots for new keys. Throws
-    // std::invalid_argument if `capacity` is 0 or above that with which the cache was made; nothing has changed then.
+    // then; later two may leave for one that comes. The cache keeps its memory, and as many slots for new keys. If
+    // `capacity` is above the largest so far, a larger cache takes its place, with the policy that was given: all
+    // entries enter it as new ones, in the order in which they would leave, and other keys are forgotten. Throws
+    // std::invalid_argument if `capacity` is 0 or above CLOCK2Q_MAX_CAPACITY or the cache was moved from, or
+    // std::bad_alloc; nothing has changed then.
     void resize(size_type capacity) {
-        if (capacity == 0 || state_ == nullptr || capacity > state_->slots.capacity()) {
-            detail::check(CLOCK2Q_BAD_CAPACITY);
-        }
+        if (capacity == 0 || state_ == nullptr) detail::check(CLOCK2Q_BAD_CAPACITY);
         leaving left = state_->none_left();
-        left.add(state_->resize(capacity));
+        if (capacity > state_->slots.capacity()) state_->grow(capacity, left);
+        else left.add(state_->resize(capacity));
     }
 
     // Takes all entries out, and forgets all keys. Takes time in proportion to the capacity.
@@ -762,8 +764,9 @@ class cache {
     static constexpr std::size_t no_limit = SIZE_MAX;
 
     struct state {
-        state(token_cache made, const Hash &own_hash, const Equal &own_equal, Listener own_listener)
-            : slots(std::move(made)), nodes(slots.capacity()), hash(own_hash), equal(own_equal),
+        state(std::size_t capacity, std::optional<policy> given, const Hash &own_hash, const Equal &own_equal,
+              Listener own_listener)
+            : slots(made(capacity, given)), nodes(capacity), shares(given), hash(own_hash), equal(own_equal),
               heard(std::move(own_listener)) {}
         ~state() {
             hear_no_more();
@@ -772,6 +775,10 @@ class cache {
         }
         state(const state &) = delete;
         state &operator=(const state &) = delete;
+
+        static token_cache made(std::size_t capacity, const std::optional<policy> &given) {
+            return given ? token_cache(capacity, *given) : token_cache(capacity);
+        }
 
         // No node, of those that leave during a call that isn't const.
         leaving none_left() noexcept { return leaving(this, &spare, heard); }
@@ -918,6 +925,21 @@ class cache {
             return gone;
         }
 
+        // Has more slots than there are. It calls no code of users, and has changed nothing if it throws.
+        void grow(std::size_t capacity, leaving &left) {
+            token_cache more = made(capacity, shares);
+            detail::nodes<node> all(capacity);
+            node *first = nullptr, **end = &first;
+            while (node *next = evict()) {
+                *end = next;
+                end = &next->next;
+            }
+            slots = std::move(more);
+            nodes = std::move(all);
+            limit = no_limit;
+            while (first != nullptr) left.add(link(std::exchange(first, first->next)));
+        }
+
         void clear() noexcept {
             leaving left = none_left();
             version++;
@@ -945,6 +967,7 @@ class cache {
         detail::nodes<node> nodes;
         node *spare = nullptr; // a block without an entry, or null
         std::size_t limit = no_limit; // how many nodes there may be, if fewer than slots
+        std::optional<policy> shares; // those that were given
         std::uint64_t version = 0; // how often entries have come or left
         std::uint64_t hits = 0, misses = 0;
         detail::secret secret = detail::process_secret();

@@ -10,7 +10,7 @@ from pathlib import Path
 from setuptools import Extension, setup
 from setuptools.command.build_ext import build_ext
 
-SOURCES = ("module", "making", "pairs", "evicting", "expiring", "leaving", "cache", "cached", "flights", "decorator", "pages")
+SOURCES = ("module", "making", "pairs", "evicting", "growing", "expiring", "leaving", "cache", "cached", "flights", "decorator", "pages")
 
 
 def places():

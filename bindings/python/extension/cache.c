@@ -179,9 +179,11 @@ static PyObject *cache_pop(Cache *self, PyObject *const *args, Py_ssize_t count,
 static PyObject *cache_resize(Cache *self, PyObject *number) {
     Py_ssize_t maxsize = PyNumber_AsSsize_t(number, PyExc_ValueError);
     if (maxsize == -1 && PyErr_Occurred()) return NULL;
-    if (maxsize < 1 || (size_t)maxsize > self->capacity)
-        return PyErr_Format(PyExc_ValueError, "maxsize is from 1 to %zu, with which the cache was made", self->capacity);
-    if (resize_pairs(self, (size_t)maxsize) < 0) return NULL;
+    if (!self->is_made) return PyErr_Format(PyExc_RuntimeError, "Cache.__init__ wasn't called");
+    if (maxsize < 1 || maxsize > CLOCK2Q_MAX_CAPACITY)
+        return PyErr_Format(PyExc_ValueError, "maxsize is from 1 to %d", CLOCK2Q_MAX_CAPACITY);
+    int is_more = (size_t)maxsize > self->capacity;
+    if ((is_more ? grow_pairs : resize_pairs)(self, (size_t)maxsize) < 0) return NULL;
     Py_RETURN_NONE;
 }
 
@@ -258,8 +260,10 @@ static PyMethodDef cache_methods[] = {
     {"next_victim", (PyCFunction)cache_next_victim, METH_NOARGS,
      "next_victim($self, /)\n--\n\nReturn the (key, value) pair that popitem would remove, or None."},
     {"resize", (PyCFunction)cache_resize, METH_O,
-     "resize($self, maxsize, /)\n--\n\nHold at most maxsize keys from now on, of as many as the cache was made for.\n\n"
-     "The pairs that are too many leave, in the order of popitem."},
+     "resize($self, maxsize, /)\n--\n\nHold at most maxsize keys from now on.\n\n"
+     "The pairs that are too many leave, in the order of popitem. If maxsize is more than there was ever room for, a\n"
+     "larger cache takes the place of this: the pairs enter it as new keys, in the order of popitem, and other keys\n"
+     "are forgotten."},
     {"expire", WITH_DEFAULT(cache_expire),
      "expire($self, /, time=None)\n--\n\nRemove what has expired, now or at another time, and return a list of those (key, value) pairs."},
     {"clear", (PyCFunction)cache_clear, METH_NOARGS,

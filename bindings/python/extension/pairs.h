@@ -205,6 +205,11 @@ PyObject *cache_next_victim(Cache *self, PyObject *unused);
  * memory. */
 int resize_pairs(Cache *cache, size_t maxsize);
 
+/* Has at most `maxsize` pairs be there, for which there aren't slots: those that are there enter others, in the order in
+ * which they would leave, and other keys are forgotten. Returns -1 with an exception, and the cache as it was, if there
+ * is no memory or a key has no hash. */
+int grow_pairs(Cache *cache, size_t maxsize);
+
 /* Takes out the pair at a slot. The caller drops it. */
 pair take_pair(Cache *cache, size_t slot);
 

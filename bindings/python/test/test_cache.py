@@ -177,10 +177,11 @@ class MappingTest(unittest.TestCase):
             for call in (cache.popitem, lambda: cache["a"]):
                 with self.assertRaises(KeyError):
                     call()
-            with self.assertRaises(ValueError):
-                cache.resize(1)
             with self.assertRaises(RuntimeError):
                 cache.__init__(1)
+            cache.resize(1)
+            cache["a"] = 1
+            self.assertEqual((list(cache.items()), cache.maxsize), ([("a", 1)], 1))
 
 
 
