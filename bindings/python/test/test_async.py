@@ -54,34 +54,50 @@ class AsyncTest(unittest.IsolatedAsyncioTestCase):
 
     async def test_one_that_is_cancelled(self):
         """The others still get the result. If all are cancelled, the call is."""
-        ended = []
+        ended, release = [], asyncio.Event()
 
         @cached(10)
         async def function(number):
             self.made.append(number)
             try:
-                await asyncio.sleep(0.02)
+                await release.wait()
             finally:
                 ended.append(number)
             return number
 
         waiting = [asyncio.ensure_future(function(1)) for _ in range(3)]
-        await asyncio.sleep(0.001)
+        while not self.made:
+            await asyncio.sleep(0)
         waiting[0].cancel()
+        await asyncio.sleep(0)
+        release.set()
         results = await asyncio.gather(*waiting, return_exceptions=True)
         self.assertEqual((type(results[0]), results[1:], self.made), (asyncio.CancelledError, [1, 1], [1]))
+        release.clear()
         with self.assertRaises(asyncio.TimeoutError):
-            await asyncio.wait_for(function(2), 0.001)
+            await asyncio.wait_for(function(2), 0.01)
+        release.set()
         self.assertEqual(await function(2), 2)
-        await asyncio.sleep(0)
         self.assertEqual((self.made, ended), ([1, 2, 2], [1, 2, 2]))
 
     async def test_results_that_are_cleared_meanwhile(self):
-        function = cached(10)(self.slowly)
+        release = asyncio.Event()
+
+        @cached(10)
+        async def function(number):
+            self.made.append(number)
+            made = len(self.made)
+            if made == 1:
+                await release.wait()
+            return made
+
         old = asyncio.ensure_future(function(1))
-        await asyncio.sleep(0.001)
+        while not self.made:
+            await asyncio.sleep(0)
         function.cache_clear()
-        self.assertEqual((await function(1), await old, await function(1), len(self.made)), (2, 2, 2, 2))
+        self.assertEqual(await function(1), 2)
+        release.set()
+        self.assertEqual((await old, await function(1), len(self.made)), (1, 2, 2))
 
     async def test_a_call_of_itself(self):
         @cached(50)

@@ -125,7 +125,8 @@ class ListenerTest(unittest.TestCase):
             cache.popitem()
             cache[key] = value
             cache.clear()
-        self.assertEqual(sys.getrefcount(word) - words, sum(reason == "replaced" for _, _, reason in self.left))
+        # From Python 3.12 on such a word may be immortal, and isn't counted.
+        self.assertIn(sys.getrefcount(word) - words, (0, sum(reason == "replaced" for _, _, reason in self.left)))
         self.left.clear()
         self.assertEqual([sys.getrefcount(it) for it in (key, value)], before)
 
