@@ -720,9 +720,9 @@ class cache {
     // Has the cache hold `capacity` keys at most. Entries leave as by `evict` until there are no more, and are destroyed
     // then; later two may leave for one that comes. The cache keeps its memory, and as many slots for new keys. If
     // `capacity` is above the largest so far, a larger cache takes its place, with the policy that was given: all
-    // entries enter it as new ones, in the order in which they would leave, and other keys are forgotten. Throws
-    // std::invalid_argument if `capacity` is 0 or above CLOCK2Q_MAX_CAPACITY or the cache was moved from, or
-    // std::bad_alloc; nothing has changed then.
+    // entries enter it as new ones, in the order in which they would leave, and other keys are forgotten. Pointers to
+    // values hold then, iterators don't. Throws std::invalid_argument if `capacity` is 0 or above
+    // CLOCK2Q_MAX_CAPACITY or the cache was moved from, or std::bad_alloc; nothing has changed then.
     void resize(size_type capacity) {
         if (capacity == 0 || state_ == nullptr) detail::check(CLOCK2Q_BAD_CAPACITY);
         leaving left = state_->none_left();

@@ -2,11 +2,14 @@
  * that no step here is interrupted, and none is left half done by an exception. */
 #include "cached.h"
 
+#include <unistd.h>
+
 struct flight {
     flight *next;
     PyObject *key, *value; /* no value while it is under way, or if it failed */
     uint64_t hash;
     unsigned long owner;     /* the thread that calls */
+    pid_t process;           /* and its process: a child has none of its parent's other threads */
     PyThread_type_lock done; /* held until it has ended */
     size_t holders;          /* how many threads call or wait */
 };
@@ -39,7 +42,7 @@ static flight *begin_flight(Cached *self, const made_call *made) {
         return NULL;
     }
     PyThread_acquire_lock(done, WAIT_LOCK);
-    *call = (flight){self->flights, Py_NewRef(made->key), NULL, made->hash, PyThread_get_thread_ident(), done, 1};
+    *call = (flight){self->flights, Py_NewRef(made->key), NULL, made->hash, PyThread_get_thread_ident(), getpid(), done, 1};
     self->flights = call;
     self->version++;
     return call;
@@ -69,7 +72,7 @@ void outdate_flights(Cached *self) {
 static outcome find_flight(Cached *self, const made_call *made, flight **found) {
     uint64_t version = self->version;
     for (flight *at = self->flights; at != NULL; at = at->next) {
-        if (at->hash != made->hash) continue;
+        if (at->hash != made->hash || at->process != getpid()) continue;
         PyObject *held = Py_NewRef(at->key);
         int is_equal = PyObject_RichCompareBool(held, made->key, Py_EQ);
         Py_DECREF(held);

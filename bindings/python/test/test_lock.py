@@ -1,6 +1,7 @@
 """Tests of `cached` for threads that wait for one another's calls, and with a key of one's own."""
 
 import gc
+import os
 import random
 import signal
 import sys
@@ -122,6 +123,23 @@ class LockTest(unittest.TestCase):
             return result
 
         self.assertEqual((in_threads(work, 2), function(1), len(self.made)), (["old", "new"], "new", 2))
+
+    def test_a_child_of_a_process_that_calls(self):
+        """It has no thread that will end the call, and makes its own."""
+        release = threading.Event()
+        function = cached(10, lock=True)(lambda process: os.getpid() != process or release.wait(20))
+        caller = threading.Thread(target=function, args=(os.getpid(),))
+        caller.start()
+        while function.cache_info().misses == 0:
+            time.sleep(0.001)
+        child = os.fork()
+        if child == 0:
+            signal.alarm(20)
+            os._exit(0 if function(os.getppid()) is True and function.cache_info()[:2] == (0, 2) else 1)
+        self.assertEqual(os.waitpid(child, 0)[1], 0)
+        release.set()
+        caller.join()
+        self.assertEqual(function.cache_info()[:2], (0, 1))
 
     def test_comparisons_that_do_anything(self):
         def act():
