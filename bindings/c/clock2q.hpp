@@ -490,8 +490,9 @@ class cache {
             : hash(own_hash), entry(std::piecewise_construct, std::forward_as_tuple(std::forward<K>(key)),
                                     std::forward_as_tuple(std::forward<Args>(args)...)) {}
     };
-    using leaving = detail::leaving<node, !listens && detail::compares_plainly<Key, Equal> && detail::is_plain<Value>::value,
-                                    Listener>;
+    static constexpr bool is_quiet =
+        !listens && detail::compares_plainly<Key, Equal> && detail::is_plain<Value>::value;
+    using leaving = detail::leaving<node, is_quiet, Listener>;
     template <class Other>
     using argument = typename detail::argument<detail::is_transparent<Hash>::value &&
                                                detail::is_transparent<Equal>::value>::template type<Other, Key>;
@@ -573,7 +574,8 @@ class cache {
     // Makes a cache in time and memory that grow with the capacity. Throws std::bad_alloc, or
     // std::invalid_argument unless the capacity is from 1 to CLOCK2Q_MAX_CAPACITY and the policy has
     // small < capacity, window <= small, and both or neither of them 0.
-    explicit cache(size_type capacity, const Hash &hash = Hash(), const Equal &equal = Equal(), Listener listener = Listener())
+    explicit cache(size_type capacity, const Hash &hash = Hash(), const Equal &equal = Equal(),
+                   Listener listener = Listener())
         : state_(new state(capacity, std::nullopt, hash, equal, std::move(listener))) {}
     cache(size_type capacity, policy shares, const Hash &hash = Hash(), const Equal &equal = Equal(),
           Listener listener = Listener())
@@ -848,7 +850,8 @@ class cache {
         }
 
         // Puts a node at a slot, and returns the one that was there or null, and after it the one that had left before.
-        template <reason why = reason::evicted> node *exchange(std::size_t slot, node *fresh, node *gone = nullptr) noexcept {
+        template <reason why = reason::evicted>
+        node *exchange(std::size_t slot, node *fresh, node *gone = nullptr) noexcept {
             if (gone != nullptr) gone->next = nullptr;
             if constexpr (listens) fresh->has_left = false;
             node *left = nodes.exchange(slot, fresh);
@@ -1459,7 +1462,9 @@ class expiring_cache {
         Value value = make();
         return timed(deadline(), std::move(value));
     }
-    static Value *value_of(node *at) noexcept { return at == nullptr ? nullptr : std::addressof(at->entry.second.value); }
+    static Value *value_of(node *at) noexcept {
+        return at == nullptr ? nullptr : std::addressof(at->entry.second.value);
+    }
     static std::pair<Value *, bool> without_time(std::pair<timed *, bool> found) noexcept {
         return {std::addressof(found.first->value), found.second};
     }

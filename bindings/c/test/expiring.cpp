@@ -224,7 +224,10 @@ template <class Key, class Make> static void beside_a_map(std::uint64_t calls, M
         int number = static_cast<int>(drawn(state) % 12);
         Key key = make(number);
         auto held = theirs.find(number);
-        if (held != theirs.end() && !(turned::now() < held->second.first)) held = theirs.erase(held), held = theirs.end();
+        if (held != theirs.end() && !(turned::now() < held->second.first)) {
+            theirs.erase(held);
+            held = theirs.end();
+        }
         const std::uint64_t *expected = held == theirs.end() ? nullptr : &held->second.second, *found = nullptr;
         switch (drawn(state) % 6) {
         case 0: ours.put(key, i), theirs[number] = {turned::now() + five, i}; continue;
