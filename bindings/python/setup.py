@@ -10,8 +10,6 @@ from pathlib import Path
 from setuptools import Extension, setup
 from setuptools.command.build_ext import build_ext
 
-SOURCES = ("module", "making", "pairs", "evicting", "growing", "expiring", "leaving", "cache", "cached", "flights", "decorator", "pages")
-
 
 def places():
     """Returns the folders where the header may be, and those where the archive may be."""
@@ -46,7 +44,10 @@ setup(
         # Not for the limited API: calls of `cached` are vectorcalls, which it has from Python 3.12 on.
         Extension(
             "clock2q._extension",
-            sources=[f"extension/{name}.c" for name in SOURCES],
+            sources=[f"extension/{name}.c" for name in (
+                "module", "making", "pairs", "evicting", "growing", "expiring", "leaving", "cache", "cached", "flights",
+                "decorator", "pages",
+            )],
             depends=["extension/pairs.h", "extension/cached.h"],
             extra_compile_args=["-std=c11", "-fvisibility=hidden"],
             extra_link_args=["-Wl,--exclude-libs,ALL"],
