@@ -321,12 +321,19 @@ template <class Node> class telling<Node, no_listener> {
     void tell(Node *) const noexcept {}
 };
 
+#if defined __GNUC__ && !defined __clang__
+#pragma GCC diagnostic push
+#pragma GCC diagnostic ignored "-Warray-bounds" // of a cache that is known to be moved from, whose calls have thrown by then
+#endif
 // Destroys a node, and keeps its block at `spare`, if that isn't null and has none.
 template <class Node> void destroy_now(Node *left, Node **spare) noexcept {
     left->~Node();
     if (spare != nullptr && *spare == nullptr) *spare = left;
     else std::allocator<Node>().deallocate(left, 1);
 }
+#if defined __GNUC__ && !defined __clang__
+#pragma GCC diagnostic pop
+#endif
 
 // Nodes that have left a cache, which are destroyed as the call ends during which they left. Code of users may call
 // the cache while it is working on nodes, as Equal is on keys: those that this thread is to destroy then come here.
@@ -673,13 +680,13 @@ class cache {
         if (state_ == nullptr) return node_type();
         leaving left = state_->none_left();
         node *found = state_->find(key, hash_of(key), left);
-        if (found != nullptr) state_->template unlink<reason::removed>(found);
+        if (found != nullptr) remove(found);
         left.tell_of(found);
         return node_type(found, state_.get());
     }
     node_type extract(const_iterator where) noexcept {
         node *found = const_cast<node *>(*where.at_);
-        state_->template unlink<reason::removed>(found);
+        remove(found);
         if constexpr (listens) state_->none_left().tell_of(found);
         return node_type(found, state_.get());
     }
@@ -836,27 +843,26 @@ class cache {
             clock2q_admitted admitted = slots.admit(fresh->hash);
             if (admitted.has_entered) return exchange(admitted.slot, fresh);
             node *gave_way = nodes.last_of_many(fresh->hash, detail::most_alike);
-            if (gave_way != nullptr) unlink<reason::evicted>(gave_way);
+            if (gave_way != nullptr) unlink(gave_way);
             return exchange(slots.enter_beside(fresh->hash), fresh, gave_way);
         }
 
         // Does so in place of another node though there are slots, since there may not be more nodes.
         node *link_among_fewer(node *fresh) noexcept {
             node *gone = nodes.last_of_many(fresh->hash, detail::most_alike);
-            if (gone != nullptr) unlink<reason::evicted>(gone);
+            if (gone != nullptr) unlink(gone);
             else gone = evict();
             clock2q_admitted admitted = slots.admit(fresh->hash);
             return exchange(admitted.has_entered ? admitted.slot : slots.enter_beside(fresh->hash), fresh, gone);
         }
 
         // Puts a node at a slot, and returns the one that was there or null, and after it the one that had left before.
-        template <reason why = reason::evicted>
         node *exchange(std::size_t slot, node *fresh, node *gone = nullptr) noexcept {
             if (gone != nullptr) gone->next = nullptr;
             if constexpr (listens) fresh->has_left = false;
             node *left = nodes.exchange(slot, fresh);
             if (left == nullptr) return gone;
-            note_left<why>(left);
+            note_left<reason::evicted>(left);
             left->next = gone;
             return left;
         }
@@ -872,7 +878,9 @@ class cache {
             }
             if (found == nullptr) return link(fresh);
             version++;
-            return exchange<reason::replaced>(found->slot, fresh);
+            node *replaced = exchange(found->slot, fresh);
+            note_left<reason::replaced>(replaced);
+            return replaced;
         }
 
         // Gives a new node whose key wasn't in at this version its slot, or that of its key.
@@ -891,12 +899,12 @@ class cache {
             }
         }
 
-        // Takes a node out, which is in.
-        template <reason why> void unlink(node *gone) noexcept {
+        // Takes a node out, which is in. It counts as evicted until something else is noted.
+        void unlink(node *gone) noexcept {
             version++;
             nodes.remove(gone);
             slots.erase(gone->slot);
-            note_left<why>(gone);
+            note_left<reason::evicted>(gone);
         }
 
         // Takes the node out that is to leave next, and returns it or null.
@@ -983,13 +991,15 @@ class cache {
         return clock2q_spread_by(state_->secret.data(), std::as_const(state_->hash)(key));
     }
 
-    [[noreturn]] static void refuse_moved_from() {
-        throw std::length_error("clock2q: the capacity is 0, since the cache was moved from");
+    // Takes a node out, which is in.
+    void remove(node *found) noexcept {
+        state_->unlink(found);
+        state::template note_left<reason::removed>(found);
     }
 
-    // Throws if nothing can be inserted.
-    void must_have_room() const {
-        if (state_ == nullptr) refuse_moved_from();
+    std::uint64_t hash_to_insert(const Key &key) const {
+        if (state_ == nullptr) throw std::length_error("clock2q: the capacity is 0, since the cache was moved from");
+        return hash_of(key);
     }
 
     // What a look-up found, or null if that left as what else did was destroyed.
@@ -1019,8 +1029,7 @@ class cache {
 
     // Gives `end` what left for a new node, and what left besides.
     template <class K, class Other, class End> auto pushed(K &&key, Other &&value, End end) {
-        must_have_room();
-        std::uint64_t hash = hash_of(key);
+        std::uint64_t hash = hash_to_insert(key);
         leaving others = state_->none_left();
         node *fresh = state_->make(hash, std::forward<K>(key), std::forward<Other>(value));
         return end(state_->link_or_replace(fresh, others), others);
@@ -1049,14 +1058,12 @@ class cache {
     }
 
     template <class K, class... Args> std::pair<Value *, bool> emplaced(K &&key, Args &&...args) {
-        must_have_room();
-        std::uint64_t hash = hash_of(key);
+        std::uint64_t hash = hash_to_insert(key);
         return found_or(key, hash, [&] { return state_->make(hash, std::forward<K>(key), std::forward<Args>(args)...); });
     }
 
     template <class K, class Make> std::pair<Value *, bool> made(K &&key, Make &&make) {
-        must_have_room();
-        std::uint64_t hash = hash_of(key);
+        std::uint64_t hash = hash_to_insert(key);
         return found_or(key, hash, [&] {
             Value value = std::forward<Make>(make)();
             return state_->make(hash, std::forward<K>(key), std::move(value));
@@ -1064,8 +1071,7 @@ class cache {
     }
 
     template <class K, class Other> std::pair<Value *, bool> assigned(K &&key, Other &&value) {
-        must_have_room();
-        std::uint64_t hash = hash_of(key);
+        std::uint64_t hash = hash_to_insert(key);
         leaving left = state_->none_left();
         node *own = state_->hit(key, hash, left);
         bool is_new = own == nullptr;
@@ -1251,8 +1257,7 @@ class weighted_cache {
     }
 
     template <class K, class Other, class Left> bool pushed(K &&key, Other &&value, Left &left) {
-        entries_.must_have_room();
-        std::uint64_t hash = entries_.hash_of(key), weight = 0;
+        std::uint64_t hash = entries_.hash_to_insert(key), weight = 0;
         typename entries::state &state = *entries_.state_;
         typename entries::leaving left_meanwhile = state.none_left();
         node *fresh = state.make(hash, std::forward<K>(key), std::forward<Other>(value)), *found = nullptr;
@@ -1471,7 +1476,8 @@ class expiring_cache {
 
     // Takes out a node that has expired.
     void take_out(node *found, leaving &left) noexcept {
-        entries_.state_->template unlink<reason::expired>(found);
+        entries_.state_->unlink(found);
+        entries::state::template note_left<reason::expired>(found);
         found->next = nullptr;
         left.add(found);
     }
