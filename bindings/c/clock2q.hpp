@@ -5,8 +5,9 @@
 //     page *found = pages.get(name);
 //     if (found == nullptr) found = pages.try_emplace(name, read_page(name)).first;
 //
-// `cache` keeps keys of any type with their values; a `weighted_cache` limits a sum of weights too. `page_cache`
-// gives whole numbers slots, for who keeps the values.
+// `cache` keeps keys of any type with their values; a `weighted_cache` limits a sum of weights too, an
+// `expiring_cache` returns no value past its time, and a `listening_cache` says which entries leave and why.
+// `page_cache` gives whole numbers slots, for who keeps the values.
 #ifndef CLOCK2Q_HPP
 #define CLOCK2Q_HPP
 
@@ -41,6 +42,10 @@ struct policy {
     std::size_t small;
     std::size_t window;
 };
+
+// Why an entry left a cache: for another, or by `evict` or `resize`; for another value of its key; by `erase` or
+// `extract`; past its time; or by `clear`.
+enum class reason { evicted, replaced, removed, expired, cleared };
 
 namespace detail {
 
@@ -277,18 +282,65 @@ template <class Letter> struct is_plain<std::basic_string<Letter>> : std::is_ari
 template <class Key, class Equal>
 constexpr bool compares_plainly = is_plain<Key>::value && std::is_same_v<Equal, std::equal_to<Key>>;
 
+// What hears of no entry.
+struct no_listener {};
+template <class Listener> constexpr bool listens = !std::is_same_v<Listener, no_listener>;
+
+// A listener, and whether it is called: not any more while its cache is destroyed.
+template <class Listener> struct hearing {
+    explicit hearing(Listener given) : listener(std::move(given)) {}
+    Listener listener;
+    bool is_on = true;
+};
+template <> struct hearing<no_listener> {
+    explicit hearing(no_listener) noexcept {}
+};
+
+// What a node has for a listener: whether it was in a cache and has left, of which it hasn't heard yet, and why.
+template <bool is_heard> struct departure {};
+template <> struct departure<true> {
+    bool has_left = false;
+    reason why = reason::evicted;
+};
+
+// Tells a listener of nodes that have left.
+template <class Node, class Listener> class telling {
+  public:
+    explicit telling(hearing<Listener> &heard) noexcept : heard_(&heard) {}
+    void tell(Node *left) const noexcept {
+        if (!std::exchange(left->has_left, false) || !heard_->is_on) return;
+        heard_->listener(std::as_const(left->entry.first), left->entry.second, left->why);
+    }
+
+  private:
+    hearing<Listener> *heard_;
+};
+template <class Node> class telling<Node, no_listener> {
+  public:
+    explicit telling(hearing<no_listener> &) noexcept {}
+    void tell(Node *) const noexcept {}
+};
+
+#if defined __GNUC__ && !defined __clang__
+#pragma GCC diagnostic push
+#pragma GCC diagnostic ignored "-Warray-bounds" // of a cache that is known to be moved from, whose calls have thrown by then
+#endif
 // Destroys a node, and keeps its block at `spare`, if that isn't null and has none.
 template <class Node> void destroy_now(Node *left, Node **spare) noexcept {
     left->~Node();
     if (spare != nullptr && *spare == nullptr) *spare = left;
     else std::allocator<Node>().deallocate(left, 1);
 }
+#if defined __GNUC__ && !defined __clang__
+#pragma GCC diagnostic pop
+#endif
 
 // Nodes that have left a cache, which are destroyed as the call ends during which they left. Code of users may call
 // the cache while it is working on nodes, as Equal is on keys: those that this thread is to destroy then come here.
-template <class Node, bool is_quiet> class leaving {
+template <class Node, bool is_quiet, class Listener = no_listener> class leaving : telling<Node, Listener> {
   public:
-    leaving(const void *cache, Node **spare) noexcept : cache_(cache), spare_(spare) {}
+    leaving(const void *cache, Node **spare, hearing<Listener> &heard) noexcept
+        : telling<Node, Listener>(heard), cache_(cache), spare_(spare) {}
     leaving(const leaving &) = delete;
     leaving &operator=(const leaving &) = delete;
     ~leaving() { end(nullptr); }
@@ -323,9 +375,16 @@ template <class Node, bool is_quiet> class leaving {
         working now(*this);
         while (Node *left = take_first()) {
             if (left == kept) is_kept = true;
-            else destroy_now(left, spare_);
+            else this->tell(left), destroy_now(left, spare_);
         }
         return !is_kept;
+    }
+
+    // Has the listener hear of a node that isn't destroyed, or of none.
+    void tell_of(Node *left) noexcept {
+        if (left == nullptr || !listens<Listener>) return;
+        working now(*this);
+        this->tell(left);
     }
 
     // Destroys a node that has left a cache, or adds it to those of its call.
@@ -366,9 +425,9 @@ template <class Node, bool is_quiet> class leaving {
 };
 
 // The same if no code of users runs while nodes are worked on or destroyed: they are destroyed at once.
-template <class Node> class leaving<Node, true> {
+template <class Node> class leaving<Node, true, no_listener> {
   public:
-    leaving(const void *, Node **spare) noexcept : spare_(spare) {}
+    leaving(const void *, Node **spare, hearing<no_listener> &) noexcept : spare_(spare) {}
     leaving(const leaving &) = delete;
     leaving &operator=(const leaving &) = delete;
     struct working {
@@ -378,6 +437,7 @@ template <class Node> class leaving<Node, true> {
         while (left != nullptr) destroy_now(std::exchange(left, left->next), spare_);
     }
     bool end(const Node *) noexcept { return true; }
+    void tell_of(Node *) noexcept {}
     static void destroy(const void *, Node *left) noexcept { destroy_now<Node>(left, nullptr); }
 
   private:
@@ -413,13 +473,20 @@ template <> struct argument<false> {
 //   std::logic_error is thrown if they do so nine times, or if Equal changes the cache at eight tries.
 // - If a call throws, the cache has the entries that it had, unless users' code changed them;
 //   `insert_or_assign` leaves of a value what its assignment does. Destructors don't throw.
+// - A Listener is called as `listener(key, value, why)`, with `const Key &`, `Value &` and a `reason`, once for each
+//   entry that leaves, before the entry is destroyed or the call returns it. The cache is whole then: the listener may
+//   do what users' code may. It doesn't throw, and hears nothing of a cache that is destroyed or assigned to.
 // - Calls of const members may overlap, as those of std's containers; others are one thread's at a time.
-template <class Key, class Value, class Hash = std::hash<Key>, class Equal = std::equal_to<Key>> class cache {
+template <class Key, class Value, class Hash = std::hash<Key>, class Equal = std::equal_to<Key>,
+          class Listener = detail::no_listener>
+class cache {
     template <class, class, class, class, class> friend class weighted_cache;
+    template <class, class, class, class, class, class> friend class expiring_cache;
+    static constexpr bool listens = detail::listens<Listener>;
     static_assert(std::is_nothrow_destructible_v<Key> && std::is_nothrow_destructible_v<Value>,
                   "the destructor of a key or value may throw");
 
-    struct node {
+    struct node : detail::departure<listens> {
         node *next = nullptr;
         std::uint64_t hash;
         std::uint32_t slot = 0;
@@ -430,7 +497,9 @@ template <class Key, class Value, class Hash = std::hash<Key>, class Equal = std
             : hash(own_hash), entry(std::piecewise_construct, std::forward_as_tuple(std::forward<K>(key)),
                                     std::forward_as_tuple(std::forward<Args>(args)...)) {}
     };
-    using leaving = detail::leaving<node, detail::compares_plainly<Key, Equal> && detail::is_plain<Value>::value>;
+    static constexpr bool is_quiet =
+        !listens && detail::compares_plainly<Key, Equal> && detail::is_plain<Value>::value;
+    using leaving = detail::leaving<node, is_quiet, Listener>;
     template <class Other>
     using argument = typename detail::argument<detail::is_transparent<Hash>::value &&
                                                detail::is_transparent<Equal>::value>::template type<Other, Key>;
@@ -500,6 +569,7 @@ template <class Key, class Value, class Hash = std::hash<Key>, class Equal = std
       private:
         friend class cache;
         template <class, class, class, class, class> friend class weighted_cache;
+        template <class, class, class, class, class, class> friend class expiring_cache;
         struct destroy {
             const void *cache = nullptr;
             void operator()(node *left) const noexcept { leaving::destroy(cache, left); }
@@ -511,13 +581,20 @@ template <class Key, class Value, class Hash = std::hash<Key>, class Equal = std
     // Makes a cache in time and memory that grow with the capacity. Throws std::bad_alloc, or
     // std::invalid_argument unless the capacity is from 1 to CLOCK2Q_MAX_CAPACITY and the policy has
     // small < capacity, window <= small, and both or neither of them 0.
-    explicit cache(size_type capacity, const Hash &hash = Hash(), const Equal &equal = Equal())
-        : state_(new state(token_cache(capacity), hash, equal)) {}
-    cache(size_type capacity, policy shares, const Hash &hash = Hash(), const Equal &equal = Equal())
-        : state_(new state(token_cache(capacity, shares), hash, equal)) {}
+    explicit cache(size_type capacity, const Hash &hash = Hash(), const Equal &equal = Equal(),
+                   Listener listener = Listener())
+        : state_(new state(capacity, std::nullopt, hash, equal, std::move(listener))) {}
+    cache(size_type capacity, policy shares, const Hash &hash = Hash(), const Equal &equal = Equal(),
+          Listener listener = Listener())
+        : state_(new state(capacity, shares, hash, equal, std::move(listener))) {}
+    // The same for a cache with a listener, which comes first.
+    template <class Heard = Listener, class = std::enable_if_t<detail::listens<Heard>>>
+    cache(size_type capacity, Listener listener, const Hash &hash = Hash(), const Equal &equal = Equal())
+        : cache(capacity, hash, equal, std::move(listener)) {}
     cache(cache &&) noexcept = default;
     cache &operator=(cache &&) noexcept = default;
     ~cache() {
+        if (state_ != nullptr) state_->hear_no_more();
         while (!empty()) clear(); // a destructor of a value may insert
     }
 
@@ -603,12 +680,14 @@ template <class Key, class Value, class Hash = std::hash<Key>, class Equal = std
         if (state_ == nullptr) return node_type();
         leaving left = state_->none_left();
         node *found = state_->find(key, hash_of(key), left);
-        if (found != nullptr) state_->unlink(found);
+        if (found != nullptr) remove(found);
+        left.tell_of(found);
         return node_type(found, state_.get());
     }
     node_type extract(const_iterator where) noexcept {
         node *found = const_cast<node *>(*where.at_);
-        state_->unlink(found);
+        remove(found);
+        if constexpr (listens) state_->none_left().tell_of(found);
         return node_type(found, state_.get());
     }
 
@@ -634,7 +713,13 @@ template <class Key, class Value, class Hash = std::hash<Key>, class Equal = std
 
     // Takes out the entry that would have to leave next for a new key, and returns it, or none. Its key is remembered as
     // those that leave for others are.
-    node_type evict() noexcept { return node_type(state_ == nullptr ? nullptr : state_->evict(), state_.get()); }
+    node_type evict() noexcept {
+        node *gone = state_ == nullptr ? nullptr : state_->evict();
+        if constexpr (listens) {
+            if (gone != nullptr) state_->none_left().tell_of(gone);
+        }
+        return node_type(gone, state_.get());
+    }
 
     // Returns where that entry is, or end(), and records nothing.
     iterator next_victim() noexcept {
@@ -642,14 +727,16 @@ template <class Key, class Value, class Hash = std::hash<Key>, class Equal = std
     }
 
     // Has the cache hold `capacity` keys at most. Entries leave as by `evict` until there are no more, and are destroyed
-    // then; later two may leave for one that comes. The cache keeps its memory, and as many slots for new keys. Throws
-    // std::invalid_argument if `capacity` is 0 or above that with which the cache was made; nothing has changed then.
+    // then; later two may leave for one that comes. The cache keeps its memory, and as many slots for new keys. If
+    // `capacity` is above the largest so far, a larger cache takes its place, with the policy that was given: all
+    // entries enter it as new ones, in the order in which they would leave, and other keys are forgotten. Pointers to
+    // values hold then, iterators don't. Throws std::invalid_argument if `capacity` is 0 or above
+    // CLOCK2Q_MAX_CAPACITY or the cache was moved from, or std::bad_alloc; nothing has changed then.
     void resize(size_type capacity) {
-        if (capacity == 0 || state_ == nullptr || capacity > state_->slots.capacity()) {
-            detail::check(CLOCK2Q_BAD_CAPACITY);
-        }
+        if (capacity == 0 || state_ == nullptr) detail::check(CLOCK2Q_BAD_CAPACITY);
         leaving left = state_->none_left();
-        left.add(state_->resize(capacity));
+        if (capacity > state_->slots.capacity()) state_->grow(capacity, left);
+        else left.add(state_->resize(capacity));
     }
 
     // Takes all entries out, and forgets all keys. Takes time in proportion to the capacity.
@@ -686,17 +773,37 @@ template <class Key, class Value, class Hash = std::hash<Key>, class Equal = std
     static constexpr std::size_t no_limit = SIZE_MAX;
 
     struct state {
-        state(token_cache made, const Hash &own_hash, const Equal &own_equal)
-            : slots(std::move(made)), nodes(slots.capacity()), hash(own_hash), equal(own_equal) {}
+        state(std::size_t capacity, std::optional<policy> given, const Hash &own_hash, const Equal &own_equal,
+              Listener own_listener)
+            : slots(made(capacity, given)), nodes(capacity), shares(given), hash(own_hash), equal(own_equal),
+              heard(std::move(own_listener)) {}
         ~state() {
+            hear_no_more();
             clear();
             if (spare != nullptr) std::allocator<node>().deallocate(spare, 1);
         }
         state(const state &) = delete;
         state &operator=(const state &) = delete;
 
+        static token_cache made(std::size_t capacity, const std::optional<policy> &given) {
+            return given ? token_cache(capacity, *given) : token_cache(capacity);
+        }
+
         // No node, of those that leave during a call that isn't const.
-        leaving none_left() noexcept { return leaving(this, &spare); }
+        leaving none_left() noexcept { return leaving(this, &spare, heard); }
+
+        // Has the listener not be called any more.
+        void hear_no_more() noexcept {
+            if constexpr (listens) heard.is_on = false;
+        }
+
+        // Notes that a node has left, for the listener.
+        template <reason why> static void note_left(node *gone) noexcept {
+            if constexpr (listens) {
+                gone->has_left = true;
+                gone->why = why;
+            }
+        }
 
         // The node of a key, after a hit, or null.
         template <class K> node *hit(const K &key, std::uint64_t wanted, leaving &left) {
@@ -752,8 +859,10 @@ template <class Key, class Value, class Hash = std::hash<Key>, class Equal = std
         // Puts a node at a slot, and returns the one that was there or null, and after it the one that had left before.
         node *exchange(std::size_t slot, node *fresh, node *gone = nullptr) noexcept {
             if (gone != nullptr) gone->next = nullptr;
+            if constexpr (listens) fresh->has_left = false;
             node *left = nodes.exchange(slot, fresh);
             if (left == nullptr) return gone;
+            note_left<reason::evicted>(left);
             left->next = gone;
             return left;
         }
@@ -769,7 +878,9 @@ template <class Key, class Value, class Hash = std::hash<Key>, class Equal = std
             }
             if (found == nullptr) return link(fresh);
             version++;
-            return exchange(found->slot, fresh);
+            node *replaced = exchange(found->slot, fresh);
+            note_left<reason::replaced>(replaced);
+            return replaced;
         }
 
         // Gives a new node whose key wasn't in at this version its slot, or that of its key.
@@ -788,11 +899,12 @@ template <class Key, class Value, class Hash = std::hash<Key>, class Equal = std
             }
         }
 
-        // Takes a node out, which is in.
+        // Takes a node out, which is in. It counts as evicted until something else is noted.
         void unlink(node *gone) noexcept {
             version++;
             nodes.remove(gone);
             slots.erase(gone->slot);
+            note_left<reason::evicted>(gone);
         }
 
         // Takes the node out that is to leave next, and returns it or null.
@@ -803,6 +915,7 @@ template <class Key, class Value, class Hash = std::hash<Key>, class Equal = std
             node *gone = nodes.at(found.slot);
             nodes.remove(gone);
             gone->next = nullptr;
+            note_left<reason::evicted>(gone);
             return gone;
         }
 
@@ -823,11 +936,30 @@ template <class Key, class Value, class Hash = std::hash<Key>, class Equal = std
             return gone;
         }
 
+        // Has more slots than there are. It calls no code of users, and has changed nothing if it throws.
+        void grow(std::size_t capacity, leaving &left) {
+            token_cache more = made(capacity, shares);
+            detail::nodes<node> all(capacity);
+            node *first = nullptr, **end = &first;
+            while (node *next = evict()) {
+                *end = next;
+                end = &next->next;
+            }
+            slots = std::move(more);
+            nodes = std::move(all);
+            limit = no_limit;
+            while (first != nullptr) left.add(link(std::exchange(first, first->next)));
+        }
+
         void clear() noexcept {
             leaving left = none_left();
             version++;
             slots.clear();
-            left.add(nodes.remove_all());
+            node *first = nodes.remove_all();
+            if constexpr (listens) {
+                for (node *gone = first; gone != nullptr; gone = gone->next) note_left<reason::cleared>(gone);
+            }
+            left.add(first);
         }
 
         template <class... Args> node *make(Args &&...args) {
@@ -846,15 +978,23 @@ template <class Key, class Value, class Hash = std::hash<Key>, class Equal = std
         detail::nodes<node> nodes;
         node *spare = nullptr; // a block without an entry, or null
         std::size_t limit = no_limit; // how many nodes there may be, if fewer than slots
+        std::optional<policy> shares; // those that were given
         std::uint64_t version = 0; // how often entries have come or left
         std::uint64_t hits = 0, misses = 0;
         detail::secret secret = detail::process_secret();
         Hash hash;
         Equal equal;
+        detail::hearing<Listener> heard;
     };
 
     template <class K> std::uint64_t hash_of(const K &key) const {
         return clock2q_spread_by(state_->secret.data(), std::as_const(state_->hash)(key));
+    }
+
+    // Takes a node out, which is in.
+    void remove(node *found) noexcept {
+        state_->unlink(found);
+        state::template note_left<reason::removed>(found);
     }
 
     std::uint64_t hash_to_insert(const Key &key) const {
@@ -872,7 +1012,7 @@ template <class Key, class Value, class Hash = std::hash<Key>, class Equal = std
     // The node of a key, or null.
     template <class K> node *found(const K &key) const {
         if (state_ == nullptr) return nullptr;
-        leaving left(state_.get(), nullptr);
+        leaving left(state_.get(), nullptr, state_->heard);
         return still_in(state_->find(key, hash_of(key), left), left);
     }
 
@@ -898,6 +1038,7 @@ template <class Key, class Value, class Hash = std::hash<Key>, class Equal = std
     // The first of the nodes that left for a new one, or none.
     node_type first_of(node *left, leaving &others) const noexcept {
         if (left != nullptr) others.add(std::exchange(left->next, nullptr));
+        others.tell_of(left);
         return node_type(left, state_.get());
     }
 
@@ -1157,6 +1298,213 @@ class weighted_cache {
     entries entries_;
     std::unique_ptr<limit> limit_;
 };
+
+namespace detail {
+
+// A value and when it expires.
+template <class Value, class Clock> struct timed {
+    template <class... Args>
+    explicit timed(typename Clock::time_point end, Args &&...args) : deadline(end), value(std::forward<Args>(args)...) {}
+    typename Clock::time_point deadline;
+    Value value;
+};
+template <class Value, class Clock> struct is_plain<timed<Value, Clock>> : is_plain<Value> {};
+
+// Hears of the value without its time.
+template <class Key, class Value, class Clock, class Listener> struct untimed {
+    Listener listener;
+    void operator()(const Key &key, timed<Value, Clock> &left, reason why) { listener(key, left.value, why); }
+};
+
+} // namespace detail
+
+// A cache whose entries expire, a time after they were stored.
+//
+// - No value is returned, or shown to `for_each`, that Clock::now(), as the call reads it, isn't below the time of:
+//   when it was stored, and `ttl` more. So Clock doesn't go back; it calls no cache.
+// - What has expired leaves, as by `erase`, when a call that isn't const meets its key, or by `expire`. Until then it
+//   counts in `size`, and may leave for another.
+// - What `cache` says of slots, pointers, users' code, exceptions, listeners and threads holds here too.
+//
+//     clock2q::expiring_cache<std::string, address> addresses(1000, std::chrono::minutes(5));
+template <class Key, class Value, class Clock = std::chrono::steady_clock, class Listener = detail::no_listener,
+          class Hash = std::hash<Key>, class Equal = std::equal_to<Key>>
+class expiring_cache {
+    using timed = detail::timed<Value, Clock>;
+    using untimed = detail::untimed<Key, Value, Clock, Listener>;
+    static constexpr bool listens = detail::listens<Listener>;
+    using entries = cache<Key, timed, Hash, Equal, std::conditional_t<listens, untimed, detail::no_listener>>;
+    using node = typename entries::node;
+    using leaving = typename entries::leaving;
+    template <class Other> using argument = typename entries::template argument<Other>;
+
+  public:
+    using key_type = Key;
+    using mapped_type = Value;
+    using size_type = std::size_t;
+    using duration = typename Clock::duration;
+
+    // Makes a cache for `capacity` entries, each of which is there for `ttl`. Throws what `cache` does, and
+    // std::invalid_argument unless `ttl` is above 0.
+    expiring_cache(size_type capacity, duration ttl, Listener listener = Listener(), const Hash &hash = Hash(),
+                   const Equal &equal = Equal())
+        : entries_(made(capacity, std::move(listener), hash, equal)), ttl_(ttl) {
+        if (!(ttl > duration::zero())) throw std::invalid_argument("clock2q: a ttl is above 0");
+    }
+
+    // Returns the value of a key, after a hit, or null. Counts a hit or a miss.
+    template <class K = Key> Value *get(const argument<K> &key) {
+        if (entries_.state_ == nullptr) return nullptr;
+        auto &state = *entries_.state_;
+        leaving left = state.none_left();
+        node *found = live(key, left);
+        if (found != nullptr) state.slots.hit(found->slot);
+        ++(found != nullptr ? state.hits : state.misses);
+        return value_of(entries::still_in(found, left));
+    }
+
+    // Returns the value of a key, or null, and records nothing.
+    template <class K = Key> const Value *peek(const argument<K> &key) const {
+        const timed *found = entries_.peek(key);
+        return found != nullptr && Clock::now() < found->deadline ? std::addressof(found->value) : nullptr;
+    }
+
+    // Returns true, or 1, if the key is there, and records nothing.
+    template <class K = Key> bool contains(const argument<K> &key) const { return peek(key) != nullptr; }
+    template <class K = Key> size_type count(const argument<K> &key) const { return contains(key) ? 1 : 0; }
+
+    // Inserts a key, in place of its entry if it has one, after a hit.
+    template <class Other = Value> void put(const Key &key, Other &&value) {
+        drop_expired(key);
+        entries_.put(key, timed(deadline(), std::forward<Other>(value)));
+    }
+    template <class Other = Value> void put(Key &&key, Other &&value) {
+        drop_expired(key);
+        entries_.put(std::move(key), timed(deadline(), std::forward<Other>(value)));
+    }
+
+    // Returns the value of a key and false, after a hit; or inserts the key, with a value made of `args`, and
+    // returns that and true. Counts a hit or a miss.
+    template <class... Args> std::pair<Value *, bool> try_emplace(const Key &key, Args &&...args) {
+        drop_expired(key);
+        return without_time(entries_.try_emplace(key, deadline(), std::forward<Args>(args)...));
+    }
+    template <class... Args> std::pair<Value *, bool> try_emplace(Key &&key, Args &&...args) {
+        drop_expired(key);
+        return without_time(entries_.try_emplace(std::move(key), deadline(), std::forward<Args>(args)...));
+    }
+
+    // Returns the value of a key and false, after a hit; or inserts the key with the value that `make` returns, whose
+    // time begins then, and returns that and true. Counts a hit or a miss.
+    template <class Make> std::pair<Value *, bool> get_or_insert_with(const Key &key, Make &&make) {
+        drop_expired(key);
+        return without_time(entries_.get_or_insert_with(key, [&] { return made_with(make); }));
+    }
+    template <class Make> std::pair<Value *, bool> get_or_insert_with(Key &&key, Make &&make) {
+        drop_expired(key);
+        return without_time(entries_.get_or_insert_with(std::move(key), [&] { return made_with(make); }));
+    }
+
+    // Takes a key out, and returns how many entries left that hadn't expired: 1 or 0.
+    template <class K = Key> size_type erase(const argument<K> &key) {
+        drop_expired(key);
+        return entries_.erase(key);
+    }
+
+    // Takes out the entry that would have to leave next, and returns true if there was one.
+    bool evict() noexcept { return !entries_.evict().empty(); }
+
+    // Takes out all entries that have expired, and returns how many. Takes time in proportion to the capacity.
+    size_type expire() noexcept {
+        if (entries_.state_ == nullptr) return 0;
+        auto &state = *entries_.state_;
+        leaving left = state.none_left();
+        size_type before = size();
+        const auto now = Clock::now();
+        for (node *at : state.nodes) {
+            if (at != nullptr && !(now < at->entry.second.deadline)) take_out(at, left);
+        }
+        return before - size();
+    }
+
+    // Takes all entries out, and forgets all keys. Takes time in proportion to the capacity.
+    void clear() noexcept { entries_.clear(); }
+
+    // Does what `cache::resize` does.
+    void resize(size_type capacity) { entries_.resize(capacity); }
+
+    // Calls a function with each key and value that hasn't expired, in no order that is kept. The function doesn't
+    // call the cache.
+    template <class See> void for_each(See see) const {
+        const auto now = Clock::now();
+        for (const auto &entry : entries_) {
+            if (now < entry.second.deadline) see(entry.first, entry.second.value);
+        }
+    }
+
+    size_type size() const noexcept { return entries_.size(); }
+    bool empty() const noexcept { return entries_.empty(); }
+    size_type capacity() const noexcept { return entries_.capacity(); }
+    // Returns how long an entry is there after it was stored.
+    duration ttl() const noexcept { return ttl_; }
+    // Return how many keys `get`, `try_emplace` and `get_or_insert_with` have found, and how many they haven't.
+    std::uint64_t hits() const noexcept { return entries_.hits(); }
+    std::uint64_t misses() const noexcept { return entries_.misses(); }
+
+    void swap(expiring_cache &other) noexcept {
+        entries_.swap(other.entries_);
+        std::swap(ttl_, other.ttl_);
+    }
+    friend void swap(expiring_cache &one, expiring_cache &other) noexcept { one.swap(other); }
+
+  private:
+    static entries made(size_type capacity, Listener listener, const Hash &hash, const Equal &equal) {
+        if constexpr (listens) return entries(capacity, untimed{std::move(listener)}, hash, equal);
+        else return entries(capacity, hash, equal);
+    }
+    typename Clock::time_point deadline() const { return Clock::now() + ttl_; }
+    template <class Make> timed made_with(Make &make) const {
+        Value value = make();
+        return timed(deadline(), std::move(value));
+    }
+    static Value *value_of(node *at) noexcept {
+        return at == nullptr ? nullptr : std::addressof(at->entry.second.value);
+    }
+    static std::pair<Value *, bool> without_time(std::pair<timed *, bool> found) noexcept {
+        return {std::addressof(found.first->value), found.second};
+    }
+
+    // Takes out a node that has expired.
+    void take_out(node *found, leaving &left) noexcept {
+        entries_.state_->unlink(found);
+        entries::state::template note_left<reason::expired>(found);
+        found->next = nullptr;
+        left.add(found);
+    }
+
+    // The node of a key, or null. If that has expired, it leaves.
+    template <class K> node *live(const K &key, leaving &left) {
+        node *found = entries_.state_->find(key, entries_.hash_of(key), left);
+        if (found == nullptr || Clock::now() < found->entry.second.deadline) return found;
+        take_out(found, left);
+        return nullptr;
+    }
+
+    // Has the entry of a key leave if it has expired.
+    template <class K> void drop_expired(const K &key) {
+        if (entries_.state_ == nullptr) return;
+        leaving left = entries_.state_->none_left();
+        live(key, left);
+    }
+
+    entries entries_;
+    duration ttl_;
+};
+
+// A cache that says which entries leave, and why.
+template <class Key, class Value, class Listener = std::function<void(const Key &, Value &, reason)>,
+          class Hash = std::hash<Key>, class Equal = std::equal_to<Key>>
+using listening_cache = cache<Key, Value, Hash, Equal, Listener>;
 
 } // namespace clock2q
 

@@ -86,8 +86,11 @@ setup(
         # Not for the limited API: calls of `cached` are vectorcalls, which it has from Python 3.12 on.
         Extension(
             "clock2q._extension",
-            sources=[f"extension/{name}.c" for name in ("module", "pairs", "evicting", "cache", "cached", "pages")],
-            depends=["extension/pairs.h"],
+            sources=[f"extension/{name}.c" for name in (
+                "module", "making", "pairs", "evicting", "growing", "expiring", "leaving", "cache", "cached", "flights",
+                "decorator", "pages",
+            )],
+            depends=["extension/pairs.h", "extension/cached.h"],
             extra_compile_args=["-std=c11", "-fvisibility=hidden"],
             extra_link_args=["-Wl,--exclude-libs,ALL"],
         )

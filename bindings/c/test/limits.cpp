@@ -2,6 +2,7 @@
 // throw or call the cache. usage: limits [CALLS]
 #include "clock2q.hpp"
 
+#include <algorithm>
 #include <cstdio>
 #include <cstdlib>
 #include <memory>
@@ -54,8 +55,11 @@ template <class Hash> static void resized(std::size_t capacity, long calls) {
     for (long call = 0; call < calls; call++) {
         std::uint64_t draw = drawn(state) >> 8, key = (draw >> 8) % (3 * capacity);
         if (draw % 64 == 0) {
-            tried.resize(1 + (draw >> 40) % capacity);
-            must(tried.capacity() == 1 + (draw >> 40) % capacity, "its capacity is the new one");
+            std::size_t before = tried.size(), next = 1 + (draw >> 40) % (draw % 1024 == 0 ? 2 * capacity : capacity);
+            const std::uint64_t *kept = tried.peek(key);
+            tried.resize(next);
+            must(tried.capacity() == next && tried.size() == std::min(before, next), "its capacity is the new one");
+            must(before > next || tried.peek(key) == kept, "if it is enough, all stay where they are");
         }
         const std::uint64_t *found = tried.peek(key);
         must(found == nullptr || *found == stored[key], "what is there was stored last");
@@ -69,11 +73,24 @@ template <class Hash> static void resized(std::size_t capacity, long calls) {
         }
         must(tried.size() <= tried.capacity(), "no more keys than the capacity");
     }
-    must(is_refused([&] { tried.resize(0); }) && is_refused([&] { tried.resize(capacity + 1); }), "refused");
+    must(is_refused([&] { tried.resize(0); }) && is_refused([&] { tried.resize(CLOCK2Q_MAX_CAPACITY + 1); }), "refused");
     tried.resize(capacity);
     must(tried.capacity() == capacity, "it grows again");
     auto moved = std::move(tried);
     must(is_refused([&] { tried.resize(1); }) && moved.capacity() == capacity, "a cache that was moved from");
+}
+
+// It hits as often as a cache that was made as large, by nine tenths, and keeps the policy that it was given.
+static void larger_is_useful() {
+    cache<std::uint64_t, int> large(500, clock2q::policy{100, 50}), tried(50, clock2q::policy{20, 10});
+    std::uint64_t state = 1;
+    for (int call = 0; call < 100000; call++) {
+        if (call == 1000) tried.resize(500);
+        std::uint64_t draw = drawn(state), key = (draw >> 20) & (draw >> 40) & 1023;
+        tried.try_emplace(key, 1);
+        large.try_emplace(key, 1);
+    }
+    must(10 * tried.hits() > 9 * large.hits(), "a larger cache is useful");
 }
 
 // It hits as often as a cache that was made as small, by nine tenths.
@@ -192,6 +209,7 @@ int main(int, char **arguments) {
         }
     }
     smaller_is_useful();
+    larger_is_useful();
     few_leave();
     weighers();
     return failed;

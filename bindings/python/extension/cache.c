@@ -1,58 +1,11 @@
 /* The mapping: what collections.abc.MutableMapping doesn't add in clock2q/__init__.py. */
 #include "pairs.h"
 
-/* Returns what the type has as __missing__, or NULL with an exception. The name is interned, or else the
- * interpreter's cache of attributes would keep a name for each cache. */
-static PyObject *missing_of_type(Cache *self) {
-    PyObject *name = PyUnicode_InternFromString("__missing__");
-    PyObject *method = name == NULL ? NULL : PyObject_GetAttr((PyObject *)Py_TYPE(self), name);
-    Py_XDECREF(name);
-    return method;
-}
-
-/* Reads the weigher and the most that weights may be together: both, or neither. Returns -1 with an exception if
- * they can't be had. */
-static int read_weights(PyObject *weigher, PyObject *max_weight, Py_ssize_t *number) {
-    if ((weigher == Py_None) != (max_weight == Py_None) || (weigher != Py_None && !PyCallable_Check(weigher))) {
-        PyErr_SetString(PyExc_TypeError, "weigher is a function, and comes with max_weight");
-        return -1;
-    }
-    if (weigher == Py_None) return 0;
-    *number = PyNumber_AsSsize_t(max_weight, PyExc_OverflowError);
-    if (*number == -1 && PyErr_Occurred()) return -1;
-    if (*number >= 0) return 0;
-    PyErr_SetString(PyExc_ValueError, "max_weight is 0 or more");
-    return -1;
-}
-
-static int cache_init(Cache *self, PyObject *args, PyObject *keywords) {
-    static char *names[] = {"maxsize", "weigher", "max_weight", NULL};
-    Py_ssize_t maxsize, most = 0;
-    PyObject *weigher = Py_None, *max_weight = Py_None;
-    if (!PyArg_ParseTupleAndKeywords(args, keywords, "n|OO:Cache", names, &maxsize, &weigher, &max_weight)) return -1;
-    if (read_weights(weigher, max_weight, &most) < 0) return -1;
-    if (may_make_slots(self->is_made, maxsize, 0, "maxsize") < 0) return -1;
-    if (maxsize > 0) {
-        clock2q_memory before = begin_count();
-        uint32_t status = clock2q_tokens_new(&self->slots, (size_t)maxsize);
-        self->slots_size = end_count(before);
-        if (made_slots(status) < 0) return -1;
-    }
-    self->is_made = 1;
-    self->capacity = self->maxsize = (size_t)maxsize;
-    self->weigher = weigher == Py_None ? NULL : Py_NewRef(weigher);
-    self->max_weight = (uint64_t)most;
-    PyObject *method = missing_of_type(self);
-    if (method == NULL && !PyErr_ExceptionMatches(PyExc_AttributeError)) return -1;
-    PyErr_Clear();
-    self->has_missing = method != NULL;
-    Py_XDECREF(method);
-    return 0;
-}
-
 static int cache_traverse(Cache *self, visitproc visit, void *arg) {
     Py_VISIT(Py_TYPE(self));
     Py_VISIT(self->weigher);
+    Py_VISIT(self->timer);
+    Py_VISIT(self->listener);
     for (size_t slot = 0; slot < self->reached; slot++) {
         Py_VISIT(self->pairs[slot].key);
         Py_VISIT(self->pairs[slot].value);
@@ -60,9 +13,13 @@ static int cache_traverse(Cache *self, visitproc visit, void *arg) {
     return 0;
 }
 
+/* Drops what it holds. The listener doesn't hear of the pairs of a cache that is gone. */
 static int cache_tp_clear(Cache *self) {
+    Py_CLEAR(self->listener);
     clear_pairs(self);
     Py_CLEAR(self->weigher);
+    Py_CLEAR(self->timer);
+    set_plainness(self);
     return 0;
 }
 
@@ -71,8 +28,7 @@ static void cache_dealloc(Cache *self) {
     Py_TRASHCAN_BEGIN(self, cache_dealloc)
     if (self->weak_references != NULL) PyObject_ClearWeakRefs((PyObject *)self);
     clock2q_tokens_free(&self->slots);
-    clear_pairs(self);
-    Py_CLEAR(self->weigher);
+    cache_tp_clear(self);
     PyTypeObject *type = Py_TYPE(self);
     type->tp_free(self);
     Py_DECREF(type);
@@ -80,11 +36,22 @@ static void cache_dealloc(Cache *self) {
 }
 
 static Py_ssize_t cache_length(Cache *self) {
-    return self->pairs == NULL ? 0 : (Py_ssize_t)clock2q_tokens_len(&self->slots);
+    return length_of(self);
 }
 
-/* Finds a key, and records nothing. */
+/* Finds a key, and changes nothing. */
 static found_pair peek_key(Cache *self, PyObject *key) {
+    uint64_t hash;
+    if (hash_of(key, &hash) < 0) return (found_pair){FAILED, 0};
+    found_pair found = {CHANGED, 0};
+    for (int tries = 0; self->timer != NULL && found.is == CHANGED && tries < MOST_TRIES; tries++)
+        found = look_at_timed_pairs(self, key, hash, 0);
+    if (self->timer != NULL) return found.is == CHANGED ? (found_pair){too_many_tries(MOST_TRIES), 0} : found;
+    return peek_pair(self, key, hash);
+}
+
+/* Finds a key that is to be taken out, and records no hit. */
+static found_pair find_to_take(Cache *self, PyObject *key) {
     uint64_t hash;
     return hash_of(key, &hash) < 0 ? (found_pair){FAILED, 0} : peek_pair(self, key, hash);
 }
@@ -120,12 +87,10 @@ static PyObject *cache_subscript(Cache *self, PyObject *key) {
 static int cache_ass_subscript(Cache *self, PyObject *key, PyObject *value) {
     uint64_t hash;
     if (value != NULL) return hash_of(key, &hash) < 0 ? -1 : store_pair(self, key, hash, value);
-    found_pair found = peek_key(self, key);
+    found_pair found = find_to_take(self, key);
     if (found.is == ABSENT) set_key_error(key);
     if (found.is != PRESENT) return -1;
-    pair left = take_pair(self, found.slot);
-    Py_DECREF(left.key);
-    Py_DECREF(left.value);
+    drop_pair(self, take_pair(self, found.slot), REMOVED);
     return 0;
 }
 
@@ -200,10 +165,11 @@ static PyObject *cache_setdefault(Cache *self, PyObject *const *args, Py_ssize_t
 static PyObject *cache_pop(Cache *self, PyObject *const *args, Py_ssize_t count, PyObject *names) {
     PyObject *otherwise = NULL, *key = key_and_default("pop", args, count, names, &otherwise);
     if (key == NULL) return NULL;
-    found_pair found = peek_key(self, key);
+    found_pair found = find_to_take(self, key);
     if (found.is == PRESENT) {
         pair left = take_pair(self, found.slot);
-        Py_DECREF(left.key);
+        Py_INCREF(left.value);
+        drop_pair(self, left, REMOVED);
         return left.value;
     }
     if (found.is == ABSENT && otherwise == NULL) set_key_error(key);
@@ -213,9 +179,11 @@ static PyObject *cache_pop(Cache *self, PyObject *const *args, Py_ssize_t count,
 static PyObject *cache_resize(Cache *self, PyObject *number) {
     Py_ssize_t maxsize = PyNumber_AsSsize_t(number, PyExc_ValueError);
     if (maxsize == -1 && PyErr_Occurred()) return NULL;
-    if (maxsize < 1 || (size_t)maxsize > self->capacity)
-        return PyErr_Format(PyExc_ValueError, "maxsize is from 1 to %zu, with which the cache was made", self->capacity);
-    if (resize_pairs(self, (size_t)maxsize) < 0) return NULL;
+    if (!self->is_made) return PyErr_Format(PyExc_RuntimeError, "Cache.__init__ wasn't called");
+    if (maxsize < 1 || maxsize > CLOCK2Q_MAX_CAPACITY)
+        return PyErr_Format(PyExc_ValueError, "maxsize is from 1 to %d", CLOCK2Q_MAX_CAPACITY);
+    int is_more = (size_t)maxsize > self->capacity;
+    if ((is_more ? grow_pairs : resize_pairs)(self, (size_t)maxsize) < 0) return NULL;
     Py_RETURN_NONE;
 }
 
@@ -225,6 +193,7 @@ static PyObject *cache_sizeof(Cache *self, PyObject *unused) {
     size_t size = (size_t)Py_TYPE(self)->tp_basicsize + self->slots_size;
     if (self->pairs != NULL) size += self->capacity * sizeof *self->pairs;
     if (self->weights != NULL) size += self->capacity * sizeof *self->weights;
+    if (self->deadlines != NULL) size += self->capacity * sizeof *self->deadlines;
     return PyLong_FromSize_t(size);
 }
 
@@ -234,21 +203,21 @@ static PyObject *cache_clear(Cache *self, PyObject *unused) {
     Py_RETURN_NONE;
 }
 
-/* Lists all keys, or all keys and values in turn. The list is made before the pairs are read, since the
- * collector may run other code then. */
+/* Lists all keys, or all keys and values in turn, but those that have expired. The list and the time are there before
+ * the pairs are read, since other code may run until then. */
 static PyObject *list_pairs(Cache *self, int has_values) {
-    Py_ssize_t length, at = 0;
-    PyObject *list;
-    do {
-        length = cache_length(self);
-        list = PyList_New(has_values ? 2 * length : length);
-        if (list == NULL) return NULL;
-        if (length != cache_length(self)) Py_CLEAR(list);
-    } while (list == NULL);
+    double now = 0;
+    PyObject *list = PyList_New(0);
+    if (list == NULL || (self->timer != NULL && read_timer(self, &now) < 0)) {
+        Py_XDECREF(list);
+        return NULL;
+    }
     for (size_t slot = 0; slot < self->reached; slot++) {
-        if (self->pairs[slot].key == NULL) continue;
-        PyList_SET_ITEM(list, at++, Py_NewRef(self->pairs[slot].key));
-        if (has_values) PyList_SET_ITEM(list, at++, Py_NewRef(self->pairs[slot].value));
+        pair at = self->pairs[slot];
+        if (at.key == NULL || has_expired(self, slot, now)) continue;
+        if (PyList_Append(list, at.key) == 0 && (!has_values || PyList_Append(list, at.value) == 0)) continue;
+        Py_DECREF(list);
+        return NULL;
     }
     return list;
 }
@@ -275,11 +244,6 @@ static PyObject *cache_pairs(Cache *self, PyObject *unused) {
     return list;
 }
 
-static PyObject *cache_currsize(Cache *self, void *unused) {
-    (void)unused;
-    return PyLong_FromSsize_t(cache_length(self));
-}
-
 #define WITH_DEFAULT(function) (PyCFunction)(void (*)(void))function, METH_FASTCALL | METH_KEYWORDS
 
 static PyMethodDef cache_methods[] = {
@@ -296,12 +260,15 @@ static PyMethodDef cache_methods[] = {
     {"next_victim", (PyCFunction)cache_next_victim, METH_NOARGS,
      "next_victim($self, /)\n--\n\nReturn the (key, value) pair that popitem would remove, or None."},
     {"resize", (PyCFunction)cache_resize, METH_O,
-     "resize($self, maxsize, /)\n--\n\nHold at most maxsize keys from now on, of as many as the cache was made for.\n\n"
-     "The pairs that are too many leave, in the order of popitem."},
+     "resize($self, maxsize, /)\n--\n\nHold at most maxsize keys from now on.\n\n"
+     "The pairs that are too many leave, in the order of popitem. If maxsize is more than there was ever room for, a\n"
+     "larger cache takes the place of this: the pairs enter it as new keys, in the order of popitem, and other keys\n"
+     "are forgotten."},
+    {"expire", WITH_DEFAULT(cache_expire),
+     "expire($self, /, time=None)\n--\n\nRemove what has expired, now or at another time, and return a list of those (key, value) pairs."},
     {"clear", (PyCFunction)cache_clear, METH_NOARGS,
      "clear($self, /)\n--\n\nRemove all pairs and forget their keys; hits and misses stay."},
     {"_pairs", (PyCFunction)cache_pairs, METH_NOARGS, "_pairs($self, /)\n--\n\nReturn a list of all (key, value) pairs."},
-    {"__reduce__", refuse_copy, METH_NOARGS, NULL},
     {"__sizeof__", (PyCFunction)cache_sizeof, METH_NOARGS,
      "__sizeof__($self, /)\n--\n\nReturn how many bytes the cache takes, without its keys and values."},
     {NULL, NULL, 0, NULL}};
@@ -313,24 +280,9 @@ static PyMemberDef cache_members[] = {
     {"__weaklistoffset__", T_PYSSIZET, offsetof(Cache, weak_references), READONLY, NULL},
     {NULL, 0, 0, 0, NULL}};
 
-static PyObject *cache_weight(Cache *self, void *unused) {
-    (void)unused;
-    return self->weigher == NULL ? Py_NewRef(Py_None) : PyLong_FromUnsignedLongLong(self->weight);
-}
-
-static PyObject *cache_max_weight(Cache *self, void *unused) {
-    (void)unused;
-    return self->weigher == NULL ? Py_NewRef(Py_None) : PyLong_FromUnsignedLongLong(self->max_weight);
-}
-
-static PyGetSetDef cache_properties[] = {
-    {"currsize", (getter)cache_currsize, NULL, "How many keys it holds.", NULL},
-    {"weight", (getter)cache_weight, NULL, "What its pairs weigh together, or None without a weigher.", NULL},
-    {"max_weight", (getter)cache_max_weight, NULL, "The most that they may weigh together, or None.", NULL},
-    {NULL, NULL, NULL, NULL, NULL}};
-
 static PyType_Slot cache_type_slots[] = {{Py_tp_init, cache_init},
-                                         {Py_tp_doc, "Cache(maxsize, weigher=None, max_weight=None)\n--\n\nWhat clock2q.Cache adds to."},
+                                         {Py_tp_doc, "Cache(maxsize, weigher=None, max_weight=None, *, ttl=None, timer=None, listener=None)\n--\n\n"
+                                                     "What clock2q.Cache adds to."},
                                          {Py_tp_dealloc, cache_dealloc},
                                          {Py_tp_traverse, cache_traverse},
                                          {Py_tp_clear, cache_tp_clear},

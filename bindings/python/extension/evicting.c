@@ -2,20 +2,12 @@
  * room for a heavy one. */
 #include "pairs.h"
 
-/* A value, and what the weigher said of it with its key. */
-typedef struct {
-    PyObject *value;
-    uint64_t weight;
-} pair_to_store;
-
 clock2q_found evict_pair(Cache *cache, pair *left) {
     clock2q_found evicted = {0, false};
     if (cache->pairs != NULL) evicted = clock2q_tokens_evict(&cache->slots);
     if (!evicted.is_found) return evicted;
     *left = cache->pairs[evicted.slot];
-    cache->pairs[evicted.slot] = (pair){NULL, NULL};
-    set_weight(cache, evicted.slot, 0);
-    cache->version++;
+    set_free(cache, evicted.slot);
     return evicted;
 }
 
@@ -33,13 +25,17 @@ PyObject *cache_popitem(Cache *self, PyObject *unused) {
     (void)unused;
     PyObject *item = PyTuple_New(2); /* first, since the collector may run other code here */
     pair left;
-    if (item == NULL) return NULL;
+    if (item == NULL || drop_expired_victims(self) < 0) {
+        Py_XDECREF(item);
+        return NULL;
+    }
     if (!evict_pair(self, &left).is_found) {
         Py_DECREF(item);
         return nothing_to_pop();
     }
     PyTuple_SET_ITEM(item, 0, left.key);
     PyTuple_SET_ITEM(item, 1, left.value);
+    if (self->listener != NULL) call_listener(self, left, EVICTED);
     return item;
 }
 
@@ -47,7 +43,10 @@ PyObject *cache_next_victim(Cache *self, PyObject *unused) {
     (void)unused;
     PyObject *item = PyTuple_New(2); /* first, since the collector may run other code here */
     clock2q_found next = {0, false};
-    if (item == NULL) return NULL;
+    if (item == NULL || drop_expired_victims(self) < 0) {
+        Py_XDECREF(item);
+        return NULL;
+    }
     if (self->pairs != NULL) next = clock2q_tokens_next_victim(&self->slots);
     if (!next.is_found) {
         Py_DECREF(item);
@@ -58,49 +57,43 @@ PyObject *cache_next_victim(Cache *self, PyObject *unused) {
     return item;
 }
 
-/* Takes out the pair that is to leave next, of some, and adds it to a list, which runs no other code. Writes the slot
- * that it had. Returns -1 with an exception if there is no memory. */
-static int evict_to(Cache *cache, PyObject *list, size_t *slot) {
-    pair left = {NULL, NULL};
-    *slot = evict_pair(cache, &left).slot;
-    int failed = PyList_Append(list, left.key) < 0 || PyList_Append(list, left.value) < 0;
-    Py_DECREF(left.key);
-    Py_DECREF(left.value);
-    return failed ? -1 : 0;
-}
-
 int resize_pairs(Cache *cache, size_t maxsize) {
     int failed = 0;
-    size_t slot;
+    pair left = {NULL, NULL};
     PyObject *list = PyList_New(0);
     if (list == NULL) return -1;
     cache->maxsize = maxsize;
     cache->version++; /* so a look-up that is under way, and whoever stores after it, sees how many there may be */
-    while (!failed && clock2q_tokens_len(&cache->slots) > maxsize) failed = evict_to(cache, list, &slot) < 0;
-    Py_DECREF(list);
+    set_plainness(cache);
+    while (!failed && clock2q_tokens_len(&cache->slots) > maxsize) {
+        evict_pair(cache, &left);
+        failed = add_left(list, left, EVICTED) < 0;
+    }
+    drop_pairs(cache, list);
     return failed ? -1 : 0;
 }
 
 /* Whether others have to leave before a pair is stored: one of a key that has a slot, or of a new one. */
-static int is_too_much(Cache *cache, outcome found, size_t slot, uint64_t weight) {
+static int is_too_much(Cache *cache, found_pair place, uint64_t weight) {
     if (cache->weights != NULL) {
-        uint64_t own = found == PRESENT ? cache->weights[slot] : 0;
+        uint64_t own = place.is == PRESENT ? cache->weights[place.slot] : 0;
         if (cache->weight - own > cache->max_weight - weight) return 1;
     }
-    return found == ABSENT && cache->maxsize < cache->capacity && clock2q_tokens_len(&cache->slots) >= cache->maxsize;
+    return place.is == ABSENT && cache->maxsize < cache->capacity && clock2q_tokens_len(&cache->slots) >= cache->maxsize;
 }
 
 /* Stores a pair after a look-up has found its key or not. Those that have to leave first go to a list. */
-static int store_after(Cache *cache, PyObject *key, uint64_t hash, pair_to_store stored, outcome found, size_t slot,
+static int store_after(Cache *cache, PyObject *key, uint64_t hash, PyObject *value, const pair_terms *terms, found_pair place,
                        PyObject *list) {
-    if (found == PRESENT) clock2q_tokens_hit(&cache->slots, slot);
-    while (is_too_much(cache, found, slot, stored.weight)) {
-        size_t gone;
-        if (evict_to(cache, list, &gone) < 0) return -1;
-        if (gone == slot) found = ABSENT; /* the key has left for its own new value */
+    if (place.is == PRESENT) clock2q_tokens_hit(&cache->slots, place.slot);
+    while (is_too_much(cache, place, terms->weight)) {
+        pair left = {NULL, NULL};
+        int is_own = evict_pair(cache, &left).slot == place.slot && place.is == PRESENT; /* for its own new value */
+        if (is_own) place.is = ABSENT;
+        if (add_left(list, left, is_own ? REPLACED : EVICTED) < 0) return -1;
     }
-    if (found == PRESENT) replace_value(cache, slot, stored.value, stored.weight);
-    else add_pair(cache, key, hash, stored.value, stored.weight);
+    if (place.is == PRESENT) replace_value(cache, place.slot, value, terms);
+    else add_pair(cache, key, hash, value, terms);
     return 0;
 }
 
@@ -120,8 +113,10 @@ static int weigh(Cache *cache, PyObject *key, PyObject *value, uint64_t *weight)
 
 /* The list is made before the look-up, since the collector may run other code then. */
 int store_within(Cache *cache, PyObject *key, uint64_t hash, PyObject *value) {
-    pair_to_store stored = {value, 0};
-    if (cache->weigher != NULL && weigh(cache, key, value, &stored.weight) < 0) return -1;
+    pair_terms terms = {0, 0};
+    if (cache->weigher != NULL && weigh(cache, key, value, &terms.weight) < 0) return -1;
+    if (cache->timer != NULL && read_timer(cache, &terms.deadline) < 0) return -1;
+    terms.deadline += cache->ttl;
     PyObject *list = PyList_New(0);
     if (list == NULL) return -1;
     found_pair found = {CHANGED, 0};
@@ -129,9 +124,8 @@ int store_within(Cache *cache, PyObject *key, uint64_t hash, PyObject *value) {
         if (cache->pairs == NULL && make_pairs(cache) < 0) found.is = FAILED;
         else found = look_at_pairs(cache, key, hash);
     }
-    if (found.is == CHANGED) found.is = too_many_tries();
-    size_t slot = found.is == PRESENT ? found.slot : SIZE_MAX;
-    int failed = found.is == FAILED || store_after(cache, key, hash, stored, found.is, slot, list) < 0;
-    Py_DECREF(list);
+    if (found.is == CHANGED) found.is = too_many_tries(MOST_TRIES);
+    int failed = found.is == FAILED || store_after(cache, key, hash, value, &terms, found, list) < 0;
+    drop_pairs(cache, list);
     return failed ? -1 : 0;
 }

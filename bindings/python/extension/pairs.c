@@ -1,7 +1,7 @@
 #include "pairs.h"
 
-outcome too_many_tries(void) {
-    PyErr_Format(PyExc_RuntimeError, "each of %d comparisons of keys changed the cache", MOST_TRIES);
+outcome too_many_tries(int tries) {
+    PyErr_Format(PyExc_RuntimeError, "each of %d comparisons of keys changed the cache", tries);
     return FAILED;
 }
 
@@ -32,7 +32,7 @@ found_pair look_again(Cache *cache, PyObject *key, uint64_t hash) {
         found_pair found = look_at_pairs(cache, key, hash);
         if (found.is != CHANGED) return found;
     }
-    return (found_pair){too_many_tries(), 0};
+    return (found_pair){too_many_tries(MOST_TRIES), 0};
 }
 
 int may_make_slots(int is_made, Py_ssize_t capacity, Py_ssize_t least, const char *name) {
@@ -79,14 +79,24 @@ int make_pairs(Cache *cache) {
     }
     pair *pairs = PyMem_Calloc(cache->capacity, sizeof *pairs);
     uint64_t *weights = cache->weigher == NULL ? NULL : PyMem_Calloc(cache->capacity, sizeof *weights);
-    if (pairs == NULL || (weights == NULL && cache->weigher != NULL)) {
+    double *deadlines = cache->timer == NULL ? NULL : PyMem_Calloc(cache->capacity, sizeof *deadlines);
+    if (pairs == NULL || (weights == NULL && cache->weigher != NULL) || (deadlines == NULL && cache->timer != NULL)) {
         PyMem_Free(pairs);
+        PyMem_Free(weights);
+        PyMem_Free(deadlines);
         PyErr_NoMemory();
         return -1;
     }
     cache->pairs = pairs;
     cache->weights = weights;
+    cache->deadlines = deadlines;
+    set_plainness(cache);
     return 0;
+}
+
+void set_plainness(Cache *cache) {
+    cache->finds_plainly = cache->pairs != NULL && cache->timer == NULL;
+    cache->stores_plainly = cache->weigher == NULL && cache->timer == NULL && cache->maxsize == cache->capacity;
 }
 
 void set_weight(Cache *cache, size_t slot, uint64_t weight) {
@@ -95,12 +105,21 @@ void set_weight(Cache *cache, size_t slot, uint64_t weight) {
     cache->weights[slot] = weight;
 }
 
-void replace_value(Cache *cache, size_t slot, PyObject *value, uint64_t weight) {
-    PyObject *left = cache->pairs[slot].value;
+/* Sets the weight of the pair at a slot and when it expires, if pairs have either. */
+static inline void set_terms(Cache *cache, size_t slot, const pair_terms *terms) {
+    if (terms == NULL) return;
+    set_weight(cache, slot, terms->weight);
+    if (cache->deadlines != NULL) cache->deadlines[slot] = terms->deadline;
+}
+
+void replace_value(Cache *cache, size_t slot, PyObject *value, const pair_terms *terms) {
+    pair *at = &cache->pairs[slot];
+    PyObject *left = at->value;
     clock2q_tokens_hit(&cache->slots, slot);
-    cache->pairs[slot].value = Py_NewRef(value);
-    set_weight(cache, slot, weight);
+    at->value = Py_NewRef(value);
+    set_terms(cache, slot, terms);
     cache->version++;
+    if (cache->listener != NULL) call_listener(cache, (pair){at->key, left}, REPLACED);
     Py_DECREF(left);
 }
 
@@ -114,41 +133,37 @@ static size_t enter_beside(Cache *cache, uint64_t hash, pair *gave_way) {
     return clock2q_tokens_enter(&cache->slots, spread(hash), ++cache->number);
 }
 
-void add_pair(Cache *cache, PyObject *key, uint64_t hash, PyObject *value, uint64_t weight) {
+void add_pair(Cache *cache, PyObject *key, uint64_t hash, PyObject *value, const pair_terms *terms) {
     pair gave_way = {NULL, NULL};
     clock2q_admitted place = clock2q_tokens_admit(&cache->slots, spread(hash));
     if (!place.has_entered) place.slot = enter_beside(cache, hash, &gave_way);
     pair left = cache->pairs[place.slot];
     cache->pairs[place.slot] = (pair){Py_NewRef(key), Py_NewRef(value)};
-    set_weight(cache, place.slot, weight);
+    set_terms(cache, place.slot, terms);
     if (place.slot >= cache->reached) cache->reached = place.slot + 1;
     cache->version++;
-    Py_XDECREF(left.key);
-    Py_XDECREF(left.value);
-    Py_XDECREF(gave_way.key);
-    Py_XDECREF(gave_way.value);
+    if (left.key != NULL) drop_pair(cache, left, EVICTED);
+    if (gave_way.key != NULL) drop_pair(cache, gave_way, EVICTED);
 }
 
 int store_pair(Cache *cache, PyObject *key, uint64_t hash, PyObject *value) {
     for (int tries = 0; tries < MOST_TRIES; tries++) {
-        if (cache->weigher != NULL || cache->maxsize < cache->capacity) return store_within(cache, key, hash, value);
+        if (!cache->stores_plainly) return store_within(cache, key, hash, value);
         if (cache->pairs == NULL && make_pairs(cache) < 0) return -1;
         found_pair found = look_at_pairs(cache, key, hash);
         if (found.is == FAILED) return -1;
         if (found.is == CHANGED) continue;
-        if (found.is == PRESENT) replace_value(cache, found.slot, value, 0);
-        else add_pair(cache, key, hash, value, 0);
+        if (found.is == PRESENT) replace_value(cache, found.slot, value, NULL);
+        else add_pair(cache, key, hash, value, NULL);
         return 0;
     }
-    return too_many_tries();
+    return too_many_tries(MOST_TRIES);
 }
 
 pair take_pair(Cache *cache, size_t slot) {
     pair left = cache->pairs[slot];
     clock2q_tokens_remove(&cache->slots, slot);
-    cache->pairs[slot] = (pair){NULL, NULL};
-    set_weight(cache, slot, 0);
-    cache->version++;
+    set_free(cache, slot);
     return left;
 }
 
@@ -157,15 +172,16 @@ void clear_pairs(Cache *cache) {
     size_t reached = cache->reached;
     if (cache->slots.at != NULL) clock2q_tokens_clear(&cache->slots);
     PyMem_Free(cache->weights);
+    PyMem_Free(cache->deadlines);
     cache->pairs = NULL;
     cache->weights = NULL;
+    cache->deadlines = NULL;
     cache->reached = 0;
     cache->weight = 0;
     cache->version++;
-    for (size_t slot = 0; slot < reached; slot++) {
-        Py_XDECREF(pairs[slot].key);
-        Py_XDECREF(pairs[slot].value);
-    }
+    set_plainness(cache);
+    for (size_t slot = 0; slot < reached; slot++)
+        if (pairs[slot].key != NULL) drop_pair(cache, pairs[slot], CLEARED);
     PyMem_Free(pairs);
 }
 

@@ -22,6 +22,15 @@ typedef struct {
     PyObject *key, *value;
 } pair;
 
+/* The weight of a pair, if pairs have weights, and when it expires, if they do. */
+typedef struct {
+    uint64_t weight;
+    double deadline;
+} pair_terms;
+
+/* Why a pair leaves a cache. */
+typedef enum { EVICTED, REPLACED, REMOVED, EXPIRED, CLEARED } reason;
+
 typedef struct {
     PyObject_HEAD
     clock2q_tokens slots; /* none before __init__, or if there is room for no pair */
@@ -37,9 +46,15 @@ typedef struct {
     uint64_t *weights;   /* by slot, 0 if there is no pair */
     uint64_t weight;     /* their sum */
     uint64_t max_weight; /* the most that it may be */
+    PyObject *timer;     /* or NULL; then no pair expires */
+    double ttl;          /* how long after it was stored */
+    double *deadlines;   /* by slot, what the timer is below until then */
+    PyObject *listener;  /* or NULL */
     PyObject *weak_references;
-    char is_made;     /* whether __init__ was called */
-    char has_missing; /* whether the type had __missing__ when the cache was made */
+    char is_made;         /* whether __init__ was called */
+    char has_missing;     /* whether the type had __missing__ when the cache was made */
+    char finds_plainly;   /* whether there are `pairs`, and none expires */
+    char stores_plainly;  /* whether one pair at most leaves for a new one, and none has a weight or expires */
 } Cache;
 
 /* What a look-up or a comparison finds. FAILED comes with an exception, CHANGED if the cache's pairs did. */
@@ -54,8 +69,8 @@ typedef struct {
 /* How often a look-up is repeated before it fails, and the most keys of one hash. */
 enum { MOST_TRIES = 8, MOST_ALIKE = 16 };
 
-/* Sets the exception after the last try, and returns FAILED. */
-outcome too_many_tries(void);
+/* Sets the exception after so many tries, and returns FAILED. */
+outcome too_many_tries(int tries);
 
 /* Two odd numbers, drawn with the secret of str's hashes as the process starts: PYTHONHASHSEED sets both. */
 extern uint64_t hash_secret[2];
@@ -74,12 +89,21 @@ static inline int hash_of(PyObject *key, uint64_t *hash) {
     return value == -1 ? -1 : 0;
 }
 
+/* Returns how many pairs there are. */
+static inline Py_ssize_t length_of(Cache *cache) {
+    return cache->pairs == NULL ? 0 : (Py_ssize_t)clock2q_tokens_len(&cache->slots);
+}
+
 /* Compares a key with those of its hash in turn, of which the first is at `slot`. */
 found_pair compare_alike(Cache *cache, PyObject *key, uint64_t hash, size_t slot);
 
+/* Finds the slot of a key in a cache that may have no pairs, or whose pairs expire. One that has expired is ABSENT; if it
+ * `leaves`, it is taken out and dropped, and then this is CHANGED. */
+found_pair look_at_timed_pairs(Cache *cache, PyObject *key, uint64_t hash, int leaves);
+
 /* Finds the slot of a key, if no comparison changes the cache. */
 static inline found_pair look_at_pairs(Cache *cache, PyObject *key, uint64_t hash) {
-    if (cache->pairs == NULL) return (found_pair){ABSENT, 0};
+    if (!cache->finds_plainly) return look_at_timed_pairs(cache, key, hash, 1);
     clock2q_found alike = clock2q_tokens_seek(&cache->slots, spread(hash), 0);
     if (!alike.is_found) return (found_pair){ABSENT, 0};
     if (cache->pairs[alike.slot].key == key) return (found_pair){PRESENT, alike.slot};
@@ -89,7 +113,7 @@ static inline found_pair look_at_pairs(Cache *cache, PyObject *key, uint64_t has
 /* Does so after a comparison has changed the cache, until none does. */
 found_pair look_again(Cache *cache, PyObject *key, uint64_t hash);
 
-/* Finds the slot of a key, and records nothing. If PRESENT, the slot's pair stays until other code runs. */
+/* Finds the slot of a key, and records no hit. If PRESENT, the slot's pair stays until other code runs. */
 static inline found_pair peek_pair(Cache *cache, PyObject *key, uint64_t hash) {
     found_pair found = look_at_pairs(cache, key, hash);
     return found.is == CHANGED ? look_again(cache, key, hash) : found;
@@ -119,14 +143,56 @@ int store_within(Cache *cache, PyObject *key, uint64_t hash, PyObject *value);
 /* Makes room for pairs. Returns -1 with an exception if that fails, or if there may be none. */
 int make_pairs(Cache *cache);
 
-/* Replaces the value at the slot of a key. */
-void replace_value(Cache *cache, size_t slot, PyObject *value, uint64_t weight);
+/* Replaces the value at the slot of a key. The terms are NULL if pairs have none. */
+void replace_value(Cache *cache, size_t slot, PyObject *value, const pair_terms *terms);
 
 /* Stores a pair whose key has no slot. A pair that loses its slot is replaced before other code runs. */
-void add_pair(Cache *cache, PyObject *key, uint64_t hash, PyObject *value, uint64_t weight);
+void add_pair(Cache *cache, PyObject *key, uint64_t hash, PyObject *value, const pair_terms *terms);
 
 /* Sets the weight of the pair at a slot, if pairs have weights. */
 void set_weight(Cache *cache, size_t slot, uint64_t weight);
+
+/* Has `finds_plainly` and `stores_plainly` say what is so, after pairs, maxsize, the weigher or the timer were set. */
+void set_plainness(Cache *cache);
+
+/* Calls the listener with a pair that has left. What it raises goes to sys.unraisablehook. */
+void call_listener(Cache *cache, pair left, reason why);
+
+/* Drops a pair that was taken out, last of all that a call does: the listener hears of it first, if there is one. */
+static inline void drop_pair(Cache *cache, pair left, reason why) {
+    if (cache->listener != NULL) call_listener(cache, left, why);
+    Py_DECREF(left.key);
+    Py_DECREF(left.value);
+}
+
+/* Adds a pair that was taken out to a list, which runs no other code and takes the references: its key, its value and
+ * the reason. Returns -1 with an exception if there is no memory. */
+int add_left(PyObject *list, pair left, reason why);
+
+/* Drops the pairs of such a list, and the list. */
+void drop_pairs(Cache *cache, PyObject *list);
+
+/* Asks the timer. Returns -1 with an exception if it gives no number. */
+int read_timer(Cache *cache, double *now);
+
+/* Takes the weight off a slot whose pair has left, and the deadline. */
+static inline void set_free(Cache *cache, size_t slot) {
+    cache->pairs[slot] = (pair){NULL, NULL};
+    set_weight(cache, slot, 0);
+    cache->version++;
+}
+
+/* Whether the pair at a slot has expired at this time. A time that is no number is after all. */
+static inline int has_expired(Cache *cache, size_t slot, double now) {
+    return cache->deadlines != NULL && !(now < cache->deadlines[slot]);
+}
+
+/* Takes out the pairs that have expired and would leave next, until the next hasn't. Returns -1 with an exception if
+ * the timer gives no number. */
+int drop_expired_victims(Cache *cache);
+
+/* The method that takes out what has expired. */
+PyObject *cache_expire(Cache *self, PyObject *const *args, Py_ssize_t count, PyObject *names);
 
 /* Takes out the pair that is to leave next, and returns the slot that it had, if there is one. The caller drops it. */
 clock2q_found evict_pair(Cache *cache, pair *left);
@@ -139,11 +205,23 @@ PyObject *cache_next_victim(Cache *self, PyObject *unused);
  * memory. */
 int resize_pairs(Cache *cache, size_t maxsize);
 
+/* Has at most `maxsize` pairs be there, for which there aren't slots: those that are there enter others, in the order in
+ * which they would leave, and other keys are forgotten. Returns -1 with an exception, and the cache as it was, if there
+ * is no memory or a key has no hash. */
+int grow_pairs(Cache *cache, size_t maxsize);
+
 /* Takes out the pair at a slot. The caller drops it. */
 pair take_pair(Cache *cache, size_t slot);
 
-/* Removes all pairs, and has the library forget their hashes. */
+/* Removes all pairs, and has the library forget their hashes. The listener hears of them if there is one. */
 void clear_pairs(Cache *cache);
+
+/* __init__, and the properties that show what it was given. */
+int cache_init(Cache *self, PyObject *args, PyObject *keywords);
+extern PyGetSetDef cache_properties[];
+
+/* Returns what a type has as __missing__, or NULL with an exception. */
+PyObject *missing_of_type(Cache *self);
 
 /* Returns 0 if a cache can be made: it isn't made yet, and the capacity isn't refused. Returns -1 with an
  * exception otherwise. */

@@ -13,7 +13,7 @@ import unittest
 import clock2q
 
 ORDER = "it counts the misses of LRU"
-PICKLED = "a cache isn't pickled"
+PICKLED = "the class that it pickles is local to this program"
 OWN = "cachetools asks its own caches alone for their maxsize"
 TYPES = "1 and 1.0 alone are two keys, as functools has it"
 

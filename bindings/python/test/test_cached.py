@@ -8,7 +8,6 @@ import random
 import signal
 import sys
 import threading
-import types
 import unittest
 import weakref
 
@@ -209,17 +208,12 @@ class CachedTest(unittest.TestCase):
         with self.assertRaises(TypeError):
             type(some_function)()
 
-    def test_an_async_def(self):
-        async def function(number):
-            return number
-
-        async def generator(number):
-            yield number
-
-        for refused in (function, generator, functools.partial(function, 1), types.MethodType(function, 1)):
-            for decorate in (cached, cached(10), cached(None)):
-                with self.assertRaisesRegex(TypeError, "no async def"):
-                    decorate(refused)
+    def test_sizes(self):
+        for maxsize, least in ((1000, 16_000), (None, 64), (0, 0)):
+            length = cached(maxsize)(len)
+            empty = sys.getsizeof(length)
+            length("a")
+            self.assertGreaterEqual(sys.getsizeof(length), empty + least)
 
     def test_a_function_that_clears_or_calls_again(self):
         @cached(3)

@@ -6,7 +6,7 @@ import sys
 import unittest
 import weakref
 
-from clock2q import Cache
+from clock2q import MAX_CAPACITY, Cache
 from keys import Acting, Key, SameHash, TwoBits
 
 
@@ -46,8 +46,8 @@ class PopitemTest(unittest.TestCase):
 class ResizeTest(unittest.TestCase):
     def test_sizes(self):
         cache = Cache(100)
-        for refused in (0, -1, 101, 2**62, 2**70):
-            with self.assertRaisesRegex(ValueError, "from 1 to 100|cannot fit"):
+        for refused in (0, -1, MAX_CAPACITY + 1, 2**62, 2**70):
+            with self.assertRaisesRegex(ValueError, "from 1 to 16777215|cannot fit"):
                 cache.resize(refused)
         for refused in ("1", 1.5, None):
             with self.assertRaises(TypeError):
@@ -70,7 +70,10 @@ class ResizeTest(unittest.TestCase):
                 for number in range(3_000):
                     key = kind(draws.randrange(3 * capacity))
                     if draws.random() < 0.02:
-                        cache.resize(draws.randint(1, capacity))
+                        before, maxsize = dict(cache.items()), draws.randint(1, 2 * capacity)
+                        cache.resize(maxsize)
+                        self.assertEqual((cache.maxsize, len(cache)), (maxsize, min(len(before), maxsize)))
+                        self.assertLessEqual(dict(cache.items()).items(), before.items())
                     elif draws.random() < 0.1:
                         cache.pop(key, None)
                     else:
@@ -97,7 +100,7 @@ class ResizeTest(unittest.TestCase):
             def __init__(self):
                 pass
 
-        with self.assertRaises(ValueError):
+        with self.assertRaises(RuntimeError):
             Empty().resize(1)
 
 

@@ -1,15 +1,30 @@
 from collections.abc import Callable, Iterator, MutableMapping
-from typing import Concatenate, Final, Generic, NamedTuple, NoReturn, ParamSpec, SupportsIndex, TypedDict, TypeVar, final, overload
+from typing import (
+    Any,
+    Final,
+    Generic,
+    Literal,
+    NamedTuple,
+    NoReturn,
+    ParamSpec,
+    SupportsFloat,
+    SupportsIndex,
+    TypedDict,
+    TypeVar,
+    final,
+    overload,
+)
 
 _K = TypeVar("_K")
 _V = TypeVar("_V")
 _T = TypeVar("_T")
 _S = TypeVar("_S")
 _P = ParamSpec("_P")
-_Q = ParamSpec("_Q")
 _R = TypeVar("_R")
 
-__all__ = ["MAX_CAPACITY", "Cache", "CacheInfo", "PageCache", "Place", "cached"]
+__all__ = ["MAX_CAPACITY", "Cache", "CacheInfo", "PageCache", "Place", "Reason", "cached"]
+
+Reason = Literal["evicted", "replaced", "removed", "expired", "cleared"]
 
 MAX_CAPACITY: int
 __version__: str
@@ -26,9 +41,27 @@ class _Parameters(TypedDict):
 
 class Cache(MutableMapping[_K, _V]):
     @overload
-    def __init__(self, maxsize: int, weigher: None = None, max_weight: None = None) -> None: ...
+    def __init__(
+        self,
+        maxsize: int,
+        weigher: None = None,
+        max_weight: None = None,
+        *,
+        ttl: SupportsFloat | None = None,
+        timer: Callable[[], SupportsFloat] | None = None,
+        listener: Callable[[_K, _V, Reason], object] | None = None,
+    ) -> None: ...
     @overload
-    def __init__(self, maxsize: int, weigher: Callable[[_K, _V], SupportsIndex], max_weight: int) -> None: ...
+    def __init__(
+        self,
+        maxsize: int,
+        weigher: Callable[[_K, _V], SupportsIndex],
+        max_weight: int,
+        *,
+        ttl: SupportsFloat | None = None,
+        timer: Callable[[], SupportsFloat] | None = None,
+        listener: Callable[[_K, _V, Reason], object] | None = None,
+    ) -> None: ...
     @property
     def maxsize(self) -> int: ...
     @property
@@ -41,6 +74,14 @@ class Cache(MutableMapping[_K, _V]):
     def hits(self) -> int: ...
     @property
     def misses(self) -> int: ...
+    @property
+    def weigher(self) -> Callable[[_K, _V], SupportsIndex] | None: ...
+    @property
+    def ttl(self) -> float | None: ...
+    @property
+    def timer(self) -> Callable[[], SupportsFloat] | None: ...
+    @property
+    def listener(self) -> Callable[[_K, _V, Reason], object] | None: ...
     def __getitem__(self, key: _K, /) -> _V: ...
     def __setitem__(self, key: _K, value: _V, /) -> None: ...
     def __delitem__(self, key: _K, /) -> None: ...
@@ -53,7 +94,9 @@ class Cache(MutableMapping[_K, _V]):
     def peek(self, key: _K, default: _V | _T) -> _V | _T: ...
     def next_victim(self) -> tuple[_K, _V] | None: ...
     def resize(self, maxsize: int, /) -> None: ...
-    def __reduce__(self) -> NoReturn: ...
+    def expire(self, time: SupportsFloat | None = None) -> list[tuple[_K, _V]]: ...
+    def __reduce__(self) -> tuple[Any, ...]: ...
+    def __setstate__(self, state: Any) -> None: ...
 
 @final
 class _Cached(Generic[_P, _R]):
@@ -65,30 +108,47 @@ class _Cached(Generic[_P, _R]):
     @overload
     def __get__(self, instance: None, owner: type, /) -> _Cached[_P, _R]: ...
     @overload
-    def __get__(self: _Cached[Concatenate[_S, _Q], _R], instance: _S, owner: type | None = None, /) -> _Bound[_S, _Q, _R]: ...
+    def __get__(self, instance: _S, owner: type | None = None, /) -> _Bound[_S, _R]: ...
     def cache_info(self) -> CacheInfo: ...
     def cache_clear(self) -> None: ...
     def cache_parameters(self) -> _Parameters: ...
 
+# Without the types of arguments: mypy 1.0 takes what is left of a ParamSpec for nothing here, and refuses every call.
 @final
-class _Bound(Generic[_S, _Q, _R]):
+class _Bound(Generic[_S, _R]):
     __name__: str
     __qualname__: str
     @property
     def __self__(self) -> _S: ...
     @property
-    def __func__(self) -> _Cached[Concatenate[_S, _Q], _R]: ...
+    def __func__(self) -> _Cached[..., _R]: ...
     @property
-    def __wrapped__(self) -> Callable[Concatenate[_S, _Q], _R]: ...
-    def __call__(self, *args: _Q.args, **kwargs: _Q.kwargs) -> _R: ...
+    def __wrapped__(self) -> Callable[..., _R]: ...
+    def __call__(self, *args: Any, **kwargs: Any) -> _R: ...
     def cache_info(self) -> CacheInfo: ...
     def cache_clear(self) -> None: ...
     def cache_parameters(self) -> _Parameters: ...
 
 @overload
-def cached(maxsize: Callable[_P, _R], typed: bool = False) -> _Cached[_P, _R]: ...
+def cached(
+    maxsize: Callable[_P, _R],
+    typed: bool = False,
+    *,
+    key: Callable[..., object] | None = None,
+    lock: bool = False,
+    ttl: SupportsFloat | None = None,
+    timer: Callable[[], SupportsFloat] | None = None,
+) -> _Cached[_P, _R]: ...
 @overload
-def cached(maxsize: SupportsIndex | None = 128, typed: bool = False) -> Callable[[Callable[_P, _R]], _Cached[_P, _R]]: ...
+def cached(
+    maxsize: SupportsIndex | None = 128,
+    typed: bool = False,
+    *,
+    key: Callable[..., object] | None = None,
+    lock: bool = False,
+    ttl: SupportsFloat | None = None,
+    timer: Callable[[], SupportsFloat] | None = None,
+) -> Callable[[Callable[_P, _R]], _Cached[_P, _R]]: ...
 
 @final
 class Place(tuple[int, int | None]):
