@@ -23,7 +23,6 @@ extern crate alloc;
 #[cfg(feature = "std")]
 extern crate std;
 
-mod alike;
 mod before;
 mod cache;
 mod collect;

@@ -253,7 +253,7 @@ impl<K: Hash + Eq, V, S: BuildHasher> Cache<K, V, S> {
         let hash = hash_of(&self.hasher, &key);
         let mut store = self.shards.of(hash).lock();
         // `Eq` may panic in these two, while the lock is dropped before what this thread owns.
-        let found = store.slot(hash, &key);
+        let found = store.look_up(hash, &key);
         let outdated = store.outdate(hash, &key);
         let before = store.push_at(found, hash, key, value);
         let second = store.take_second();
@@ -301,7 +301,7 @@ impl<K: Hash + Eq, V, S: BuildHasher> Cache<K, V, S> {
         let hash = hash_of(&self.hasher, &key);
         let push = |store: &mut Store<K, V>, pair: &mut Option<(K, V)>| {
             let (key, _) = pair.as_ref()?;
-            let found = store.slot(hash, key);
+            let found = store.look_up(hash, key);
             let (key, value) = pair.take()?;
             Some((store.push_at(found, hash, key, value), store.take_second()))
         };
@@ -316,9 +316,9 @@ impl<K: Hash + Eq, V, S: BuildHasher> Cache<K, V, S> {
     {
         let hash = hash_of(&self.hasher, key);
         let mut store = self.shards.of(hash).lock();
-        let found = store.slot(hash, key);
+        let found = store.look_up(hash, key);
         let outdated = store.outdate(hash, key);
-        let removed = store.remove_found(found, hash);
+        let removed = store.remove_found(&found, hash);
         drop(store);
         drop(outdated);
         removed.map(|(_, value)| value)

@@ -170,8 +170,8 @@ impl<K: Hash + Eq, V, W, S: BuildHasher> WeightedCache<K, V, W, S> {
         Q: Hash + Eq + ?Sized,
     {
         let hash = hash_of(&self.hasher, key);
-        let found = self.store.slot(hash, key);
-        let removed = self.store.remove_found(found, hash);
+        let found = self.store.look_up(hash, key);
+        let removed = self.store.remove_found(&found, hash);
         removed.map(|(_, value)| value)
     }
 
@@ -206,7 +206,7 @@ impl<K: Hash + Eq, V, W: Fn(&K, &V) -> u64, S: BuildHasher> WeightedCache<K, V, 
     fn store_pair(&mut self, key: K, value: V) -> Result<Stored<K, V>, (K, V)> {
         let weight = (self.weigher)(&key, &value);
         let hash = hash_of(&self.hasher, &key);
-        let found = self.store.slot(hash, &key);
+        let found = self.store.look_up(hash, &key);
         self.store.push_at(found, hash, (key, value), weight)
     }
 }

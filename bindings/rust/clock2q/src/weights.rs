@@ -1,6 +1,6 @@
 //! Pairs with weights, of which the sum is limited.
 
-use crate::slots::Slots;
+use crate::slots::{Found, Slots};
 use crate::store::Store;
 use crate::Refused;
 use alloc::vec::Vec;
@@ -114,13 +114,13 @@ impl<K: Eq, V> WeightedStore<K, V> {
         Some(&held.value)
     }
 
-    /// Returns the slot of a key. It records nothing.
-    pub(crate) fn slot<Q>(&self, hash: u64, key: &Q) -> Option<usize>
+    /// Returns the slot of a key, or where it would go. It records nothing.
+    pub(crate) fn look_up<Q>(&self, hash: u64, key: &Q) -> Found
     where
         K: Borrow<Q>,
         Q: Eq + ?Sized,
     {
-        self.pairs.slot(hash, key)
+        self.pairs.look_up(hash, key)
     }
 }
 
@@ -132,17 +132,18 @@ impl<K, V> WeightedStore<K, V> {
         self.pairs.take_all()
     }
 
-    /// Removes the pair at the slot of a key of this hash, and returns it. A key that has none is forgotten.
-    pub(crate) fn remove_found(&mut self, found: Option<usize>, hash: u64) -> Option<(K, V)> {
+    /// Removes the pair of a key of this hash, for which a look-up returned `found`, and returns it. A key that has none
+    /// is forgotten.
+    pub(crate) fn remove_found(&mut self, found: &Found, hash: u64) -> Option<(K, V)> {
         let pair = self.pairs.remove_found(found, hash)?;
         Some(self.without(pair))
     }
 
-    /// Stores a pair of this weight, whose key is at this slot or nowhere, or returns it if the weight is above the
+    /// Stores a pair of this weight, for whose key a look-up returned `found`, or returns it if the weight is above the
     /// limit alone. It runs no code of users, and drops nothing.
     pub(crate) fn push_at(
         &mut self,
-        found: Option<usize>,
+        found: Found,
         hash: u64,
         (key, value): (K, V),
         weight: u64,
@@ -150,16 +151,24 @@ impl<K, V> WeightedStore<K, V> {
         if weight > self.max_weight {
             return Err((key, value));
         }
-        let (found, mut left) = self.make_room(found, weight);
+        let own = match found {
+            Found::Resident(slot) => Some(slot as usize),
+            _ => None,
+        };
+        let (own, mut left) = self.make_room(own, weight);
         let held = Weighed { value, weight };
-        if let Some((_, here)) = found.and_then(|slot| self.pairs.entries.pair_mut(slot)) {
+        if let Some((_, here)) = own.and_then(|slot| self.pairs.entries.pair_mut(slot)) {
             let before = mem::replace(here, held);
             self.weight = self.weight - before.weight + weight;
             let before = Some((key, before.value));
             return Ok(Stored { before, left });
         }
         self.weight += weight;
-        let (_, more) = self.pairs.admit(hash, key, held);
+        let found = match left.is_empty() {
+            true => found,
+            false => self.pairs.look_up_absent(hash),
+        };
+        let (_, more) = self.pairs.admit(found, hash, key, held);
         let second = self.pairs.take_second();
         left.extend(
             more.into_iter()

@@ -1,7 +1,6 @@
 //! What is divided among shards.
 
 use super::shard::Shard;
-use crate::slots::SPREAD;
 use crate::Refused;
 use std::boxed::Box;
 use std::ops::Deref;
@@ -11,6 +10,9 @@ use std::vec::Vec;
 const SHARDS: usize = 16;
 /// How many keys a shard is for at least, unless the number of shards is asked for.
 const SHARD_CAPACITY: usize = 64;
+
+/// Its products with hashes have high bits that are spread, and others than those by which a shard's index spreads them.
+const SPREAD: u64 = 0xD6E8_FEB8_6659_FD93;
 
 /// Shards, of which the high bits of a key's hash choose one.
 pub(super) struct Shards<P, K, V>(Box<[Shard<P, K, V>]>);
@@ -46,7 +48,6 @@ impl<P, K, V> Shards<P, K, V> {
 
     /// Returns the shard of the keys of a hash.
     pub(super) fn of(&self, hash: u64) -> &Shard<P, K, V> {
-        // As `slots::Name` does, so that a poor hasher does no harm.
         let spread = u128::from(hash.wrapping_mul(SPREAD));
         &self.0[((spread * self.0.len() as u128) >> 64) as usize]
     }

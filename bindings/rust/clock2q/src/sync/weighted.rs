@@ -230,9 +230,9 @@ impl<K: Hash + Eq, V, W, S: BuildHasher> WeightedCache<K, V, W, S> {
     {
         let hash = hash_of(&self.hasher, key);
         let mut store = self.shards.of(hash).lock();
-        let found = store.slot(hash, key);
+        let found = store.look_up(hash, key);
         let outdated = store.outdate(hash, key);
-        let removed = store.remove_found(found, hash);
+        let removed = store.remove_found(&found, hash);
         drop(store);
         drop(outdated);
         removed.map(|(_, value)| value)
@@ -270,7 +270,7 @@ impl<K: Hash + Eq, V, W: Fn(&K, &V) -> u64, S: BuildHasher> WeightedCache<K, V, 
             return Err((key, value));
         }
         // `Eq` may panic in these two, while the lock is dropped before what this thread owns.
-        let found = store.slot(hash, &key);
+        let found = store.look_up(hash, &key);
         let outdated = store.outdate(hash, &key);
         let stored = store.push_at(found, hash, (key, value), weight);
         drop(store);
@@ -318,7 +318,7 @@ impl<K: Hash + Eq, V, W: Fn(&K, &V) -> u64, S: BuildHasher> WeightedCache<K, V, 
         let push = |store: &mut WeightedStore<K, V>, pair: &mut Option<(K, V)>| {
             let (key, value) = pair.as_ref()?;
             let weight = (self.weigher)(key, value);
-            let found = store.slot(hash, key);
+            let found = store.look_up(hash, key);
             Some(store.push_at(found, hash, pair.take()?, weight))
         };
         self.shards.of(hash).value_or_make(hash, key, make, push)
