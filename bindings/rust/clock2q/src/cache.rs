@@ -311,6 +311,7 @@ impl<K: Hash + Eq, V, S: BuildHasher> Cache<K, V, S> {
     }
 
     /// Returns the value of a key, after a hit or after storing what `make` returns.
+    #[inline]
     pub fn get_or_insert_with(&mut self, key: K, make: impl FnOnce() -> V) -> &mut V {
         match self.try_get_or_insert_with(key, || Ok::<V, Infallible>(make())) {
             Ok(value) => value,
@@ -323,6 +324,7 @@ impl<K: Hash + Eq, V, S: BuildHasher> Cache<K, V, S> {
     /// # Errors
     ///
     /// That of `make`. The cache is then as it was, but for the count of misses.
+    #[inline]
     pub fn try_get_or_insert_with<E>(
         &mut self,
         key: K,

@@ -61,16 +61,19 @@ impl<'a, K: Eq, V> Entry<'a, K, V> {
 
 impl<'a, K, V> Entry<'a, K, V> {
     /// Returns the value, which is `value` if the key wasn't here.
+    #[inline]
     pub fn or_insert(self, value: V) -> &'a mut V {
         self.or_insert_with(|| value)
     }
 
     /// Returns the value, which `make` makes if the key isn't here.
+    #[inline]
     pub fn or_insert_with(self, make: impl FnOnce() -> V) -> &'a mut V {
         self.or_insert_with_key(|_| make())
     }
 
     /// Returns the value, which `make` makes of the key if it isn't here.
+    #[inline]
     pub fn or_insert_with_key(self, make: impl FnOnce(&K) -> V) -> &'a mut V {
         match self {
             Entry::Occupied(entry) => entry.into_mut(),
@@ -82,6 +85,7 @@ impl<'a, K, V> Entry<'a, K, V> {
     }
 
     /// Returns the value, which is the type's usual one if the key wasn't here.
+    #[inline]
     pub fn or_default(self) -> &'a mut V
     where
         V: Default,
@@ -90,6 +94,7 @@ impl<'a, K, V> Entry<'a, K, V> {
     }
 
     /// Has `change` change the value, if the key is here.
+    #[inline]
     pub fn and_modify(mut self, change: impl FnOnce(&mut V)) -> Self {
         if let Entry::Occupied(entry) = &mut self {
             change(entry.get_mut());
@@ -165,7 +170,7 @@ impl<'a, K, V> VacantEntry<'a, K, V> {
     }
 
     /// Stores a value for the key, and returns it. The pair that has to leave is dropped.
-    #[inline]
+    #[inline(never)]
     pub fn insert(self, value: V) -> &'a mut V {
         let (slot, left) = self.store.admit(self.found, self.hash, self.key, value);
         drop((left, self.store.take_second()));

@@ -7,7 +7,7 @@
 //! sources; that erasing these changes nothing else is trusted.
 #![allow(clippy::all)] // the sources follow their own rules
 #![deny(clippy::incompatible_msrv)]
-#![allow(missing_docs, dead_code, unused_imports)]
+#![allow(missing_docs, dead_code, unused_imports, unused_variables)]
 
 pub mod cache;
 pub mod count;

@@ -79,53 +79,54 @@ impl Slots {
     #[inline(always)]
     pub(crate) fn look_up(&self, hash: u64, mut is_it: impl FnMut(usize) -> bool) -> Found {
         let mut handles = self.cache.directory.index.handles(spread(hash));
-        loop {
+        let known = loop {
             match handles.peek_or_gap().map(Handle::unpack) {
                 Ok(Handle::Resident(slot)) if is_it(slot as usize) => return Found::Resident(slot),
                 Ok(Handle::Resident(_)) => handles.advance(),
-                Ok(Handle::Remembered(_)) => return self.look_up_among_left(hash, is_it),
+                Ok(Handle::Remembered(_)) => break self.look_up_among_left(hash, is_it),
                 Err(gap) if self.cache.directory.index.is_shared() => {
                     return Found::Absent(Some(gap));
                 }
-                Err(_) => return self.look_up_apart(hash),
+                Err(_) => break self.look_up_apart(hash),
             }
+        };
+        match known {
+            Some(Handle::Resident(slot)) => Found::Resident(slot),
+            Some(Handle::Remembered(place)) => Found::Remembered(place),
+            None => Found::Absent(None),
         }
     }
 
-    /// Does so if there is a key that left in the walk of this hash.
+    /// Does so if there is a key that left in the walk of this hash. In registers, since it is rare.
     #[cold]
     #[inline(never)]
-    fn look_up_among_left(&self, hash: u64, mut is_it: impl FnMut(usize) -> bool) -> Found {
+    fn look_up_among_left(
+        &self,
+        hash: u64,
+        mut is_it: impl FnMut(usize) -> bool,
+    ) -> Option<Handle> {
         let (hash, directory) = (spread(hash), &self.cache.directory);
-        let mut handles = directory.index.handles(hash);
         let mut left = None;
-        let gap = loop {
-            match handles.peek_or_gap().map(Handle::unpack) {
-                Ok(Handle::Resident(slot)) if is_it(slot as usize) => return Found::Resident(slot),
-                Ok(Handle::Remembered(place))
-                    if directory.remembered.hash(place.number()) == hash =>
-                {
-                    left = Some(place);
+        for handle in directory.index.handles(hash).map(Handle::unpack) {
+            match handle {
+                Handle::Resident(slot) if is_it(slot as usize) => return Some(handle),
+                Handle::Remembered(place) if directory.remembered.hash(place.number()) == hash => {
+                    left = Some(handle);
                 }
-                Ok(_) => {}
-                Err(gap) => break gap,
+                _ => {}
             }
-            handles.advance();
-        };
-        match left {
-            Some(place) => Found::Remembered(place),
-            None => Found::Absent(Some(gap)),
         }
+        left
     }
 
     /// Returns whether a key of this hash left, if those that did have an index of their own, as in the largest caches.
     #[cold]
     #[inline(never)]
-    fn look_up_apart(&self, hash: u64) -> Found {
+    fn look_up_apart(&self, hash: u64) -> Option<Handle> {
         let (hash, directory) = (spread(hash), &self.cache.directory);
         let mut places = directory.index.own_places(hash);
         let found = places.find(|place| directory.remembered.hash(*place) == hash);
-        Found::from_place(found.map(Place::new))
+        found.map(|place| Handle::Remembered(Place::new(place)))
     }
 
     /// Returns whether a key of this hash left, given that none of this hash and of what the caller looked for has a slot.
@@ -135,7 +136,7 @@ impl Slots {
 
     /// Gives a key of this hash a slot that another may lose, and returns it. Nothing has changed since `found` was
     /// returned for it.
-    #[inline(never)]
+    #[inline(always)]
     pub(crate) fn enter(&mut self, hash: u64, found: Found) -> usize {
         self.cache.insert(spread(hash), (), (), found) as usize
     }

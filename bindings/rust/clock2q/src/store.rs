@@ -148,15 +148,19 @@ impl<K, V> Store<K, V> {
 
     /// Stores a pair, for whose key a look-up returned `found`, and returns what was replaced or left. It runs no code of
     /// users, and drops nothing.
-    #[inline(always)]
     pub(crate) fn push_at(&mut self, found: Found, hash: u64, key: K, value: V) -> Before<K, V> {
         if let Found::Resident(slot) = found {
-            if let Some((_, before)) = self.entries.pair_mut(slot as usize) {
-                self.slots.hit(slot as usize);
-                return Before::Replaced(key, mem::replace(before, value));
-            }
+            return self.replace(slot as usize, key, value);
         }
         Before::evicted(self.admit(found, hash, key, value).1)
+    }
+
+    /// Stores a value for a key that is at a slot, after a hit, and returns this key and the value before.
+    #[inline(always)]
+    fn replace(&mut self, slot: usize, key: K, value: V) -> Before<K, V> {
+        self.slots.hit(slot);
+        let (_, before) = self.entries.pair_mut(slot).expect("a pair is at its slot");
+        Before::Replaced(key, mem::replace(before, value))
     }
 
     /// Removes the pair of a key of this hash, for which a look-up returned `found`, and returns it. A key that has none
@@ -281,18 +285,25 @@ impl<K: Eq, V> Store<K, V> {
     /// dropped.
     #[inline(always)]
     pub(crate) fn push(&mut self, hash: u64, key: K, value: V) -> Before<K, V> {
-        let found = self.look_up(hash, &key);
-        let before = self.push_at(found, hash, key, value);
-        if !self.second.is_empty() {
-            self.drop_second();
+        if self.limit != usize::MAX {
+            return self.push_to_fewer(hash, key, value);
         }
-        before
+        let found = self.look_up(hash, &key);
+        if let Found::Resident(slot) = found {
+            return self.replace(slot as usize, key, value);
+        }
+        let slot = self.slots.enter(hash, found);
+        Before::evicted(self.entries.put(slot, key, value))
     }
 
+    /// Does so if there may not be a pair at each slot.
     #[cold]
     #[inline(never)]
-    fn drop_second(&mut self) {
+    fn push_to_fewer(&mut self, hash: u64, key: K, value: V) -> Before<K, V> {
+        let found = self.look_up(hash, &key);
+        let before = self.push_at(found, hash, key, value);
         drop(self.take_second());
+        before
     }
 
     /// Removes a key, and returns the pair. A key that isn't here is forgotten.
