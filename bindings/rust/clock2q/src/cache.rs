@@ -355,14 +355,8 @@ impl<K: Hash + Eq, V, S: BuildHasher> Cache<K, V, S> {
     }
 
     /// Removes the pairs for which `keep` returns false, each as soon as it does. It records no hit.
-    pub fn retain(&mut self, mut keep: impl FnMut(&K, &mut V) -> bool) {
-        for slot in 0..self.store.entries.bound() {
-            if let Some((key, value)) = self.store.entries.pair_mut(slot) {
-                if !keep(key, value) {
-                    drop(self.store.remove_at(slot));
-                }
-            }
-        }
+    pub fn retain(&mut self, keep: impl FnMut(&K, &mut V) -> bool) {
+        self.store.retain(keep, drop);
     }
 }
 

@@ -197,6 +197,21 @@ impl<K, V> Store<K, V> {
         self.entries.pair(self.slots.next_victim()?)
     }
 
+    /// Removes the pairs for which `keep` returns false, each as soon as it does, and calls `gone` with it then.
+    pub(crate) fn retain(
+        &mut self,
+        mut keep: impl FnMut(&K, &mut V) -> bool,
+        mut gone: impl FnMut((K, V)),
+    ) {
+        for slot in 0..self.entries.bound() {
+            if let Some((key, value)) = self.entries.pair_mut(slot) {
+                if !keep(key, value) {
+                    self.remove_at(slot).into_iter().for_each(&mut gone);
+                }
+            }
+        }
+    }
+
     /// Removes the pair at a slot.
     pub(crate) fn remove_at(&mut self, slot: usize) -> Option<(K, V)> {
         self.slots.remove(slot);

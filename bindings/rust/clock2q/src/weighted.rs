@@ -177,7 +177,7 @@ impl<K: Hash + Eq, V, W, S: BuildHasher> WeightedCache<K, V, W, S> {
 
     /// Removes the pairs for which `keep` returns false. It records no hit.
     pub fn retain(&mut self, keep: impl FnMut(&K, &V) -> bool) {
-        self.store.retain(keep);
+        self.store.retain(keep, drop);
     }
 }
 

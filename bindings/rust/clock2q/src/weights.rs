@@ -66,16 +66,24 @@ impl<K, V> WeightedStore<K, V> {
         self.pairs.clear();
     }
 
-    /// Removes the pairs for which `keep` returns false, each as soon as it does.
-    pub(crate) fn retain(&mut self, mut keep: impl FnMut(&K, &V) -> bool) {
-        for slot in 0..self.pairs.entries.bound() {
-            if let Some((key, held)) = self.pairs.entries.pair(slot) {
-                if !keep(key, &held.value) {
-                    let gone = self.pairs.remove_at(slot);
-                    drop(gone.map(|pair| self.without(pair)));
-                }
-            }
-        }
+    /// Removes the pairs for which `keep` returns false, each as soon as it does, and calls `gone` with it then.
+    pub(crate) fn retain(
+        &mut self,
+        mut keep: impl FnMut(&K, &V) -> bool,
+        mut gone: impl FnMut((K, V)),
+    ) {
+        let weight = &mut self.weight;
+        let keeps = |key: &K, held: &mut Weighed<V>| keep(key, &held.value);
+        self.pairs.retain(keeps, |(key, held)| {
+            *weight -= held.weight;
+            gone((key, held.value));
+        });
+    }
+
+    /// Has as many pairs at most from now on, for which there are slots. Returns those above, which leave.
+    pub(crate) fn resize(&mut self, limit: usize) -> Result<Vec<(K, V)>, Refused> {
+        let left = self.pairs.resize(limit)?;
+        Ok(left.into_iter().map(|pair| self.without(pair)).collect())
     }
 
     /// Takes the weight of a pair that left off the sum.
@@ -127,9 +135,11 @@ impl<K: Eq, V> WeightedStore<K, V> {
 impl<K, V> WeightedStore<K, V> {
     /// Removes all pairs, and returns them.
     #[cfg(feature = "std")] // as threads need it
-    pub(crate) fn take_all(&mut self) -> Vec<(K, Weighed<V>)> {
+    pub(crate) fn take_all(&mut self) -> Vec<(K, V)> {
         self.weight = 0;
-        self.pairs.take_all()
+        let mut left = Vec::with_capacity(self.pairs.len());
+        left.extend(self.pairs.drain().0.map(|(key, held)| (key, held.value)));
+        left
     }
 
     /// Removes the pair of a key of this hash, for which a look-up returned `found`, and returns it. A key that has none
