@@ -28,6 +28,8 @@ mod cache;
 mod collect;
 mod entries;
 mod entry;
+#[cfg(feature = "std")]
+mod expiring;
 mod iter;
 mod pages;
 #[rustfmt::skip] // written by erase
@@ -42,6 +44,8 @@ mod weights;
 
 pub use cache::Cache;
 pub use entry::{Entry, OccupiedEntry, VacantEntry};
+#[cfg(feature = "std")]
+pub use expiring::{Builder, Cause, Clock, ExpiringCache, SystemClock, TurnedClock};
 pub use iter::{Drain, IntoIter, Iter, IterMut, Keys, Values, ValuesMut};
 pub use pages::{PageCache, Place};
 pub use proved::cache::MAX_CAPACITY;

@@ -192,6 +192,18 @@ impl<K, V> Store<K, V> {
         Some((slot, self.entries.take(slot)?))
     }
 
+    /// Returns the slot of the pair that would leave next.
+    #[cfg(feature = "std")] // as caches with a clock need it
+    pub(crate) fn next_victim_slot(&mut self) -> Option<usize> {
+        self.slots.next_victim()
+    }
+
+    /// Returns how many pairs there may be at most.
+    #[cfg(feature = "std")] // as caches with a clock need it
+    pub(crate) fn made(&self) -> usize {
+        self.slots.capacity()
+    }
+
     /// Returns the pair that would leave next.
     pub(crate) fn next_victim(&mut self) -> Option<&(K, V)> {
         self.entries.pair(self.slots.next_victim()?)

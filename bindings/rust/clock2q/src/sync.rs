@@ -1,5 +1,6 @@
 //! Caches that threads share.
 
+mod expiring;
 mod flight;
 mod keyed;
 mod shard;
@@ -9,6 +10,7 @@ mod weighted;
 use crate::slots::Slots;
 use crate::store::Store;
 use crate::{DefaultHashBuilder, Refused};
+pub use expiring::ExpiringCache;
 use shard::Pairs;
 use shards::{count_for, part, usual_count, Shards};
 use std::fmt;
