@@ -15,6 +15,8 @@ pub(crate) struct Weighed<V> {
 
 /// What took the place of what.
 pub(crate) struct Stored<K, V> {
+    /// Where the pair is.
+    pub(crate) slot: usize,
     /// The key, and its value before.
     pub(crate) before: Option<(K, V)>,
     /// The pairs that left.
@@ -167,25 +169,30 @@ impl<K, V> WeightedStore<K, V> {
         };
         let (own, mut left) = self.make_room(own, weight);
         let held = Weighed { value, weight };
-        if let Some((_, here)) = own.and_then(|slot| self.pairs.entries.pair_mut(slot)) {
+        if let Some(slot) = own {
+            let (_, here) = self.pairs.entries.pair_mut(slot).expect("a pair is here");
             let before = mem::replace(here, held);
             self.weight = self.weight - before.weight + weight;
             let before = Some((key, before.value));
-            return Ok(Stored { before, left });
+            return Ok(Stored { slot, before, left });
         }
         self.weight += weight;
         let found = match left.is_empty() {
             true => found,
             false => self.pairs.look_up_absent(hash),
         };
-        let (_, more) = self.pairs.admit(found, hash, key, held);
+        let (slot, more) = self.pairs.admit(found, hash, key, held);
         let second = self.pairs.take_second();
         left.extend(
             more.into_iter()
                 .chain(second)
                 .map(|pair| self.without(pair)),
         );
-        Ok(Stored { before: None, left })
+        Ok(Stored {
+            slot,
+            before: None,
+            left,
+        })
     }
 
     /// Has pairs leave until there is room for a weight in place of the one at a slot, if there is one, after
