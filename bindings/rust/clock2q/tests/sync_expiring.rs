@@ -4,9 +4,8 @@ mod common;
 
 use clock2q::{sync, Builder, Cause, Clock, TurnedClock};
 use common::{calls, Draws};
-use std::collections::HashMap;
-use std::sync::atomic::{AtomicBool, Ordering};
-use std::sync::{Arc, Mutex, OnceLock};
+use std::sync::atomic::{AtomicBool, AtomicU64, Ordering};
+use std::sync::{Arc, OnceLock};
 use std::thread;
 use std::time::Duration;
 
@@ -14,21 +13,22 @@ use std::time::Duration;
 #[test]
 fn threads_see_nothing_past_its_time() {
     let clock = Arc::new(TurnedClock::default());
-    let heard = Mutex::new(HashMap::new());
+    // No locks of std's, which the thread sanitizer doesn't see.
+    let heard: [AtomicU64; 5] = Default::default();
     let time = Duration::from_secs(20);
     let made = Builder::new(100)
         .time_to_live(time)
         .shared_listener(|_: &u64, _: &Duration, cause| {
-            *heard.lock().expect("no panic").entry(cause).or_insert(0u64) += 1;
+            heard[cause as usize].fetch_add(1, Ordering::SeqCst);
         })
         .clock(Arc::clone(&clock))
         .build_shared();
     let cache = made.expect("a cache");
-    let stored = Mutex::new(0);
+    let stored = AtomicU64::new(0);
     let work = |thread: u64| {
         let mut draws = Draws(thread + 1);
         let mut inserted = 0;
-        for _ in 0..calls() / 50 {
+        for _ in 0..(calls() / 50).max(2000) {
             let key = draws.below(200);
             let before = clock.now();
             match draws.below(20) {
@@ -56,7 +56,7 @@ fn threads_see_nothing_past_its_time() {
                 }
             }
         }
-        *stored.lock().expect("no panic") += inserted;
+        stored.fetch_add(inserted, Ordering::SeqCst);
     };
     thread::scope(|scope| {
         let work = &work;
@@ -67,41 +67,47 @@ fn threads_see_nothing_past_its_time() {
             thread.join().expect("no panic");
         }
     });
-    let (len, heard) = (cache.len() as u64, heard.lock().expect("no panic"));
-    let left: u64 = heard.values().sum();
+    let len = cache.len() as u64;
+    let heard = heard.each_ref().map(|count| count.load(Ordering::SeqCst));
+    let left: u64 = heard.iter().sum();
     // What was outdated while it was made was never here.
-    assert!(left + len <= *stored.lock().expect("no panic"));
-    assert!(heard.len() >= 4, "{heard:?}");
+    assert!(left + len <= stored.load(Ordering::SeqCst));
+    assert!(heard.iter().all(|count| *count > 0), "{heard:?}");
 }
 
 /// Each pair that entered a shared cache leaves once.
 #[test]
 fn each_pair_is_heard_once() {
-    let heard = Mutex::new(Vec::new());
+    let heard: Vec<AtomicU64> = (0..20_000).map(|_| AtomicU64::new(0)).collect();
+    let evicted = AtomicU64::new(0);
     let made = Builder::new(100)
         .shared_listener(|key: &u64, _: &(), cause| {
-            heard.lock().expect("no panic").push((*key, cause))
+            heard[*key as usize].fetch_add(1, Ordering::SeqCst);
+            evicted.fetch_add(u64::from(cause == Cause::Evicted), Ordering::SeqCst);
         })
         .policy(20, 10)
         .build_shared();
     let cache = made.expect("a cache");
+    let insert = |thread: u64| {
+        for key in (thread..20_000).step_by(4) {
+            assert!(cache.insert(key, ()).is_none());
+        }
+    };
     thread::scope(|scope| {
-        for thread in 0..4 {
-            let cache = &cache;
-            scope.spawn(move || {
-                (0..5000).for_each(|key| assert!(cache.insert(4 * key + thread, ()).is_none()))
-            });
+        let insert = &insert;
+        let started: Vec<_> = (0..4)
+            .map(|thread| scope.spawn(move || insert(thread)))
+            .collect();
+        for thread in started {
+            thread.join().expect("no panic");
         }
     });
-    let len = cache.len();
+    assert_eq!(cache.len(), 100);
     cache.resize(50).expect("it is smaller");
+    assert_eq!(evicted.load(Ordering::SeqCst), 19_950);
     cache.clear();
-    let mut left = heard.into_inner().expect("no panic");
-    let count = |cause| left.iter().filter(|left| left.1 == cause).count();
-    assert_eq!((len, count(Cause::Cleared)), (100, 50));
-    assert_eq!(count(Cause::Evicted), 19_950);
-    left.sort_by_key(|left| left.0);
-    assert!(left.iter().map(|left| left.0).eq(0..20_000));
+    assert_eq!(evicted.load(Ordering::SeqCst), 19_950);
+    assert!(heard.iter().all(|count| count.load(Ordering::SeqCst) == 1));
 }
 
 /// A listener may use the cache: no lock is held.

@@ -1,5 +1,6 @@
 //! What tells the time.
 
+use std::sync::atomic::{AtomicU64, Ordering};
 use std::sync::Arc;
 use std::time::{Duration, Instant};
 
@@ -55,18 +56,23 @@ impl Clock for SystemClock {
 /// # Ok::<(), clock2q::Refused>(())
 /// ```
 #[derive(Debug, Default)]
-pub struct TurnedClock(std::sync::Mutex<Duration>);
+pub struct TurnedClock {
+    nanoseconds: AtomicU64,
+}
 
 impl TurnedClock {
-    /// Turns the clock forward.
+    /// Turns the clock forward, to 584 years at most.
     pub fn turn(&self, by: Duration) {
-        let mut now = self.0.lock().expect("no panic under it");
-        *now = now.saturating_add(by);
+        let by = u64::try_from(by.as_nanos()).unwrap_or(u64::MAX);
+        let turned = |now: u64| Some(now.saturating_add(by));
+        let (set, fetch) = (Ordering::SeqCst, Ordering::SeqCst);
+        // The closure always returns a number.
+        let _ = self.nanoseconds.fetch_update(set, fetch, turned);
     }
 }
 
 impl Clock for TurnedClock {
     fn now(&self) -> Duration {
-        *self.0.lock().expect("no panic under it")
+        Duration::from_nanos(self.nanoseconds.load(Ordering::SeqCst))
     }
 }
