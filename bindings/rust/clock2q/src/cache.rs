@@ -11,16 +11,15 @@ use core::hash::{BuildHasher, Hash};
 
 /// A map of fixed capacity: if it is full, a new key takes the place of another one.
 ///
-/// The [core](crate::proved) is given the 64-bit hash of a key in place of the key, or a number of its own if a key
-/// of the same hash is here: each key has a slot of its own, and a key that left is remembered by its hash. Keys of
-/// one hash are compared one by one, so whoever can choose such keys makes the cache slow, which a random hasher
-/// prevents.
+/// It is the proved cache of the [core](crate::proved), with your own keys: they are compared where the index says that
+/// a key of their hash may be, and each has a slot of its own, however many have one hash. A key that leaves is yours
+/// again, or is dropped, so the history knows it by its 64-bit hash. Keys of one hash are compared one by one, so
+/// whoever can choose such keys makes the cache slow, which a random hasher prevents.
 ///
 /// `Eq`, `Hash`, closures and `Drop` run only while the cache is whole: if one of them panics, it is as it
 /// was before or after the call. Keys and values that leave are dropped last, unless they are returned.
 ///
-/// All memory is taken when a cache is made. No other call takes any, but [`resize`](Cache::resize), and those that
-/// store a key whose hash another one has that is here.
+/// All memory is taken when a cache is made, and no other call takes any but [`resize`](Cache::resize).
 ///
 /// # Threads
 ///
@@ -312,6 +311,7 @@ impl<K: Hash + Eq, V, S: BuildHasher> Cache<K, V, S> {
     }
 
     /// Returns the value of a key, after a hit or after storing what `make` returns.
+    #[inline]
     pub fn get_or_insert_with(&mut self, key: K, make: impl FnOnce() -> V) -> &mut V {
         match self.try_get_or_insert_with(key, || Ok::<V, Infallible>(make())) {
             Ok(value) => value,
@@ -324,6 +324,7 @@ impl<K: Hash + Eq, V, S: BuildHasher> Cache<K, V, S> {
     /// # Errors
     ///
     /// That of `make`. The cache is then as it was, but for the count of misses.
+    #[inline]
     pub fn try_get_or_insert_with<E>(
         &mut self,
         key: K,
@@ -354,14 +355,8 @@ impl<K: Hash + Eq, V, S: BuildHasher> Cache<K, V, S> {
     }
 
     /// Removes the pairs for which `keep` returns false, each as soon as it does. It records no hit.
-    pub fn retain(&mut self, mut keep: impl FnMut(&K, &mut V) -> bool) {
-        for slot in 0..self.store.entries.bound() {
-            if let Some((key, value)) = self.store.entries.pair_mut(slot) {
-                if !keep(key, value) {
-                    drop(self.store.remove_at(slot));
-                }
-            }
-        }
+    pub fn retain(&mut self, keep: impl FnMut(&K, &mut V) -> bool) {
+        self.store.retain(keep, drop);
     }
 }
 

@@ -14,6 +14,23 @@ impl<K: Hash + Eq, V, S: BuildHasher> Extend<(K, V)> for Cache<K, V, S> {
     }
 }
 
+/// Inserts a copy of each pair.
+impl<'a, K: Hash + Eq + Copy, V: Copy, S: BuildHasher> Extend<(&'a K, &'a V)> for Cache<K, V, S> {
+    fn extend<I: IntoIterator<Item = (&'a K, &'a V)>>(&mut self, pairs: I) {
+        self.extend(pairs.into_iter().map(|(key, value)| (*key, *value)));
+    }
+}
+
+/// Two caches are equal if they have equal pairs, whatever they would have leave next.
+impl<K: Hash + Eq, V: PartialEq, S: BuildHasher> PartialEq for Cache<K, V, S> {
+    fn eq(&self, other: &Cache<K, V, S>) -> bool {
+        let has = |(key, value): (&K, &V)| other.peek(key) == Some(value);
+        self.len() == other.len() && self.iter().all(has)
+    }
+}
+
+impl<K: Hash + Eq, V: Eq, S: BuildHasher> Eq for Cache<K, V, S> {}
+
 /// Makes a cache for as many keys as there are pairs, or for one if there are none.
 ///
 /// # Panics

@@ -2,6 +2,7 @@
 
 use crate::Refused;
 use alloc::vec::{self, Vec};
+use core::borrow::Borrow;
 use core::iter::Flatten;
 use core::slice;
 
@@ -37,6 +38,16 @@ impl<K, V> Entries<K, V> {
     #[inline]
     pub(crate) fn pair(&self, slot: usize) -> Option<&(K, V)> {
         self.pairs.get(slot)?.as_ref()
+    }
+
+    /// Returns true if the pair at a slot has this key.
+    #[inline(always)]
+    pub(crate) fn has<Q>(&self, slot: usize, key: &Q) -> bool
+    where
+        K: Borrow<Q>,
+        Q: Eq + ?Sized,
+    {
+        matches!(self.pair(slot), Some((held, _)) if held.borrow() == key)
     }
 
     /// Returns the pair at a slot, to write to.

@@ -1,5 +1,6 @@
 //! A key and where it belongs.
 
+use crate::slots::Found;
 use crate::store::Store;
 use core::fmt;
 use core::mem;
@@ -33,6 +34,8 @@ pub struct OccupiedEntry<'a, K, V> {
 /// A key that isn't here. Dropped, it leaves the cache as it was.
 pub struct VacantEntry<'a, K, V> {
     store: &'a mut Store<K, V>,
+    /// Where the key would go.
+    found: Found,
     hash: u64,
     key: K,
 }
@@ -41,25 +44,36 @@ impl<'a, K: Eq, V> Entry<'a, K, V> {
     /// Looks a key up, after which it is counted, and records a hit if it is here.
     #[inline]
     pub(crate) fn new(store: &'a mut Store<K, V>, hash: u64, key: K) -> Entry<'a, K, V> {
-        match store.find(hash, &key) {
-            Some(slot) => Entry::Occupied(OccupiedEntry { store, slot }),
-            None => Entry::Vacant(VacantEntry { store, hash, key }),
+        match store.look_up_counted(hash, &key) {
+            Found::Resident(slot) => Entry::Occupied(OccupiedEntry {
+                store,
+                slot: slot as usize,
+            }),
+            found => Entry::Vacant(VacantEntry {
+                store,
+                found,
+                hash,
+                key,
+            }),
         }
     }
 }
 
 impl<'a, K, V> Entry<'a, K, V> {
     /// Returns the value, which is `value` if the key wasn't here.
+    #[inline]
     pub fn or_insert(self, value: V) -> &'a mut V {
         self.or_insert_with(|| value)
     }
 
     /// Returns the value, which `make` makes if the key isn't here.
+    #[inline]
     pub fn or_insert_with(self, make: impl FnOnce() -> V) -> &'a mut V {
         self.or_insert_with_key(|_| make())
     }
 
     /// Returns the value, which `make` makes of the key if it isn't here.
+    #[inline]
     pub fn or_insert_with_key(self, make: impl FnOnce(&K) -> V) -> &'a mut V {
         match self {
             Entry::Occupied(entry) => entry.into_mut(),
@@ -71,6 +85,7 @@ impl<'a, K, V> Entry<'a, K, V> {
     }
 
     /// Returns the value, which is the type's usual one if the key wasn't here.
+    #[inline]
     pub fn or_default(self) -> &'a mut V
     where
         V: Default,
@@ -79,6 +94,7 @@ impl<'a, K, V> Entry<'a, K, V> {
     }
 
     /// Has `change` change the value, if the key is here.
+    #[inline]
     pub fn and_modify(mut self, change: impl FnOnce(&mut V)) -> Self {
         if let Entry::Occupied(entry) = &mut self {
             change(entry.get_mut());
@@ -154,9 +170,9 @@ impl<'a, K, V> VacantEntry<'a, K, V> {
     }
 
     /// Stores a value for the key, and returns it. The pair that has to leave is dropped.
-    #[inline]
+    #[inline(never)]
     pub fn insert(self, value: V) -> &'a mut V {
-        let (slot, left) = self.store.admit(self.hash, self.key, value);
+        let (slot, left) = self.store.admit(self.found, self.hash, self.key, value);
         drop((left, self.store.take_second()));
         let pair = self.store.entries.pair_mut(slot);
         &mut pair.expect("a pair is at its slot").1

@@ -23,12 +23,13 @@ extern crate alloc;
 #[cfg(feature = "std")]
 extern crate std;
 
-mod alike;
 mod before;
 mod cache;
 mod collect;
 mod entries;
 mod entry;
+#[cfg(feature = "std")]
+mod expiring;
 mod iter;
 mod pages;
 #[rustfmt::skip] // written by erase
@@ -43,6 +44,8 @@ mod weights;
 
 pub use cache::Cache;
 pub use entry::{Entry, OccupiedEntry, VacantEntry};
+#[cfg(feature = "std")]
+pub use expiring::{Builder, Cause, Clock, ExpiringCache, SystemClock, TurnedClock};
 pub use iter::{Drain, IntoIter, Iter, IterMut, Keys, Values, ValuesMut};
 pub use pages::{PageCache, Place};
 pub use proved::cache::MAX_CAPACITY;

@@ -1,64 +1,29 @@
-//! The slots that the proved cache gives keys, which it knows by their hashes.
+//! The slots that the proved cache gives keys, of which it has the hashes alone.
 
-use crate::alike::Alike;
-use crate::proved::cache::Cache;
+use crate::proved::cache::{Cache, DefaultHashBuilder};
+pub(crate) use crate::proved::directory::found::Found;
+use crate::proved::directory::handle::Handle;
+use crate::proved::directory::place::Place;
 use crate::proved::rattle::Global;
 use crate::Refused;
-use core::hash::{BuildHasherDefault, Hash, Hasher};
 use core::num::NonZeroUsize;
 
-/// 2 to the 64th divided by the golden ratio: its products have bits that are spread.
-pub(crate) const SPREAD: u64 = 0x9E37_79B9_7F4A_7C15;
+/// 2 to the 64th divided by the golden ratio: its products have high bits that are spread.
+const SPREAD: u64 = 0x9E37_79B9_7F4A_7C15;
 
-/// What the proved cache has in place of a key: the key's hash, with its bits spread, or a number that no other key
-/// here has, if a key of the same hash was here already. It keeps these of keys that left, and no keys.
-#[derive(Clone, Copy, PartialEq, Eq)]
-struct Name(u64);
-
-impl Name {
-    /// Different hashes stay different.
-    #[inline]
-    fn of(hash: u64) -> Name {
-        let product = hash.wrapping_mul(SPREAD);
-        Name(product ^ product >> 32)
-    }
+/// Returns a hash for the index, which takes its low bits and its top byte, however poor the hasher is. Different hashes
+/// stay different.
+#[inline]
+fn spread(hash: u64) -> u64 {
+    hash.wrapping_mul(SPREAD).swap_bytes()
 }
 
-impl Hash for Name {
-    #[inline]
-    fn hash<H: Hasher>(&self, state: &mut H) {
-        state.write_u64(self.0);
-    }
-}
-
-/// Hashes a name to itself.
-#[derive(Default)]
-struct Itself(u64);
-
-impl Hasher for Itself {
-    fn write(&mut self, _: &[u8]) {
-        unreachable!("only names are hashed")
-    }
-
-    #[inline]
-    fn write_u64(&mut self, number: u64) {
-        self.0 = number;
-    }
-
-    #[inline]
-    fn finish(&self) -> u64 {
-        self.0
-    }
-}
-
-/// Gives keys slots. It compares no keys: callers do, between two calls.
+/// Gives keys slots. The proved cache has keys of no bytes here, which it neither hashes nor compares: callers find the
+/// key of a slot by looking at what they keep there, and a key that left is known by its hash.
 pub(crate) struct Slots {
-    cache: Cache<Name, (), BuildHasherDefault<Itself>>,
+    cache: Cache<(), ()>,
     /// How many slots are for new keys, and how many admissions they are young for, if not the usual.
     shares: Option<(usize, usize)>,
-    alike: Alike,
-    /// How many names were made that are no hash.
-    names: u64,
 }
 
 /// Returns a capacity that isn't 0.
@@ -68,8 +33,10 @@ pub(crate) fn some(capacity: usize) -> Result<NonZeroUsize, Refused> {
 
 impl Slots {
     pub(crate) fn new(capacity: usize) -> Result<Slots, Refused> {
-        let made = Cache::with_hasher(Global, some(capacity)?, BuildHasherDefault::default())?;
-        Ok(Slots::of(made, None))
+        Ok(Slots {
+            cache: Cache::new(Global, some(capacity)?)?,
+            shares: None,
+        })
     }
 
     pub(crate) fn with_policy(
@@ -77,21 +44,11 @@ impl Slots {
         small: usize,
         window: usize,
     ) -> Result<Slots, Refused> {
-        let hasher = BuildHasherDefault::default();
-        let made = Cache::with_policy(Global, some(capacity)?, small, window, hasher)?;
-        Ok(Slots::of(made, Some((small, window))))
-    }
-
-    fn of(
-        cache: Cache<Name, (), BuildHasherDefault<Itself>>,
-        shares: Option<(usize, usize)>,
-    ) -> Slots {
-        Slots {
-            cache,
-            shares,
-            alike: Alike::default(),
-            names: 0,
-        }
+        let hasher = DefaultHashBuilder::default();
+        Ok(Slots {
+            cache: Cache::with_policy(Global, some(capacity)?, small, window, hasher)?,
+            shares: Some((small, window)),
+        })
     }
 
     /// Makes one of this capacity and these shares, in which no key has a slot.
@@ -102,85 +59,102 @@ impl Slots {
         }
     }
 
-    /// Returns the slot of the key that is named by this hash.
-    #[inline]
-    pub(crate) fn named(&self, hash: u64) -> Option<usize> {
-        self.cache.slot_with_hash(Name::of(hash).0, 0)
-    }
-
     /// Returns the slot of a key of this hash for which `is_it` returns true. Nothing changes.
     #[inline(always)]
     pub(crate) fn find(&self, hash: u64, mut is_it: impl FnMut(usize) -> bool) -> Option<usize> {
-        if let Some(slot) = self.named(hash) {
-            if is_it(slot) {
-                return Some(slot);
+        let mut handles = self.cache.directory.index.handles(spread(hash));
+        while let Ok(handle) = handles.peek_or_gap() {
+            if let Handle::Resident(slot) = Handle::unpack(handle) {
+                if is_it(slot as usize) {
+                    return Some(slot as usize);
+                }
             }
+            handles.advance();
         }
-        if self.alike.is_empty() {
-            return None;
-        }
-        self.find_alike(hash, is_it)
+        None
     }
 
-    /// Does so among those that aren't named by their hash.
-    #[cold]
-    #[inline(never)]
-    fn find_alike(&self, hash: u64, mut is_it: impl FnMut(usize) -> bool) -> Option<usize> {
-        self.alike.slots(hash).find(|slot| is_it(*slot))
-    }
-
-    /// Returns true if there are keys that aren't named by their hash.
-    #[inline]
-    pub(crate) fn has_alike(&self) -> bool {
-        !self.alike.is_empty()
-    }
-
-    /// Gives a key of this hash a slot that another may lose, and returns it; or else the slot of the key that is
-    /// named by this hash, and nothing changes.
+    /// Returns the slot of a key of this hash for which `is_it` returns true, or else whether one of this hash left,
+    /// and where it would go in the index. Nothing changes; what is returned holds until something does.
     #[inline(always)]
-    pub(crate) fn admit(&mut self, hash: u64) -> Result<usize, usize> {
-        let (slot, has_entered) = self.cache.slot_with_hash_or_insert(Name::of(hash), ());
-        if !has_entered {
-            return Err(slot);
+    pub(crate) fn look_up(&self, hash: u64, mut is_it: impl FnMut(usize) -> bool) -> Found {
+        let mut handles = self.cache.directory.index.handles(spread(hash));
+        let known = loop {
+            match handles.peek_or_gap().map(Handle::unpack) {
+                Ok(Handle::Resident(slot)) if is_it(slot as usize) => return Found::Resident(slot),
+                Ok(Handle::Resident(_)) => handles.advance(),
+                Ok(Handle::Remembered(_)) => break self.look_up_among_left(hash, is_it),
+                Err(gap) if self.cache.directory.index.is_shared() => {
+                    return Found::Absent(Some(gap));
+                }
+                Err(_) => break self.look_up_apart(hash),
+            }
+        };
+        match known {
+            Some(Handle::Resident(slot)) => Found::Resident(slot),
+            Some(Handle::Remembered(place)) => Found::Remembered(place),
+            None => Found::Absent(None),
         }
-        if !self.alike.is_empty() {
-            self.alike.leave(slot);
-        }
-        Ok(slot)
     }
 
-    /// Gives a key a slot that another may lose, beside those of this hash, and returns it.
+    /// Does so if there is a key that left in the walk of this hash. In registers, since it is rare.
     #[cold]
     #[inline(never)]
-    pub(crate) fn enter_beside(&mut self, hash: u64) -> usize {
-        loop {
-            self.names += 1;
-            let name = Name::of(self.names ^ 1 << 63);
-            let (slot, has_entered) = self.cache.slot_with_hash_or_insert(name, ());
-            if has_entered {
-                self.alike.join(hash, slot);
-                return slot;
+    fn look_up_among_left(
+        &self,
+        hash: u64,
+        mut is_it: impl FnMut(usize) -> bool,
+    ) -> Option<Handle> {
+        let (hash, directory) = (spread(hash), &self.cache.directory);
+        let mut left = None;
+        for handle in directory.index.handles(hash).map(Handle::unpack) {
+            match handle {
+                Handle::Resident(slot) if is_it(slot as usize) => return Some(handle),
+                Handle::Remembered(place) if directory.remembered.hash(place.number()) == hash => {
+                    left = Some(handle);
+                }
+                _ => {}
             }
         }
+        left
+    }
+
+    /// Returns whether a key of this hash left, if those that did have an index of their own, as in the largest caches.
+    #[cold]
+    #[inline(never)]
+    fn look_up_apart(&self, hash: u64) -> Option<Handle> {
+        let (hash, directory) = (spread(hash), &self.cache.directory);
+        let mut places = directory.index.own_places(hash);
+        let found = places.find(|place| directory.remembered.hash(*place) == hash);
+        found.map(|place| Handle::Remembered(Place::new(place)))
+    }
+
+    /// Returns whether a key of this hash left, given that none of this hash and of what the caller looked for has a slot.
+    pub(crate) fn look_up_absent(&self, hash: u64) -> Found {
+        self.look_up(hash, |_| false)
+    }
+
+    /// Gives a key of this hash a slot that another may lose, and returns it. Nothing has changed since `found` was
+    /// returned for it.
+    #[inline(always)]
+    pub(crate) fn enter(&mut self, hash: u64, found: Found) -> usize {
+        self.cache.insert(spread(hash), (), (), found) as usize
     }
 
     /// Records a hit of the key at this slot.
     #[inline]
     pub(crate) fn hit(&mut self, slot: usize) {
-        self.cache.hit_slot(slot);
+        self.cache.record_hit(slot as u32, &());
     }
 
     /// Takes the slot away from its key.
     pub(crate) fn remove(&mut self, slot: usize) {
         self.cache.remove_slot(slot);
-        self.alike.leave(slot);
     }
 
     /// Takes the slot away from the key that would lose it next, and returns it.
     pub(crate) fn evict(&mut self) -> Option<usize> {
-        let (_, slot) = self.cache.evict()?;
-        self.alike.leave(slot);
-        Some(slot)
+        self.cache.evict().map(|((), slot)| slot)
     }
 
     /// Returns the slot that [`evict`](Slots::evict) would return.
@@ -188,18 +162,14 @@ impl Slots {
         self.cache.next_victim().map(|(_, slot)| slot)
     }
 
-    /// Forgets a key that has no slot, unless one is named by its hash.
-    pub(crate) fn forget(&mut self, hash: u64) {
-        let name = Name::of(hash);
-        if !self.cache.contains(&name) {
-            self.cache.remove(&name);
-        }
+    /// Forgets a key of this hash that left, if `found` says that one did.
+    pub(crate) fn forget(&mut self, hash: u64, found: &Found) {
+        self.cache.forget(spread(hash), &(), found);
     }
 
     /// Takes all slots away, and forgets all keys.
     pub(crate) fn clear(&mut self) {
         self.cache.clear();
-        self.alike.clear();
     }
 
     /// Returns how many keys have a slot.

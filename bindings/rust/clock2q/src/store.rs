@@ -2,7 +2,7 @@
 
 use crate::before::Before;
 use crate::entries::{Drained, Entries};
-use crate::slots::Slots;
+use crate::slots::{Found, Slots};
 use crate::Refused;
 use alloc::vec::Vec;
 use core::borrow::Borrow;
@@ -113,24 +113,21 @@ impl<K, V> Store<K, V> {
         self.second.pop()
     }
 
-    /// Stores a pair whose key isn't here, and returns its slot and the pair that left for it. If two left,
-    /// [`take_second`](Store::take_second) returns the other.
+    /// Stores a pair whose key isn't here, for which a look-up returned `found`, and returns its slot and the pair that
+    /// left for it. If two left, [`take_second`](Store::take_second) returns the other.
     #[inline]
-    pub(crate) fn admit(&mut self, hash: u64, key: K, value: V) -> (usize, Option<(K, V)>) {
+    pub(crate) fn admit(
+        &mut self,
+        found: Found,
+        hash: u64,
+        key: K,
+        value: V,
+    ) -> (usize, Option<(K, V)>) {
         if !self.has_room() {
             return self.admit_to_fewer(hash, key, value);
         }
-        let slot = self.slot_for(hash);
+        let slot = self.slots.enter(hash, found);
         (slot, self.entries.put(slot, key, value))
-    }
-
-    /// Gives a key that isn't here a slot.
-    #[inline]
-    fn slot_for(&mut self, hash: u64) -> usize {
-        match self.slots.admit(hash) {
-            Ok(slot) => slot,
-            Err(_) => self.slots.enter_beside(hash),
-        }
     }
 
     /// Does what `admit` does in place of another pair though there are slots, since there may not be more pairs.
@@ -138,7 +135,8 @@ impl<K, V> Store<K, V> {
     #[inline(never)]
     fn admit_to_fewer(&mut self, hash: u64, key: K, value: V) -> (usize, Option<(K, V)>) {
         let gone = self.evict().map(|(_, pair)| pair);
-        let slot = self.slot_for(hash);
+        let found = self.slots.look_up_absent(hash);
+        let slot = self.slots.enter(hash, found);
         match self.entries.put(slot, key, value) {
             None => (slot, gone),
             left => {
@@ -148,30 +146,38 @@ impl<K, V> Store<K, V> {
         }
     }
 
-    /// Stores a pair whose key is at this slot, or nowhere, and returns what was replaced or left. It runs no code of
+    /// Stores a pair, for whose key a look-up returned `found`, and returns what was replaced or left. It runs no code of
     /// users, and drops nothing.
-    pub(crate) fn push_at(
-        &mut self,
-        found: Option<usize>,
-        hash: u64,
-        key: K,
-        value: V,
-    ) -> Before<K, V> {
-        if let Some(slot) = found {
-            if let Some((_, before)) = self.entries.pair_mut(slot) {
-                self.slots.hit(slot);
-                return Before::Replaced(key, mem::replace(before, value));
-            }
+    pub(crate) fn push_at(&mut self, found: Found, hash: u64, key: K, value: V) -> Before<K, V> {
+        if let Found::Resident(slot) = found {
+            return self.replace(slot as usize, key, value);
         }
-        Before::evicted(self.admit(hash, key, value).1)
+        Before::evicted(self.admit(found, hash, key, value).1)
     }
 
-    /// Removes the pair at the slot of a key of this hash, and returns it. A key that has none is forgotten.
-    pub(crate) fn remove_found(&mut self, found: Option<usize>, hash: u64) -> Option<(K, V)> {
-        if found.is_none() {
-            self.slots.forget(hash);
+    /// Stores a value for a key that is at a slot, after a hit, and returns this key and the value before.
+    #[inline(always)]
+    fn replace(&mut self, slot: usize, key: K, value: V) -> Before<K, V> {
+        self.slots.hit(slot);
+        let (_, before) = self.entries.pair_mut(slot).expect("a pair is at its slot");
+        Before::Replaced(key, mem::replace(before, value))
+    }
+
+    /// Removes the pair of a key of this hash, for which a look-up returned `found`, and returns it. A key that has none
+    /// is forgotten.
+    pub(crate) fn remove_found(&mut self, found: &Found, hash: u64) -> Option<(K, V)> {
+        match found {
+            Found::Resident(slot) => self.remove_at(*slot as usize),
+            found => {
+                self.slots.forget(hash, found);
+                None
+            }
         }
-        found.and_then(|slot| self.remove_at(slot))
+    }
+
+    /// Returns what a look-up of a key of this hash would return that has no pair, whatever others of this hash have one.
+    pub(crate) fn look_up_absent(&self, hash: u64) -> Found {
+        self.slots.look_up_absent(hash)
     }
 
     /// Records a hit of the pair at a slot.
@@ -186,9 +192,36 @@ impl<K, V> Store<K, V> {
         Some((slot, self.entries.take(slot)?))
     }
 
+    /// Returns the slot of the pair that would leave next.
+    #[cfg(feature = "std")] // as caches with a clock need it
+    pub(crate) fn next_victim_slot(&mut self) -> Option<usize> {
+        self.slots.next_victim()
+    }
+
+    /// Returns how many pairs there may be at most.
+    #[cfg(feature = "std")] // as caches with a clock need it
+    pub(crate) fn made(&self) -> usize {
+        self.slots.capacity()
+    }
+
     /// Returns the pair that would leave next.
     pub(crate) fn next_victim(&mut self) -> Option<&(K, V)> {
         self.entries.pair(self.slots.next_victim()?)
+    }
+
+    /// Removes the pairs for which `keep` returns false, each as soon as it does, and calls `gone` with it then.
+    pub(crate) fn retain(
+        &mut self,
+        mut keep: impl FnMut(&K, &mut V) -> bool,
+        mut gone: impl FnMut((K, V)),
+    ) {
+        for slot in 0..self.entries.bound() {
+            if let Some((key, value)) = self.entries.pair_mut(slot) {
+                if !keep(key, value) {
+                    self.remove_at(slot).into_iter().for_each(&mut gone);
+                }
+            }
+        }
     }
 
     /// Removes the pair at a slot.
@@ -206,9 +239,17 @@ impl<K: Eq, V> Store<K, V> {
         K: Borrow<Q>,
         Q: Eq + ?Sized,
     {
-        let entries = &self.entries;
-        let is_it = |slot| matches!(entries.pair(slot), Some((held, _)) if held.borrow() == key);
-        self.slots.find(hash, is_it)
+        self.slots.find(hash, |slot| self.entries.has(slot, key))
+    }
+
+    /// Returns the slot of a key, or where it would go. Whatever `Eq` does, nothing has changed.
+    #[inline(always)]
+    pub(crate) fn look_up<Q>(&self, hash: u64, key: &Q) -> Found
+    where
+        K: Borrow<Q>,
+        Q: Eq + ?Sized,
+    {
+        self.slots.look_up(hash, |slot| self.entries.has(slot, key))
     }
 
     /// Returns the pair of a key. It records no hit.
@@ -232,84 +273,61 @@ impl<K: Eq, V> Store<K, V> {
         self.entries.pair_mut(slot)
     }
 
-    /// Returns the slot of a key, after a hit, and counts.
+    /// Returns the slot of a key, after a hit, or where it would go, and counts.
     #[inline]
-    pub(crate) fn find<Q>(&mut self, hash: u64, key: &Q) -> Option<usize>
+    pub(crate) fn look_up_counted<Q>(&mut self, hash: u64, key: &Q) -> Found
     where
         K: Borrow<Q>,
         Q: Eq + ?Sized,
     {
-        let slot = self.slot(hash, key);
-        self.count(slot.is_some());
-        self.slots.hit(slot?);
-        slot
+        let found = self.look_up(hash, key);
+        match found {
+            Found::Resident(slot) => {
+                self.slots.hit(slot as usize);
+                self.hits += 1;
+            }
+            _ => self.misses += 1,
+        }
+        found
     }
 
     /// Returns the pair of a key, after a hit, and counts.
-    #[inline]
+    #[inline(always)]
     pub(crate) fn find_pair<Q>(&mut self, hash: u64, key: &Q) -> Option<&mut (K, V)>
     where
         K: Borrow<Q>,
         Q: Eq + ?Sized,
     {
-        if self.slots.has_alike() {
-            let slot = self.find(hash, key)?;
-            return self.entries.pair_mut(slot);
-        }
-        // At most one key has this hash, so that its pair is read once.
-        let named = self.slots.named(hash);
-        let pair = named.and_then(|slot| self.entries.pair_mut(slot));
-        match (named, pair) {
-            (Some(slot), Some(pair)) if pair.0.borrow() == key => {
-                self.slots.hit(slot);
-                self.hits += 1;
-                Some(pair)
-            }
-            _ => {
-                self.misses += 1;
-                None
-            }
-        }
-    }
-
-    #[inline]
-    fn count(&mut self, is_hit: bool) {
-        match is_hit {
-            true => self.hits += 1,
-            false => self.misses += 1,
-        }
+        let Some(slot) = self.slot(hash, key) else {
+            self.misses += 1;
+            return None;
+        };
+        let pair = self.entries.pair_mut(slot)?;
+        self.slots.hit(slot);
+        self.hits += 1;
+        Some(pair)
     }
 
     /// Stores a pair, after a hit if its key is here, and returns what was replaced or left. A second pair that left is
     /// dropped.
     #[inline(always)]
     pub(crate) fn push(&mut self, hash: u64, key: K, value: V) -> Before<K, V> {
-        if !self.has_room() || self.slots.has_alike() {
-            return self.push_with_care(hash, key, value);
+        if self.limit != usize::MAX {
+            return self.push_to_fewer(hash, key, value);
         }
-        match self.slots.admit(hash) {
-            Ok(slot) => Before::evicted(self.entries.put(slot, key, value)),
-            Err(slot) => self.push_over(slot, hash, key, value),
+        let found = self.look_up(hash, &key);
+        if let Found::Resident(slot) = found {
+            return self.replace(slot as usize, key, value);
         }
+        let slot = self.slots.enter(hash, found);
+        Before::evicted(self.entries.put(slot, key, value))
     }
 
-    /// Does so if a key of this hash is at a slot.
-    #[inline]
-    fn push_over(&mut self, slot: usize, hash: u64, key: K, value: V) -> Before<K, V> {
-        match self.entries.pair_mut(slot) {
-            Some((held, before)) if *held == key => {
-                self.slots.hit(slot);
-                Before::Replaced(key, mem::replace(before, value))
-            }
-            _ => self.push_with_care(hash, key, value),
-        }
-    }
-
-    /// Does so if there may not be more pairs, or if there are keys of one hash.
+    /// Does so if there may not be a pair at each slot.
     #[cold]
     #[inline(never)]
-    fn push_with_care(&mut self, hash: u64, key: K, value: V) -> Before<K, V> {
-        let found = self.slot(hash, &key);
+    fn push_to_fewer(&mut self, hash: u64, key: K, value: V) -> Before<K, V> {
+        let found = self.look_up(hash, &key);
         let before = self.push_at(found, hash, key, value);
         drop(self.take_second());
         before
@@ -321,7 +339,7 @@ impl<K: Eq, V> Store<K, V> {
         K: Borrow<Q>,
         Q: Eq + ?Sized,
     {
-        let found = self.slot(hash, key);
-        self.remove_found(found, hash)
+        let found = self.look_up(hash, key);
+        self.remove_found(&found, hash)
     }
 }

@@ -1,22 +1,21 @@
 //! Caches that threads share.
 
+mod expiring;
 mod flight;
+mod keyed;
 mod shard;
 mod shards;
 mod weighted;
 
-use crate::before::Before;
 use crate::slots::Slots;
-use crate::store::{hash_of, Store};
+use crate::store::Store;
 use crate::{DefaultHashBuilder, Refused};
+pub use expiring::ExpiringCache;
 use shard::Pairs;
-use shards::{part, usual_count, Shards};
-use std::borrow::Borrow;
-use std::convert::Infallible;
+use shards::{count_for, part, usual_count, Shards};
 use std::fmt;
-use std::hash::{BuildHasher, Hash};
 use std::sync::{Mutex, MutexGuard, PoisonError};
-use std::vec::Vec;
+use std::vec::{self, Vec};
 pub use weighted::WeightedCache;
 
 /// A map of fixed capacity that threads share: shards, each a [`Cache`](crate::Cache) under a lock of its
@@ -28,7 +27,8 @@ pub use weighted::WeightedCache;
 /// changed meanwhile.
 ///
 /// `Hash` and the closure of [`get_or_insert_with`](Cache::get_or_insert_with) run without a lock, and keys and
-/// values are dropped without one. `Eq`, `Clone` and the closure of [`get_with`](Cache::get_with) run under the
+/// values are dropped without one. `Eq`, `Clone` and the closures of [`get_with`](Cache::get_with),
+/// [`peek_with`](Cache::peek_with), [`retain`](Cache::retain) and [`for_each`](Cache::for_each) run under the
 /// lock of a shard: if one of them uses this cache, it may wait for ever or panic. After a panic the cache is
 /// whole, and no lock is poisoned.
 ///
@@ -67,15 +67,41 @@ pub struct Cache<K, V, S = DefaultHashBuilder> {
     capacity: Mutex<usize>,
 }
 
-impl<K: Eq, V> Pairs<K, V> for Store<K, V> {
-    fn find(&mut self, hash: u64, key: &K) -> Option<&V> {
+impl<K, V> Pairs<K, V> for Store<K, V> {
+    fn find(&mut self, hash: u64, key: &K) -> Option<&V>
+    where
+        K: Eq,
+    {
         let (_, value) = self.find_pair(hash, key)?;
         Some(value)
     }
 
-    fn peek(&self, hash: u64, key: &K) -> Option<&V> {
+    fn peek(&self, hash: u64, key: &K) -> Option<&V>
+    where
+        K: Eq,
+    {
         let (_, value) = Store::peek(self, hash, key)?;
         Some(value)
+    }
+
+    fn len(&self) -> usize {
+        Store::len(self)
+    }
+
+    fn evict(&mut self) -> Option<(K, V)> {
+        Store::evict(self).map(|(_, pair)| pair)
+    }
+
+    fn visit(&self, mut see: impl FnMut(&K, &V)) {
+        self.entries.iter().for_each(|(key, value)| see(key, value));
+    }
+
+    fn retain(&mut self, mut keep: impl FnMut(&K, &V) -> bool, left: &mut Vec<(K, V)>) {
+        Store::retain(self, |key, value| keep(key, value), |pair| left.push(pair));
+    }
+
+    fn take_all(&mut self) -> Vec<(K, V)> {
+        Store::take_all(self)
     }
 }
 
@@ -93,6 +119,21 @@ impl<K, V> Cache<K, V> {
     /// [`Refused::Capacity`] and [`Refused::Memory`].
     pub fn new(capacity: usize) -> Result<Cache<K, V>, Refused> {
         Cache::with_hasher(capacity, DefaultHashBuilder::default())
+    }
+
+    /// Makes a cache in which `small` slots are for new keys, each young until `window` more were
+    /// admitted. All three are divided among the shards, of which there are fewer if each could have no part of one.
+    ///
+    /// # Errors
+    ///
+    /// Those of [`new`](Cache::new), and [`Refused::Policy`] unless `small < capacity`,
+    /// `window <= small`, and both or neither of them are 0.
+    pub fn with_policy(
+        capacity: usize,
+        small: usize,
+        window: usize,
+    ) -> Result<Cache<K, V>, Refused> {
+        Cache::with_policy_and_hasher(capacity, small, window, DefaultHashBuilder::default())
     }
 }
 
@@ -120,17 +161,40 @@ impl<K, V, S> Cache<K, V, S> {
         let shards = Shards::new(capacity, shards, |at, count| {
             Store::new(Slots::new(part(capacity as u64, at, count) as usize)?)
         })?;
-        Ok(Cache {
+        Ok(Cache::of(shards, capacity, hasher))
+    }
+
+    /// Makes a cache with the shares of [`with_policy`](Cache::with_policy) and a hasher.
+    ///
+    /// # Errors
+    ///
+    /// Those of [`with_policy`](Cache::with_policy).
+    pub fn with_policy_and_hasher(
+        capacity: usize,
+        small: usize,
+        window: usize,
+        hasher: S,
+    ) -> Result<Cache<K, V, S>, Refused> {
+        let shards = count_for(capacity, small, window)?;
+        let shards = Shards::new(capacity, shards, |at, count| {
+            let of = |whole| part(whole as u64, at, count) as usize;
+            Store::new(Slots::with_policy(of(capacity), of(small), of(window))?)
+        })?;
+        Ok(Cache::of(shards, capacity, hasher))
+    }
+
+    fn of(shards: Shards<Store<K, V>, K, V>, capacity: usize, hasher: S) -> Cache<K, V, S> {
+        Cache {
             shards,
             hasher,
             made: capacity,
             capacity: Mutex::new(capacity),
-        })
+        }
     }
 
     /// Returns how many keys there are.
     pub fn len(&self) -> usize {
-        self.shards.iter().map(|shard| shard.lock().len()).sum()
+        self.shards.pairs_len()
     }
 
     /// Returns true if there is no key.
@@ -192,136 +256,71 @@ impl<K, V, S> Cache<K, V, S> {
         &self.hasher
     }
 
+    /// Removes the pair that would have to leave next from the shard that has most pairs, and returns it; nothing if no
+    /// shard has one. Its key is remembered as those of pairs that left for others are.
+    pub fn evict(&self) -> Option<(K, V)> {
+        self.shards.evict()
+    }
+
     /// Removes all keys, and forgets those that left. The pairs of each shard are kept in a vector until it has none.
     pub fn clear(&self) {
-        for shard in self.shards.iter() {
-            let mut store = shard.lock();
-            let gone = (store.outdate_all(), store.take_all());
-            drop(store);
-            drop(gone);
-        }
+        self.clear_with(|key, value| drop((key, value)));
     }
-}
 
-impl<K: Hash + Eq, V, S: BuildHasher> Cache<K, V, S> {
-    /// Returns a clone of the value of a key, after a hit.
-    pub fn get<Q>(&self, key: &Q) -> Option<V>
+    fn clear_with(&self, mut gone: impl FnMut(K, V)) {
+        self.shards.iter().for_each(|shard| shard.clear(&mut gone));
+    }
+
+    /// Removes all keys, forgets those that left, and returns the pairs, in any order.
+    pub fn drain(&self) -> vec::IntoIter<(K, V)> {
+        let mut left = Vec::new();
+        self.clear_with(|key, value| left.push((key, value)));
+        left.into_iter()
+    }
+
+    /// Removes the pairs for which `keep` returns false, shard by shard, each under its lock, and drops them without it.
+    /// It records no hit. Values that are being made meanwhile are returned to those that asked, but not stored.
+    ///
+    /// ```
+    /// let cache = clock2q::sync::Cache::new(100)?;
+    /// (0..10).for_each(|key| drop(cache.insert(key, key * key)));
+    /// cache.retain(|_, square| square % 2 == 0);
+    /// assert_eq!(cache.len(), 5);
+    /// # Ok::<(), clock2q::Refused>(())
+    /// ```
+    pub fn retain(&self, mut keep: impl FnMut(&K, &V) -> bool) {
+        let mut gone = |key, value| drop((key, value));
+        self.shards
+            .iter()
+            .for_each(|shard| shard.retain(&mut keep, &mut gone));
+    }
+
+    /// Calls `see` with each pair, shard by shard, each under its lock, in any order. It records no hit.
+    pub fn for_each(&self, mut see: impl FnMut(&K, &V)) {
+        self.shards
+            .iter()
+            .for_each(|shard| shard.lock().visit(&mut see));
+    }
+
+    /// Returns clones of the pairs, in any order. Those of one shard are made at once under its lock, as soon as those
+    /// of the shards before it were returned, and are returned without a lock, so that the cache may be used meanwhile.
+    /// It records no hit.
+    ///
+    /// ```
+    /// let cache = clock2q::sync::Cache::new(100)?;
+    /// cache.insert("seven", 7);
+    /// for (key, value) in cache.iter() {
+    ///     cache.insert(key, value + 1);
+    /// }
+    /// assert_eq!(cache.peek("seven"), Some(8));
+    /// # Ok::<(), clock2q::Refused>(())
+    /// ```
+    pub fn iter(&self) -> impl Iterator<Item = (K, V)> + '_
     where
-        K: Borrow<Q>,
-        Q: Hash + Eq + ?Sized,
+        K: Clone,
         V: Clone,
     {
-        self.get_with(key, V::clone)
-    }
-
-    /// Returns what `read` makes of the value of a key, after a hit.
-    pub fn get_with<Q, R>(&self, key: &Q, read: impl FnOnce(&V) -> R) -> Option<R>
-    where
-        K: Borrow<Q>,
-        Q: Hash + Eq + ?Sized,
-    {
-        let hash = hash_of(&self.hasher, key);
-        let mut store = self.shards.of(hash).lock();
-        let (_, value) = store.find_pair(hash, key)?;
-        Some(read(value))
-    }
-
-    /// Returns true if the key is here. It records no hit.
-    pub fn contains_key<Q>(&self, key: &Q) -> bool
-    where
-        K: Borrow<Q>,
-        Q: Hash + Eq + ?Sized,
-    {
-        let hash = hash_of(&self.hasher, key);
-        let store = self.shards.of(hash).lock();
-        store.slot(hash, key).is_some()
-    }
-
-    /// Stores a value for a key, and returns the one before, if the key was here. A pair that has to leave
-    /// for a new key is dropped.
-    pub fn insert(&self, key: K, value: V) -> Option<V> {
-        self.store_pair(key, value).replaced()
-    }
-
-    /// Stores a value for a key, and returns what had its slot: `key` and its value before, or the pair
-    /// that had to leave for it.
-    pub fn push(&self, key: K, value: V) -> Option<(K, V)> {
-        self.store_pair(key, value).pair()
-    }
-
-    fn store_pair(&self, key: K, value: V) -> Before<K, V> {
-        let hash = hash_of(&self.hasher, &key);
-        let mut store = self.shards.of(hash).lock();
-        // `Eq` may panic in these two, while the lock is dropped before what this thread owns.
-        let found = store.slot(hash, &key);
-        let outdated = store.outdate(hash, &key);
-        let before = store.push_at(found, hash, key, value);
-        let second = store.take_second();
-        drop(store);
-        drop((outdated, second));
-        before
-    }
-
-    /// Returns a clone of the value of a key, after a hit or after storing what `make` returns. If
-    /// several threads ask for a key at once, one of them makes the value, which the others wait for. If
-    /// the key is inserted or removed meanwhile, or all are, the value is returned to all of these, but not stored.
-    ///
-    /// `make` may use this cache, but not ask for this key, or wait for a thread that does.
-    ///
-    /// # Panics
-    ///
-    /// If `make` asks for this key. If `make` panics, the next of those that wait makes the value.
-    pub fn get_or_insert_with(&self, key: K, make: impl FnOnce() -> V) -> V
-    where
-        V: Clone,
-    {
-        match self.try_get_or_insert_with(key, || Ok::<V, Infallible>(make())) {
-            Ok(value) => value,
-            Err(never) => match never {},
-        }
-    }
-
-    /// Does what [`get_or_insert_with`](Cache::get_or_insert_with) does, with a `make` that may fail.
-    ///
-    /// # Errors
-    ///
-    /// That of `make`. Nothing is stored, and the next of those that wait makes the value.
-    ///
-    /// # Panics
-    ///
-    /// If `make` asks for this key.
-    pub fn try_get_or_insert_with<E>(
-        &self,
-        key: K,
-        make: impl FnOnce() -> Result<V, E>,
-    ) -> Result<V, E>
-    where
-        V: Clone,
-    {
-        let hash = hash_of(&self.hasher, &key);
-        let push = |store: &mut Store<K, V>, pair: &mut Option<(K, V)>| {
-            let (key, _) = pair.as_ref()?;
-            let found = store.slot(hash, key);
-            let (key, value) = pair.take()?;
-            Some((store.push_at(found, hash, key, value), store.take_second()))
-        };
-        self.shards.of(hash).value_or_make(hash, key, make, push)
-    }
-
-    /// Removes a key, and returns its value. A key that isn't here is forgotten.
-    pub fn remove<Q>(&self, key: &Q) -> Option<V>
-    where
-        K: Borrow<Q>,
-        Q: Hash + Eq + ?Sized,
-    {
-        let hash = hash_of(&self.hasher, key);
-        let mut store = self.shards.of(hash).lock();
-        let found = store.slot(hash, key);
-        let outdated = store.outdate(hash, key);
-        let removed = store.remove_found(found, hash);
-        drop(store);
-        drop(outdated);
-        removed.map(|(_, value)| value)
+        self.shards.iter().flat_map(|shard| shard.pairs())
     }
 }
 

@@ -1,6 +1,6 @@
 //! Pairs with weights.
 
-use crate::slots::Slots;
+use crate::slots::{Found, Slots};
 use crate::store::hash_of;
 use crate::weights::{Stored, WeightedStore};
 use crate::{DefaultHashBuilder, Iter, Refused};
@@ -47,6 +47,26 @@ impl<K, V, W: Fn(&K, &V) -> u64> WeightedCache<K, V, W> {
     pub fn new(capacity: usize, max_weight: u64, weigher: W) -> Result<Self, Refused> {
         WeightedCache::with_hasher(capacity, max_weight, weigher, DefaultHashBuilder::default())
     }
+
+    /// Makes a cache with the shares of [`Cache::with_policy`](crate::Cache::with_policy).
+    ///
+    /// # Errors
+    ///
+    /// Those of [`Cache::with_policy`](crate::Cache::with_policy).
+    pub fn with_policy(
+        capacity: usize,
+        small: usize,
+        window: usize,
+        max_weight: u64,
+        weigher: W,
+    ) -> Result<Self, Refused> {
+        let slots = Slots::with_policy(capacity, small, window)?;
+        Ok(WeightedCache {
+            store: WeightedStore::new(slots, max_weight)?,
+            weigher,
+            hasher: DefaultHashBuilder::default(),
+        })
+    }
 }
 
 impl<K, V, W: Fn(&K, &V) -> u64, S> WeightedCache<K, V, W, S> {
@@ -83,6 +103,15 @@ impl<K, V, W, S> WeightedCache<K, V, W, S> {
     /// Returns how many pairs there can be, whatever their weights.
     pub fn capacity(&self) -> usize {
         self.store.pairs.capacity()
+    }
+
+    /// Has the cache hold `capacity` pairs at most, as [`Cache::resize`](crate::Cache::resize) does.
+    ///
+    /// # Errors
+    ///
+    /// Those of [`Cache::resize`](crate::Cache::resize).
+    pub fn resize(&mut self, capacity: usize) -> Result<(), Refused> {
+        self.store.resize(capacity).map(drop)
     }
 
     /// Returns the sum of the weights of all pairs.
@@ -170,14 +199,14 @@ impl<K: Hash + Eq, V, W, S: BuildHasher> WeightedCache<K, V, W, S> {
         Q: Hash + Eq + ?Sized,
     {
         let hash = hash_of(&self.hasher, key);
-        let found = self.store.slot(hash, key);
-        let removed = self.store.remove_found(found, hash);
+        let found = self.store.look_up(hash, key);
+        let removed = self.store.remove_found(&found, hash);
         removed.map(|(_, value)| value)
     }
 
     /// Removes the pairs for which `keep` returns false. It records no hit.
     pub fn retain(&mut self, keep: impl FnMut(&K, &V) -> bool) {
-        self.store.retain(keep);
+        self.store.retain(keep, drop);
     }
 }
 
@@ -203,10 +232,31 @@ impl<K: Hash + Eq, V, W: Fn(&K, &V) -> u64, S: BuildHasher> WeightedCache<K, V, 
         Ok(self.store_pair(key, value)?.into_pairs())
     }
 
+    /// Returns the value of a key, after a hit or after storing what `make` returns. The pairs that leave are dropped.
+    ///
+    /// # Errors
+    ///
+    /// The pair, if it is heavier than [`max_weight`](WeightedCache::max_weight). The cache is as it was, but for the
+    /// count of misses.
+    pub fn get_or_insert_with(&mut self, key: K, make: impl FnOnce() -> V) -> Result<&V, (K, V)> {
+        let hash = hash_of(&self.hasher, &key);
+        let slot = match self.store.pairs.look_up_counted(hash, &key) {
+            Found::Resident(slot) => slot as usize,
+            found => {
+                let value = make();
+                let weight = (self.weigher)(&key, &value);
+                let stored = self.store.push_at(found, hash, (key, value), weight)?;
+                stored.slot
+            }
+        };
+        let pair = self.store.pairs.entries.pair(slot);
+        Ok(&pair.expect("a pair is at its slot").1.value)
+    }
+
     fn store_pair(&mut self, key: K, value: V) -> Result<Stored<K, V>, (K, V)> {
         let weight = (self.weigher)(&key, &value);
         let hash = hash_of(&self.hasher, &key);
-        let found = self.store.slot(hash, &key);
+        let found = self.store.look_up(hash, &key);
         self.store.push_at(found, hash, (key, value), weight)
     }
 }

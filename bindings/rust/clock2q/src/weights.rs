@@ -1,6 +1,6 @@
 //! Pairs with weights, of which the sum is limited.
 
-use crate::slots::Slots;
+use crate::slots::{Found, Slots};
 use crate::store::Store;
 use crate::Refused;
 use alloc::vec::Vec;
@@ -15,6 +15,8 @@ pub(crate) struct Weighed<V> {
 
 /// What took the place of what.
 pub(crate) struct Stored<K, V> {
+    /// Where the pair is.
+    pub(crate) slot: usize,
     /// The key, and its value before.
     pub(crate) before: Option<(K, V)>,
     /// The pairs that left.
@@ -66,16 +68,24 @@ impl<K, V> WeightedStore<K, V> {
         self.pairs.clear();
     }
 
-    /// Removes the pairs for which `keep` returns false, each as soon as it does.
-    pub(crate) fn retain(&mut self, mut keep: impl FnMut(&K, &V) -> bool) {
-        for slot in 0..self.pairs.entries.bound() {
-            if let Some((key, held)) = self.pairs.entries.pair(slot) {
-                if !keep(key, &held.value) {
-                    let gone = self.pairs.remove_at(slot);
-                    drop(gone.map(|pair| self.without(pair)));
-                }
-            }
-        }
+    /// Removes the pairs for which `keep` returns false, each as soon as it does, and calls `gone` with it then.
+    pub(crate) fn retain(
+        &mut self,
+        mut keep: impl FnMut(&K, &V) -> bool,
+        mut gone: impl FnMut((K, V)),
+    ) {
+        let weight = &mut self.weight;
+        let keeps = |key: &K, held: &mut Weighed<V>| keep(key, &held.value);
+        self.pairs.retain(keeps, |(key, held)| {
+            *weight -= held.weight;
+            gone((key, held.value));
+        });
+    }
+
+    /// Has as many pairs at most from now on, for which there are slots. Returns those above, which leave.
+    pub(crate) fn resize(&mut self, limit: usize) -> Result<Vec<(K, V)>, Refused> {
+        let left = self.pairs.resize(limit)?;
+        Ok(left.into_iter().map(|pair| self.without(pair)).collect())
     }
 
     /// Takes the weight of a pair that left off the sum.
@@ -114,35 +124,38 @@ impl<K: Eq, V> WeightedStore<K, V> {
         Some(&held.value)
     }
 
-    /// Returns the slot of a key. It records nothing.
-    pub(crate) fn slot<Q>(&self, hash: u64, key: &Q) -> Option<usize>
+    /// Returns the slot of a key, or where it would go. It records nothing.
+    pub(crate) fn look_up<Q>(&self, hash: u64, key: &Q) -> Found
     where
         K: Borrow<Q>,
         Q: Eq + ?Sized,
     {
-        self.pairs.slot(hash, key)
+        self.pairs.look_up(hash, key)
     }
 }
 
 impl<K, V> WeightedStore<K, V> {
     /// Removes all pairs, and returns them.
     #[cfg(feature = "std")] // as threads need it
-    pub(crate) fn take_all(&mut self) -> Vec<(K, Weighed<V>)> {
+    pub(crate) fn take_all(&mut self) -> Vec<(K, V)> {
         self.weight = 0;
-        self.pairs.take_all()
+        let mut left = Vec::with_capacity(self.pairs.len());
+        left.extend(self.pairs.drain().0.map(|(key, held)| (key, held.value)));
+        left
     }
 
-    /// Removes the pair at the slot of a key of this hash, and returns it. A key that has none is forgotten.
-    pub(crate) fn remove_found(&mut self, found: Option<usize>, hash: u64) -> Option<(K, V)> {
+    /// Removes the pair of a key of this hash, for which a look-up returned `found`, and returns it. A key that has none
+    /// is forgotten.
+    pub(crate) fn remove_found(&mut self, found: &Found, hash: u64) -> Option<(K, V)> {
         let pair = self.pairs.remove_found(found, hash)?;
         Some(self.without(pair))
     }
 
-    /// Stores a pair of this weight, whose key is at this slot or nowhere, or returns it if the weight is above the
+    /// Stores a pair of this weight, for whose key a look-up returned `found`, or returns it if the weight is above the
     /// limit alone. It runs no code of users, and drops nothing.
     pub(crate) fn push_at(
         &mut self,
-        found: Option<usize>,
+        found: Found,
         hash: u64,
         (key, value): (K, V),
         weight: u64,
@@ -150,23 +163,36 @@ impl<K, V> WeightedStore<K, V> {
         if weight > self.max_weight {
             return Err((key, value));
         }
-        let (found, mut left) = self.make_room(found, weight);
+        let own = match found {
+            Found::Resident(slot) => Some(slot as usize),
+            _ => None,
+        };
+        let (own, mut left) = self.make_room(own, weight);
         let held = Weighed { value, weight };
-        if let Some((_, here)) = found.and_then(|slot| self.pairs.entries.pair_mut(slot)) {
+        if let Some(slot) = own {
+            let (_, here) = self.pairs.entries.pair_mut(slot).expect("a pair is here");
             let before = mem::replace(here, held);
             self.weight = self.weight - before.weight + weight;
             let before = Some((key, before.value));
-            return Ok(Stored { before, left });
+            return Ok(Stored { slot, before, left });
         }
         self.weight += weight;
-        let (_, more) = self.pairs.admit(hash, key, held);
+        let found = match left.is_empty() {
+            true => found,
+            false => self.pairs.look_up_absent(hash),
+        };
+        let (slot, more) = self.pairs.admit(found, hash, key, held);
         let second = self.pairs.take_second();
         left.extend(
             more.into_iter()
                 .chain(second)
                 .map(|pair| self.without(pair)),
         );
-        Ok(Stored { before: None, left })
+        Ok(Stored {
+            slot,
+            before: None,
+            left,
+        })
     }
 
     /// Has pairs leave until there is room for a weight in place of the one at a slot, if there is one, after

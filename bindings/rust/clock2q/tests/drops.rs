@@ -47,7 +47,7 @@ impl Drop for User {
     }
 }
 
-struct Key(u64, #[allow(dead_code)] User);
+struct Key(u64, User);
 
 impl PartialEq for Key {
     fn eq(&self, other: &Key) -> bool {
@@ -68,10 +68,22 @@ impl Hash for Key {
     }
 }
 
+impl Clone for Key {
+    fn clone(&self) -> Key {
+        Key(self.0, User(Weak::clone(&self.1 .0)))
+    }
+}
+
 struct Value(u64, Weak<dyn Used>, #[allow(dead_code)] User);
+
+/// The weight of a value that can't be cloned.
+const UNCLONED: u64 = 99;
 
 impl Clone for Value {
     fn clone(&self) -> Value {
+        if self.0 == UNCLONED {
+            resume_unwind(Box::new("a clone"));
+        }
         Value(self.0, Weak::clone(&self.1), User(Weak::clone(&self.1)))
     }
 }
@@ -144,6 +156,42 @@ fn pairs_that_leave_use_the_cache() {
             cache.remove(&key(4, &of));
             cache.clear();
             assert!(cache.is_empty());
+        }
+    });
+}
+
+/// What goes through the shards drops nothing under a lock, even if a closure or a clone panics.
+#[test]
+fn pairs_that_are_gone_through_use_the_cache() {
+    ends(|| {
+        let ((cache, of), (weighted, by_weight)) = (cache(), heavy(|_, _| 1));
+        for call in 0..8 {
+            for number in 0..20 {
+                cache.insert(key(number, &of), value(number + 83, &of));
+                drop(weighted.insert(key(number, &by_weight), value(number, &by_weight)));
+            }
+            match call {
+                0 => cache.retain(|key, _| key.0 % 2 == 0),
+                1 => drop((cache.evict(), weighted.evict())),
+                2 => drop((cache.drain(), weighted.drain())),
+                3 => drop(cache.remove_entry(&key(3, &of))),
+                4 => drop(cache.peek(&key(5, &of))),
+                5 => weighted.retain(|key, _| key.0 % 2 == 0),
+                6 => {
+                    let kept = AssertUnwindSafe(|| {
+                        cache.retain(|key, _| match key.0 {
+                            7 => resume_unwind(Box::new("a closure")),
+                            _ => false,
+                        });
+                    });
+                    assert!(catch_unwind(kept).is_err() && cache.len() == 13);
+                }
+                _ => {
+                    let cloned = AssertUnwindSafe(|| cache.iter().count());
+                    assert!(catch_unwind(cloned).is_err());
+                    assert_eq!((cache.len(), weighted.iter().count()), (20, 20));
+                }
+            }
         }
     });
 }

@@ -219,6 +219,29 @@ fn as_few_leave_as_need_to() {
 }
 
 #[test]
+fn weighted_values_are_made() {
+    let weigher = |_: &u64, weight: &u64| *weight;
+    let mut cache = WeightedCache::with_policy(10, 2, 1, 100, weigher).expect("a cache");
+    for key in 0..30u64 {
+        assert_eq!(
+            cache.get_or_insert_with(key % 7, || 10 + key),
+            Ok(&(10 + key % 7))
+        );
+    }
+    assert_eq!((cache.hits(), cache.misses(), cache.weight()), (23, 7, 91));
+    assert_eq!(cache.get_or_insert_with(8, || 101), Err((8, 101)));
+    assert_eq!((cache.len(), cache.weight()), (7, 91));
+    assert_eq!(cache.get_or_insert_with(9, || 50), Ok(&50));
+    assert!(cache.weight() <= 100);
+    assert_eq!(cache.resize(3), Ok(()));
+    assert!(cache.len() <= 3 && cache.capacity() == 3);
+    assert_eq!(cache.weight(), cache.iter().map(|(_, weight)| weight).sum());
+    assert_eq!(cache.resize(11), Err(Refused::Capacity));
+    let refused = WeightedCache::with_policy(10, 10, 1, 100, weigher);
+    assert_eq!(refused.err(), Some(Refused::Policy));
+}
+
+#[test]
 fn the_heaviest_weights_are_no_sum_too_large() {
     let mut cache =
         WeightedCache::new(10, u64::MAX, |_: &u64, weight: &u64| *weight).expect("a cache");

@@ -123,6 +123,21 @@ fn collected() {
     assert_eq!((twice.len(), twice.peek(&1)), (1, Some(&2)));
 }
 
+/// Equal pairs make equal caches, whatever the slots.
+#[test]
+fn caches_are_equal_if_their_pairs_are() {
+    let cache: Cache<u64, u64> = (0..10).map(|number| (number, number)).collect();
+    let mut other = Cache::new(20).expect("a cache");
+    other.extend(cache.iter());
+    assert!(cache == other && cache == cache.clone());
+    other.insert(3, 4);
+    assert!(cache != other);
+    other.remove(&3);
+    assert!(cache != other);
+    other.insert(10, 10);
+    assert!(cache != other);
+}
+
 #[test]
 fn pairs_are_drained() {
     let mut cache: Cache<u64, u64> = (0..10).map(|number| (number, number)).collect();

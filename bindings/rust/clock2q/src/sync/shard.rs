@@ -10,10 +10,29 @@ use std::vec::Vec;
 /// What a shard keeps: pairs, of which a key finds the value.
 pub(super) trait Pairs<K, V> {
     /// Returns the value of a key, after a hit, and counts.
-    fn find(&mut self, hash: u64, key: &K) -> Option<&V>;
+    fn find(&mut self, hash: u64, key: &K) -> Option<&V>
+    where
+        K: Eq;
 
     /// Returns the value of a key. It records nothing.
-    fn peek(&self, hash: u64, key: &K) -> Option<&V>;
+    fn peek(&self, hash: u64, key: &K) -> Option<&V>
+    where
+        K: Eq;
+
+    /// Returns how many pairs there are.
+    fn len(&self) -> usize;
+
+    /// Removes the pair that would leave next, and returns it.
+    fn evict(&mut self) -> Option<(K, V)>;
+
+    /// Shows each pair, and records nothing.
+    fn visit(&self, see: impl FnMut(&K, &V));
+
+    /// Removes the pairs for which `keep` returns false, each as soon as it does, and adds them to those that left.
+    fn retain(&mut self, keep: impl FnMut(&K, &V) -> bool, left: &mut Vec<(K, V)>);
+
+    /// Removes all pairs, and returns them.
+    fn take_all(&mut self) -> Vec<(K, V)>;
 }
 
 /// A shard, on cache lines of its own.
@@ -80,6 +99,55 @@ impl<P, K, V> Shard<P, K, V> {
 
     fn state(&self) -> MutexGuard<'_, State<P, K, V>> {
         self.0.lock().unwrap_or_else(PoisonError::into_inner)
+    }
+}
+
+impl<P: Pairs<K, V>, K, V> Shard<P, K, V> {
+    /// Removes all pairs, and calls `gone` with each without the lock.
+    pub(super) fn clear(&self, gone: &mut impl FnMut(K, V)) {
+        let mut pairs = self.lock();
+        let outdated = pairs.outdate_all();
+        let left = pairs.take_all();
+        drop(pairs);
+        drop(outdated);
+        left.into_iter().for_each(|(key, value)| gone(key, value));
+    }
+
+    /// Removes the pairs for which `keep` returns false under the lock, and calls `gone` with each without it. What is
+    /// being made is outdated, since `keep` hasn't seen it.
+    pub(super) fn retain(
+        &self,
+        keep: &mut impl FnMut(&K, &V) -> bool,
+        gone: &mut impl FnMut(K, V),
+    ) {
+        // Before the lock, so that they are dropped after it if `keep` panics.
+        let mut left = Vec::new();
+        let outdated;
+        let mut pairs = self.lock();
+        outdated = pairs.outdate_all();
+        pairs.retain(keep, &mut left);
+        drop(pairs);
+        drop(outdated);
+        left.into_iter().for_each(|(key, value)| gone(key, value));
+    }
+
+    /// Returns clones of the pairs, which are made under the lock.
+    pub(super) fn pairs(&self) -> impl Iterator<Item = (K, V)>
+    where
+        K: Clone,
+        V: Clone,
+    {
+        // Before the lock, so that clones are dropped after it if another panics.
+        let (mut keys, mut values) = (Vec::new(), Vec::new());
+        let pairs = self.lock();
+        keys.reserve(pairs.len());
+        values.reserve(pairs.len());
+        pairs.visit(|key, value| {
+            keys.push(key.clone());
+            values.push(value.clone());
+        });
+        drop(pairs);
+        keys.into_iter().zip(values)
     }
 }
 

@@ -1,7 +1,6 @@
 //! What is divided among shards.
 
-use super::shard::Shard;
-use crate::slots::SPREAD;
+use super::shard::{Pairs, Shard};
 use crate::Refused;
 use std::boxed::Box;
 use std::ops::Deref;
@@ -12,12 +11,28 @@ const SHARDS: usize = 16;
 /// How many keys a shard is for at least, unless the number of shards is asked for.
 const SHARD_CAPACITY: usize = 64;
 
+/// Its products with hashes have high bits that are spread, and others than those by which a shard's index spreads them.
+const SPREAD: u64 = 0xD6E8_FEB8_6659_FD93;
+
 /// Shards, of which the high bits of a key's hash choose one.
 pub(super) struct Shards<P, K, V>(Box<[Shard<P, K, V>]>);
 
 /// Returns how many shards a cache has if no number is asked for.
 pub(super) fn usual_count(capacity: usize) -> usize {
     (capacity / SHARD_CAPACITY).clamp(1, SHARDS)
+}
+
+/// Returns how many shards a cache has if `small` of its slots are for new keys, which are young until `window` more were
+/// admitted: each shard has a part of each share.
+pub(super) fn count_for(capacity: usize, small: usize, window: usize) -> Result<usize, Refused> {
+    if capacity == 0 {
+        return Err(Refused::Capacity);
+    }
+    if small >= capacity || window > small || (small == 0) != (window == 0) {
+        return Err(Refused::Policy);
+    }
+    let most = if small == 0 { SHARDS } else { window };
+    Ok(usual_count(capacity).min(most).min(capacity - small))
 }
 
 /// Returns a part of a whole that is divided into parts, which differ by at most 1.
@@ -46,9 +61,25 @@ impl<P, K, V> Shards<P, K, V> {
 
     /// Returns the shard of the keys of a hash.
     pub(super) fn of(&self, hash: u64) -> &Shard<P, K, V> {
-        // As `slots::Name` does, so that a poor hasher does no harm.
         let spread = u128::from(hash.wrapping_mul(SPREAD));
         &self.0[((spread * self.0.len() as u128) >> 64) as usize]
+    }
+}
+
+impl<P: Pairs<K, V>, K, V> Shards<P, K, V> {
+    /// Returns how many pairs there are.
+    pub(super) fn pairs_len(&self) -> usize {
+        self.iter().map(|shard| shard.lock().len()).sum()
+    }
+
+    /// Removes the pair that would leave next from the shard that has most pairs, and returns it. If that has none any
+    /// more, one of the others loses one.
+    pub(super) fn evict(&self) -> Option<(K, V)> {
+        let lens = self.iter().map(|shard| shard.lock().len()).enumerate();
+        let (fullest, _) = lens.max_by_key(|(_, len)| *len)?;
+        let (before, from) = self.split_at(fullest);
+        let mut shards = from.iter().chain(before);
+        shards.find_map(|shard| shard.lock().evict())
     }
 }
 

@@ -1,18 +1,16 @@
 //! Pairs with weights, which threads share.
 
+mod keyed;
+
 use super::locked;
 use super::shard::Pairs;
-use super::shards::{part, usual_count, Shards};
+use super::shards::{count_for, part, usual_count, Shards};
 use crate::slots::Slots;
-use crate::store::hash_of;
-use crate::weights::{Stored, WeightedStore};
+use crate::weights::WeightedStore;
 use crate::{DefaultHashBuilder, Refused};
-use std::borrow::Borrow;
-use std::convert::Infallible;
 use std::fmt;
-use std::hash::{BuildHasher, Hash};
 use std::sync::Mutex;
-use std::vec::Vec;
+use std::vec::{self, Vec};
 
 /// A [`sync::Cache`](super::Cache) whose pairs have weights, of which the sum is limited too, as that of a
 /// [`WeightedCache`](crate::WeightedCache) is.
@@ -40,18 +38,48 @@ pub struct WeightedCache<K, V, W, S = DefaultHashBuilder> {
     shards: Shards<WeightedStore<K, V>, K, V>,
     weigher: W,
     hasher: S,
-    capacity: usize,
+    /// How many keys there are slots for.
+    made: usize,
+    /// How many of them there may be. Whoever changes it has this lock meanwhile.
+    capacity: Mutex<usize>,
     /// The most that the weights may be together. Whoever changes it has this lock meanwhile.
     max_weight: Mutex<u64>,
 }
 
-impl<K: Eq, V> Pairs<K, V> for WeightedStore<K, V> {
-    fn find(&mut self, hash: u64, key: &K) -> Option<&V> {
+impl<K, V> Pairs<K, V> for WeightedStore<K, V> {
+    fn find(&mut self, hash: u64, key: &K) -> Option<&V>
+    where
+        K: Eq,
+    {
         WeightedStore::find(self, hash, key)
     }
 
-    fn peek(&self, hash: u64, key: &K) -> Option<&V> {
+    fn peek(&self, hash: u64, key: &K) -> Option<&V>
+    where
+        K: Eq,
+    {
         WeightedStore::peek(self, hash, key)
+    }
+
+    fn len(&self) -> usize {
+        self.pairs.len()
+    }
+
+    fn evict(&mut self) -> Option<(K, V)> {
+        WeightedStore::evict(self)
+    }
+
+    fn visit(&self, mut see: impl FnMut(&K, &V)) {
+        let pairs = self.pairs.entries.iter();
+        pairs.for_each(|(key, held)| see(key, &held.value));
+    }
+
+    fn retain(&mut self, keep: impl FnMut(&K, &V) -> bool, left: &mut Vec<(K, V)>) {
+        WeightedStore::retain(self, keep, |pair| left.push(pair));
+    }
+
+    fn take_all(&mut self) -> Vec<(K, V)> {
+        WeightedStore::take_all(self)
     }
 }
 
@@ -64,6 +92,30 @@ impl<K, V, W: Fn(&K, &V) -> u64> WeightedCache<K, V, W> {
     /// [`Refused::Capacity`] and [`Refused::Memory`].
     pub fn new(capacity: usize, max_weight: u64, weigher: W) -> Result<Self, Refused> {
         WeightedCache::with_hasher(capacity, max_weight, weigher, DefaultHashBuilder::default())
+    }
+
+    /// Makes a cache with the shares of [`sync::Cache::with_policy`](super::Cache::with_policy).
+    ///
+    /// # Errors
+    ///
+    /// Those of [`sync::Cache::with_policy`](super::Cache::with_policy).
+    pub fn with_policy(
+        capacity: usize,
+        small: usize,
+        window: usize,
+        max_weight: u64,
+        weigher: W,
+    ) -> Result<Self, Refused> {
+        let hasher = DefaultHashBuilder::default();
+        let shards = count_for(capacity, small, window)?;
+        let shards = Shards::new(capacity, shards, |at, count| {
+            let of = |whole| part(whole as u64, at, count) as usize;
+            let slots = Slots::with_policy(of(capacity), of(small), of(window))?;
+            WeightedStore::new(slots, part(max_weight, at, count))
+        })?;
+        Ok(WeightedCache::of(
+            shards, weigher, hasher, capacity, max_weight,
+        ))
     }
 }
 
@@ -100,23 +152,33 @@ impl<K, V, W: Fn(&K, &V) -> u64, S> WeightedCache<K, V, W, S> {
             let slots = Slots::new(part(capacity as u64, at, count) as usize)?;
             WeightedStore::new(slots, part(max_weight, at, count))
         })?;
-        Ok(WeightedCache {
-            shards,
-            weigher,
-            hasher,
-            capacity,
-            max_weight: Mutex::new(max_weight),
-        })
+        Ok(WeightedCache::of(
+            shards, weigher, hasher, capacity, max_weight,
+        ))
     }
 }
 
 impl<K, V, W, S> WeightedCache<K, V, W, S> {
+    fn of(
+        shards: Shards<WeightedStore<K, V>, K, V>,
+        weigher: W,
+        hasher: S,
+        capacity: usize,
+        max_weight: u64,
+    ) -> Self {
+        WeightedCache {
+            shards,
+            weigher,
+            hasher,
+            made: capacity,
+            capacity: Mutex::new(capacity),
+            max_weight: Mutex::new(max_weight),
+        }
+    }
+
     /// Returns how many pairs there are.
     pub fn len(&self) -> usize {
-        self.shards
-            .iter()
-            .map(|shard| shard.lock().pairs.len())
-            .sum()
+        self.shards.pairs_len()
     }
 
     /// Returns true if there is no pair.
@@ -124,9 +186,32 @@ impl<K, V, W, S> WeightedCache<K, V, W, S> {
         self.len() == 0
     }
 
-    /// Returns how many pairs there can be, whatever their weights.
+    /// Returns how many pairs there can be, whatever their weights: as many as asked for last, when the cache was made
+    /// or [resized](WeightedCache::resize).
     pub fn capacity(&self) -> usize {
-        self.capacity
+        *locked(&self.capacity)
+    }
+
+    /// Has the cache hold `capacity` pairs at most, as [`sync::Cache::resize`](super::Cache::resize) does.
+    ///
+    /// # Errors
+    ///
+    /// Those of [`sync::Cache::resize`](super::Cache::resize).
+    pub fn resize(&self, capacity: usize) -> Result<(), Refused> {
+        let count = self.shards.len();
+        if capacity < count || capacity > self.made {
+            return Err(Refused::Capacity);
+        }
+        let mut left = Vec::new();
+        let mut present = locked(&self.capacity);
+        for (at, shard) in self.shards.iter().enumerate() {
+            let limit = part(capacity as u64, at, count) as usize;
+            left.extend(shard.lock().resize(limit)?);
+        }
+        *present = capacity;
+        drop(present);
+        drop(left);
+        Ok(())
     }
 
     /// Returns how many shards there are.
@@ -180,148 +265,50 @@ impl<K, V, W, S> WeightedCache<K, V, W, S> {
         &self.hasher
     }
 
+    /// Removes the pair that would have to leave next from the shard that has most pairs, and returns it; nothing if no
+    /// shard has one.
+    pub fn evict(&self) -> Option<(K, V)> {
+        self.shards.evict()
+    }
+
     /// Removes all pairs, and forgets those that left. Those of each shard are kept in a vector until it has none.
     pub fn clear(&self) {
-        for shard in self.shards.iter() {
-            let mut store = shard.lock();
-            let gone = (store.outdate_all(), store.take_all());
-            drop(store);
-            drop(gone);
-        }
+        self.clear_with(|key, value| drop((key, value)));
     }
-}
 
-impl<K: Hash + Eq, V, W, S: BuildHasher> WeightedCache<K, V, W, S> {
-    /// Returns a clone of the value of a key, after a hit.
-    pub fn get<Q>(&self, key: &Q) -> Option<V>
+    fn clear_with(&self, mut gone: impl FnMut(K, V)) {
+        self.shards.iter().for_each(|shard| shard.clear(&mut gone));
+    }
+
+    /// Removes all pairs, forgets those that left, and returns the pairs, in any order.
+    pub fn drain(&self) -> vec::IntoIter<(K, V)> {
+        let mut left = Vec::new();
+        self.clear_with(|key, value| left.push((key, value)));
+        left.into_iter()
+    }
+
+    /// Removes the pairs for which `keep` returns false, as [`sync::Cache::retain`](super::Cache::retain) does.
+    pub fn retain(&self, mut keep: impl FnMut(&K, &V) -> bool) {
+        let mut gone = |key, value| drop((key, value));
+        self.shards
+            .iter()
+            .for_each(|shard| shard.retain(&mut keep, &mut gone));
+    }
+
+    /// Calls `see` with each pair, shard by shard, each under its lock, in any order. It records no hit.
+    pub fn for_each(&self, mut see: impl FnMut(&K, &V)) {
+        self.shards
+            .iter()
+            .for_each(|shard| shard.lock().visit(&mut see));
+    }
+
+    /// Returns clones of the pairs, as [`sync::Cache::iter`](super::Cache::iter) does.
+    pub fn iter(&self) -> impl Iterator<Item = (K, V)> + '_
     where
-        K: Borrow<Q>,
-        Q: Hash + Eq + ?Sized,
+        K: Clone,
         V: Clone,
     {
-        self.get_with(key, V::clone)
-    }
-
-    /// Returns what `read` makes of the value of a key, after a hit.
-    pub fn get_with<Q, R>(&self, key: &Q, read: impl FnOnce(&V) -> R) -> Option<R>
-    where
-        K: Borrow<Q>,
-        Q: Hash + Eq + ?Sized,
-    {
-        let hash = hash_of(&self.hasher, key);
-        self.shards.of(hash).lock().find(hash, key).map(read)
-    }
-
-    /// Returns true if the key is here. It records no hit.
-    pub fn contains_key<Q>(&self, key: &Q) -> bool
-    where
-        K: Borrow<Q>,
-        Q: Hash + Eq + ?Sized,
-    {
-        let hash = hash_of(&self.hasher, key);
-        self.shards.of(hash).lock().peek(hash, key).is_some()
-    }
-
-    /// Removes a key, and returns its value. A key that isn't here is forgotten.
-    pub fn remove<Q>(&self, key: &Q) -> Option<V>
-    where
-        K: Borrow<Q>,
-        Q: Hash + Eq + ?Sized,
-    {
-        let hash = hash_of(&self.hasher, key);
-        let mut store = self.shards.of(hash).lock();
-        let found = store.slot(hash, key);
-        let outdated = store.outdate(hash, key);
-        let removed = store.remove_found(found, hash);
-        drop(store);
-        drop(outdated);
-        removed.map(|(_, value)| value)
-    }
-}
-
-impl<K: Hash + Eq, V, W: Fn(&K, &V) -> u64, S: BuildHasher> WeightedCache<K, V, W, S> {
-    /// Stores a value for a key, and returns the one before, if the key was here and didn't have to leave for its own
-    /// new value. The pairs that leave are dropped.
-    ///
-    /// # Errors
-    ///
-    /// The pair, if it is heavier than its shard's share of [`max_weight`](WeightedCache::max_weight). The cache is
-    /// as it was.
-    pub fn insert(&self, key: K, value: V) -> Result<Option<V>, (K, V)> {
-        let stored = self.store_pair(key, value)?;
-        Ok(stored.before.map(|(_, value)| value))
-    }
-
-    /// Stores a value for a key, and returns the pairs that left for it, and last `key` and its value before, if it
-    /// was here and still is.
-    ///
-    /// # Errors
-    ///
-    /// Those of [`insert`](WeightedCache::insert).
-    pub fn push(&self, key: K, value: V) -> Result<Vec<(K, V)>, (K, V)> {
-        Ok(self.store_pair(key, value)?.into_pairs())
-    }
-
-    fn store_pair(&self, key: K, value: V) -> Result<Stored<K, V>, (K, V)> {
-        let weight = (self.weigher)(&key, &value);
-        let hash = hash_of(&self.hasher, &key);
-        let mut store = self.shards.of(hash).lock();
-        if weight > store.max_weight {
-            return Err((key, value));
-        }
-        // `Eq` may panic in these two, while the lock is dropped before what this thread owns.
-        let found = store.slot(hash, &key);
-        let outdated = store.outdate(hash, &key);
-        let stored = store.push_at(found, hash, (key, value), weight);
-        drop(store);
-        drop(outdated);
-        stored
-    }
-
-    /// Returns a clone of the value of a key, after a hit or after storing what `make` returns, if that isn't too
-    /// heavy. If several threads ask for a key at once, one of them makes the value, which the others wait for. If the
-    /// key is inserted or removed meanwhile, or all are, the value is returned to all of these, but not stored.
-    ///
-    /// `make` may use this cache, but not ask for this key, or wait for a thread that does.
-    ///
-    /// # Panics
-    ///
-    /// If `make` asks for this key. If `make` panics, the next of those that wait makes the value.
-    pub fn get_or_insert_with(&self, key: K, make: impl FnOnce() -> V) -> V
-    where
-        V: Clone,
-    {
-        match self.try_get_or_insert_with(key, || Ok::<V, Infallible>(make())) {
-            Ok(value) => value,
-            Err(never) => match never {},
-        }
-    }
-
-    /// Does what [`get_or_insert_with`](WeightedCache::get_or_insert_with) does, with a `make` that may fail.
-    ///
-    /// # Errors
-    ///
-    /// That of `make`. Nothing is stored, and the next of those that wait makes the value.
-    ///
-    /// # Panics
-    ///
-    /// If `make` asks for this key.
-    pub fn try_get_or_insert_with<E>(
-        &self,
-        key: K,
-        make: impl FnOnce() -> Result<V, E>,
-    ) -> Result<V, E>
-    where
-        V: Clone,
-    {
-        let hash = hash_of(&self.hasher, &key);
-        let push = |store: &mut WeightedStore<K, V>, pair: &mut Option<(K, V)>| {
-            let (key, value) = pair.as_ref()?;
-            let weight = (self.weigher)(key, value);
-            let found = store.slot(hash, key);
-            Some(store.push_at(found, hash, pair.take()?, weight))
-        };
-        self.shards.of(hash).value_or_make(hash, key, make, push)
+        self.shards.iter().flat_map(|shard| shard.pairs())
     }
 }
 

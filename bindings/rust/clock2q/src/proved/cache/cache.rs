@@ -66,7 +66,7 @@ pub type DefaultHashBuilder = BuildHasherDefault<FoldHasher>;
 pub struct Cache<K: Hash + Eq, V, S: BuildHasher = DefaultHashBuilder, A: Allocator = Global> {
     shares: Shares,
     queues: Queues<A>,
-    directory: Directory<K, V, A>,
+    pub(crate) directory: Directory<K, V, A>,
     free: Vec<u32, A>,
     hasher: S,
 }
@@ -236,7 +236,7 @@ impl<K: Hash + Eq, V, S: BuildHasher, A: Allocator> Cache<K, V, S, A> {
 
     /// Records a hit on the key that is resident at a slot.
     #[inline]
-    fn record_hit(&mut self, resident: u32, key: &K) {
+    pub(crate) fn record_hit(&mut self, resident: u32, key: &K) {
         let _ = key;
         self.queues.hit(resident);
     }

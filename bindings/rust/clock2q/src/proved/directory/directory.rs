@@ -33,9 +33,9 @@ use crate::proved::rattle::{AllocError, Allocator, Global};
 /// # Ok::<(), Box<dyn std::error::Error>>(())
 /// ```
 pub struct Directory<K: Eq, V, A: Allocator = Global> {
-    index: Index<A>,
+    pub(crate) index: Index<A>,
     order: Order<A>,
-    remembered: Keys<K, (), A>,
+    pub(crate) remembered: Keys<K, (), A>,
     residents: Keys<K, V, A>,
 }
 

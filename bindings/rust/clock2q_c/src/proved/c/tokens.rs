@@ -21,5 +21,8 @@ pub use calls::{
 pub use evicting::clock2q_tokens_evict;
 pub use given::GivenHash;
 pub use handle::TokensHandle;
-pub use making::{clock2q_tokens_new, clock2q_tokens_release, clock2q_tokens_with_policy};
+pub use making::{
+    clock2q_tokens_new, clock2q_tokens_release, clock2q_tokens_with_history,
+    clock2q_tokens_with_policy,
+};
 pub use token::Token;

@@ -126,7 +126,7 @@ impl<K: Eq, V, A: Allocator> Directory<K, V, A> {
 
 /// Writes a key to a place at the front: to a free one, or, if every place has a key, to the oldest
 /// key's. Then it also returns the hash of that key, which the index still has.
-#[inline]
+#[inline(always)]
 fn put_key<K, A: Allocator>(
     index: &Index<A>,
     order: &mut Order<A>,

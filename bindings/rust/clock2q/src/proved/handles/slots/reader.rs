@@ -22,7 +22,7 @@ impl<'a, H: Copy + Default> Reader<'a, H> {
         Reader {
             metadata,
             handles,
-            mask,
+            mask: metadata.len().wrapping_sub(1),
             reads: Count::new(),
             handle_reads: Count::new(),
         }

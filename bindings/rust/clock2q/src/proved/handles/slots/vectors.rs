@@ -80,14 +80,14 @@ impl<H: Copy + Default, A: Allocator> Slots<H, A> {
     /// Returns the home slot of a hash, if there are slots.
     #[inline]
     pub(crate) fn home(&self, hash: u64) -> usize {
-        hash as usize & self.mask
+        hash as usize & self.metadata.len().wrapping_sub(1)
     }
 
     /// Returns the slot after `slot`: slot 0 after the last.
     #[inline]
     pub(crate) fn after(&self, slot: usize) -> usize {
         let _ = self.metadata.len(); // which bounds the sum
-        (slot + 1) & self.mask
+        (slot + 1) & self.metadata.len().wrapping_sub(1)
     }
 
     /// Reads the metadata of a slot, and counts the read.
@@ -116,7 +116,7 @@ impl<H: Copy + Default, A: Allocator> Slots<H, A> {
         let metadata = self.metadata.as_mut_slice();
         let handles = self.handles.as_mut_slice();
         let writes = &mut self.writes;
-        let mask = self.mask;
+        let mask = metadata.len().wrapping_sub(1);
         let mut slot = gap.slot;
         let mut word = gap.wanted.metadata();
         let mut handle = handle;
@@ -142,7 +142,7 @@ impl<H: Copy + Default, A: Allocator> Slots<H, A> {
         let metadata = self.metadata.as_mut_slice();
         let handles = self.handles.as_mut_slice();
         let writes = &mut self.writes;
-        let mask = self.mask;
+        let mask = metadata.len().wrapping_sub(1);
         let mut hole = slot;
         loop {
             let next = after(hole, mask);

@@ -62,6 +62,33 @@ pub extern "C" fn clock2q_tokens_with_policy(
     }
 }
 
+/// Makes a cache as [`clock2q_tokens_with_policy`] does, whose history remembers up to `history` evicted
+/// keys in place of half the capacity.
+///
+/// Returns what [`clock2q_tokens_with_policy`] does, and [`BAD_POLICY`] if `history` is more than the
+/// capacity too.
+///
+/// # Cost
+///
+/// That of [`clock2q_tokens_new`], with room for `history` evicted keys.
+#[no_mangle]
+pub extern "C" fn clock2q_tokens_with_history(
+    handle: &mut TokensHandle,
+    capacity: usize,
+    small: usize,
+    window: usize,
+    history: usize,
+) -> u32 {
+    let alloc = Global;
+    match boxed_remembering(alloc, capacity, small, window, history) {
+        Ok(cache) => {
+            put(handle, cache);
+            DONE
+        }
+        Err(refusal) => status_of(refusal),
+    }
+}
+
 /// Frees a cache with all its memory, and consumes the handle.
 #[no_mangle]
 pub extern "C" fn clock2q_tokens_release(handle: TokensHandle) {
@@ -106,6 +133,29 @@ pub(crate) fn boxed_with<A: Allocator + Copy>(
     in_box(
         alloc,
         Cache::with_policy(alloc, capacity, small, window, hasher)?,
+    )
+}
+
+/// Makes a cache with these shares and this history on the heap.
+///
+/// # Errors
+///
+/// Those of [`boxed_with`].
+#[inline]
+pub(crate) fn boxed_remembering<A: Allocator + Copy>(
+    alloc: A,
+    capacity: usize,
+    small: usize,
+    window: usize,
+    history: usize,
+) -> Result<Box<HeldTokens<A>, A>, CacheError> {
+    let Some(capacity) = NonZeroUsize::new(capacity) else {
+        return Err(CacheError::Capacity);
+    };
+    let hasher = BuildHasherDefault::default();
+    in_box(
+        alloc,
+        Cache::with_history(alloc, capacity, small, window, history, hasher)?,
     )
 }
 
