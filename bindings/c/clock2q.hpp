@@ -37,10 +37,12 @@
 
 namespace clock2q {
 
-// How many slots are for new keys, each of which is young until `window` more were admitted.
+// How many slots are for new keys, each of which is young until `window` more were admitted, and how many keys
+// that were evicted are remembered: half the capacity if it isn't said.
 struct policy {
     std::size_t small;
     std::size_t window;
+    std::optional<std::size_t> history = std::nullopt;
 };
 
 // Why an entry left a cache: for another, or by `evict` or `resize`; for another value of its key; by `erase` or
@@ -93,7 +95,9 @@ class page_cache {
   public:
     explicit page_cache(std::size_t capacity) : capacity_(capacity) { detail::check(clock2q_new(&handle_, capacity)); }
     page_cache(std::size_t capacity, policy shares) : capacity_(capacity) {
-        detail::check(clock2q_with_policy(&handle_, capacity, shares.small, shares.window));
+        detail::check(shares.history
+                          ? clock2q_with_history(&handle_, capacity, shares.small, shares.window, *shares.history)
+                          : clock2q_with_policy(&handle_, capacity, shares.small, shares.window));
     }
     page_cache(page_cache &&other) noexcept { swap(other); }
     page_cache &operator=(page_cache &&other) noexcept {
@@ -152,7 +156,10 @@ class token_cache {
         detail::check(clock2q_tokens_new(&handle_, capacity));
     }
     token_cache(std::size_t capacity, policy shares) : capacity_(capacity) {
-        detail::check(clock2q_tokens_with_policy(&handle_, capacity, shares.small, shares.window));
+        detail::check(
+            shares.history
+                ? clock2q_tokens_with_history(&handle_, capacity, shares.small, shares.window, *shares.history)
+                : clock2q_tokens_with_policy(&handle_, capacity, shares.small, shares.window));
     }
     token_cache(token_cache &&other) noexcept { swap(other); }
     token_cache &operator=(token_cache &&other) noexcept {

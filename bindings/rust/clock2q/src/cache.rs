@@ -89,6 +89,25 @@ impl<K, V> Cache<K, V> {
     ) -> Result<Cache<K, V>, Refused> {
         Cache::with_policy_and_hasher(capacity, small, window, DefaultHashBuilder::default())
     }
+
+    /// Makes a cache with the shares of [`with_policy`](Cache::with_policy) that remembers up to `history` evicted
+    /// keys, by their hashes, in place of half the capacity. If they are `capacity - small`, a full cache admits
+    /// every loop of new keys that fits beside the keys that were hit.
+    ///
+    /// # Errors
+    ///
+    /// Those of [`with_policy`](Cache::with_policy), and [`Refused::Policy`] unless `history <= capacity`.
+    pub fn with_history(
+        capacity: usize,
+        small: usize,
+        window: usize,
+        history: usize,
+    ) -> Result<Cache<K, V>, Refused> {
+        Ok(Cache {
+            store: Store::new(Slots::with_history(capacity, small, window, history)?)?,
+            hasher: DefaultHashBuilder::default(),
+        })
+    }
 }
 
 impl<K, V, S> Cache<K, V, S> {

@@ -72,6 +72,24 @@ impl PageCache {
         Ok(PageCache { cache })
     }
 
+    /// Makes a cache with the shares of [`with_policy`](PageCache::with_policy) that remembers up to `history`
+    /// evicted keys in place of half the capacity.
+    ///
+    /// # Errors
+    ///
+    /// Those of [`with_policy`](PageCache::with_policy), and [`Refused::Policy`] unless `history <= capacity`.
+    pub fn with_history(
+        capacity: usize,
+        small: usize,
+        window: usize,
+        history: usize,
+    ) -> Result<PageCache, Refused> {
+        let hasher = DefaultHashBuilder::default();
+        let capacity = some(capacity)?;
+        let cache = Cache::with_history(Global, capacity, small, window, history, hasher)?;
+        Ok(PageCache { cache })
+    }
+
     /// Returns the slot of a key, after a hit or after giving it one that another key may lose.
     pub fn enter(&mut self, key: u64) -> Place {
         let (slot, occupant) = self.cache.put_slot(key, ());

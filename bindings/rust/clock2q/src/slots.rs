@@ -22,8 +22,17 @@ fn spread(hash: u64) -> u64 {
 /// key of a slot by looking at what they keep there, and a key that left is known by its hash.
 pub(crate) struct Slots {
     cache: Cache<(), ()>,
-    /// How many slots are for new keys, and how many admissions they are young for, if not the usual.
-    shares: Option<(usize, usize)>,
+    /// Those that were asked for, if any.
+    shares: Option<Shares>,
+}
+
+/// How many slots are for new keys, for how many admissions each is young, and how many keys that were evicted are
+/// remembered, if not half as many as there are slots.
+#[derive(Clone, Copy)]
+struct Shares {
+    small: usize,
+    window: usize,
+    history: Option<usize>,
 }
 
 /// Returns a capacity that isn't 0.
@@ -44,17 +53,53 @@ impl Slots {
         small: usize,
         window: usize,
     ) -> Result<Slots, Refused> {
+        Slots::with_shares(
+            capacity,
+            Shares {
+                small,
+                window,
+                history: None,
+            },
+        )
+    }
+
+    pub(crate) fn with_history(
+        capacity: usize,
+        small: usize,
+        window: usize,
+        history: usize,
+    ) -> Result<Slots, Refused> {
+        Slots::with_shares(
+            capacity,
+            Shares {
+                small,
+                window,
+                history: Some(history),
+            },
+        )
+    }
+
+    fn with_shares(capacity: usize, shares: Shares) -> Result<Slots, Refused> {
+        let Shares {
+            small,
+            window,
+            history,
+        } = shares;
+        let some = some(capacity)?;
         let hasher = DefaultHashBuilder::default();
         Ok(Slots {
-            cache: Cache::with_policy(Global, some(capacity)?, small, window, hasher)?,
-            shares: Some((small, window)),
+            cache: match history {
+                Some(history) => Cache::with_history(Global, some, small, window, history, hasher)?,
+                None => Cache::with_policy(Global, some, small, window, hasher)?,
+            },
+            shares: Some(shares),
         })
     }
 
     /// Makes one of this capacity and these shares, in which no key has a slot.
     pub(crate) fn empty_one(&self) -> Result<Slots, Refused> {
         match self.shares {
-            Some((small, window)) => Slots::with_policy(self.capacity(), small, window),
+            Some(shares) => Slots::with_shares(self.capacity(), shares),
             None => Slots::new(self.capacity()),
         }
     }

@@ -308,6 +308,27 @@ fn pairs_are_pushed_in_turn() {
         .all(|(key, value)| *value == key * 2 + 1));
 }
 
+/// A full cache never hits a loop that is longer than Small and the history, and one that isn't from the third round on.
+#[test]
+fn a_longer_history_admits_a_longer_loop() {
+    fn hits(mut cache: Cache<u64, ()>) -> usize {
+        cache.extend((0..20).map(|key| (key, ())));
+        let mut rounds = (0..4).map(|_| {
+            (20..40)
+                .filter(|key| cache.insert(*key, ()).is_some())
+                .count()
+        });
+        rounds.nth(3).expect("four rounds")
+    }
+    assert_eq!(hits(Cache::with_policy(20, 2, 1).expect("a cache")), 0);
+    assert_eq!(
+        hits(Cache::with_history(20, 2, 1, 18).expect("a cache")),
+        20
+    );
+    let copy = Cache::with_history(20, 2, 1, 18).expect("a cache").clone();
+    assert_eq!(hits(copy), 20);
+}
+
 #[test]
 fn refusals() {
     fn refused(made: Result<Cache<u64, u64>, Refused>) -> Option<Refused> {
@@ -323,6 +344,11 @@ fn refusals() {
         Some(Refused::Policy)
     );
     assert_eq!(refused(Cache::with_policy(10, 0, 0)), None);
+    assert_eq!(
+        refused(Cache::with_history(10, 2, 1, 11)),
+        Some(Refused::Policy)
+    );
+    assert_eq!(refused(Cache::with_history(10, 2, 1, 10)), None);
     let huge = Cache::<[u8; 1 << 25], ()>::new(MAX_CAPACITY);
     assert_eq!(huge.err(), Some(Refused::Memory));
 }
