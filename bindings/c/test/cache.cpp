@@ -624,6 +624,7 @@ static void refusals() {
     must_throw<invalid_argument>([] { cache<int, int> none(CLOCK2Q_MAX_CAPACITY + 1); }, "capacity too large");
     must_throw<invalid_argument>([] { page_cache none(10, {2, 3}); }, "a window longer than Small");
     must_throw<invalid_argument>([] { cache<int, int> none(10, {10, 1}); }, "no slot for Main");
+    must_throw<invalid_argument>([] { page_cache none(10, {2, 1, 11}); }, "a history longer than the cache");
     const clock2q_memory memory = {no_memory, std::free};
     clock2q_use_memory(&memory);
     must_throw<std::bad_alloc>([] { page_cache none(10); }, "no memory");

@@ -93,6 +93,24 @@ static void larger_is_useful() {
     must(10 * tried.hits() > 9 * large.hits(), "a larger cache is useful");
 }
 
+// A full cache never hits a loop that is longer than Small and the history, and one that isn't from the third round on.
+static void longer_history_admits_a_longer_loop() {
+    auto last_hits = [](cache<int, int> tried) {
+        for (int key = 0; key < 20; key++) tried.put(key, key);
+        int hits = 0;
+        for (int round = 0; round < 4; round++) {
+            hits = 0;
+            for (int key = 20; key < 40; key++) {
+                hits += tried.contains(key) ? 1 : 0;
+                tried.put(key, key);
+            }
+        }
+        return hits;
+    };
+    must(last_hits(cache<int, int>(20, clock2q::policy{2, 1})) == 0, "never admitted");
+    must(last_hits(cache<int, int>(20, clock2q::policy{2, 1, 18})) == 20, "admitted");
+}
+
 // It hits as often as a cache that was made as small, by nine tenths.
 static void smaller_is_useful() {
     cache<std::uint64_t, int> small(100), tried(1000);
@@ -210,6 +228,7 @@ int main(int, char **arguments) {
     }
     smaller_is_useful();
     larger_is_useful();
+    longer_history_admits_a_longer_loop();
     few_leave();
     weighers();
     return failed;

@@ -103,10 +103,8 @@ impl<K, V> Cache<K, V> {
         window: usize,
         history: usize,
     ) -> Result<Cache<K, V>, Refused> {
-        Ok(Cache {
-            store: Store::new(Slots::with_history(capacity, small, window, history)?)?,
-            hasher: DefaultHashBuilder::default(),
-        })
+        let hasher = DefaultHashBuilder::default();
+        Cache::with_history_and_hasher(capacity, small, window, history, hasher)
     }
 }
 
@@ -136,6 +134,24 @@ impl<K, V, S> Cache<K, V, S> {
     ) -> Result<Cache<K, V, S>, Refused> {
         Ok(Cache {
             store: Store::new(Slots::with_policy(capacity, small, window)?)?,
+            hasher,
+        })
+    }
+
+    /// Makes a cache with the history of [`with_history`](Cache::with_history) and a hasher.
+    ///
+    /// # Errors
+    ///
+    /// Those of [`with_history`](Cache::with_history).
+    pub fn with_history_and_hasher(
+        capacity: usize,
+        small: usize,
+        window: usize,
+        history: usize,
+        hasher: S,
+    ) -> Result<Cache<K, V, S>, Refused> {
+        Ok(Cache {
+            store: Store::new(Slots::with_history(capacity, small, window, history)?)?,
             hasher,
         })
     }
