@@ -56,7 +56,7 @@ module _ {hashes : ℕ} {h : Remembered ℕ} {r : KeyPlaces ℕ (Unit {0})} (k :
   fits = record { room = omega (arith, k.indexed.counted, k.room); few = omega (arith, k.indexed.counted, k.few) }
 
   -- a key is written to the first place, and takes slot 0
-  module _ (hash key : ℕ) {b : Bool} (base : IndexState) (h' : Remembered ℕ) (r' : KeyPlaces ℕ (Unit {0})) (wrote : r'.entries ≡ written 0 (entry hash key tt) r.entries) (room : r'.room ≡ r.room)
+  module _ (hash key : ℕ) (b : Bool) (base : IndexState) (h' : Remembered ℕ) (r' : KeyPlaces ℕ (Unit {0})) (wrote : r'.entries ≡ written 0 (entry hash key tt) r.entries) (room : r'.room ≡ r.room)
       (added : h' ≡ record h { places = record h.places { index = entered_from base b hash 0 h.places.index } }) where
     now : slots h'.places.index ≡ with_handle (slots h.places.index) hash 0
     now = ap (λ (z : Remembered ℕ). slots z.places.index) added ∙ slots-entered h.places.index hash 0 (omega arith)
@@ -226,14 +226,14 @@ remembered-resident {key} {other} {hashes} {b} {d} {h'} {r'} k m w room =
     let alone : IsAlone hashes h1 d.residents = left-alone k h1 d.residents oldest hashed refl (ap (λ (z : Remembered ℕ). z.limit) m.becomes) refl refl in
     let places : h'.places ≡ record pushed { index = entered_from d.history.places.index b (other % hashes) 0 pushed.index } =
     m.places ∙ ap (λ x. let p = pushed_places d.history.limit x 0 oldest d.history.places in record p { index = entered_from d.history.places.index b (other % hashes) 0 p.index }) hash_is in
-    entered-resident alone (other % hashes) other d.history.places.index h' r' w.becomes room (ap (λ (z : Places). record h' { places = z }) places) refl
+    entered-resident alone (other % hashes) other b d.history.places.index h' r' w.becomes room (ap (λ (z : Places). record h' { places = z }) places) refl
 
 -- and if it is not remembered
-pub renewed-resident : {key other hashes x : ℕ} {b : Bool} {d : Known ℕ (Unit {0})} {h' : Remembered ℕ} {r' : KeyPlaces ℕ (Unit {0})} → HasResident key hashes d.history d.residents
+pub renewed-resident : {key other hashes x : ℕ} (b : Bool) {d : Known ℕ (Unit {0})} {h' : Remembered ℕ} {r' : KeyPlaces ℕ (Unit {0})} → HasResident key hashes d.history d.residents
     → hash_at d.residents.entries 0 ≡ Some x → h' ≡ record d.history { places = record d.history.places { index = entered_from d.history.places.index b (other % hashes) 0 (left x 0 d.history.places.index) } }
     → {value : Option (Unit {0})} → Writes (other % hashes) other value 0 d.residents.entries r'.entries → r'.room ≡ d.residents.room → HasResident other hashes h' r'
-renewed-resident {key} {other} {hashes} {x} {b} {d} {h'} {r'} k at is w room =
+renewed-resident {key} {other} {hashes} {x} b {d} {h'} {r'} k at is w room =
     let h = d.history in
     let h1 : Remembered ℕ = record h { places = record h.places { index = left (key % hashes) 0 h.places.index } } in
-    entered-resident (withdrawn-alone k h1 refl) (other % hashes) other h.places.index h' r' w.becomes room
+    entered-resident (withdrawn-alone k h1 refl) (other % hashes) other b h.places.index h' r' w.becomes room
     (is ∙ ap (λ z. record h { places = record h.places { index = entered_from h.places.index b (other % hashes) 0 (left z 0 h.places.index) } }) (same_hash k at)) refl

@@ -11,7 +11,7 @@ enter-requires g c =
 
 pub returns-clause-resident : goal.returns-clause-resident
 returns-clause-resident g c =
-    entered-resident c.requires.alone (c.args.key % c.args.hashes) c.args.key c.args.directory.now.history.places.index c.enter.new.self.history c.enter.new.self.residents
+    entered-resident c.requires.alone (c.args.key % c.args.hashes) c.args.key _ c.args.directory.now.history.places.index c.enter.new.self.history c.enter.new.self.residents
     c.enter.ensures.entries.becomes (ap (λ (z : KeyPlaces ℕ (Unit {0})). z.room) c.enter.ensures.kept) c.enter.ensures.index refl
 
 pub returns-clause-remembered : goal.returns-clause-remembered

@@ -33,4 +33,4 @@ returns g c =
     let f = c.lookup.ensures in
     let r = c.renew.ensures in
     let k = kept_resident (nobody % c.args.hashes) c.requires.resident f.kept f.residents in
-    record { resident = renewed-resident k r.hash r.index r.entries (ap (λ (z : KeyPlaces ℕ (Unit {0})). z.room) r.kept) }
+    record { resident = renewed-resident _ k r.hash r.index r.entries (ap (λ (z : KeyPlaces ℕ (Unit {0})). z.room) r.kept) }
