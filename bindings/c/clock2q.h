@@ -99,8 +99,8 @@ uint32_t clock2q_new(clock2q_cache *cache, size_t capacity);
 uint32_t clock2q_with_policy(clock2q_cache *cache, size_t capacity, size_t small, size_t window);
 
 /* Makes a cache as clock2q_with_policy does, which remembers up to `history` evicted keys in place of
- * half the capacity: with capacity - small of them a full cache admits every loop of new keys that
- * fits. CLOCK2Q_BAD_POLICY also if history > capacity. */
+ * half the capacity: with capacity - small of them a full cache admits every loop of new keys that fits
+ * beside the keys that were hit. CLOCK2Q_BAD_POLICY also if history > capacity. */
 uint32_t clock2q_with_history(clock2q_cache *cache, size_t capacity, size_t small, size_t window,
                               size_t history);
 
