@@ -65,6 +65,44 @@ make_parts() {
     start_ci 1 formats
 }
 
+@test "formats names public items without a comment" {
+    make_kit
+    printf '/// Of a type.\n#[derive(Copy)]\npub struct Known {\n}\n\npub(crate) fn inner() {\n}\n' >"$copy/crates/low/src/items.rt"
+    start_ci 0 formats
+    printf '\n#[inline]\npub fn unknown() {\n}\n' >>"$copy/crates/low/src/items.rt"
+    start_ci 1 formats
+    [ "$output" = 'crates/low/src/items.rt: unknown is public and has no comment' ]
+}
+
+@test "formats names functions of the library with over 40 lines or two loops" {
+    make_kit
+    function_of 40 1 >"$copy/crates/clock2q_count/src/sizes.rt"
+    start_ci 0 formats
+    function_of 41 1 >"$copy/crates/clock2q_count/src/sizes.rt"
+    start_ci 1 formats
+    [ "$output" = 'crates/clock2q_count/src/sizes.rt: sized has 41 lines, and not 40 at most' ]
+    function_of 40 2 >"$copy/crates/clock2q_count/src/sizes.rt"
+    start_ci 1 formats
+    [ "$output" = 'crates/clock2q_count/src/sizes.rt: sized has more than one loop' ]
+    mv "$copy/crates/clock2q_count/src/sizes.rt" "$copy/crates/low/src"
+    start_ci 0 formats
+}
+function_of() {
+    printf 'fn sized()\n    ensures {\n        true\n    }\n{\n'
+    printf '    for it in list {}\n%.0s' $(seq "$2")
+    printf '    step();\n%.0s' $(seq $(($1 - $2)))
+    echo '}'
+}
+
+@test "formats names a subject of over 72 characters" {
+    make_kit
+    git init -q "$copy"
+    for length in 72 73; do
+        git -C "$copy" -c user.name=me -c user.email=me@localhost commit -q --allow-empty -m "$(printf '%*s' $length x | tr ' ' é)"
+        start_ci $((length - 72)) formats
+    done
+}
+
 # A substitute for rattle, which would change a file with the word ragged.
 make_kit() {
     make_edits
