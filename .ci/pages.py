@@ -101,9 +101,9 @@ def hits():
 def costs():
     """Returns the rows of time and memory, both at 10,000 and 100,000."""
     sieve, own, uthash = measured("Times", "SIEVE", "time"), measured("Times", "bytes a key", "this port"), measured("From C", "uthash, LRU")
-    yield "**Time** of such an access as a ratio, LRU by uthash", ["1, 1", ", ".join(sieve[1:3]), uthash[1]]
+    yield "**Time** of an access as a ratio, LRU by uthash", ["1, 1", ", ".join(sieve[1:3]), uthash[1]]
     sieve = measured("Times", "bytes a key, SIEVE")
-    yield "**Memory** of such a cache, most bytes a key", [", ".join(own[1:3]), ", ".join(sieve[1:3]), uthash[2]]
+    yield "**Memory**, most bytes a key", [", ".join(own[1:3]), ", ".join(sieve[1:3]), uthash[2]]
 
 
 def table():
