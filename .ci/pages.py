@@ -1,4 +1,4 @@
-"""What pages say of each other and of files: their links, the tries that PROMISES names, and README's figures."""
+"""What pages say of each other and of files: their links, the tries and lemmas of PROMISES, and README's figures."""
 
 import re
 
@@ -59,6 +59,18 @@ def missing_tries():
         is_column = line.startswith("|") and (is_column or last == "Tried by")
         named = [last] if is_column else re.findall(r"Tried by ([^.]*)", line)
         wrong += [f"docs/PROMISES.md: there is no {it}" for it in re.findall(r"`(\w+)`", " ".join(named)) if it not in there]
+    return wrong
+
+
+def missing_lemmas():
+    """Returns the lemmas that docs/PROMISES.md names with their file of proofs, and that aren't there. They are named so:
+    `one`, `other` (`File` of `crate`), and those of clock2q_machine without a crate."""
+    wrong = []
+    for names, file, crate in re.findall(r"((?:`[\w-]+`, )*`[\w-]+`) \(`(\w+)`(?: of `(\w+)`)?\)", text_of("docs/PROMISES.md")):
+        folder = TOP / "crates" / (crate or "clock2q_machine") / "proofs"
+        proofs = "".join(it.read_text(encoding="utf-8") for it in folder.glob(f"**/{file}.antt"))
+        there = re.findall(r"^ *(?:pub )?([\w-]+) :", proofs, re.M)
+        wrong += [f"docs/PROMISES.md: there is no {it} in {file}" for it in re.findall(r"[\w-]+", names) if it not in there]
     return wrong
 
 
