@@ -64,11 +64,11 @@ def missing_tries():
 
 def missing_lemmas():
     """Returns the lemmas that docs/PROMISES.md names with their file of proofs, and that aren't there. They are named so:
-    `one`, `other` (`File` of `crate`), and those of clock2q_machine without a crate."""
+    `one`, `other` (`File` of `crate`), or without the crate."""
     wrong = []
     for names, file, crate in re.findall(r"((?:`[\w-]+`, )*`[\w-]+`) \(`(\w+)`(?: of `(\w+)`)?\)", text_of("docs/PROMISES.md")):
-        folder = TOP / "crates" / (crate or "clock2q_machine") / "proofs"
-        proofs = "".join(it.read_text(encoding="utf-8") for it in folder.glob(f"**/{file}.antt"))
+        files = TOP.glob(f"crates/{crate or '*'}/proofs/**/{file}.antt")
+        proofs = "".join(it.read_text(encoding="utf-8") for it in files)
         there = re.findall(r"^ *(?:pub )?([\w-]+) :", proofs, re.M)
         wrong += [f"docs/PROMISES.md: there is no {it} in {file}" for it in re.findall(r"[\w-]+", names) if it not in there]
     return wrong
