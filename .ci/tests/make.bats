@@ -2,7 +2,7 @@
 load helper
 
 @test "each target of make runs its script" {
-    for script in .ci/run .ci/edits .ci/clauses bindings/test bindings/dist bindings/c/install.sh; do
+    for script in .ci/run .ci/edits .ci/clauses .ci/figures bindings/test bindings/dist bindings/c/install.sh; do
         print_instead $script
     done
     while IFS='|' read -r words said; do
@@ -16,6 +16,7 @@ edits|.ci/edits
 edits CRATES=low|.ci/edits <low>
 bindings|bindings/test
 pages|.ci/clauses
+pages|.ci/figures
 install|bindings/c/install.sh </usr/local>
 dist|bindings/dist <dist>
 TARGETS
