@@ -131,3 +131,14 @@ shown_twice() { [ "$(grep -c "^$LINE$" "$state/err")" -ge 2 ]; }
     done
     builds 0
 }
+
+@test "a start waits for an rt in a crate's folder, and says so" {
+    touch "$state/hold_other"
+    flock "$copy/crates/clock2q_count" sh -c 'while [ -e "$1" ]; do sleep 0.02; done' sh "$state/hold_other" 3>&- &
+    alone "$copy/clock2q" >"$state/out" 2>"$state/err" &
+    until_true grep -q 'waiting: another build or rt is at work in /.*/clock2q_count$' "$state/err"
+    rm "$state/hold_other"
+    wait
+    [ "$(grep -c waiting "$state/err")" = 1 ]
+    grep -q 'text of clock2q_program' "$state/out"
+}
