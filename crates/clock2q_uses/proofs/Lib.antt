@@ -9,3 +9,4 @@ pub mod WritingBack
 pub mod ReadingBack
 pub mod Flushing
 pub mod WorkedWriteBack
+pub mod LiveValues

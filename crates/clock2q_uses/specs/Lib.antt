@@ -1,4 +1,5 @@
 pub mod Checksums
+pub mod Expiring
 pub mod Interning
 pub mod Pages
 pub mod Records

@@ -2,6 +2,7 @@
 #![tactic(auto)]
 
 pub mod checksums;
+pub mod expiring;
 pub mod hashers;
 pub mod interning;
 pub mod pages;
