@@ -25,7 +25,7 @@ use Rattle.clock2q_machine.proofs.FirstRound.{first_round}
 use Rattle.clock2q_machine.proofs.SecondRound.{Remain, AreApart, bits_fall, second_round}
 
 module _ {K V : Type 0} (eq : K → K → Bool) (laws : IsEquivalence eq) where
-  abbrev AreHeld : List (K × V) → Machine K V → Type 0
+  abbrev pub AreHeld : List (K × V) → Machine K V → Type 0
   AreHeld puts m = AllByRecursion (λ p. is_some (slot_of (eq p.0) m) ≡ true) puts
 
   -- a resident key hits, and evicts none
@@ -48,12 +48,12 @@ module _ {K V : Type 0} (eq : K → K → Bool) (laws : IsEquivalence eq) where
     held_still [] all = tt
     held_still (q ∷ puts) all = (ap is_some (holds_still q.0) ∙ all.0, held_still puts all.1)
 
-  all_hit : (puts : List (K × V)) (m : Machine K V) → IsWhole eq m → AreHeld puts m → AllByRecursion (λ reply. is_hit reply ≡ true) (answers eq (scan puts) m)
+  pub all_hit : (puts : List (K × V)) (m : Machine K V) → IsWhole eq m → AreHeld puts m → AllByRecursion (λ reply. is_hit reply ≡ true) (answers eq (scan puts) m)
   all_hit [] m h held = tt
   all_hit (p ∷ puts) m h held = (hits p m h held.0, all_hit puts (after eq (Put p.0 p.1) m) (lasting-after eq laws (Put p.0 p.1) m h) (held_still p m h held.0 puts held.1))
 
   -- a list of keys each of which passes, by the places in it
-  by_places : (P : K × V → Type 0) (front back : List (K × V)) → ((before : List (K × V)) (p : K × V) (behind : List (K × V)) → front ++ back ≡ before ++ p ∷ behind → P p) → AllByRecursion P back
+  pub by_places : (P : K × V → Type 0) (front back : List (K × V)) → ((before : List (K × V)) (p : K × V) (behind : List (K × V)) → front ++ back ≡ before ++ p ∷ behind → P p) → AllByRecursion P back
   by_places P front [] each = tt
   by_places P front (p ∷ back) each =
       (each front p back refl, by_places P (front ++ p ∷ []) back (λ before q behind parts. each before q behind (sym (append_assoc front (p ∷ []) back) ∙ parts)))

@@ -1,9 +1,12 @@
 pub mod Admitted
+pub mod AnyState
+pub mod Changes
 pub mod Clock
 pub mod Entering
 pub mod Evicted
 pub mod FarApart
 pub mod FirstRound
+pub mod KeptInMain
 pub mod Laws
 pub mod LeftKeys
 pub mod Lifetimes
@@ -18,6 +21,8 @@ pub mod Residents
 pub mod Scanned
 pub mod SecondChance
 pub mod SecondRound
+pub mod Settled
+pub mod Spared
 pub mod Standing
 pub mod Storing
 pub mod Turnover

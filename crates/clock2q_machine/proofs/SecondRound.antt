@@ -27,7 +27,7 @@ use Rattle.clock2q_machine.proofs.FarApart.{Differ}
 -- Tests of lists, by counting.
 
 module _ {X : Type 0} where
-  counted_any : (p : X → Bool) (xs : List X) → list_any p xs ≡ true → 0 < count_by p xs
+  pub counted_any : (p : X → Bool) (xs : List X) → list_any p xs ≡ true → 0 < count_by p xs
   counted_any p [] any = cc
   counted_any p (x ∷ xs) any =
       (elim (p x) as (λ b. p x ≡ b → (b || list_any p xs) ≡ true → 0 < count_by p (x ∷ xs)) [
@@ -67,7 +67,7 @@ module _ {K V : Type 0} (eq : K → K → Bool) (laws : IsEquivalence eq) where
   abbrev IsMainFull : Machine K V → Type 0
   IsMainFull m = length m.main ≡ main_share m.shares
 
-  resident_if : (is : K → Bool) (m : Machine K V) → 0 < key_count is m → is_some (slot_of is m) ≡ true
+  pub resident_if : (is : K → Bool) (m : Machine K V) → 0 < key_count is m → is_some (slot_of is m) ≡ true
   resident_if is m some = by_slot (slot_of is m) refl where
     by_slot : (o : Option ℕ) → slot_of is m ≡ o → is_some o ≡ true
     by_slot None absent = absurd (omega (arith, none_counted is m absent, some))
@@ -227,7 +227,7 @@ module _ {K V : Type 0} (eq : K → K → Bool) (laws : IsEquivalence eq) where
         | inr known ↦ omega (arith, victims_one p.0 p.1 m h, known.0, rest, same)
       ]
 
-  none_removed : (puts : List (K × V)) → AllByRecursion (λ call. makes_room call ≡ false) (scan puts) × AllByRecursion (λ call. takes_out call ≡ false) (scan puts)
+  pub none_removed : (puts : List (K × V)) → AllByRecursion (λ call. makes_room call ≡ false) (scan puts) × AllByRecursion (λ call. takes_out call ≡ false) (scan puts)
   none_removed [] = (tt, tt)
   none_removed (p ∷ puts) = let rest = none_removed puts in ((refl, rest.0), (refl, rest.1))
 
