@@ -44,7 +44,7 @@ module _ {K V : Type 0} (eq : K → K → Bool) (laws : IsEquivalence eq) where
       by_slot None found there = cc
       by_slot (Some slot) found there = same_slots eq (replaced_at (eq p.0) p.1 (Some slot) m) m h (λ w. weight-replaced w (eq p.0) p.1 (Some slot) m) k
 
-    held_still : (puts : List (K × V)) → AreHeld puts m → AreHeld puts (after eq (Put p.0 p.1) m)
+    pub held_still : (puts : List (K × V)) → AreHeld puts m → AreHeld puts (after eq (Put p.0 p.1) m)
     held_still [] all = tt
     held_still (q ∷ puts) all = (ap is_some (holds_still q.0) ∙ all.0, held_still puts all.1)
 

@@ -82,7 +82,7 @@ module _ {K V : Type 0} (eq : K → K → Bool) where
     abbrev pub Inside : List (K × V) → Type 0
     Inside puts = (k : K) → matches puts k + one_if (out k) ≤ 1
 
-    inside_first : (p : K × V) (puts : List (K × V)) → Inside (p ∷ puts) → (k : K) → eq p.0 k ≡ true → out k ≡ false
+    pub inside_first : (p : K × V) (puts : List (K × V)) → Inside (p ∷ puts) → (k : K) → eq p.0 k ≡ true → out k ≡ false
     inside_first p puts inside k same = unless (out k) (omega (arith, inside k, matches_cons p puts k, ap one_if same))
 
     pub inside_rest : (p : K × V) (puts : List (K × V)) → Inside (p ∷ puts) → Inside puts

@@ -12,9 +12,11 @@ pub mod LeftKeys
 pub mod Lifetimes
 pub mod Linear
 pub mod Loops
+pub mod LoopsInMain
 pub mod MachineInvariant
 pub mod MainLifetimes
 pub mod NewKeys
+pub mod Passed
 pub mod PromotedKeys
 pub mod Remembered
 pub mod Residents

@@ -27,7 +27,8 @@ use Rattle.clock2q_machine.proofs.FirstRound.{any_counted, newest_first, evictio
 use Rattle.clock2q_machine.proofs.SecondRound.{counted_any}
 use Rattle.clock2q_machine.proofs.Changes.{Changes, Hit, Admit, EvictTail, Promote, Join, Replace, Hits, Evicts, Promotes, put_changes}
 use Rattle.clock2q_machine.proofs.Spared.{clear_of, set_of, spared, hit_spares, new_spares}
-use Rattle.clock2q_machine.proofs.KeptInMain.{unless, matches, in_main_of, in_main_cons, in_main_once, Inside, set_falls, Apart, Stays, stays_next}
+use Rattle.clock2q_machine.proofs.Passed.{unpassed, new_passes, hit_passes}
+use Rattle.clock2q_machine.proofs.KeptInMain.{unless, matches, in_main_of, in_main_cons, in_main_once, Inside, Apart, Stays}
 
 ones : {X : Type 0} (xs : List X) → sum_by (λ _. 1) xs ≡ length xs
 ones [] = refl
@@ -105,6 +106,26 @@ module _ {K V : Type 0} (eq : K → K → Bool) where
       abbrev pub Fits : Machine K V → Type 0
       Fits m = length loop + set_of out m.main ≤ main_share m.shares
 
+      -- a key is in Main, the entries of other keys with a clear bit are evicted before it, and the hand passes those with a
+      -- set one first
+      abbrev pub IsFresh : K × V → Machine K V → Type 0
+      IsFresh x m = (0 < count_by (λ e. eq x.0 e.key) m.main) × ((clear_of out m.main ≤ spared out (eq x.0) m.main) × (unpassed out (eq x.0) m.main ≡ 0))
+
+      abbrev pub IsInSmall : K × V → Machine K V → Type 0
+      IsInSmall x m = 0 < count_by (λ e. eq x.0 e.key) m.small
+
+      abbrev pub IsOwn : K × V → Type 0
+      IsOwn p = (k : K) → eq p.0 k ≡ true → out k ≡ false
+
+      -- what keeps a fresh key in Main while the other keys are accessed, unless something is lost for good
+      pub record Keeper (Ok Lost : Machine K V → Type 0) (Safe : K × V → List (K × V) → Machine K V → Type 0) : Type 0 where
+        pub ok_next : (p : K × V) → IsOwn p → (m : Machine K V) → IsWhole eq m → Ok m → Ok (after eq (Put p.0 p.1) m)
+        pub lost_next : (p : K × V) → IsOwn p → (m : Machine K V) → IsWhole eq m → Lost m → Lost (after eq (Put p.0 p.1) m)
+        pub starts : (x : K × V) (others : List (K × V)) → ((f : K × V → ℕ) → sum_by f loop ≡ f x + sum_by f others) → (done rest : List (K × V)) → others ≡ done ++ rest
+            → (m : Machine K V) → IsWhole eq m → Ok m → IsFresh x m → Safe x rest m
+        pub next : (x p : K × V) (rest : List (K × V)) → Apart eq laws out x.0 (p ∷ rest) → (m : Machine K V) → IsWhole eq m → Safe x (p ∷ rest) m → Safe x rest (after eq (Put p.0 p.1) m)
+        pub ends : (x : K × V) (m : Machine K V) → Safe x [] m → (0 < count_by (λ e. eq x.0 e.key) m.main) ⊎ Lost m
+
       -- a key of the loop, and the others in any order
       module _ (x : K × V) (others : List (K × V)) (order : (f : K × V → ℕ) → sum_by f loop ≡ f x + sum_by f others) where
         long : length loop ≡ suc (length others)
@@ -123,14 +144,7 @@ module _ {K V : Type 0} (eq : K → K → Bool) where
               sum_by-append (λ (p : K × V). one_if (eq p.0 k)) done rest,
             )
 
-        -- the key is in Main, and each entry of another key with a clear bit is evicted before it
-        abbrev pub IsFresh : Machine K V → Type 0
-        IsFresh m = (0 < count_by (λ e. eq x.0 e.key) m.main) × (clear_of out m.main ≤ spared out (eq x.0) m.main)
-
-        abbrev pub IsInSmall : Machine K V → Type 0
-        IsInSmall m = 0 < count_by (λ e. eq x.0 e.key) m.small
-
-        pub begins : (done rest : List (K × V)) → others ≡ done ++ rest → (m : Machine K V) → IsWhole eq m → Fits m → IsFresh m → Stays eq laws out x.0 rest m
+        pub begins : (done rest : List (K × V)) → others ≡ done ++ rest → (m : Machine K V) → IsWhole eq m → Fits m → IsFresh x m → Stays eq laws out x.0 rest m
         begins done rest parts m h fits fresh = record {
           there = fresh.0;
           spares =
@@ -147,21 +161,20 @@ module _ {K V : Type 0} (eq : K → K → Bool) where
                 ap (length {A = K × V}) parts,
                 length-append done rest,
                 fits,
-                fresh.1,
+                fresh.1.0,
               );
         }
 
         -- new in Main
-        enters : (m : Machine K V) → IsWhole eq m → (key : K) (slot : ℕ) (before : List (MainEntry K)) → eq x.0 key ≡ true → m.main ≡ behind_hand key slot before → IsFresh m
+        enters : (m : Machine K V) → IsWhole eq m → (key : K) (slot : ℕ) (before : List (MainEntry K)) → eq x.0 key ≡ true → m.main ≡ behind_hand key slot before → IsFresh x m
         enters m h key slot before same main =
             let g : MainEntry K → ℕ = λ e. one_if (eq x.0 e.key) in
-            let counted = weight-behind g (λ e bit. refl) key slot before in (
+            let counted = weight-behind g (λ e bit. refl) key slot before in
+            let none : count_by (λ e. eq x.0 e.key) before ≡ 0 = omega (arith, h.keys_once x.0, ap (sum_by g) main, counted, ap one_if same) in (
               omega (arith, ap (sum_by g) main, counted, ap one_if same),
-              omega (
-                arith,
-                ap (clear_of out) main,
-                ap (spared out (eq x.0)) main,
-                new_spares out (eq x.0) key slot before same (foreign key same) (omega (arith, h.keys_once x.0, ap (sum_by g) main, counted, ap one_if same)),
+              (
+                omega (arith, ap (clear_of out) main, ap (spared out (eq x.0)) main, new_spares out (eq x.0) key slot before same (foreign key same) none),
+                ap (unpassed out (eq x.0)) main ∙ new_passes out (eq x.0) key slot before same none,
               ),
             )
 
@@ -170,15 +183,15 @@ module _ {K V : Type 0} (eq : K → K → Bool) where
           accessed = after eq (Put x.0 x.1) m
 
           -- after its access the key is in Small, or fresh in Main
-          pub after_access : IsFresh accessed ⊎ IsInSmall accessed
+          pub after_access : IsFresh x accessed ⊎ IsInSmall x accessed
           after_access = by_change (put_changes eq laws x.0 x.1 m h) where
             g : SmallEntry K → ℕ
             g e = one_if (eq x.0 e.key)
 
-            admitted : (slot : ℕ) (small : List (SmallEntry K)) → accessed.small ≡ small_admitted m.shares.window x.0 slot small → IsInSmall accessed
+            admitted : (slot : ℕ) (small : List (SmallEntry K)) → accessed.small ≡ small_admitted m.shares.window x.0 slot small → IsInSmall x accessed
             admitted slot small is = omega (arith, ap (sum_by g) is, weight-admitted g (λ e age. refl) m.shares.window x.0 slot small, ap one_if (laws.refl x.0))
 
-            hits : Hits (eq x.0) x.0 m accessed → IsFresh accessed ⊎ IsInSmall accessed
+            hits : Hits (eq x.0) x.0 m accessed → IsFresh x accessed ⊎ IsInSmall x accessed
             hits c = elim (cases_lt 0 (count_by (λ e. eq x.0 e.key) m.small)) [
               | inl some ↦ inr (omega (arith, some, ap (sum_by g) c.small, weight-small_hit g (λ e age. refl) (eq x.0) m.small))
               | inr none ↦
@@ -186,11 +199,14 @@ module _ {K V : Type 0} (eq : K → K → Bool) where
                   let there : 0 < count_by (λ e. eq x.0 e.key) m.main = omega (arith, none, resident_counted (eq x.0) m c.resident) in
                   inl (
                     omega (arith, ap (sum_by f) c.main, weight-main_hit f (λ e bit. refl) (eq x.0) m.main, there),
-                    omega (arith, ap (clear_of out) c.main, ap (spared out (eq x.0)) c.main, hit_spares out (eq x.0) foreign m.main there),
+                    (
+                      omega (arith, ap (clear_of out) c.main, ap (spared out (eq x.0)) c.main, hit_spares out (eq x.0) foreign m.main there),
+                      ap (unpassed out (eq x.0)) c.main ∙ hit_passes out (eq x.0) m.main,
+                    ),
                   )
             ]
 
-            by_change : Changes (eq x.0) x.0 m accessed → IsFresh accessed ⊎ IsInSmall accessed
+            by_change : Changes (eq x.0) x.0 m accessed → IsFresh x accessed ⊎ IsInSmall x accessed
             by_change (Hit c) = hits c
             by_change (Admit c) = inr (admitted c.slot m.small c.small)
             by_change (EvictTail c) = inr (admitted c.slot (take (length m.small - 1) m.small) c.small)
@@ -200,79 +216,79 @@ module _ {K V : Type 0} (eq : K → K → Bool) where
 
         -- While the others are accessed, a key of Main stays, and one of Small stays, goes to Main or is remembered.
 
-        module _ (p : K × V) (done rest : List (K × V)) (parts : others ≡ done ++ p ∷ rest) (m : Machine K V) (h : IsWhole eq m) (fits : Fits m) where
-          abbrev later : Machine K V
-          later = after eq (Put p.0 p.1) m
+        module _ (Ok Lost : Machine K V → Type 0) (Safe : K × V → List (K × V) → Machine K V → Type 0) (keeper : Keeper Ok Lost Safe) where
+          module _ (p : K × V) (done rest : List (K × V)) (parts : others ≡ done ++ p ∷ rest) (m : Machine K V) (h : IsWhole eq m) (fits : Ok m) where
+            abbrev later : Machine K V
+            later = after eq (Put p.0 p.1) m
 
-          abbrev Keeps : Type 0
-          Keeps = Stays eq laws out x.0 rest later ⊎ (IsInSmall later ⊎ ((is_remembered (eq x.0) later ≡ true) × (newer (eq x.0) later.history ≡ 0)))
+            abbrev Keeps : Type 0
+            Keeps = Safe x rest later ⊎ (IsInSmall x later ⊎ ((is_remembered (eq x.0) later ≡ true) × (newer (eq x.0) later.history ≡ 0)))
 
-          whole_later : IsWhole eq later
-          whole_later = lasting-after eq laws (Put p.0 p.1) m h
+            whole_later : IsWhole eq later
+            whole_later = lasting-after eq laws (Put p.0 p.1) m h
 
-          own : (k : K) → eq p.0 k ≡ true → out k ≡ false
-          own k same = unless (out k) (omega (arith, rest_apart done (p ∷ rest) parts k, matches_cons p rest k, ap one_if same))
+            own : IsOwn p
+            own k same = unless (out k) (omega (arith, rest_apart done (p ∷ rest) parts k, matches_cons p rest k, ap one_if same))
 
-          fits_later : Fits later
-          fits_later = omega (arith, fits, set_falls eq laws out p m h own, ap main_share (put_shares eq laws p.0 p.1 m h))
+            fits_later : Ok later
+            fits_later = keeper.ok_next p own m h fits
 
-          keeps : 0 < m.shares.history → IsInSmall m → Keeps
-          keeps room there = by_change (put_changes eq laws p.0 p.1 m h) where
-            g : SmallEntry K → ℕ
-            g e = one_if (eq x.0 e.key)
+            keeps : 0 < m.shares.history → IsInSmall x m → Keeps
+            keeps room there = by_change (put_changes eq laws p.0 p.1 m h) where
+              g : SmallEntry K → ℕ
+              g e = one_if (eq x.0 e.key)
 
-            admitted : (slot : ℕ) (small : List (SmallEntry K)) → later.small ≡ small_admitted m.shares.window p.0 slot small → 0 < sum_by g small → IsInSmall later
-            admitted slot small is some = omega (arith, ap (sum_by g) is, weight-admitted g (λ e age. refl) m.shares.window p.0 slot small, some)
+              admitted : (slot : ℕ) (small : List (SmallEntry K)) → later.small ≡ small_admitted m.shares.window p.0 slot small → 0 < sum_by g small → IsInSmall x later
+              admitted slot small is some = omega (arith, ap (sum_by g) is, weight-admitted g (λ e age. refl) m.shares.window p.0 slot small, some)
 
-            without : (tail : SmallEntry K) → last_or None m.small ≡ Some tail → sum_by g (take (length m.small - 1) m.small) + one_if (eq x.0 tail.key) ≡ sum_by g m.small
-            without tail last = (weight-last g None m.small tail (tail_some m.small tail last) last).0
+              without : (tail : SmallEntry K) → last_or None m.small ≡ Some tail → sum_by g (take (length m.small - 1) m.small) + one_if (eq x.0 tail.key) ≡ sum_by g m.small
+              without tail last = (weight-last g None m.small tail (tail_some m.small tail last) last).0
 
-            evicts : (c : Evicts (eq p.0) p.0 m later) (b : Bool) → eq x.0 c.tail.key ≡ b → Keeps
-            evicts c true own =
-                let first = newest_first (eq x.0) c.tail.key own m.shares.history room c.history.0 in
-                inr (inr (ap (list_any (eq x.0)) c.history.1 ∙ first.0, ap (newer (eq x.0)) c.history.1 ∙ first.1))
-            evicts c false other = inr (inl (admitted c.slot (take (length m.small - 1) m.small) c.small (omega (arith, there, without c.tail c.last, ap one_if other))))
+              evicts : (c : Evicts (eq p.0) p.0 m later) (b : Bool) → eq x.0 c.tail.key ≡ b → Keeps
+              evicts c true own =
+                  let first = newest_first (eq x.0) c.tail.key own m.shares.history room c.history.0 in
+                  inr (inr (ap (list_any (eq x.0)) c.history.1 ∙ first.0, ap (newer (eq x.0)) c.history.1 ∙ first.1))
+              evicts c false other = inr (inl (admitted c.slot (take (length m.small - 1) m.small) c.small (omega (arith, there, without c.tail c.last, ap one_if other))))
 
-            promotes : (c : Promotes (eq p.0) p.0 m later) (b : Bool) → eq x.0 c.tail.key ≡ b → Keeps
-            promotes c true own =
-                inl (begins (done ++ p ∷ []) rest (parts ∙ sym (append_assoc done (p ∷ []) rest)) later whole_later fits_later (enters later whole_later c.tail.key c.tail.slot c.others own c.main))
-            promotes c false other = inr (inl (admitted c.slot (take (length m.small - 1) m.small) c.small (omega (arith, there, without c.tail c.last, ap one_if other))))
+              promotes : (c : Promotes (eq p.0) p.0 m later) (b : Bool) → eq x.0 c.tail.key ≡ b → Keeps
+              promotes c true own =
+                  inl (keeper.starts x others order (done ++ p ∷ []) rest (parts ∙ sym (append_assoc done (p ∷ []) rest)) later whole_later fits_later (enters later whole_later c.tail.key c.tail.slot c.others own c.main))
+              promotes c false other = inr (inl (admitted c.slot (take (length m.small - 1) m.small) c.small (omega (arith, there, without c.tail c.last, ap one_if other))))
 
-            by_change : Changes (eq p.0) p.0 m later → Keeps
-            by_change (Hit c) = inr (inl (omega (arith, there, ap (sum_by g) c.small, weight-small_hit g (λ e age. refl) (eq p.0) m.small)))
-            by_change (Admit c) = inr (inl (admitted c.slot m.small c.small there))
-            by_change (EvictTail c) = evicts c (eq x.0 c.tail.key) refl
-            by_change (Promote full c) = promotes c (eq x.0 c.tail.key) refl
-            by_change (Join c) = inr (inl (omega (arith, there, ap (sum_by g) c.small)))
-            by_change (Replace c) = inr (inl (omega (arith, there, ap (sum_by g) c.small)))
+              by_change : Changes (eq p.0) p.0 m later → Keeps
+              by_change (Hit c) = inr (inl (omega (arith, there, ap (sum_by g) c.small, weight-small_hit g (λ e age. refl) (eq p.0) m.small)))
+              by_change (Admit c) = inr (inl (admitted c.slot m.small c.small there))
+              by_change (EvictTail c) = evicts c (eq x.0 c.tail.key) refl
+              by_change (Promote full c) = promotes c (eq x.0 c.tail.key) refl
+              by_change (Join c) = inr (inl (omega (arith, there, ap (sum_by g) c.small)))
+              by_change (Replace c) = inr (inl (omega (arith, there, ap (sum_by g) c.small)))
 
-        differ_of : (rest : List (K × V)) → Apart eq laws out x.0 rest → Differ eq x.0 rest
-        differ_of [] apart = tt
-        differ_of (q ∷ rest) apart = (
-          laws.symm q.0 x.0 ∙ unless (eq x.0 q.0) (omega (arith, apart q.0, matches_cons q rest q.0, ap one_if (laws.refl q.0))),
-          differ_of rest (λ k. omega (arith, apart k, matches_cons q rest k)),
-        )
+          differ_of : (rest : List (K × V)) → Apart eq laws out x.0 rest → Differ eq x.0 rest
+          differ_of [] apart = tt
+          differ_of (q ∷ rest) apart = (
+            laws.symm q.0 x.0 ∙ unless (eq x.0 q.0) (omega (arith, apart q.0, matches_cons q rest q.0, ap one_if (laws.refl q.0))),
+            differ_of rest (λ k. omega (arith, apart k, matches_cons q rest k)),
+          )
 
-        pub stays_run : (rest : List (K × V)) → Apart eq laws out x.0 rest → (m : Machine K V) → IsWhole eq m → Stays eq laws out x.0 rest m
-            → 0 < count_by (λ e. eq x.0 e.key) (after_all eq (scan rest) m).main
-        stays_run [] apart m h stays = stays.there
-        stays_run (p ∷ rest) apart m h stays =
-            stays_run rest (λ k. omega (arith, apart k, matches_cons p rest k)) (after eq (Put p.0 p.1) m) (lasting-after eq laws (Put p.0 p.1) m h) (stays_next eq laws out x.0 p rest m h apart stays)
+          pub stays_run : (rest : List (K × V)) → Apart eq laws out x.0 rest → (m : Machine K V) → IsWhole eq m → Safe x rest m → Safe x [] (after_all eq (scan rest) m)
+          stays_run [] apart m h stays = stays
+          stays_run (p ∷ rest) apart m h stays =
+              stays_run rest (λ k. omega (arith, apart k, matches_cons p rest k)) (after eq (Put p.0 p.1) m) (lasting-after eq laws (Put p.0 p.1) m h) (keeper.next x p rest apart m h stays)
 
-        abbrev pub IsKnown : Machine K V → Type 0
-        IsKnown m = (0 < count_by (λ e. eq x.0 e.key) m.main) ⊎ (IsInSmall m ⊎ (is_remembered (eq x.0) m ≡ true))
+          abbrev pub IsKnown : Machine K V → Type 0
+          IsKnown m = Safe x [] m ⊎ (IsInSmall x m ⊎ (is_remembered (eq x.0) m ≡ true))
 
-        pub small_run : (done rest : List (K × V)) → others ≡ done ++ rest → (m : Machine K V) → IsWhole eq m → Fits m → length rest ≤ m.shares.history → IsInSmall m → IsKnown (after_all eq (scan rest) m)
-        small_run done [] parts m h fits remembers there = inr (inl there)
-        small_run done (p ∷ rest) parts m h fits remembers there =
-            let n = after eq (Put p.0 p.1) m in
-            let apart = rest_apart (done ++ p ∷ []) rest (parts ∙ sym (append_assoc done (p ∷ []) rest)) in
-            let same = ap (λ s. s.history) (put_shares eq laws p.0 p.1 m h) in
-            let whole = whole_later p done rest parts m h fits in
-            elim (keeps p done rest parts m h fits (omega (arith, remembers)) there) [
-              | inl stays ↦ inl (stays_run rest apart n whole stays)
-              | inr (inl small) ↦
-                  small_run (done ++ p ∷ []) rest (parts ∙ sym (append_assoc done (p ∷ []) rest)) n whole (fits_later p done rest parts m h fits) (omega (arith, remembers, same)) small
-              | inr (inr gone) ↦
-                  inr (inr (remembered_still eq laws x.0 (scan rest) n (lets_be eq laws x.0 rest (differ_of rest apart)) gone.0 (omega (arith, gone.1, evictions-le eq laws rest n, remembers, same))))
-            ]
+          pub small_run : (done rest : List (K × V)) → others ≡ done ++ rest → (m : Machine K V) → IsWhole eq m → Ok m → length rest ≤ m.shares.history → IsInSmall x m → IsKnown (after_all eq (scan rest) m)
+          small_run done [] parts m h fits remembers there = inr (inl there)
+          small_run done (p ∷ rest) parts m h fits remembers there =
+              let n = after eq (Put p.0 p.1) m in
+              let apart = rest_apart (done ++ p ∷ []) rest (parts ∙ sym (append_assoc done (p ∷ []) rest)) in
+              let same = ap (λ s. s.history) (put_shares eq laws p.0 p.1 m h) in
+              let whole = whole_later p done rest parts m h fits in
+              elim (keeps p done rest parts m h fits (omega (arith, remembers)) there) [
+                | inl stays ↦ inl (stays_run rest apart n whole stays)
+                | inr (inl small) ↦
+                    small_run (done ++ p ∷ []) rest (parts ∙ sym (append_assoc done (p ∷ []) rest)) n whole (fits_later p done rest parts m h fits) (omega (arith, remembers, same)) small
+                | inr (inr gone) ↦
+                    inr (inr (remembered_still eq laws x.0 (scan rest) n (lets_be eq laws x.0 rest (differ_of rest apart)) gone.0 (omega (arith, gone.1, evictions-le eq laws rest n, remembers, same))))
+              ]

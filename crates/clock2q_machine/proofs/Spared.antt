@@ -52,7 +52,7 @@ module _ {K : Type 0} (out : K → Bool) where
     abbrev pub there : List (MainEntry K) → ℕ
     there main = count_by (λ e. is e.key) main
 
-    there_cons : (e : MainEntry K) (main : List (MainEntry K)) → there (e ∷ main) ≡ one_if (is e.key) + there main
+    pub there_cons : (e : MainEntry K) (main : List (MainEntry K)) → there (e ∷ main) ≡ one_if (is e.key) + there main
     there_cons e main = sum_by-cons (λ (x : MainEntry K). one_if (is x.key)) e main
 
     spared_other : (e : MainEntry K) (main : List (MainEntry K)) → is e.key ≡ false → spared (e ∷ main) ≡ one_if (out e.key && not e.bit) + spared main
@@ -221,14 +221,14 @@ module _ {K : Type 0} (out : K → Bool) where
 
   -- The entries with a set bit.
 
-  set_cons : (e : MainEntry K) (main : List (MainEntry K)) → set_of (e ∷ main) ≡ one_if (out e.key && e.bit) + set_of main
+  pub set_cons : (e : MainEntry K) (main : List (MainEntry K)) → set_of (e ∷ main) ≡ one_if (out e.key && e.bit) + set_of main
   set_cons e main = sum_by-cons (λ (x : MainEntry K). one_if (out x.key && x.bit)) e main
 
-  none_set : (b : Bool) → one_if (b && false) ≡ 0
+  pub none_set : (b : Bool) → one_if (b && false) ≡ 0
   none_set true = refl
   none_set false = refl
 
-  set_cleared : (es : List (MainEntry K)) → set_of (map (λ e. with_bit e false) es) ≡ 0
+  pub set_cleared : (es : List (MainEntry K)) → set_of (map (λ e. with_bit e false) es) ≡ 0
   set_cleared [] = refl
   set_cleared (e ∷ es) = omega (arith, set_cons (with_bit e false) (map (λ x. with_bit x false) es), none_set (out e.key), set_cleared es)
 
