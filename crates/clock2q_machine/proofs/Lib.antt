@@ -32,6 +32,7 @@ pub mod VictimValues
 pub mod Victims
 pub mod Weights
 pub mod Whole
+pub mod WorkedAnyState
 pub mod WorkedCounts
 pub mod WorkedEvictions
 pub mod WorkedLifetimes
