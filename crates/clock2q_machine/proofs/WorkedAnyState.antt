@@ -7,7 +7,8 @@ use Rattle.clock2q_machine.proofs.WorkedLoops.{hits_of_rounds}
 abbrev each : List ℕ → List (Call ℕ ℕ)
 each keys = map (λ k. Put k k) keys
 
--- a loop of five keys, as many as Main's share, of which the fourth round still misses one: all of Main were hit, and three of them aren't the loop's
+-- a loop of five keys, as many as Main's share, of which the fourth round still misses one: all of Main were hit, and
+-- three of them aren't the loop's
 fourth_round_misses : hits_of_rounds 6 (each (2 ∷ 3 ∷ 1 ∷ 7 ∷ 8 ∷ [])) (remembering 6 1 1 5 (puts 1 6 ++ gets 2 5)) ≡ 3 ∷ 3 ∷ 2 ∷ 4 ∷ 5 ∷ 5 ∷ []
 fourth_round_misses = refl
 
