@@ -24,7 +24,7 @@ class BadEdit(Exception):
 
 
 class Edit:
-    """An edit: its crate, the function and the clause that refuse it, and the texts that it changes."""
+    """An edit: its crate, the function and the clause that refuse it (or the file and the name of a law), and the texts that it changes."""
 
     def __init__(self, path):
         self.path = path
@@ -195,6 +195,9 @@ def refusing(log, crate):
             before = "\n".join(["", *lines[: number - 1], lines[number - 1][: int(found[3])]])
             at = found[1].replace("/", "::"), clause_of(found[4], before)
             (gone if GONE.search(line) else refused_at).append(at)
+        elif found := re.match(r"\./proofs/(\w+)\.antt:\d+:\d+: error: `([^`]+)`", line):
+            # a law, which its file and its name say
+            (gone if GONE.search(line) else refused_at).append((found[1], found[2]))
         elif found := re.search(r"expected answers in \./proofs/(\S+)/\w+\.antt; .*did not prove (.*)", line):
             for goal in re.findall(r"`([\w-]+)`", found[2]):
                 # one goal may have several clauses, which a note lists
@@ -219,6 +222,8 @@ def is_unread(line, changed):
     """Returns whether antt could not read a text of src, specs or a changed file, so that no contract was tried."""
     found = re.match(r"(?:\./)?(\S+?):\d+:\d+: error: (`[^`]*`: )?(.*)", line)
     if not found or (found[1] not in changed and not found[1].startswith(("src/", "specs/"))):
+        return False
+    if re.match(r"\d+ declarations? that depends? on ", found[3]):
         return False
     return not found[2] or bool(UNREAD.search(re.sub(r"`[^`]*`", "", found[3])))
 

@@ -1,9 +1,9 @@
 -- A loop that Small and the history have room for is admitted to a full cache by the third round.
-use Rattle.std.proofs.Common.{◌≡◌, ◌⊎◌, ℕ, ◌+◌, ◌≤◌, Bool, true, List, [], ◌∷◌, ◌++◌, length, inl, inr, Option, Some, None, refl, sym, ap, ◌∙◌, subst, arith, length-append}
+use Rattle.std.proofs.Common.{◌≡◌, ◌⊎◌, ℕ, ◌+◌, ◌≤◌, Bool, true, false, List, [], ◌∷◌, ◌++◌, map, length, inl, inr, Option, Some, None, refl, sym, ap, ◌∙◌, subst, arith, length-append}
 use Rattle.std.specs.Prelude.{if◌then◌else◌, is_some, slice_get}
 use Rattle.std.specs.Cmp.{IsEquivalence}
 use Rattle.std.specs.Option.{option_and_then}
-use Rattle.std.specs.List.{AllByRecursion}
+use Rattle.std.specs.List.{AllByRecursion, IsDistinct}
 use Rattle.std.proofs.lemmas.List.{append_assoc}
 use Rattle.clock2q_machine.specs.Calls.{Put, Value}
 use Rattle.clock2q_machine.specs.Shares.{main_share}
@@ -13,7 +13,7 @@ use Rattle.clock2q_machine.specs.Bounds.{set_bits}
 use Rattle.clock2q_machine.specs.Lifetimes.{is_in_small, is_remembered}
 use Rattle.clock2q_machine.specs.Whole.{IsWhole}
 use Rattle.clock2q_machine.specs.Scans.{scan, IsFullCache, IsScan, AreNew}
-use Rattle.clock2q_machine.specs.Loops.{rounds, is_hit}
+use Rattle.clock2q_machine.specs.Loops.{rounds, is_hit, AreDistinct}
 use Rattle.clock2q_machine.proofs.MachineInvariant.{lasting-after, lasting-run, resident_made}
 use Rattle.clock2q_machine.proofs.Standing.{get-within, absent_if}
 use Rattle.clock2q_machine.proofs.Entering.{same_slots, weight-replaced}
@@ -22,10 +22,10 @@ use Rattle.clock2q_machine.proofs.NewKeys.{full_main, shares_run, full_run, scan
 use Rattle.clock2q_machine.proofs.FarApart.{Differ}
 use Rattle.clock2q_machine.proofs.Loops.{all_rounds}
 use Rattle.clock2q_machine.proofs.FirstRound.{first_round}
-use Rattle.clock2q_machine.proofs.SecondRound.{Remain, AreApart, bits_fall, second_round}
+use Rattle.clock2q_machine.proofs.SecondRound.{Remain, first_differs, rest_distinct, bits_fall, second_round}
 
 module _ {K V : Type 0} (eq : K → K → Bool) (laws : IsEquivalence eq) where
-  abbrev AreHeld : List (K × V) → Machine K V → Type 0
+  abbrev pub AreHeld : List (K × V) → Machine K V → Type 0
   AreHeld puts m = AllByRecursion (λ p. is_some (slot_of (eq p.0) m) ≡ true) puts
 
   -- a resident key hits, and evicts none
@@ -44,16 +44,16 @@ module _ {K V : Type 0} (eq : K → K → Bool) (laws : IsEquivalence eq) where
       by_slot None found there = cc
       by_slot (Some slot) found there = same_slots eq (replaced_at (eq p.0) p.1 (Some slot) m) m h (λ w. weight-replaced w (eq p.0) p.1 (Some slot) m) k
 
-    held_still : (puts : List (K × V)) → AreHeld puts m → AreHeld puts (after eq (Put p.0 p.1) m)
+    pub held_still : (puts : List (K × V)) → AreHeld puts m → AreHeld puts (after eq (Put p.0 p.1) m)
     held_still [] all = tt
     held_still (q ∷ puts) all = (ap is_some (holds_still q.0) ∙ all.0, held_still puts all.1)
 
-  all_hit : (puts : List (K × V)) (m : Machine K V) → IsWhole eq m → AreHeld puts m → AllByRecursion (λ reply. is_hit reply ≡ true) (answers eq (scan puts) m)
+  pub all_hit : (puts : List (K × V)) (m : Machine K V) → IsWhole eq m → AreHeld puts m → AllByRecursion (λ reply. is_hit reply ≡ true) (answers eq (scan puts) m)
   all_hit [] m h held = tt
   all_hit (p ∷ puts) m h held = (hits p m h held.0, all_hit puts (after eq (Put p.0 p.1) m) (lasting-after eq laws (Put p.0 p.1) m h) (held_still p m h held.0 puts held.1))
 
   -- a list of keys each of which passes, by the places in it
-  by_places : (P : K × V → Type 0) (front back : List (K × V)) → ((before : List (K × V)) (p : K × V) (behind : List (K × V)) → front ++ back ≡ before ++ p ∷ behind → P p) → AllByRecursion P back
+  pub by_places : (P : K × V → Type 0) (front back : List (K × V)) → ((before : List (K × V)) (p : K × V) (behind : List (K × V)) → front ++ back ≡ before ++ p ∷ behind → P p) → AllByRecursion P back
   by_places P front [] each = tt
   by_places P front (p ∷ back) each =
       (each front p back refl, by_places P (front ++ p ∷ []) back (λ before q behind parts. each before q behind (sym (append_assoc front (p ∷ []) back) ∙ parts)))
@@ -68,13 +68,17 @@ module _ {K V : Type 0} (eq : K → K → Bool) (laws : IsEquivalence eq) where
         bits_run puts (after eq (Put p.0 p.1) m) (lasting-after eq laws (Put p.0 p.1) m h) new.1,
       )
 
-  scan_apart : (puts : List (K × V)) (m : Machine K V) → IsScan eq puts m → AreApart eq laws puts
-  scan_apart [] m scans = tt
-  scan_apart (p ∷ puts) m scans = (scans.1.0, scan_apart puts m scans.1.1)
+  scan_distinct : (puts : List (K × V)) (m : Machine K V) → IsScan eq puts m → AreDistinct eq puts
+  unfolding IsDistinct
+  scan_distinct [] m scans = tt
+  scan_distinct (p ∷ puts) m scans = (among puts scans.1.0, scan_distinct puts m scans.1.1) where
+    among : (later : List (K × V)) → Differ eq p.0 later → AllByRecursion (λ k. eq p.0 k ≡ false) (map (λ q. q.0) later)
+    among [] differ = tt
+    among (q ∷ later) differ = (laws.symm p.0 q.0 ∙ differ.0, among later differ.1)
 
-  apart_at : (front : List (K × V)) (p : K × V) (back : List (K × V)) → AreApart eq laws (front ++ p ∷ back) → Differ eq p.0 back
-  apart_at [] p back apart = apart.0
-  apart_at (q ∷ front) p back apart = apart_at front p back apart.1
+  differs_at : (front : List (K × V)) (p : K × V) (back : List (K × V)) → AreDistinct eq (front ++ p ∷ back) → Differ eq p.0 back
+  differs_at [] p back distinct = first_differs eq laws p back distinct
+  differs_at (q ∷ front) p back distinct = differs_at front p back (rest_distinct eq laws q (front ++ p ∷ back) distinct)
 
   module _ (m : Machine K V) (h : IsWhole eq m) (full : IsFullCache m) (puts : List (K × V)) (scans : IsScan eq puts m)
       (known : length puts ≤ m.shares.small + m.shares.history) (fits : length puts + set_bits m ≤ m.shares.capacity) where
@@ -93,7 +97,7 @@ module _ {K V : Type 0} (eq : K → K → Bool) (laws : IsEquivalence eq) where
     remain_from : (front back : List (K × V)) → puts ≡ front ++ back → Remain eq laws back once
     remain_from front [] parts = tt
     remain_from front (p ∷ back) parts = (
-      by_place (first_round eq laws front p back m h full (subst (λ l. AreNew eq l m) parts new) (apart_at front p back (subst (AreApart eq laws) parts (scan_apart puts m scans)))
+      by_place (first_round eq laws front p back m h full (subst (λ l. AreNew eq l m) parts new) (differs_at front p back (subst (AreDistinct eq) parts (scan_distinct puts m scans)))
           (omega (arith, known, ap (length {A = K × V}) parts, length-append front (p ∷ back)))),
       remain_from (front ++ p ∷ []) back (parts ∙ sym (append_assoc front (p ∷ []) back)),
     ) where
@@ -108,7 +112,7 @@ module _ {K V : Type 0} (eq : K → K → Bool) (laws : IsEquivalence eq) where
         (λ before p behind parts.
         ap (λ l. is_some (slot_of (eq p.0) (after_all eq (scan l) once))) parts
         ∙ second_round eq laws before p behind once whole (full_main eq laws once whole (full_run eq laws puts m h full new))
-        (subst (AreApart eq laws) parts (scan_apart puts m scans)) (subst (λ l. Remain eq laws l once) parts (remain_from [] puts refl))
+        (subst (AreDistinct eq) parts (scan_distinct puts m scans)) (subst (λ l. Remain eq laws l once) parts (remain_from [] puts refl))
         (omega (arith, fits, bits_run puts m h new, ap (λ s. s.capacity) same, ap (length {A = K × V}) parts, length-append before (p ∷ behind))))
 
     -- from the third round on each access hits

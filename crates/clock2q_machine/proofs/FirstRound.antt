@@ -43,13 +43,13 @@ none_or_one None n one = one
 none_or_one (Some slot) n one = omega arith
 
 module _ {K : Type 0} (is : K → Bool) (key : K) (passes : is key ≡ true) where
-  newest_first : (room : ℕ) → 0 < room → (history : List K) → (list_any is (take room (key ∷ history)) ≡ true) × (newer is (take room (key ∷ history)) ≡ 0)
+  pub newest_first : (room : ℕ) → 0 < room → (history : List K) → (list_any is (take room (key ∷ history)) ≡ true) × (newer is (take room (key ∷ history)) ≡ 0)
   newest_first zero some history = absurd (omega (arith, some))
   newest_first (suc n) some history =
       (ap (λ b. b || list_any is (take n history)) passes, ap (λ b. if b then 0 else 1 + newer is (take n history)) passes)
 
 module _ {K V : Type 0} (eq : K → K → Bool) (laws : IsEquivalence eq) where
-  evictions-le : (puts : List (K × V)) (m : Machine K V) → summed eq (evictions_of eq) (scan puts) m ≤ length puts
+  pub evictions-le : (puts : List (K × V)) (m : Machine K V) → summed eq (evictions_of eq) (scan puts) m ≤ length puts
   evictions-le [] m = omega arith
   evictions-le (p ∷ puts) m =
       omega (

@@ -2,7 +2,7 @@
 use Rattle.std.proofs.Common.{◌≡◌, ◌⊎◌, ℕ, suc, ◌+◌, ◌-◌, ◌<◌, ◌≤◌, ◌==◌, Bool, true, false, not, ◌||◌, ◌&&◌, List, [], ◌∷◌, ◌++◌, map, length, inl, inr, Option, Some, None, refl, sym, ap, ◌∙◌, subst, arith, eq-eqb, length-append}
 use Rattle.std.specs.Prelude.{⊤, if◌then◌else◌, is_some, nat_le}
 use Rattle.std.specs.Cmp.{IsEquivalence}
-use Rattle.std.specs.List.{count_by, list_any, last_or, AllByRecursion}
+use Rattle.std.specs.List.{count_by, list_any, last_or, AllByRecursion, IsDistinct}
 use Rattle.std.proofs.lemmas.List.{length-map}
 use Rattle.std.proofs.lemmas.List.Sums.{sum_by-cons, sum_by-le-sum_by}
 use Rattle.clock2q_machine.specs.Shares.{main_share}
@@ -14,6 +14,7 @@ use Rattle.clock2q_machine.specs.Bounds.{set_bits, goes_on, takes_victim, takes_
 use Rattle.clock2q_machine.specs.Lifetimes.{newer, ahead, is_in_small, is_in_main, is_remembered, admissions_of, evictions_of}
 use Rattle.clock2q_machine.specs.Whole.{IsWhole}
 use Rattle.clock2q_machine.specs.Scans.{scan}
+use Rattle.clock2q_machine.specs.Loops.{AreDistinct}
 use Rattle.clock2q_machine.proofs.Weights.{weight-from_victim, length-from_victim}
 use Rattle.clock2q_machine.proofs.Whole.{one_if}
 use Rattle.clock2q_machine.proofs.MachineInvariant.{lasting-after}
@@ -27,7 +28,7 @@ use Rattle.clock2q_machine.proofs.FarApart.{Differ}
 -- Tests of lists, by counting.
 
 module _ {X : Type 0} where
-  counted_any : (p : X → Bool) (xs : List X) → list_any p xs ≡ true → 0 < count_by p xs
+  pub counted_any : (p : X → Bool) (xs : List X) → list_any p xs ≡ true → 0 < count_by p xs
   counted_any p [] any = cc
   counted_any p (x ∷ xs) any =
       (elim (p x) as (λ b. p x ≡ b → (b || list_any p xs) ≡ true → 0 < count_by p (x ∷ xs)) [
@@ -67,7 +68,7 @@ module _ {K V : Type 0} (eq : K → K → Bool) (laws : IsEquivalence eq) where
   abbrev IsMainFull : Machine K V → Type 0
   IsMainFull m = length m.main ≡ main_share m.shares
 
-  resident_if : (is : K → Bool) (m : Machine K V) → 0 < key_count is m → is_some (slot_of is m) ≡ true
+  pub resident_if : (is : K → Bool) (m : Machine K V) → 0 < key_count is m → is_some (slot_of is m) ≡ true
   resident_if is m some = by_slot (slot_of is m) refl where
     by_slot : (o : Option ℕ) → slot_of is m ≡ o → is_some o ≡ true
     by_slot None absent = absurd (omega (arith, none_counted is m absent, some))
@@ -181,10 +182,17 @@ module _ {K V : Type 0} (eq : K → K → Bool) (laws : IsEquivalence eq) where
   Remain [] m = ⊤
   Remain (p ∷ puts) m = ((is_in_small (eq p.0) m ≡ true) ⊎ ((m.shares.small ≤ length puts) × (is_remembered (eq p.0) m ≡ true))) × Remain puts m
 
-  -- no two of them are equal
-  abbrev pub AreApart : List (K × V) → Type 0
-  AreApart [] = ⊤
-  AreApart (p ∷ puts) = Differ eq p.0 puts × AreApart puts
+  -- the first differs from the rest
+  pub first_differs : (p : K × V) (puts : List (K × V)) → AreDistinct eq (p ∷ puts) → Differ eq p.0 puts
+  unfolding IsDistinct
+  first_differs p puts distinct = among puts distinct.0 where
+    among : (later : List (K × V)) → AllByRecursion (λ k. eq p.0 k ≡ false) (map (λ q. q.0) later) → Differ eq p.0 later
+    among [] differ = tt
+    among (q ∷ later) differ = (laws.symm q.0 p.0 ∙ differ.0, among later differ.1)
+
+  pub rest_distinct : (p : K × V) (puts : List (K × V)) → AreDistinct eq (p ∷ puts) → AreDistinct eq puts
+  unfolding IsDistinct
+  rest_distinct p puts distinct = distinct.1
 
   kept : (p : K × V) (puts : List (K × V)) (m : Machine K V) (h : IsWhole eq m) → Remain (p ∷ puts) m → IsKept p.0 p.1 m h
   kept p puts m h remain = elim remain.0 [ inl there ↦ inl there | inr known ↦ inr known.1 ]
@@ -200,39 +208,39 @@ module _ {K V : Type 0} (eq : K → K → Bool) (laws : IsEquivalence eq) where
   )
 
   -- what the rest of the round does
-  module _ (p : K × V) (puts : List (K × V)) (m : Machine K V) (h : IsWhole eq m) (apart : AreApart (p ∷ puts)) (remain : Remain (p ∷ puts) m) where
+  module _ (p : K × V) (puts : List (K × V)) (m : Machine K V) (h : IsWhole eq m) (apart : AreDistinct eq (p ∷ puts)) (remain : Remain (p ∷ puts) m) where
     next_whole : IsWhole eq (after eq (Put p.0 p.1) m)
     next_whole = lasting-after eq laws (Put p.0 p.1) m h
 
     next_remain : Remain puts (after eq (Put p.0 p.1) m)
-    next_remain = remain_on p m h (kept p puts m h remain) puts apart.0 remain.1
+    next_remain = remain_on p m h (kept p puts m h remain) puts (first_differs p puts apart) remain.1
 
-  none_admitted : (puts : List (K × V)) (m : Machine K V) → IsWhole eq m → AreApart puts → Remain puts m → summed eq (admissions_of eq) (scan puts) m ≡ 0
+  none_admitted : (puts : List (K × V)) (m : Machine K V) → IsWhole eq m → AreDistinct eq puts → Remain puts m → summed eq (admissions_of eq) (scan puts) m ≡ 0
   none_admitted [] m h apart remain = refl
   none_admitted (p ∷ puts) m h apart remain =
-      omega (arith, admits_none p.0 p.1 m h (kept p puts m h remain), none_admitted puts (after eq (Put p.0 p.1) m) (next_whole p puts m h apart remain) apart.1 (next_remain p puts m h apart remain))
+      omega (arith, admits_none p.0 p.1 m h (kept p puts m h remain), none_admitted puts (after eq (Put p.0 p.1) m) (next_whole p puts m h apart remain) (rest_distinct p puts apart) (next_remain p puts m h apart remain))
 
-  none_set : (puts : List (K × V)) (m : Machine K V) → IsWhole eq m → AreApart puts → Remain puts m → summed eq (settings eq) (scan puts) m ≡ 0
+  none_set : (puts : List (K × V)) (m : Machine K V) → IsWhole eq m → AreDistinct eq puts → Remain puts m → summed eq (settings eq) (scan puts) m ≡ 0
   none_set [] m h apart remain = refl
   none_set (p ∷ puts) m h apart remain =
-      omega (arith, sets_none p.0 p.1 m h (kept p puts m h remain), none_set puts (after eq (Put p.0 p.1) m) (next_whole p puts m h apart remain) apart.1 (next_remain p puts m h apart remain))
+      omega (arith, sets_none p.0 p.1 m h (kept p puts m h remain), none_set puts (after eq (Put p.0 p.1) m) (next_whole p puts m h apart remain) (rest_distinct p puts apart) (next_remain p puts m h apart remain))
 
-  few_victims : (puts : List (K × V)) (m : Machine K V) → IsWhole eq m → AreApart puts → Remain puts m → summed eq (main_victims eq) (scan puts) m ≤ length puts - m.shares.small
+  few_victims : (puts : List (K × V)) (m : Machine K V) → IsWhole eq m → AreDistinct eq puts → Remain puts m → summed eq (main_victims eq) (scan puts) m ≤ length puts - m.shares.small
   few_victims [] m h apart remain = omega arith
   few_victims (p ∷ puts) m h apart remain =
-      let rest = few_victims puts (after eq (Put p.0 p.1) m) (next_whole p puts m h apart remain) apart.1 (next_remain p puts m h apart remain) in
+      let rest = few_victims puts (after eq (Put p.0 p.1) m) (next_whole p puts m h apart remain) (rest_distinct p puts apart) (next_remain p puts m h apart remain) in
       let same = ap (λ s. s.small) (put_shares eq laws p.0 p.1 m h) in
       elim remain.0 [
         | inl there ↦ omega (arith, victims_small p.0 p.1 m h there, rest, same)
         | inr known ↦ omega (arith, victims_one p.0 p.1 m h, known.0, rest, same)
       ]
 
-  none_removed : (puts : List (K × V)) → AllByRecursion (λ call. makes_room call ≡ false) (scan puts) × AllByRecursion (λ call. takes_out call ≡ false) (scan puts)
+  pub none_removed : (puts : List (K × V)) → AllByRecursion (λ call. makes_room call ≡ false) (scan puts) × AllByRecursion (λ call. takes_out call ≡ false) (scan puts)
   none_removed [] = (tt, tt)
   none_removed (p ∷ puts) = let rest = none_removed puts in ((refl, rest.0), (refl, rest.1))
 
   -- a key of the round is resident at its end
-  pub second_round : (front : List (K × V)) (p : K × V) (back : List (K × V)) (m : Machine K V) → IsWhole eq m → IsMainFull m → AreApart (front ++ p ∷ back) → Remain (front ++ p ∷ back) m
+  pub second_round : (front : List (K × V)) (p : K × V) (back : List (K × V)) (m : Machine K V) → IsWhole eq m → IsMainFull m → AreDistinct eq (front ++ p ∷ back) → Remain (front ++ p ∷ back) m
       → suc (length back) + set_bits m ≤ m.shares.capacity → is_some (slot_of (eq p.0) (after_all eq (scan (front ++ p ∷ back)) m)) ≡ true
   second_round [] p back m h full apart remain fits = by_place remain.0 where
     n : Machine K V
@@ -247,15 +255,15 @@ module _ {K V : Type 0} (eq : K → K → Bool) (laws : IsEquivalence eq) where
     by_place : (is_in_small (eq p.0) m ≡ true) ⊎ ((m.shares.small ≤ length back) × (is_remembered (eq p.0) m ≡ true)) → is_some (slot_of (eq p.0) (after_all eq (scan back) n)) ≡ true
     by_place (inl there) =
         small_resident (eq p.0) (after_all eq (scan back) n)
-        (in_small_still (eq p.0) eq (scan back) n (none_removed back).0 (small_stays p.0 p.1 m h is_kept p.0 there) (omega (arith, none_admitted back n later.0 apart.1 later.1)))
+        (in_small_still (eq p.0) eq (scan back) n (none_removed back).0 (small_stays p.0 p.1 m h is_kept p.0 there) (omega (arith, none_admitted back n later.0 (rest_distinct p back apart) later.1)))
     by_place (inr known) =
         let enters = enters_main p.0 p.1 m h full known.1 in
         main_resident (eq p.0) (after_all eq (scan back) n)
         (victims_pass (eq p.0) eq (scan back) n (none_removed back).1 enters.1.0
         (omega (
           arith,
-          few_victims back n later.0 apart.1 later.1,
-          none_set back n later.0 apart.1 later.1,
+          few_victims back n later.0 (rest_distinct p back apart) later.1,
+          none_set back n later.0 (rest_distinct p back apart) later.1,
           bits_fall p.0 p.1 m h (sets_none p.0 p.1 m h is_kept),
           ap (λ s. s.small) (put_shares eq laws p.0 p.1 m h),
           enters.1.1,
@@ -266,5 +274,5 @@ module _ {K V : Type 0} (eq : K → K → Bool) (laws : IsEquivalence eq) where
   second_round (q ∷ front) p back m h full apart remain fits =
       let rest : List (K × V) = front ++ p ∷ back in
       let is_kept = kept q rest m h remain in
-      second_round front p back (after eq (Put q.0 q.1) m) (next_whole q rest m h apart remain) (main_full_still q.0 q.1 m h full is_kept) apart.1 (next_remain q rest m h apart remain)
+      second_round front p back (after eq (Put q.0 q.1) m) (next_whole q rest m h apart remain) (main_full_still q.0 q.1 m h full is_kept) (rest_distinct q rest apart) (next_remain q rest m h apart remain)
       (omega (arith, fits, bits_fall q.0 q.1 m h (sets_none q.0 q.1 m h is_kept), ap (λ s. s.capacity) (put_shares eq laws q.0 q.1 m h)))

@@ -72,7 +72,7 @@ small_room : (share len : ℕ) (vacant : Option ℕ) (slot : ℕ) → vacant ≡
 small_room share len vacant slot is e =
     leb-false share len (subst (λ v. (is_some v && nat_le share len) ≡ false) is (or_false (share == 0) (is_some vacant && nat_le share len) e))
 
-below_of : (a b : ℕ) → a ≤ b → (a == b) ≡ false → a < b
+pub below_of : (a b : ℕ) → a ≤ b → (a == b) ≡ false → a < b
 below_of a b within other = elim (cases_lt a b) [ inl below ↦ below | inr above ↦ absurd (both_ways (a == b) other (eq-eqb a b (omega (arith, within, above)))) ]
 
 pub empty_small : {K : Type 0} (small : List (SmallEntry K)) → last_or None small ≡ None → length small ≡ 0

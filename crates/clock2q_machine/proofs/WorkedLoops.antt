@@ -8,11 +8,11 @@ use Rattle.clock2q_machine.specs.Loops.{rounds, is_hit, AreFarApart}
 use Rattle.clock2q_machine.proofs.WorkedRuns.{puts, gets, state, remembering}
 
 -- the number of hits of some puts
-abbrev hits_in : List (Call ℕ ℕ) → Machine ℕ ℕ → ℕ
+abbrev pub hits_in : List (Call ℕ ℕ) → Machine ℕ ℕ → ℕ
 hits_in calls m = count_by is_hit (answers eqb calls m)
 
 -- the number of hits in each of the first rounds of a loop
-abbrev hits_of_rounds : ℕ → List (Call ℕ ℕ) → Machine ℕ ℕ → List ℕ
+abbrev pub hits_of_rounds : ℕ → List (Call ℕ ℕ) → Machine ℕ ℕ → List ℕ
 hits_of_rounds n loop m = map (λ round. hits_in loop (after_all eqb (rounds round loop) m)) (range_with_len 0 n)
 
 -- a full cache of twenty has two keys in Small, and remembers ten

@@ -55,25 +55,10 @@ module _ {K V : Type 0} where
   takes_out IsEmpty = false
   takes_out Capacity = false
 
-  -- whether it makes residents leave though no key comes
+  -- whether it makes residents leave though no key comes: those, and the one that `Evict` evicts
   abbrev pub makes_room : Call K V → Bool
-  makes_room (Put key value) = false
-  makes_room (Get key) = false
-  makes_room (Peek key) = false
-  makes_room (Contains key) = false
-  makes_room (GetAt slot key) = false
-  makes_room (Set key value) = false
-  makes_room (With key value) = false
-  makes_room (Try key value) = false
-  makes_room (SlotFor key value) = false
-  makes_room (Remove key) = true
-  makes_room (Retain bits) = true
-  makes_room Clear = true
   makes_room Evict = true
-  makes_room (Prefill values) = false
-  makes_room Len = false
-  makes_room IsEmpty = false
-  makes_room Capacity = false
+  makes_room call = takes_out call
 
   module _ (eq : K → K → Bool) where
     -- the number of inspections by the hand in a call

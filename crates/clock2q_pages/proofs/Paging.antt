@@ -13,6 +13,7 @@ use Rattle.clock2q_machine.specs.Shares.{Shares}
 use Rattle.clock2q_machine.specs.Machine.{Machine, hit, inserted, placement, slot_of, stored}
 use Rattle.clock2q_machine.specs.Steps.{is_at, put, replaced_at, slotted_at, hit_at, value_at}
 use Rattle.clock2q_machine.proofs.Whole.{none_is}
+use Rattle.clock2q_machine.proofs.NewKeys.{put_shares}
 use Rattle.clock2q_machine.proofs.MachineInvariant.{placed-key, lasting-inserted, lasting-after, resident_made}
 use Rattle.clock2q_machine.proofs.Standing.{stored_elsewhere}
 use Rattle.clock2q_machine.proofs.Entering.{weight-hit, weight-replaced, same_slots, slots_apart, entered_there}
@@ -64,10 +65,7 @@ module _ (m : Machine ℕ (Option ℕ)) (h : IsWhole eqb m) (page : ℕ) (value 
 
   -- the shares stay the same
   pub same_shares : now.shares ≡ m.shares
-  same_shares = by_slot (slot_of (eqb page) m) refl where
-    by_slot : (o : Option ℕ) → slot_of (eqb page) m ≡ o → (if is_some o then replaced_at (eqb page) value o m else inserted (eqb page) page value m).shares ≡ m.shares
-    by_slot None absent = (placed-key eqb nat_eq_equiv page m h absent).shares
-    by_slot (Some slot) found = refl
+  same_shares = put_shares eqb nat_eq_equiv page value m h
 
   -- so the frame is below the old capacity
   pub frame_within : frame < m.shares.capacity

@@ -10,7 +10,7 @@ use Rattle.simulator_policies.specs.declared.plain.PlainPolicy.TheVariants.{Leas
 use Rattle.simulator_policies.specs.Policies.{hits, hit_count, is_in, without, after_hit, plain_after, plain_hits}
 use Rattle.simulator_policies.specs.SecondChance.{Ring, is_on, marked, moved_on, joined, clock_after, clock_hits}
 use Rattle.simulator_policies.specs.Optimum.{next_use, later, farthest, without_farthest, optimal_after, optimal_hits_from, optimal_hits, optimal_outcomes_from, optimal_outcomes, IsDemandPolicy}
-use Rattle.simulator_policies.proofs.Flushing.{turned}
+use Rattle.simulator_policies.proofs.Flushing.{differ_back}
 use Rattle.simulator_policies.proofs.Sharing.{left_without}
 use Rattle.simulator_policies.proofs.Optimum.{optimum, optimum_first, optimal_comes}
 
@@ -197,7 +197,7 @@ keys_on ring = map (λ e. e.0) ring
 pub same_turned : (a b : ℕ) → (a == b) ≡ (b == a)
 same_turned a b = elim (cases_Bool (a == b)) [
   | inl same ↦ same ∙ sym (eq-eqb b a (sym (eqb-true a b same)))
-  | inr apart ↦ apart ∙ sym (turned a b apart)
+  | inr apart ↦ apart ∙ sym (differ_back a b apart)
 ]
 
 on_is_in : (key : ℕ) (ring : Ring) → is_on key ring ≡ is_in key (keys_on ring)

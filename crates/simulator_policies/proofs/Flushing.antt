@@ -20,8 +20,8 @@ both_fail : (a b : Bool) → a ≡ false → b ≡ false → (a || b) ≡ false
 both_fail true b fails none = cc
 both_fail false b fails none = none
 
-pub turned : (a b : ℕ) → (a == b) ≡ false → (b == a) ≡ false
-turned a b differ =
+pub differ_back : (a b : ℕ) → (a == b) ≡ false → (b == a) ≡ false
+differ_back a b differ =
     ne_eqb b a (λ same. clash (sym (eq-eqb a b (sym same)) ∙ differ)) where
       clash : true ≡ false → ⊥
       clash is = cc
@@ -74,7 +74,7 @@ not_among key (first ∷ trace) held none nor =
 still_new : (key : ℕ) (trace held : List ℕ) → is_in key trace ≡ false → AreNew trace held → AreNew trace (key ∷ held)
 still_new key [] held none new = tt
 still_new key (next ∷ trace) held none new = (
-  both_fail (key == next) (is_in next held) (turned next key (first_fails (next == key) (is_in key trace) none)) new.0,
+  both_fail (key == next) (is_in next held) (differ_back next key (first_fails (next == key) (is_in key trace) none)) new.0,
   (new.1.0, still_new key trace held (second_fails (next == key) (is_in key trace) none) new.1.1),
 )
 

@@ -4,7 +4,7 @@ use Rattle.std.specs.Prelude.{⊤, if◌then◌else◌}
 use Rattle.std.proofs.lemmas.Bool.{cases_Bool, eqb-true, eq-eqb, or_from, or_left, or_right, true≢false}
 use Rattle.simulator_policies.specs.Policies.{is_in, without}
 use Rattle.simulator_policies.proofs.Stamping.{without-absent}
-use Rattle.simulator_policies.proofs.Flushing.{turned}
+use Rattle.simulator_policies.proofs.Flushing.{differ_back}
 
 -- the keys of a list differ from one another
 abbrev pub AreDifferent : List ℕ → Type 0
@@ -50,7 +50,7 @@ pub different_without : (key : ℕ) (keys : List ℕ) → AreDifferent keys → 
 different_without key [] differ = tt
 different_without key (first ∷ keys) differ = elim (cases_Bool (first == key)) [
   | inl same ↦ rw same (different_without key keys differ.1)
-  | inr apart ↦ rw apart (others_without key first keys (turned first key apart) ∙ differ.0, different_without key keys differ.1)
+  | inr apart ↦ rw apart (others_without key first keys (differ_back first key apart) ∙ differ.0, different_without key keys differ.1)
 ]
 
 -- at most one key is removed
@@ -127,7 +127,7 @@ shared_first (key ∷ keys) first held differ =
           let absent : is_in first keys ≡ false = ap (λ k. is_in k keys) (sym here) ∙ differ.0 in
           let found : (first == key) ≡ true = eq-eqb first key (sym here) in
           rw same (rw found (omega (arith, rw absent at rest)))
-      | inr apart ↦ rw apart (rw (turned key first apart) (omega (arith, rest)))
+      | inr apart ↦ rw apart (rw (differ_back key first apart) (omega (arith, rest)))
     ]
 
 -- different keys share at most as many with a list as the list with them

@@ -12,7 +12,7 @@ use Rattle.clock2q_machine.specs.Entries.{MainEntry, main_hit, first_of, from_vi
 use Rattle.clock2q_machine.specs.Calls.{Call, Put}
 use Rattle.clock2q_machine.specs.Leaving.{leaver}
 use Rattle.clock2q_machine.specs.Machine.{Machine, empty, hit, stored, inserted, replacing_victim, joining_main, slot_of, value_of, vacant_slot}
-use Rattle.clock2q_machine.specs.Steps.{put, replaced_at, after_all}
+use Rattle.clock2q_machine.specs.Steps.{replaced_at, after_all}
 use Rattle.clock2q_machine.specs.Whole.{IsWhole}
 use Rattle.clock2q_machine.proofs.Whole.{none_is, some_is}
 use Rattle.clock2q_machine.proofs.Weights.{length-from_victim}
@@ -20,6 +20,7 @@ use Rattle.clock2q_machine.proofs.Residents.{slot_among}
 use Rattle.clock2q_machine.proofs.MachineInvariant.{lasting-after, lasting-empty, resident_made}
 use Rattle.clock2q_machine.proofs.Standing.{get-within}
 use Rattle.simulator_policies.specs.Policies.{hits, outcomes}
+use Rattle.simulator_policies.specs.MachineHits.{machine_holds, machine_after}
 use Rattle.simulator_policies.specs.SecondChance.{is_on, marked, moved_on, joined, clock_after, clock_hits, clock_outcomes, first_key, clock_victim, passed, turned, frames_after}
 use Rattle.simulator_policies.specs.SecondChance.{clock_ring_from, clock_frames_from, clock_ring, clock_frames}
 use Rattle.simulator_policies.proofs.Rings.{entry_of, ring_of, frames_of, victim_alike, frames_turned, frames_hit, first_alike, marked_alike, found_alike}
@@ -174,12 +175,6 @@ module _ (capacity : ℕ) where
         ≡ (if b then None else stops_at (nat_lt (length (ring_of main)) capacity))) [ true ↦ refl | false ↦ leaves_alike ]
 
   -- so the same keys of every trace hit
-  abbrev machine_holds : ℕ → Machine ℕ (Unit {0}) → Bool
-  machine_holds key m = is_some (value_of (λ held. key == held) m)
-
-  abbrev machine_after : ℕ → Machine ℕ (Unit {0}) → Machine ℕ (Unit {0})
-  machine_after key m = put (λ held. key == held) key tt m
-
   hits_alike : (trace : List ℕ) (main : List (MainEntry ℕ)) (values : List (Unit {0})) → IsWhole eqb (cache_of main values)
       → hits machine_holds machine_after trace (cache_of main values) ≡ hits is_on (clock_after capacity) trace (ring_of main)
   hits_alike [] main values h = refl

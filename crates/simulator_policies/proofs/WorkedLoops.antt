@@ -9,7 +9,7 @@ use Rattle.clock2q_machine.specs.Steps.{after_all}
 use Rattle.clock2q_machine.specs.Loops.{rounds}
 use Rattle.simulator_policies.specs.declared.plain.PlainPolicy.TheVariants.{LeastRecentlyUsed}
 use Rattle.simulator_policies.specs.Policies.{hits, is_in, plain_after, plain_after_all}
-use Rattle.simulator_policies.proofs.MachineOptimum.{machine_holds, machine_after}
+use Rattle.simulator_policies.specs.MachineHits.{machine_holds, machine_after}
 
 abbrev loop : List ℕ
 loop = range_with_len 101 61

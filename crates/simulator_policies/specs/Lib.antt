@@ -1,4 +1,5 @@
 pub mod Policies
+pub mod MachineHits
 pub mod Stamps
 pub mod Residents
 pub mod SecondChance
