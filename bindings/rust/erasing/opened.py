@@ -4,6 +4,7 @@ import re
 # What the map uses beside what is public, by the source that has it: `pub(crate)` comes before it.
 OPENED = {
     'clock2q_cache/src/cache.rt': ['directory: Directory<', 'fn record_hit('],
+    'clock2q_cache/src/lib.rt': ['mod shares;'],
     'clock2q_directory/src/directory.rt': ['index: Index<', 'remembered: Keys<'],
 }
 
@@ -25,10 +26,10 @@ INLINED = {'clock2q_directory/src/directory/changes.rt': ['put_key']}
 def open_items(text):
     """Lets the map name fields and functions of the cache that are private in the sources."""
     for start in OPENED.get(text.name, []):
-        found = re.findall(rf'^[ \t]+{re.escape(start)}', text.code, re.M)
+        found = re.findall(rf'^[ \t]*{re.escape(start)}', text.code, re.M)
         if len(found) != 1:
             text.refuse(0, f'{len(found)} lines that begin with {start!r}, which the map uses')
-        text.replace(rf'^[ \t]+()(?={re.escape(start)})', 'pub(crate) ')
+        text.replace(rf'^[ \t]*(){re.escape(start)}', 'pub(crate) ')
 
 
 def show_bounds(text):

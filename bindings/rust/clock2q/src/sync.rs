@@ -7,12 +7,12 @@ mod shard;
 mod shards;
 mod weighted;
 
-use crate::slots::Slots;
+use crate::slots::Shares;
 use crate::store::Store;
 use crate::{DefaultHashBuilder, Refused};
 pub use expiring::ExpiringCache;
 use shard::Pairs;
-use shards::{count_for, part, usual_count, Shards};
+use shards::{count_for, part, slots_of_part, usual_count, Shards};
 use std::fmt;
 use std::sync::{Mutex, MutexGuard, PoisonError};
 use std::vec::{self, Vec};
@@ -135,6 +135,29 @@ impl<K, V> Cache<K, V> {
     ) -> Result<Cache<K, V>, Refused> {
         Cache::with_policy_and_hasher(capacity, small, window, DefaultHashBuilder::default())
     }
+
+    /// Makes a cache with the shares of [`with_policy`](Cache::with_policy) that remembers up to `history` evicted
+    /// keys in place of half the capacity. They are divided among the shards too.
+    ///
+    /// # Errors
+    ///
+    /// Those of [`with_policy`](Cache::with_policy), and [`Refused::Policy`] unless `history <= capacity`.
+    ///
+    /// ```
+    /// // A loop of new keys that fits beside the keys that were hit is admitted, however long it is.
+    /// let cache = clock2q::sync::Cache::<u64, u64>::with_history(1000, 100, 50, 900)?;
+    /// assert_eq!(cache.capacity(), 1000);
+    /// # Ok::<(), clock2q::Refused>(())
+    /// ```
+    pub fn with_history(
+        capacity: usize,
+        small: usize,
+        window: usize,
+        history: usize,
+    ) -> Result<Cache<K, V>, Refused> {
+        let hasher = DefaultHashBuilder::default();
+        Cache::with_history_and_hasher(capacity, small, window, history, hasher)
+    }
 }
 
 impl<K, V, S> Cache<K, V, S> {
@@ -158,10 +181,7 @@ impl<K, V, S> Cache<K, V, S> {
         shards: usize,
         hasher: S,
     ) -> Result<Cache<K, V, S>, Refused> {
-        let shards = Shards::new(capacity, shards, |at, count| {
-            Store::new(Slots::new(part(capacity as u64, at, count) as usize)?)
-        })?;
-        Ok(Cache::of(shards, capacity, hasher))
+        Cache::made(capacity, shards, &Shares::default(), hasher)
     }
 
     /// Makes a cache with the shares of [`with_policy`](Cache::with_policy) and a hasher.
@@ -175,21 +195,41 @@ impl<K, V, S> Cache<K, V, S> {
         window: usize,
         hasher: S,
     ) -> Result<Cache<K, V, S>, Refused> {
-        let shards = count_for(capacity, small, window)?;
-        let shards = Shards::new(capacity, shards, |at, count| {
-            let of = |whole| part(whole as u64, at, count) as usize;
-            Store::new(Slots::with_policy(of(capacity), of(small), of(window))?)
-        })?;
-        Ok(Cache::of(shards, capacity, hasher))
+        let shares = Shares::of_policy(small, window);
+        Cache::made(capacity, count_for(capacity, &shares)?, &shares, hasher)
     }
 
-    fn of(shards: Shards<Store<K, V>, K, V>, capacity: usize, hasher: S) -> Cache<K, V, S> {
-        Cache {
+    /// Makes a cache with the history of [`with_history`](Cache::with_history) and a hasher.
+    ///
+    /// # Errors
+    ///
+    /// Those of [`with_history`](Cache::with_history).
+    pub fn with_history_and_hasher(
+        capacity: usize,
+        small: usize,
+        window: usize,
+        history: usize,
+        hasher: S,
+    ) -> Result<Cache<K, V, S>, Refused> {
+        let shares = Shares::of_history(small, window, history);
+        Cache::made(capacity, count_for(capacity, &shares)?, &shares, hasher)
+    }
+
+    fn made(
+        capacity: usize,
+        shards: usize,
+        shares: &Shares,
+        hasher: S,
+    ) -> Result<Cache<K, V, S>, Refused> {
+        let shards = Shards::new(capacity, shards, |at, count| {
+            Store::new(slots_of_part(capacity, shares, at, count)?)
+        })?;
+        Ok(Cache {
             shards,
             hasher,
             made: capacity,
             capacity: Mutex::new(capacity),
-        }
+        })
     }
 
     /// Returns how many keys there are.

@@ -1,6 +1,6 @@
 //! Pairs with weights.
 
-use crate::slots::{Found, Slots};
+use crate::slots::{Found, Shares, Slots};
 use crate::store::hash_of;
 use crate::weights::{Stored, WeightedStore};
 use crate::{DefaultHashBuilder, Iter, Refused};
@@ -60,12 +60,27 @@ impl<K, V, W: Fn(&K, &V) -> u64> WeightedCache<K, V, W> {
         max_weight: u64,
         weigher: W,
     ) -> Result<Self, Refused> {
-        let slots = Slots::with_policy(capacity, small, window)?;
-        Ok(WeightedCache {
-            store: WeightedStore::new(slots, max_weight)?,
-            weigher,
-            hasher: DefaultHashBuilder::default(),
-        })
+        let shares = Shares::of_policy(small, window);
+        let hasher = DefaultHashBuilder::default();
+        WeightedCache::made(capacity, shares, max_weight, weigher, hasher)
+    }
+
+    /// Makes a cache with the history of [`Cache::with_history`](crate::Cache::with_history).
+    ///
+    /// # Errors
+    ///
+    /// Those of [`Cache::with_history`](crate::Cache::with_history).
+    pub fn with_history(
+        capacity: usize,
+        small: usize,
+        window: usize,
+        history: usize,
+        max_weight: u64,
+        weigher: W,
+    ) -> Result<Self, Refused> {
+        let shares = Shares::of_history(small, window, history);
+        let hasher = DefaultHashBuilder::default();
+        WeightedCache::made(capacity, shares, max_weight, weigher, hasher)
     }
 }
 
@@ -81,8 +96,19 @@ impl<K, V, W: Fn(&K, &V) -> u64, S> WeightedCache<K, V, W, S> {
         weigher: W,
         hasher: S,
     ) -> Result<Self, Refused> {
+        WeightedCache::made(capacity, Shares::default(), max_weight, weigher, hasher)
+    }
+
+    fn made(
+        capacity: usize,
+        shares: Shares,
+        max_weight: u64,
+        weigher: W,
+        hasher: S,
+    ) -> Result<Self, Refused> {
+        let slots = Slots::with_shares(capacity, shares)?;
         Ok(WeightedCache {
-            store: WeightedStore::new(Slots::new(capacity)?, max_weight)?,
+            store: WeightedStore::new(slots, max_weight)?,
             weigher,
             hasher,
         })

@@ -4,8 +4,8 @@ mod keyed;
 
 use super::locked;
 use super::shard::Pairs;
-use super::shards::{count_for, part, usual_count, Shards};
-use crate::slots::Slots;
+use super::shards::{count_for, part, slots_of_part, usual_count, Shards};
+use crate::slots::Shares;
 use crate::weights::WeightedStore;
 use crate::{DefaultHashBuilder, Refused};
 use std::fmt;
@@ -106,16 +106,29 @@ impl<K, V, W: Fn(&K, &V) -> u64> WeightedCache<K, V, W> {
         max_weight: u64,
         weigher: W,
     ) -> Result<Self, Refused> {
+        let shares = Shares::of_policy(small, window);
+        let shards = count_for(capacity, &shares)?;
         let hasher = DefaultHashBuilder::default();
-        let shards = count_for(capacity, small, window)?;
-        let shards = Shards::new(capacity, shards, |at, count| {
-            let of = |whole| part(whole as u64, at, count) as usize;
-            let slots = Slots::with_policy(of(capacity), of(small), of(window))?;
-            WeightedStore::new(slots, part(max_weight, at, count))
-        })?;
-        Ok(WeightedCache::of(
-            shards, weigher, hasher, capacity, max_weight,
-        ))
+        WeightedCache::made(capacity, max_weight, shards, &shares, weigher, hasher)
+    }
+
+    /// Makes a cache with the history of [`sync::Cache::with_history`](super::Cache::with_history).
+    ///
+    /// # Errors
+    ///
+    /// Those of [`sync::Cache::with_history`](super::Cache::with_history).
+    pub fn with_history(
+        capacity: usize,
+        small: usize,
+        window: usize,
+        history: usize,
+        max_weight: u64,
+        weigher: W,
+    ) -> Result<Self, Refused> {
+        let shares = Shares::of_history(small, window, history);
+        let shards = count_for(capacity, &shares)?;
+        let hasher = DefaultHashBuilder::default();
+        WeightedCache::made(capacity, max_weight, shards, &shares, weigher, hasher)
     }
 }
 
@@ -148,34 +161,34 @@ impl<K, V, W: Fn(&K, &V) -> u64, S> WeightedCache<K, V, W, S> {
         weigher: W,
         hasher: S,
     ) -> Result<Self, Refused> {
-        let shards = Shards::new(capacity, shards, |at, count| {
-            let slots = Slots::new(part(capacity as u64, at, count) as usize)?;
-            WeightedStore::new(slots, part(max_weight, at, count))
-        })?;
-        Ok(WeightedCache::of(
-            shards, weigher, hasher, capacity, max_weight,
-        ))
+        let shares = Shares::default();
+        WeightedCache::made(capacity, max_weight, shards, &shares, weigher, hasher)
     }
-}
 
-impl<K, V, W, S> WeightedCache<K, V, W, S> {
-    fn of(
-        shards: Shards<WeightedStore<K, V>, K, V>,
-        weigher: W,
-        hasher: S,
+    fn made(
         capacity: usize,
         max_weight: u64,
-    ) -> Self {
-        WeightedCache {
+        shards: usize,
+        shares: &Shares,
+        weigher: W,
+        hasher: S,
+    ) -> Result<Self, Refused> {
+        let shards = Shards::new(capacity, shards, |at, count| {
+            let slots = slots_of_part(capacity, shares, at, count)?;
+            WeightedStore::new(slots, part(max_weight, at, count))
+        })?;
+        Ok(WeightedCache {
             shards,
             weigher,
             hasher,
             made: capacity,
             capacity: Mutex::new(capacity),
             max_weight: Mutex::new(max_weight),
-        }
+        })
     }
+}
 
+impl<K, V, W, S> WeightedCache<K, V, W, S> {
     /// Returns how many pairs there are.
     pub fn len(&self) -> usize {
         self.shards.pairs_len()
