@@ -28,7 +28,7 @@ pub use weighted::WeightedCache;
 ///
 /// `Hash` and the closure of [`get_or_insert_with`](Cache::get_or_insert_with) run without a lock, and keys and
 /// values are dropped without one. `Eq`, `Clone` and the closures of [`get_with`](Cache::get_with),
-/// [`peek_with`](Cache::peek_with), [`retain`](Cache::retain) and [`for_each`](Cache::for_each) run under the
+/// [`get_mut_with`](Cache::get_mut_with), [`peek_mut_with`](Cache::peek_mut_with), [`peek_with`](Cache::peek_with), [`retain`](Cache::retain) and [`for_each`](Cache::for_each) run under the
 /// lock of a shard: if one of them uses this cache, it may wait for ever or panic. After a panic the cache is
 /// whole, and no lock is poisoned.
 ///
@@ -279,7 +279,7 @@ impl<K, V, S> Cache<K, V, S> {
     }
 
     /// Returns how many look-ups found their key, since the cache was made. Those of
-    /// [`get`](Cache::get), [`get_with`](Cache::get_with),
+    /// [`get`](Cache::get), [`get_with`](Cache::get_with), [`get_mut_with`](Cache::get_mut_with),
     /// [`get_or_insert_with`](Cache::get_or_insert_with) and
     /// [`try_get_or_insert_with`](Cache::try_get_or_insert_with) are counted.
     pub fn hits(&self) -> u64 {

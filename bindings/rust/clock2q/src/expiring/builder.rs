@@ -1,10 +1,10 @@
 //! Making caches whose pairs may expire.
 
 use super::cache::ExpiringCache;
-use super::{nobody, Cause, Clock, SystemClock};
+use super::{nobody, Clock, SystemClock};
 use crate::slots::{Shares, Slots};
 use crate::store::Store;
-use crate::{sync, DefaultHashBuilder, Refused};
+use crate::{sync, Cause, DefaultHashBuilder, Refused};
 use std::marker::PhantomData;
 use std::time::Duration;
 

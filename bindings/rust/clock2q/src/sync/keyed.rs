@@ -30,6 +30,38 @@ impl<K: Hash + Eq, V, S: BuildHasher> Cache<K, V, S> {
         Some(read(value))
     }
 
+    /// Has `change` change the value of a key, after a hit, and returns what it returns.
+    ///
+    /// ```
+    /// let cache = clock2q::sync::Cache::new(100)?;
+    /// cache.insert("seven", 7);
+    /// cache.get_mut_with("seven", |value| *value += 1);
+    /// assert_eq!(cache.get("seven"), Some(8));
+    /// # Ok::<(), clock2q::Refused>(())
+    /// ```
+    pub fn get_mut_with<Q, R>(&self, key: &Q, change: impl FnOnce(&mut V) -> R) -> Option<R>
+    where
+        K: Borrow<Q>,
+        Q: Hash + Eq + ?Sized,
+    {
+        let hash = hash_of(&self.hasher, key);
+        let mut store = self.shards.of(hash).lock();
+        let (_, value) = store.find_pair(hash, key)?;
+        Some(change(value))
+    }
+
+    /// Has `change` change the value of a key, and returns what it returns. It records no hit.
+    pub fn peek_mut_with<Q, R>(&self, key: &Q, change: impl FnOnce(&mut V) -> R) -> Option<R>
+    where
+        K: Borrow<Q>,
+        Q: Hash + Eq + ?Sized,
+    {
+        let hash = hash_of(&self.hasher, key);
+        let mut store = self.shards.of(hash).lock();
+        let (_, value) = store.peek_mut(hash, key)?;
+        Some(change(value))
+    }
+
     /// Returns a clone of the value of a key. It records no hit.
     pub fn peek<Q>(&self, key: &Q) -> Option<V>
     where
