@@ -8,7 +8,7 @@
 # make dist       makes a release's packages in dist/, and installs each for a test
 # make vendor     copies the library and its proofs into the repository INTO=..
 # make bench      proves and runs the bench
-# make pages      writes docs/CLAUSES.md, the clauses of what users call, from the sources
+# make pages      writes docs/CLAUSES.md from the sources, and README's figures from the other pages
 # make clean      removes all that was proved and built
 # make help       prints these lines
 .SILENT:
@@ -59,6 +59,7 @@ bench:
 
 pages:
 	.ci/clauses
+	.ci/figures
 
 clean:
 	rm -rf crates/*/out

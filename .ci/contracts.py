@@ -6,7 +6,7 @@ import re
 
 TOP = pathlib.Path(__file__).resolve().parent.parent
 PAGE = TOP / "docs" / "CLAUSES.md"
-# The crates that the page lists, in its order.
+# The crates that the page lists, in its order: those that users call, and callers to read.
 LISTED = (
     "clock2q_cache",
     "clock2q_memo",
@@ -18,15 +18,10 @@ LISTED = (
     "clock2q_pages",
     "clock2q_c",
     "clock2q_uses",
-    "clock2q_directory",
-    "clock2q_queues",
-    "simulator_io",
-    "simulator_replay",
-    "simulator_policies",
 )
 HEAD = """# Clauses
 
-Each public function of the libraries, with the first sentence of its comment and the names of its clauses. What a function ensures is proved of every call that meets what it requires. A clause without a name is shown as it is written. Each call is linked to its source, which has the text of its clauses; the definitions are in `specs/` of its crate. [PROMISES](PROMISES.md) says what the clauses amount to, and [CALLING](CALLING.md) how to meet what a call requires.
+Each function that users of the library call, with the first sentence of its comment and the names of its clauses. What a function ensures is proved of every call that meets what it requires. A clause without a name is shown as it is written. Each call is linked to its source, which has the text of its clauses, and the definitions are in `specs/` of its crate. The crates below the cache and those of the simulator aren't here. [PROMISES](PROMISES.md) says what the clauses amount to, and [CALLING](CALLING.md) how to meet what a call requires.
 
 `make pages` writes this page, and `.ci/names` fails if it is stale.
 """

@@ -61,7 +61,8 @@ static void put_last(struct list *list, struct entry entry) {
 }
 
 static struct model model_of(size_t capacity) {
-    size_t small = capacity == 1 ? 0 : capacity < 20 ? 1 : capacity / 10;
+    size_t tenth = capacity / 10;
+    size_t small = capacity == 1 ? 0 : tenth > 0 ? tenth : 1;
     struct model model = {.capacity = capacity, .small_share = small, .window = (small + 1) / 2};
     model.small = list_of(capacity + 1);
     model.main = list_of(capacity + 1);

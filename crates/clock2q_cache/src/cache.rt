@@ -35,18 +35,18 @@ pub type DefaultHashBuilder = BuildHasherDefault<FoldHasher>;
 
 /// A key-value cache of fixed capacity.
 ///
-/// No reply depends on a hash: only `Eq` decides whether two keys are the same. The constructor
-/// takes all memory: no later call asks for any.
+/// No reply depends on a hash, since only `Eq` decides whether two keys are the same. The
+/// constructor takes all memory, and no later call asks for any.
 ///
 /// # Cost
 ///
 /// A call that takes a key, except [`get_at`](Cache::get_at), hashes it once and compares it only
-/// with its candidates: the resident and remembered keys whose hashes have the same home and
-/// fingerprint. Each inspection by the hand is paid for: since the cache was made, there have been
-/// no more of them than keys that Main evicted and bits of Main that hits set. A call reads and
-/// writes few slots of the index if hashes are well spread; keys whose hashes collide cost more, by
-/// the length of their walks and runs. A call that may change the cache is charged at most for
-/// them, which its contract bounds in the state before it.
+/// with its candidates, the resident and remembered keys whose hashes have the same home and
+/// fingerprint. Inspections by the hand are paid for. Since the cache was made, there have been no
+/// more of them than keys that Main evicted and bits of Main that hits set. A call reads and writes
+/// few slots of the index if hashes are well spread. Keys whose hashes collide cost more, by the
+/// length of their walks and runs. A call that may change the cache is charged at most for these,
+/// and its contract bounds them in the state before it.
 ///
 /// # Example
 ///
@@ -177,8 +177,8 @@ impl<K: Hash + Eq, V, S: BuildHasher, A: Allocator> Cache<K, V, S, A> {
     }
 
     /// Returns the slot of a resident key and records a hit, as [`get`](Cache::get) does. The key
-    /// keeps its slot until it is evicted or removed, so the slots number the frames of a caller's
-    /// own arrays: each is below the capacity.
+    /// keeps its slot until it is evicted or removed, so slots, which are below the capacity, can
+    /// number the elements of the caller's own arrays.
     ///
     /// Returns `None` and changes nothing if the key isn't resident.
     ///
@@ -199,7 +199,7 @@ impl<K: Hash + Eq, V, S: BuildHasher, A: Allocator> Cache<K, V, S, A> {
     /// Returns the value of a key that is resident at this slot and records a hit, as
     /// [`get`](Cache::get) does.
     ///
-    /// Returns `None` and changes nothing if the key isn't resident there, whatever the number.
+    /// Any number is allowed. Returns `None` and changes nothing if the key isn't resident there.
     ///
     /// # Cost
     ///
@@ -408,11 +408,12 @@ impl<K: Hash + Eq + Drop, V: Drop, S: BuildHasher, A: Allocator> Cache<K, V, S, 
     /// # Cost
     ///
     /// One hash of the key, one lookup in the index, and at most one comparison with each candidate
-    /// among the residents and in the history. No link is accessed if the key is resident;
-    /// otherwise there are at most 36 more accesses to links than inspections by the hand, and at
-    /// most four changes of the index: two under the key's hash, one under that of the key that
-    /// leaves, and one under that of the oldest remembered key. A lookup reads at most the walk of
-    /// its hash, and a change reads and writes at most that and twice its run with one more slot.
+    /// among the residents and in the history. No link is accessed if the key is resident.
+    /// Otherwise there are at most 36 more accesses to links than inspections by the hand. The
+    /// index changes at most four times, twice under the key's hash, once under that of the key
+    /// that leaves, and once under that of the oldest remembered key. A lookup reads at most the
+    /// walk of its hash, and a change reads and writes at most that and twice its run with one more
+    /// slot.
     #[inline(never)]
     pub fn put(&mut self, key: K, value: V) -> Option<V>
         ensures value { result ≡ value_of (K.eq key) self.old.machine }

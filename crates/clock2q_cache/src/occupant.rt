@@ -17,7 +17,7 @@
 pub enum Occupant<K> {
     /// The key itself, which was hit.
     Itself,
-    /// No key: the slot was free.
+    /// No key, since the slot was free.
     Nobody,
     /// This key, which was evicted.
     Other(K),

@@ -16,9 +16,9 @@ use clock2q_queues::order::Order;
 use std::alloc::{AllocError, Allocator, Global};
 use std::marker::Model;
 
-/// The keys that a cache knows, and the index of all of them: a resident's key is at its slot, with
-/// its hash and its value, and a remembered key at a place, with its hash. The index has the slot
-/// or the place of each under the key's hash.
+/// The keys that a cache knows, and the index of all of them. A resident's key is at its slot, with
+/// its hash and its value, and a remembered key is at a place, with its hash. The index has the
+/// slot or the place of each under the key's hash.
 ///
 /// The caller passes a key's hash with the key, the same hash each time, and says which slots are
 /// used. If hashes are well spread, a call compares few keys and costs the same however many are
@@ -99,7 +99,7 @@ impl<K: Eq, V, A: Allocator> Directory<K, V, A> {
         self.residents.len()
     }
 
-    /// Returns the key at a slot. What the caller does with it isn't counted.
+    /// Returns the key at a slot. Comparisons that the caller makes aren't counted.
     pub fn key(&self, slot: u32) -> &K
         requires made { slot < length self.now.residents.entries }
         ensures key { key_at self.now.residents.entries slot ≡ Some result.now }

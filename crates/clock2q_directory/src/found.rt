@@ -13,12 +13,12 @@ pub enum Found {
     Resident(u32),
     /// The place of a remembered key.
     Remembered(Place),
-    /// Neither; if the index was walked to its end, with the gap where the key would go.
+    /// Neither, with the gap where the key would go if the walk reached it.
     Absent(Option<Gap>),
 }
 
 impl Found {
-    /// Returns what a search of the history alone found of a key that is not resident.
+    /// Returns the result of a search of the history alone, for a key that is not resident.
     pub fn from_place(place: Option<Place>) -> Self
         ensures slot { found_slot result ≡ None }
         ensures place { found_place result ≡ place }

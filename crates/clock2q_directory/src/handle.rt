@@ -1,4 +1,4 @@
-//! What a handle of the index says of a known key.
+//! The handles of the index, each the slot or the place of a known key.
 ghost use Rattle.std.specs.Prelude.{◌≡◌, ◌<◌, ◌^◌};
 ghost use Rattle.clock2q_directory.specs.Index.{number_in, packed, unpacked};
 
@@ -36,7 +36,7 @@ impl Handle {
         }
     }
 
-    /// Returns what a stored number says.
+    /// Returns the slot or the place for a stored number.
     pub fn unpack(number: u32) -> Self
         ensures unpacked { result ≡ unpacked number }
     {

@@ -15,7 +15,8 @@ use clock2q_handles::{Candidates, Gap, Table};
 use std::alloc::{AllocError, Allocator, Global};
 use std::marker::Model;
 
-/// The most entries of slots and places that share a table: with one more, no run is too long.
+/// The most entries with which slots and places share a table. With one more, no run is too long
+/// yet.
 const MOST_ENTRIES: usize = (1 << 24) - 2;
 
 /// The most entries for which a table gets three times the room.
@@ -24,9 +25,9 @@ const SMALL_TABLE: usize = 16_384;
 /// The most entries for which a table gets twice the room.
 const MIDDLE_TABLE: usize = 262_144;
 
-/// Returns the number of entries to make room for in a table of at most `most`: three times as many
-/// if it is small, which keeps lookups short, twice as many if it is of medium size, and no more if
-/// it would take much memory, but for one: a key that takes another's slot may enter before the other
+/// Returns the number of entries to make room for in a table of at most `most`. A small table gets
+/// three times the room, which keeps lookups short, and one of medium size twice the room. A large
+/// one gets room for one more, since a key that takes another's slot may enter before the other
 /// leaves. Such a table is never more than three quarters full.
 pub fn index_room(most: usize) -> usize
     requires countable { most < 2 ^ 32 }
@@ -47,11 +48,11 @@ pub fn index_room(most: usize) -> usize
 /// neither. If one table would have so many entries that a run could become too long, the places
 /// have a table of their own.
 ///
-/// Each call is charged the slots of both tables that it reads and writes at most, and contracts see
-/// the sum: a change takes the walk of a hash, and its run twice, each with the slot of one more entry.
-/// All slots that the tables count are within that sum. A lookup borrows the index, so its reads are
-/// counted in the [`Candidates`] that it returns; whoever can change the index charges it the most that
-/// these may read.
+/// Each call is charged the most slots of both tables that it can read and write, and contracts see
+/// the sum. A change is charged the walk of a hash and twice its run, each with the slot of one
+/// more entry. All slots that the tables count are within that sum. A lookup borrows the index, so
+/// its reads are counted in the [`Candidates`] that it returns. A caller that can change the index
+/// charges it the most that these may read.
 ///
 /// # Example
 ///
@@ -142,8 +143,8 @@ impl<A: Allocator> Index<A> {
         self.own.get(hash)
     }
 
-    /// Charges one lookup of a hash: the most slots of both tables that the handles under it read.
-    /// Whoever looks a key up in an index that it may change calls this once.
+    /// Charges one lookup of a hash, which is the most slots of both tables that the handles under
+    /// it read. A caller that looks a key up in an index that it may change calls this once.
     pub fn charge_lookup(&mut self, hash: u64)
         ensures looked { self.new ≡ looked_up hash self.old }
     {
@@ -255,8 +256,7 @@ impl<A: Allocator> Index<A> {
     }
 }
 
-/// Charges a number of slots of two tables that the proof of the call picks, which may depend on
-/// what the other arguments refer to.
+/// Adds a cost chosen by the caller's proof, which may mention what the other arguments refer to.
 fn charge<X, A: Allocator>(
     _shared: &Table<u32, A>,
     _own: &Table<u32, A>,

@@ -46,8 +46,8 @@ impl<'a, H: Copy + Eq + Default> Candidates<'a, H> {
     ghost use Rattle.std.specs.Prelude.{ℕ, ◌≤◌, Some, true, drop, slice_get, IfSome, IfNone, IfOk, IfErr};
 
     /// Returns the next candidate and stays at it until [`advance`](Candidates::advance) or
-    /// [`next`](Iterator::next) moves on. It is for callers that mostly accept the first candidate:
-    /// what comes after it is computed only if it is passed.
+    /// [`next`](Iterator::next) moves on. It is for callers that mostly accept the first candidate,
+    /// since what comes after it is computed only if it is passed.
     #[inline(always)]
     pub fn peek(&mut self) -> Option<H>
         ensures candidate { result ≡ slice_get self.old.left 0 }

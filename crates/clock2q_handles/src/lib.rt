@@ -36,8 +36,8 @@
 //!
 //! # Size
 //!
-//! A new table has no slots; after that it has 16 or a larger power of two. Entries fill at most
-//! three quarters of the slots. A full table doubles its slots, and no table shrinks.
+//! A new table has no slots. Later it has 16 or a larger power of two. Entries fill at most three
+//! quarters of the slots. A full table doubles its slots, and no table shrinks.
 #![tactic(auto)]
 
 mod candidates;

@@ -98,8 +98,8 @@ impl<A: Allocator> ByteResidents<A> {
 
 /// Returns whether each access of a trace hits in a new cache for `capacity` bytes with a plain
 /// policy, in order. A key comes with the size of its access, and keeps it while it is held. A key
-/// larger than the cache isn't admitted; for another one the last keys are evicted until it fits. The
-/// keys are numbers below `keys`.
+/// larger than the cache isn't admitted. For another one the oldest keys are evicted until it fits.
+/// The keys are numbers below `keys`.
 ///
 /// # Errors
 ///

@@ -8,10 +8,10 @@ use std::alloc::{AllocError, Allocator};
 /// The number of indices of a word.
 pub(crate) const BITS: usize = 64;
 
-/// A set of indices, over another set that has the words with some.
+/// A set of indices in two levels: a bit set, and the set of its words that aren't 0.
 #[derive(Drop)]
 pub(crate) struct Indices<S, A: Allocator> {
-    /// A bit for each index: the lowest of a word is that of its last index.
+    /// A bit for each index. The lowest of a word is that of its last index.
     words: Vec<u64, A>,
     /// The words that aren't 0.
     some: S,

@@ -1,7 +1,7 @@
 //! Policies of caches, replayed over keys that are numbers: which accesses of a trace hit, and how
-//! many. The hits of LRU and FIFO are proved to be those of a list, in caches for a number of keys and
-//! for a number of bytes, for LRU also at many capacities at once, and those of Belady's optimum are
-//! proved too; those of the policies in [`tested`] are tested.
+//! many. The hits of LRU and FIFO are proved to be those of a list, in caches for a number of keys
+//! and for a number of bytes, and for LRU also at many capacities at once. Those of Belady's
+//! optimum are proved too, and those of the policies in [`tested`] are tested.
 #![tactic(auto)]
 
 mod byte_caches;

@@ -48,9 +48,9 @@ impl<A: Allocator> Awaited<A> {
         is_hit
     }
 
-    /// Stops to wait for the access at an index, if its key is held. If it isn't, and all keys that
-    /// are held are accessed again, evicts the one whose next access is last. Returns true if the
-    /// key was held.
+    /// If the key of the access at an index is held, no longer waits for that access. If it isn't,
+    /// and all keys that are held are accessed again, evicts the one whose next access is last.
+    /// Returns true if the key was held.
     #[inline(always)]
     fn leave(&mut self, capacity: NonZeroUsize, trace: &[u32], at: usize) -> bool
         requires at { at < length trace.now }
@@ -118,7 +118,7 @@ fn next_uses<A: Allocator + Copy>(
 
 /// Returns the number of accesses of a trace that hit in a new cache if the key whose next access
 /// is farthest away is evicted, of 'A Study of Replacement Algorithms for a Virtual-Storage
-/// Computer' (1966): the most hits of any policy that admits each key that it misses. The keys are
+/// Computer' (1966). No policy that admits each key that it misses has more hits. The keys are
 /// numbers below `keys`.
 ///
 /// # Errors
@@ -127,8 +127,8 @@ fn next_uses<A: Allocator + Copy>(
 ///
 /// # Cost
 ///
-/// Time in proportion to n log n for n accesses at most, and to `keys`, whatever the capacity; a
-/// little over 8 bytes an access, and at first 8 bytes a key.
+/// Time in proportion to n log n for n accesses at most, and to `keys`, whatever the capacity.
+/// Memory for a little over 8 bytes an access, and at first 8 bytes a key.
 ///
 /// # Example
 ///

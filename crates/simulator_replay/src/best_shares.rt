@@ -143,9 +143,9 @@ const ALL: Amount = Amount {
     unit: Unit::Millionths,
 };
 
-/// Replays a trace in Clock2Q+ with the usual shares and with each of `tried` that fit together in a
-/// cache of the capacity, and returns those that hit most of the accesses after the first `skipped`
-/// ones. The earlier of two that hit equally often are the best.
+/// Replays a trace in Clock2Q+ with the usual shares and with each of `tried` that fit together in
+/// a cache of the capacity, and returns those that hit most of the accesses after the first
+/// `skipped` ones. Of shares that hit equally often, it returns the earliest.
 ///
 /// # Errors
 ///
@@ -229,7 +229,7 @@ fn clock2q_hits<A: Allocator + Copy>(
 ///
 /// # Errors
 ///
-/// Those of [`best_shares_of`]; `Memory` also if there is no memory for the list.
+/// Those of [`best_shares_of`], and `Memory` also if there is no memory for the list.
 ///
 /// # Cost
 ///

@@ -18,13 +18,13 @@ use std::num::NonZeroUsize;
 ///
 /// # Errors
 ///
-/// `Capacity` if the capacity is above `MAX_CAPACITY`; otherwise `Policy` if the shares don't fit
-/// together; `Memory` if a request for memory is refused.
+/// `Capacity` if the capacity is above `MAX_CAPACITY`, or else `Policy` if the shares don't fit
+/// together, and `Memory` if a request for memory is refused.
 ///
 /// # Cost
 ///
 /// That of [`Cache::new`](clock2q_cache::Cache::new), and that of
-/// [`Cache::put`](clock2q_cache::Cache::put) for each key; a byte an access.
+/// [`Cache::put`](clock2q_cache::Cache::put) for each key. Memory for a byte an access.
 pub fn clock2q_outcomes<A: Allocator + Copy>(
     alloc: A,
     capacity: NonZeroUsize,
@@ -44,7 +44,8 @@ pub fn clock2q_outcomes<A: Allocator + Copy>(
 ///
 /// # Errors
 ///
-/// `Capacity` if the capacity is above `MAX_CAPACITY`; `Memory` if a request for memory is refused.
+/// `Capacity` if the capacity is above `MAX_CAPACITY`, and `Memory` if a request for memory is
+/// refused.
 ///
 /// # Cost
 ///

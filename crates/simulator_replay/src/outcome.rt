@@ -30,9 +30,9 @@ use std::time::Clock;
 ///
 /// # Errors
 ///
-/// Those of [`read_sample`], then `LargeSizes` if the sizes of the trace's accesses have a sum of more
-/// than 64 bits; then those of [`rows_of`], of [`all_windows_of`] and of [`all_best_shares_of`], but
-/// `SampledShares` for `Shares` if there is a sample.
+/// Those of [`read_sample`], then `LargeSizes` if the sum of the sizes of the trace's accesses has
+/// more than 64 bits, then those of [`rows_of`], of [`all_windows_of`] and of
+/// [`all_best_shares_of`]. If there is a sample, `SampledShares` comes in place of `Shares`.
 ///
 /// # Cost
 ///
@@ -97,8 +97,8 @@ pub fn replay_source<'a, R: Source, P: Write, C: Clock, S: BuildHasher + Drop, A
     })
 }
 
-/// Returns a row for each capacity, with the shares that are asked for, both as much smaller as the
-/// sample is.
+/// Returns a row for each capacity, with the shares that are asked for. Both are scaled down to the
+/// sample.
 fn asked_rows<P: Write, C: Clock, A: Allocator + Copy>(
     alloc: A,
     options: &Options<A>,
@@ -129,8 +129,8 @@ fn asked_rows<P: Write, C: Clock, A: Allocator + Copy>(
     }
 }
 
-/// Returns the refusal of a capacity that was asked for, if a cache as much smaller as the sample was
-/// refused.
+/// If a cache that was scaled down to the sample was refused, returns the refusal of the capacity
+/// that was asked for.
 fn asked_refusal<A: Allocator>(
     options: &Options<A>,
     keys: usize,

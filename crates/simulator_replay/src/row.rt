@@ -18,12 +18,12 @@ use std::num::NonZeroUsize;
 
 /// Replays a trace in a new cache of each policy, in the order of the policies. Clock2Q+ has the
 /// chosen shares, or the usual ones. The first `skipped` accesses warm the caches and aren't
-/// counted. If the trace has sizes, their sums are counted too: each access has its own, and each
-/// cache has room for a number of keys all the same.
+/// counted. If the trace has sizes, their sums are counted too. Each access counts with its own
+/// size, but each cache still has room for a number of keys.
 ///
 /// # Errors
 ///
-/// Those of [`policy_outcomes`]; `Memory` also if there is no memory for the row.
+/// Those of [`policy_outcomes`], and `Memory` also if there is no memory for the row.
 ///
 /// # Cost
 ///

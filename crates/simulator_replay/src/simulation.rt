@@ -58,20 +58,21 @@ pub fn simulate<R: Source, W: Sink, P: Write, C: Clock, S: BuildHasher + Drop, A
     write_outcomes(alloc, options, &outcomes, writer)
 }
 
-/// Returns a row for each capacity, in order. The first `skipped` accesses aren't counted. `shown` has
-/// the capacities that `progress` shows, in the same order: those of a sample differ from the ones
-/// that were asked for.
+/// Returns a row for each capacity, in order. The first `skipped` accesses aren't counted. `shown`
+/// has the capacities that `progress` shows, in the same order, since those of a sample differ from
+/// the ones that were asked for.
 ///
 /// # Errors
 ///
-/// Those of [`replay`](crate::replay); `Capacity` also if a percentage of the different keys is more
-/// than `MAX_CAPACITY`; `Memory` also if there is no memory for the rows.
+/// Those of [`replay`](crate::replay), `Capacity` also if a percentage of the different keys is
+/// more than `MAX_CAPACITY`, and `Memory` also if there is no memory for the rows.
 ///
 /// # Cost
 ///
-/// That of [`replay`](crate::replay) for each capacity; but LRU takes one pass for all capacities, by
-/// [`lru_hits_at`](simulator_policies::lru_hits_at), if there are at least ten, and the optimum takes a
-/// third less by [`optimal_hits_at`](simulator_policies::optimal_hits_at), if there are two or more.
+/// That of [`replay`](crate::replay) for each capacity. But LRU takes one pass for all capacities,
+/// by [`lru_hits_at`](simulator_policies::lru_hits_at), if there are at least ten, and the optimum
+/// takes a third less by [`optimal_hits_at`](simulator_policies::optimal_hits_at), if there are two
+/// or more.
 pub fn rows_of<P: Write, C: Clock, A: Allocator + Copy>(
     alloc: A,
     trace: &Trace<A>,

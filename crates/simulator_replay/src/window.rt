@@ -20,7 +20,7 @@ use std::num::NonZeroUsize;
 ///
 /// # Errors
 ///
-/// Those of [`windows_of`]; `Memory` also if there is no memory for the list.
+/// Those of [`windows_of`], and `Memory` also if there is no memory for the list.
 ///
 /// # Cost
 ///
@@ -56,7 +56,8 @@ pub fn all_windows_of<A: Allocator + Copy>(
 ///
 /// # Errors
 ///
-/// Those of [`policy_outcomes`](crate::policy_outcomes); `Memory` also if there is no memory for the windows.
+/// Those of [`policy_outcomes`](crate::policy_outcomes), and `Memory` also if there is no memory
+/// for the windows.
 ///
 /// # Cost
 ///

@@ -114,7 +114,7 @@ impl<K: Hash + Eq + Copy, V: Drop, S: BuildHasher, A: Allocator> Cache<K, V, S, 
     }
 
     /// Inserts a key that is not resident, whether or not the history has it, and returns its slot
-    /// and who had that. Out of line, so that a caller that finds its key has few registers to save.
+    /// and who had that. It is out of line, so that a hit spills few registers.
     #[cold]
     #[inline(never)]
     fn insert_at_slot(&mut self, hash: u64, key: K, value: V) -> (u32, Occupant<K>)

@@ -111,8 +111,8 @@ impl<K: Hash + Eq + Drop, V: Drop, S: BuildHasher, A: Allocator> Cache<K, V, S, 
     /// # Cost
     ///
     /// That of [`put`](Cache::put), and that of `make` if it is called. If the key isn't resident,
-    /// it is looked up twice. Contracts don't see what the call spent: its counts of comparisons and
-    /// of accesses to links are raised to the bounds.
+    /// it is looked up twice. Contracts don't see what the call spent, since its counts of
+    /// comparisons and of accesses to links are raised to the bounds.
     pub fn get_or_insert_mut<F: FnOnce() -> V>(&mut self, key: K, make: F) -> (usize, &mut V)
         requires { slice_get self.old.machine.values
             (slotted_at (slot_of (K.eq key) self.old.machine) (K.eq key) key self.old.machine) ≡
@@ -131,8 +131,8 @@ impl<K: Hash + Eq + Drop, V: Drop, S: BuildHasher, A: Allocator> Cache<K, V, S, 
     }
 
     /// Returns the slot of a key and its value, to write to, as
-    /// [`get_or_insert_mut`](Cache::get_or_insert_mut) does, and what became of the key: whether it
-    /// was resident, and whether another resident was evicted. The value is then that one's.
+    /// [`get_or_insert_mut`](Cache::get_or_insert_mut) does, and whether the key was resident, and
+    /// whether another resident was evicted. The value is then the evicted one's.
     ///
     /// # Cost
     ///
@@ -214,7 +214,7 @@ impl<K: Hash + Eq + Drop, V: Drop, S: BuildHasher, A: Allocator> Cache<K, V, S, 
     }
 
     /// Returns the slot of a key, which is hit or inserted. A slot that was made before keeps its
-    /// value; a new one gets what `make` returns.
+    /// value, and a new one gets what `make` returns.
     fn find_or_reuse<F: FnOnce() -> V>(&mut self, hash: u64, key: K, make: F) -> (u32, Entered)
         requires hash { hash ≡
             hash_of S.BuildHasher S.Hasher.Hasher self.old.hasher (K.hash_input key) }

@@ -43,9 +43,8 @@ impl<K: Hash + Eq + Drop, V: Drop, S: BuildHasher, A: Allocator> Cache<K, V, S, 
     }
 
     /// Inserts a key that is not resident, whether or not the history has it. A slot that was made
-    /// before keeps its value; a new one gets what `make` returns. Also returns whether another
-    /// resident was evicted. Out of line, so that a caller that finds its key has few registers to
-    /// save.
+    /// before keeps its value, and a new one gets what `make` returns. Also returns whether another
+    /// resident was evicted. It is out of line, so that a hit spills few registers.
     #[cold]
     #[inline(never)]
     pub(crate) fn insert_reusing<F: FnOnce() -> V>(

@@ -20,15 +20,15 @@ impl<K: Hash + Eq + Copy, V: Drop, S: BuildHasher, A: Allocator> Cache<K, V, S, 
     /// Evicts a resident though no key comes, and returns its key with its slot. Returns `None` if
     /// the cache is empty.
     ///
-    /// In a full cache it is the resident that a new key would make leave. A key that leaves Small
+    /// In a full cache it is the resident that would leave for a new key. A key that leaves Small
     /// goes into the history, so the one that is returned is a copy. The slot becomes the next free
     /// slot to be taken, and keeps its value until then.
     ///
     /// # Cost
     ///
-    /// No hash and no comparison. At most 21 more accesses to links than inspections by the hand, and
-    /// at most two changes of the index: one under the hash of the key that leaves, and one under
-    /// that of the oldest remembered key.
+    /// No hash and no comparison. At most 21 more accesses to links than inspections by the hand,
+    /// and at most two changes of the index, one under the hash of the key that leaves and one
+    /// under that of the oldest remembered key.
     pub fn evict(&mut self) -> Option<(K, usize)>
         ensures left { result ≡ leaver K.eq Evict self.old.machine }
         ensures machine { self.new.machine ≡ evicted self.old.machine }

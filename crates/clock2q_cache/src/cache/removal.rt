@@ -18,8 +18,8 @@ impl<K: Hash + Eq, V, S: BuildHasher, A: Allocator> Cache<K, V, S, A> {
     /// Removes a key, and returns true if it was resident.
     ///
     /// A resident's slot becomes the next free slot to be taken, and keeps its value until then.
-    /// The history stays as it is: a resident is never in it. A key that isn't resident is removed
-    /// from the history, so that it counts as new when it comes back.
+    /// The history stays as it is, since a resident is never in it. A key that isn't resident is
+    /// removed from the history, so that it counts as new when it comes back.
     ///
     /// # Cost
     ///

@@ -16,15 +16,15 @@ impl<K: Hash + Eq, V, S: BuildHasher, A: Allocator> Cache<K, V, S, A> {
     /// evict, and in a full cache the one that leaves for a key that the cache doesn't know. Returns
     /// `None` if the cache is empty.
     ///
-    /// No hit is recorded, and the hand stays where it is: only counts that contracts see change. A key
-    /// that the history has goes to Main, and so another resident may leave for it.
+    /// No hit is recorded, and the hand stays where it is. Only counts that contracts see change. A
+    /// key that the history has goes to Main, and so another resident may leave for it.
     ///
     /// # Cost
     ///
-    /// No hash and no comparison. If Small's tail leaves next, no walk. Otherwise one along Main, from
-    /// the hand to the first resident whose bit is clear: at most all of Main, and anew in each call.
-    /// There is one access to a link for the tail, and one for each resident that an eviction now would
-    /// inspect.
+    /// No hash and no comparison. If Small's tail leaves next, there is no walk. Otherwise each
+    /// call walks along Main, from the hand to the first resident whose bit is clear, which is at
+    /// most all of Main. There is one access to a link for the tail, and one for each resident that
+    /// an eviction now would inspect.
     pub fn next_victim(&mut self) -> Option<(&K, usize)>
         ensures* looks { sem 𝓛
             (LeavesLooked K.row V.row S.row A.row S.Hasher.row K.Hash S.BuildHasher S.Hasher.Hasher A.Allocator self.entry) }

@@ -27,8 +27,8 @@ impl<K: Eq, V, A: Allocator> Directory<K, V, A> {
     ghost use Rattle.clock2q_directory.specs.History.{places_with, place_of, found_place, freed_place, is_remembered, forgotten};
     ghost use Rattle.clock2q_directory.specs.Directory.{IsResident, Leaves, Retires};
 
-    /// Makes the next slot, with a key and a value. The key is not resident: the slot waits for one
-    /// that [enters](Directory::enter).
+    /// Makes the next slot, with a key and a value. The key is not resident, and the slot waits for
+    /// one that [enters](Directory::enter).
     pub fn prepare(&mut self, hash: u64, key: K, value: V)
         requires room { length self.old.residents.entries < self.old.residents.room }
         ensures prepared { self.new.residents ≡
@@ -116,7 +116,7 @@ impl<K: Eq, V, A: Allocator> Directory<K, V, A> {
     ///
     /// # Cost
     ///
-    /// Linear in the number of keys that the index may hold: all of it is reset.
+    /// Linear in the number of keys that the index may hold, since all of it is reset.
     pub fn clear(&mut self)
     where
         K: Drop,

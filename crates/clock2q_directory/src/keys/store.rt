@@ -84,7 +84,7 @@ impl<K, V, A: Allocator> Keys<K, V, A> {
         self.entries[place as usize].hash
     }
 
-    /// Returns the key at a place. What the caller does with it isn't counted.
+    /// Returns the key at a place. Comparisons that the caller makes aren't counted.
     pub fn key(&self, place: u32) -> &K
         requires used { place < length self.now.entries }
         ensures key { key_at self.now.entries place ≡ Some result.now }

@@ -54,7 +54,7 @@ impl<H: Copy + Eq + Default, A: Allocator> Table<H, A> {
         ensures laid { IsLaidOut self.new }
         ensures shorter { (x : ℕ) → walk self.new.homes x ≤ walk self.old.homes x }
     {
-        // Out of line, so that a caller that removes one entry to insert another saves fewer
+        // It is out of line, so that a caller that removes one entry to insert another spills fewer
         // registers.
         let held = self.slots.find_existing(hash, handle, &mut self.reads);
         self.slots.take_out(held, &mut self.reads);

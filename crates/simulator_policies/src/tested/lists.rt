@@ -8,8 +8,8 @@ const NONE: u8 = u8::MAX;
 /// The largest number of lists.
 const LISTS: usize = 4;
 
-/// A key's neighbours in its list, which list that is, and a number that a policy keeps beside it:
-/// together, since one access needs them all.
+/// A key's neighbours in its list, which list that is, and a number that a policy keeps beside it.
+/// They are together, since one access needs them all.
 #[derive(Clone, Copy)]
 struct Node {
     newer: u32,

@@ -13,8 +13,8 @@ const ONCE: u8 = 0;
 const RESIDENT: u8 = 1;
 
 /// LRU-2, of 'The LRU-K Page Replacement Algorithm for Database Disk Buffering' (1993): evicts the
-/// resident whose last access but one is the oldest; before those the ones accessed once, the least
-/// recently used first. Each key's last two accesses are remembered to the end of the trace, even
+/// residents accessed once, the least recently used first, and then the one whose last access but
+/// one is the oldest. Each key's last two accesses are remembered to the end of the trace, even
 /// while it isn't resident, and two accesses count as two however close they are.
 #[derive(Drop)]
 struct Lru2<A: Allocator> {
@@ -119,8 +119,8 @@ fn entry(accesses: &[usize], key: u32) -> usize {
 ///
 /// # Cost
 ///
-/// Time in proportion to the trace and to `keys`, whatever the capacity; 9 bits an access and 28
-/// bytes a key.
+/// Time in proportion to the trace and to `keys`, whatever the capacity. Memory for 9 bits an
+/// access and 28 bytes a key.
 pub fn lru_2_outcomes<A: Allocator + Copy>(
     alloc: A,
     capacity: NonZeroUsize,

@@ -42,8 +42,9 @@ where
 ///
 /// # Cost
 ///
-/// Time in proportion to the trace and to `keys`, whatever the capacity; a byte an access, a byte a
-/// key, and 8 bytes for each key that the cache has room for, but for no more than `keys`.
+/// Time in proportion to the trace and to `keys`, whatever the capacity. Memory for a byte an
+/// access, a byte a key, and 8 bytes for each key that the cache has room for, but for no more than
+/// `keys`.
 pub fn sieve_outcomes<A: Allocator + Copy>(
     alloc: A,
     capacity: NonZeroUsize,
@@ -65,8 +66,9 @@ pub fn sieve_outcomes<A: Allocator + Copy>(
 ///
 /// # Cost
 ///
-/// Time in proportion to the trace and to `keys`, whatever the capacity; a byte an access, 4 bytes a
-/// key, and at most 16 bytes for each key that the cache has room for, but for no more than `keys`.
+/// Time in proportion to the trace and to `keys`, whatever the capacity. Memory for a byte an
+/// access, 4 bytes a key, and at most 16 bytes for each key that the cache has room for, but for no
+/// more than `keys`.
 pub fn s3_fifo_outcomes<A: Allocator + Copy>(
     alloc: A,
     capacity: NonZeroUsize,
@@ -87,8 +89,8 @@ pub fn s3_fifo_outcomes<A: Allocator + Copy>(
 ///
 /// # Cost
 ///
-/// Time in proportion to the trace and to `keys`, whatever the capacity; a byte an access and 12
-/// bytes a key.
+/// Time in proportion to the trace and to `keys`, whatever the capacity. Memory for a byte an
+/// access and 12 bytes a key.
 pub fn arc_outcomes<A: Allocator + Copy>(
     alloc: A,
     capacity: NonZeroUsize,
@@ -101,9 +103,9 @@ pub fn arc_outcomes<A: Allocator + Copy>(
 }
 
 /// Returns whether each access of a trace hits in a new 2Q cache, of '2Q: A Low Overhead High
-/// Performance Buffer Management Replacement Algorithm' (1994), in the full version: a quarter of
-/// the room for the queue of new keys, and half as many keys remembered as there is room for. The
-/// keys are numbers below `keys`.
+/// Performance Buffer Management Replacement Algorithm' (1994), in the full version. The queue of
+/// new keys has a quarter of the room, and half as many keys are remembered as there is room for.
+/// The keys are numbers below `keys`.
 ///
 /// # Errors
 ///
@@ -111,8 +113,8 @@ pub fn arc_outcomes<A: Allocator + Copy>(
 ///
 /// # Cost
 ///
-/// Time in proportion to the trace and to `keys`, whatever the capacity; a byte an access and 12
-/// bytes a key.
+/// Time in proportion to the trace and to `keys`, whatever the capacity. Memory for a byte an
+/// access and 12 bytes a key.
 pub fn two_q_outcomes<A: Allocator + Copy>(
     alloc: A,
     capacity: NonZeroUsize,
@@ -135,8 +137,8 @@ pub fn two_q_outcomes<A: Allocator + Copy>(
 ///
 /// # Cost
 ///
-/// Time in proportion to the trace and to `keys`, whatever the capacity; a byte an access and 24
-/// bytes a key.
+/// Time in proportion to the trace and to `keys`, whatever the capacity. Memory for a byte an
+/// access and 24 bytes a key.
 pub fn lirs_outcomes<A: Allocator + Copy>(
     alloc: A,
     capacity: NonZeroUsize,
@@ -161,8 +163,8 @@ pub fn lirs_outcomes<A: Allocator + Copy>(
 ///
 /// # Cost
 ///
-/// Time in proportion to the trace and to `keys`; a byte an access, 12 bytes a key, and 4 to 8 bytes
-/// a key of the capacity.
+/// Time in proportion to the trace and to `keys`. Memory for a byte an access, 12 bytes a key, and
+/// 4 to 8 bytes a key of the capacity.
 pub fn w_tiny_lfu_outcomes<A: Allocator + Copy>(
     alloc: A,
     capacity: NonZeroUsize,

@@ -21,7 +21,8 @@ pub(crate) struct States<A: Allocator> {
     states: Vec<u32, A>,
     /// The remembered keys, with room for twice as many as there are at most.
     ring: Vec<u32, A>,
-    /// The place of the oldest, and the place after the newest: the same only if there is none.
+    /// The place of the oldest, and the place after the newest, which are the same only if there is
+    /// none.
     first: u32,
     end: u32,
     most: u32,

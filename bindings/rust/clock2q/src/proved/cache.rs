@@ -1,10 +1,10 @@
 // Written by bindings/rust/erase from crates/clock2q_cache/src/lib.rt; change that, and run erase.
 //! A fixed-capacity key-value cache with Clock2Q+ replacement.
 //!
-//! A new key enters Small, a short queue; while the cache isn't full and Small has its share, it
-//! enters Main. A key in Small stays young for a window of further admissions to Small. A key that
-//! reaches the end of Small is evicted, unless it was hit there when it was no longer young: then
-//! it moves on to Main. Main is a ring with a hand. The hand evicts the first entry without a hit,
+//! A new key enters Small, a short queue, or Main while the cache isn't full and Small has its
+//! share. A key in Small stays young for a window of further admissions to Small. A key that
+//! reaches the end of Small moves on to Main if it was hit there when it was no longer young, and
+//! is evicted otherwise. Main is a ring with a hand. The hand evicts the first entry without a hit,
 //! and clears the hits of those that it passes. A key that Small evicts is remembered in the
 //! history, without its value, and enters Main at once if it comes back. A key that Main evicts
 //! isn't remembered.

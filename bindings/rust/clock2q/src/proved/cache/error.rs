@@ -5,7 +5,7 @@ use crate::proved::rattle::AllocError;
 
 /// The reason why a cache wasn't made, or a list of commands wasn't run.
 ///
-/// Nothing was done then: memory that was taken for the cache is given back, and no command has
+/// Nothing was done then. Memory that was taken for the cache is given back, and no command has
 /// run.
 ///
 /// # Example

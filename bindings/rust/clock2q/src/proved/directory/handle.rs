@@ -1,5 +1,5 @@
 // Written by bindings/rust/erase from crates/clock2q_directory/src/handle.rt; change that, and run erase.
-//! What a handle of the index says of a known key.
+//! The handles of the index, each the slot or the place of a known key.
 
 use crate::proved::directory::place::Place;
 
@@ -35,7 +35,7 @@ impl Handle {
         }
     }
 
-    /// Returns what a stored number says.
+    /// Returns the slot or the place for a stored number.
     #[inline]
     pub fn unpack(number: u32) -> Self {
         if number < REMEMBERED {

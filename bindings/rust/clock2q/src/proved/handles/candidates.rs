@@ -32,8 +32,8 @@ pub struct Candidates<'a, H: Copy + Eq + Default> {
 
 impl<'a, H: Copy + Eq + Default> Candidates<'a, H> {
     /// Returns the next candidate and stays at it until [`advance`](Candidates::advance) or
-    /// [`next`](Iterator::next) moves on. It is for callers that mostly accept the first candidate:
-    /// what comes after it is computed only if it is passed.
+    /// [`next`](Iterator::next) moves on. It is for callers that mostly accept the first candidate,
+    /// since what comes after it is computed only if it is passed.
     #[inline(always)]
     pub fn peek(&mut self) -> Option<H> {
         if self.wanted.is_nothing() {

@@ -11,16 +11,16 @@ use core::hash::{BuildHasher, BuildHasherDefault, Hash};
 use core::num::NonZeroUsize;
 
 impl<K: Hash + Eq, V, A: Allocator + Copy> Cache<K, V, DefaultHashBuilder, A> {
-    /// Makes an empty cache for `capacity` keys. Takes all the memory that the cache will ever use:
-    /// room for `capacity` keys with their values, and for half as many evicted keys.
+    /// Makes an empty cache for `capacity` keys. It takes all the memory that the cache will ever
+    /// use, for `capacity` keys with their values and for half as many evicted keys.
     ///
-    /// The hasher's seed is fixed ([`DefaultHashBuilder`]): keys can be chosen that collide, which
-    /// makes calls slow. If strangers choose the keys, use [`with_hasher`](Cache::with_hasher).
+    /// The hasher's seed is fixed ([`DefaultHashBuilder`]), so whoever chooses the keys can make
+    /// calls slow. If strangers do, use [`with_hasher`](Cache::with_hasher).
     ///
     /// # Errors
     ///
     /// `Capacity` above [`MAX_CAPACITY`], before any memory is taken. `Memory` if a request for
-    /// memory is refused; what was taken before is given back.
+    /// memory is refused. What was taken before is given back.
     ///
     /// # Cost
     ///
@@ -32,8 +32,8 @@ impl<K: Hash + Eq, V, A: Allocator + Copy> Cache<K, V, DefaultHashBuilder, A> {
 }
 
 impl<K: Hash + Eq, V, S: BuildHasher, A: Allocator + Copy> Cache<K, V, S, A> {
-    /// Makes an empty cache as [`new`](Cache::new) does, with the caller's hasher: a `RandomState`
-    /// if strangers choose the keys.
+    /// Makes an empty cache as [`new`](Cache::new) does, with the caller's hasher, which should be
+    /// a `RandomState` if strangers choose the keys.
     ///
     /// # Errors
     ///
@@ -55,9 +55,9 @@ impl<K: Hash + Eq, V, S: BuildHasher, A: Allocator + Copy> Cache<K, V, S, A> {
     ///
     /// # Errors
     ///
-    /// `Capacity` above [`MAX_CAPACITY`]; otherwise `Policy` if Small leaves Main no slot, or one
-    /// of `small` and `window` is 0 and the other isn't, or the window is longer than Small. Both
-    /// are returned before any memory is taken. `Memory` if a request for memory is refused.
+    /// `Capacity` above [`MAX_CAPACITY`], or else `Policy` if Small leaves Main no slot, or one of
+    /// `small` and `window` is 0 and the other isn't, or the window is longer than Small. Both are
+    /// returned before any memory is taken. `Memory` if a request for memory is refused.
     ///
     /// # Cost
     ///

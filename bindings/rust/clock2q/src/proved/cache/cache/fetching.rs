@@ -73,8 +73,8 @@ impl<K: Hash + Eq, V, S: BuildHasher, A: Allocator> Cache<K, V, S, A> {
     /// # Cost
     ///
     /// That of [`put`](Cache::put), and that of `make` if it is called. If the key isn't resident,
-    /// it is looked up twice. Contracts don't see what the call spent: its counts of comparisons and
-    /// of accesses to links are raised to the bounds.
+    /// it is looked up twice. Contracts don't see what the call spent, since its counts of
+    /// comparisons and of accesses to links are raised to the bounds.
     #[inline]
     pub fn get_or_insert_mut<F: FnOnce() -> V>(&mut self, key: K, make: F) -> (usize, &mut V) {
         let (slot, value, _) = self.enter(key, make);
@@ -82,8 +82,8 @@ impl<K: Hash + Eq, V, S: BuildHasher, A: Allocator> Cache<K, V, S, A> {
     }
 
     /// Returns the slot of a key and its value, to write to, as
-    /// [`get_or_insert_mut`](Cache::get_or_insert_mut) does, and what became of the key: whether it
-    /// was resident, and whether another resident was evicted. The value is then that one's.
+    /// [`get_or_insert_mut`](Cache::get_or_insert_mut) does, and whether the key was resident, and
+    /// whether another resident was evicted. The value is then the evicted one's.
     ///
     /// # Cost
     ///
@@ -128,7 +128,7 @@ impl<K: Hash + Eq, V, S: BuildHasher, A: Allocator> Cache<K, V, S, A> {
     }
 
     /// Returns the slot of a key, which is hit or inserted. A slot that was made before keeps its
-    /// value; a new one gets what `make` returns.
+    /// value, and a new one gets what `make` returns.
     #[inline]
     fn find_or_reuse<F: FnOnce() -> V>(&mut self, hash: u64, key: K, make: F) -> (u32, Entered) {
         if let Some(slot) = self.find(hash, &key) {

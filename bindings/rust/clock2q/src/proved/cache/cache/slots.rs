@@ -28,8 +28,8 @@ impl<K: Hash + Eq, V, S: BuildHasher, A: Allocator> Cache<K, V, S, A> {
         Some(self.with_hash(hash, nth)? as usize)
     }
 
-    /// Records a hit on the resident at this slot and returns true. Returns false and changes
-    /// nothing if there is none, whatever the number.
+    /// Records a hit on the resident at this slot and returns true. Any number is allowed. Returns
+    /// false and changes nothing if no resident is there.
     ///
     /// # Cost
     ///
@@ -44,7 +44,8 @@ impl<K: Hash + Eq, V, S: BuildHasher, A: Allocator> Cache<K, V, S, A> {
     }
 
     /// Removes the key that is resident at this slot, as [`remove`](Cache::remove) does, and
-    /// returns true. Returns false and changes nothing if there is none, whatever the number.
+    /// returns true. Any number is allowed. Returns false and changes nothing if no resident is
+    /// there.
     ///
     /// # Cost
     ///
@@ -77,7 +78,7 @@ impl<K: Hash + Eq, V, S: BuildHasher, A: Allocator> Cache<K, V, S, A> {
 impl<K: Hash + Eq, V, S: BuildHasher, A: Allocator> Cache<K, V, S, A> {
     /// Inserts a key with a value if no resident's key has its hash, and returns its slot and true.
     /// Otherwise returns the slot that [`slot_with_hash`](Cache::slot_with_hash) returns first, and
-    /// false; nothing changes, and `key` and `value` are dropped.
+    /// false. Nothing changes then, and `key` and `value` are dropped.
     ///
     /// # Cost
     ///

@@ -11,8 +11,8 @@ use crate::proved::queues::order::Order;
 use crate::proved::rattle::Allocator;
 
 impl<K: Eq, V, A: Allocator> Directory<K, V, A> {
-    /// Makes the next slot, with a key and a value. The key is not resident: the slot waits for one
-    /// that [enters](Directory::enter).
+    /// Makes the next slot, with a key and a value. The key is not resident, and the slot waits for
+    /// one that [enters](Directory::enter).
     #[inline]
     pub fn prepare(&mut self, hash: u64, key: K, value: V) {
         self.residents.push(hash, key, value);
@@ -69,7 +69,7 @@ impl<K: Eq, V, A: Allocator> Directory<K, V, A> {
     ///
     /// # Cost
     ///
-    /// Linear in the number of keys that the index may hold: all of it is reset.
+    /// Linear in the number of keys that the index may hold, since all of it is reset.
     #[inline]
     pub fn clear(&mut self) {
         self.residents.clear();

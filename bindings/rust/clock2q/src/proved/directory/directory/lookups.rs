@@ -22,7 +22,7 @@ impl<K: Eq, V, A: Allocator> Directory<K, V, A> {
             &mut self.remembered,
         );
         match found {
-            // asked only now: most keys are found in the slots' table, wherever the places are
+            // checked late, since most keys are found in the table of the slots
             Found::Absent(gap) if !self.index.is_shared() => self.lookup_apart(gap, hash, key),
             found => found,
         }

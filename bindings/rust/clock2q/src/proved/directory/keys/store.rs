@@ -67,7 +67,7 @@ impl<K, V, A: Allocator> Keys<K, V, A> {
         self.entries[place as usize].hash
     }
 
-    /// Returns the key at a place. What the caller does with it isn't counted.
+    /// Returns the key at a place. Comparisons that the caller makes aren't counted.
     #[inline]
     pub fn key(&self, place: u32) -> &K {
         &self.entries[place as usize].key

@@ -31,7 +31,7 @@ impl<H: Copy + Eq + Default, A: Allocator> Table<H, A> {
     /// That of [remove](Table::remove).
     #[inline(never)]
     pub fn remove_existing(&mut self, hash: u64, handle: H) {
-        // Out of line, so that a caller that removes one entry to insert another saves fewer
+        // It is out of line, so that a caller that removes one entry to insert another spills fewer
         // registers.
         let held = self.slots.find_existing(hash, handle, &mut self.reads);
         self.slots.take_out(held, &mut self.reads);
