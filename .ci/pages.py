@@ -63,11 +63,14 @@ def missing_tries():
 
 
 def measured(section, *starts):
-    """Returns the figures of a line of bench/README.md, as written: that which begins so after the line that begins as
-    the start before it, in a section."""
-    lines = iter(text_of("bench/README.md").split(f"\n## {section}\n")[1].split("\n## ")[0].splitlines())
+    """Returns the figures of a line of a section of bench/README.md, as they are written there. Each start is that of a
+    line, the last that of the figures, and the others come before it in this order. Raises LookupError without one."""
+    text = text_of("bench/README.md").partition(f"\n## {section}\n")[2].partition("\n## ")[0]
+    lines, found = iter(text.splitlines()), ""
     for start in starts:
-        found = next(it.strip() for it in lines if it.strip().startswith(start))
+        found = next((it.strip() for it in lines if it.strip().startswith(start)), None)
+        if found is None:
+            raise LookupError(f"bench/README.md: {section} has no line '{start}' for README's figures")
     return re.split(r"  +", found.removeprefix(starts[-1]).strip())
 
 
@@ -79,15 +82,17 @@ def rated(values, write=str):
 
 def hits():
     """Returns the rows of hit ratios, in percent."""
-    head, *rows = [cells(it) for it in text_of("docs/WHEN.md").splitlines() if it.startswith("|")]
-    trace = ""
+    first = re.search(r"(?:^\|.*\n)+", text_of("docs/WHEN.md"), re.M)
+    head, *rows = [cells(it) for it in first[0].splitlines()]
+    trace, found = "", {}
+    for row in rows:
+        trace = row[0] or trace
+        found.setdefault((trace, row[1]), row)
     for name, wanted, capacity in TRACES:
-        for row in rows:
-            trace = row[0] or trace
-            if (trace, row[1]) == (wanted, capacity):
-                values = [row[head.index(policy)].strip("*") for policy in POLICIES]
-                yield name, [f"{it} %" for it in rated(values)]
-                break
+        row = found.get((wanted, capacity))
+        if row is None:
+            raise LookupError(f"docs/WHEN.md has no row of {wanted} at {capacity} for README's figures")
+        yield name, [f"{it} %" for it in rated([row[head.index(policy)].strip("*") for policy in POLICIES])]
     ratios = [measured("Instructions", "hit ratio, both"), measured("Times", "SIEVE, hit ratio"), measured("Times", "LRU, hit ratio")]
     columns = [rated([it[at] for it in ratios], lambda it: f"{100 * float(it):.1f}") for at in (1, 2)]
     yield "skewed keys, 10,000 and 100,000", [f"{', '.join(pair)} %" for pair in zip(*columns)]
@@ -102,7 +107,7 @@ def costs():
 
 
 def table():
-    """Returns README's table of figures."""
+    """Returns README's table of figures. Raises LookupError if one isn't where it was."""
     rows = [("", POLICIES), ("---", ["---"] * 3), *hits(), *costs()]
     return "".join(f"| {name} | {' | '.join(values)} |\n" for name, values in rows).replace("|  |", "| |").replace(" --- ", "---")
 
