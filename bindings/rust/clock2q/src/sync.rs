@@ -280,6 +280,7 @@ impl<K, V, S> Cache<K, V, S> {
 
     /// Returns how many look-ups found their key, since the cache was made. Those of
     /// [`get`](Cache::get), [`get_with`](Cache::get_with), [`get_mut_with`](Cache::get_mut_with),
+    /// [`get_key_value`](Cache::get_key_value),
     /// [`get_or_insert_with`](Cache::get_or_insert_with) and
     /// [`try_get_or_insert_with`](Cache::try_get_or_insert_with) are counted.
     pub fn hits(&self) -> u64 {

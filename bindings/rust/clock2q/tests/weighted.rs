@@ -302,4 +302,19 @@ fn shared_values_are_changed() {
     assert_eq!(cache.get_mut_with("eight", |value: &mut i32| *value), None);
     assert_eq!(cache.peek_mut_with("eight", |value: &mut i32| *value), None);
     assert_eq!((cache.hits(), cache.misses()), (2, 1));
+    assert_eq!(cache.get_key_value("seven"), Some(("seven", 9)));
+    assert_eq!(cache.get_key_value("eight"), None);
+    assert_eq!((cache.hits(), cache.misses()), (3, 2));
+}
+
+#[test]
+fn copies_are_inserted() {
+    let pairs = HashMap::from([(1u64, 1u64), (2, 2), (3, 13)]);
+    let mut cache = sync::Cache::new(100).expect("a cache");
+    cache.extend(&pairs);
+    assert_eq!(cache.iter().collect::<HashMap<_, _>>(), pairs);
+    let made = sync::WeightedCache::new(100, 10, |_: &u64, value: &u64| *value);
+    let mut cache = made.expect("a cache");
+    cache.extend(&pairs);
+    assert_eq!((cache.len(), cache.peek(&3)), (2, None));
 }

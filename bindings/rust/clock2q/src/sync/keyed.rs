@@ -30,6 +30,23 @@ impl<K: Hash + Eq, V, S: BuildHasher> Cache<K, V, S> {
         Some(read(value))
     }
 
+    /// Returns clones of the key that is here and of its value, after a hit.
+    pub fn get_key_value<Q>(&self, key: &Q) -> Option<(K, V)>
+    where
+        K: Borrow<Q> + Clone,
+        Q: Hash + Eq + ?Sized,
+        V: Clone,
+    {
+        let hash = hash_of(&self.hasher, key);
+        // Before the lock, so that it is dropped after it if the value's clone panics.
+        let own;
+        let mut store = self.shards.of(hash).lock();
+        let (key, value) = store.find_pair(hash, key)?;
+        own = key.clone();
+        let value = value.clone();
+        Some((own, value))
+    }
+
     /// Has `change` change the value of a key, after a hit, and returns what it returns.
     ///
     /// ```
@@ -189,6 +206,13 @@ impl<K: Hash + Eq, V, S: BuildHasher> Cache<K, V, S> {
         drop(store);
         drop(outdated);
         removed
+    }
+}
+
+/// Inserts a copy of each pair.
+impl<'a, K: Hash + Eq + Copy, V: Copy, S: BuildHasher> Extend<(&'a K, &'a V)> for Cache<K, V, S> {
+    fn extend<I: IntoIterator<Item = (&'a K, &'a V)>>(&mut self, pairs: I) {
+        self.extend(pairs.into_iter().map(|(key, value)| (*key, *value)));
     }
 }
 

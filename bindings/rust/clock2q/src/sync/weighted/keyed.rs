@@ -189,6 +189,18 @@ where
     }
 }
 
+/// Inserts a copy of each pair that isn't too heavy.
+impl<'a, K: Hash + Eq + Copy, V: Copy, W, S: BuildHasher, L> Extend<(&'a K, &'a V)>
+    for WeightedCache<K, V, W, S, L>
+where
+    W: Fn(&K, &V) -> u64,
+    L: Fn(&K, &V, Cause),
+{
+    fn extend<I: IntoIterator<Item = (&'a K, &'a V)>>(&mut self, pairs: I) {
+        self.extend(pairs.into_iter().map(|(key, value)| (*key, *value)));
+    }
+}
+
 /// Inserts each pair that isn't too heavy, and drops the others.
 impl<K: Hash + Eq, V, W, S: BuildHasher, L> Extend<(K, V)> for WeightedCache<K, V, W, S, L>
 where
