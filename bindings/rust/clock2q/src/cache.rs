@@ -278,8 +278,7 @@ impl<K: Hash + Eq, V, S: BuildHasher> Cache<K, V, S> {
         K: Borrow<Q>,
         Q: Hash + Eq + ?Sized,
     {
-        let (_, value) = self.store.find_pair(hash_of(&self.hasher, key), key)?;
-        Some(value)
+        self.store.find_value(hash_of(&self.hasher, key), key)
     }
 
     /// Returns the key that is here and its value, after a hit.

@@ -51,6 +51,16 @@ impl Shares {
     }
 }
 
+/// What the first place of the index says of a key.
+pub(crate) enum AtHome {
+    /// It has this slot.
+    Found(usize),
+    /// It has none.
+    Absent,
+    /// Others have to be looked at.
+    Unknown,
+}
+
 /// Returns a capacity that isn't 0.
 pub(crate) fn some(capacity: usize) -> Result<NonZeroUsize, Refused> {
     NonZeroUsize::new(capacity).ok_or(Refused::Capacity)
@@ -77,6 +87,24 @@ impl Slots {
     /// Makes one of this capacity and these shares, in which no key has a slot.
     pub(crate) fn empty_one(&self) -> Result<Slots, Refused> {
         Slots::with_shares(self.capacity(), self.shares)
+    }
+
+    /// Looks for a key of this hash, for which `is_it` returns true, in the first place of the index alone, where almost
+    /// all are that have a slot. It needs few registers, so that its caller has none to save. Nothing changes.
+    #[inline(always)]
+    pub(crate) fn find_at_home(&self, hash: u64, is_it: impl FnOnce(usize) -> bool) -> AtHome {
+        let mut home = self.cache.directory.index.handles(spread(hash));
+        let metadata = home.reader.read(home.slot);
+        if !metadata.is(home.wanted) {
+            return match metadata.ends_walk_for(home.wanted) {
+                true => AtHome::Absent,
+                false => AtHome::Unknown,
+            };
+        }
+        match Handle::unpack(home.reader.handle(home.slot)) {
+            Handle::Resident(slot) if is_it(slot as usize) => AtHome::Found(slot as usize),
+            _ => AtHome::Unknown,
+        }
     }
 
     /// Returns the slot of a key of this hash for which `is_it` returns true. Nothing changes.

@@ -72,8 +72,7 @@ impl<K, V> Pairs<K, V> for Store<K, V> {
     where
         K: Eq,
     {
-        let (_, value) = self.find_pair(hash, key)?;
-        Some(value)
+        self.find_value(hash, key).map(|value| &*value)
     }
 
     fn peek(&self, hash: u64, key: &K) -> Option<&V>

@@ -140,7 +140,7 @@ impl<K: Eq, V> WeightedStore<K, V> {
         K: Borrow<Q>,
         Q: Eq + ?Sized,
     {
-        let (_, held) = self.pairs.find_pair(hash, key)?;
+        let held = self.pairs.find_value(hash, key)?;
         Some(&held.value)
     }
 

@@ -26,7 +26,7 @@ impl<K: Hash + Eq, V, S: BuildHasher> Cache<K, V, S> {
     {
         let hash = hash_of(&self.hasher, key);
         let mut store = self.shards.of(hash).lock();
-        let (_, value) = store.find_pair(hash, key)?;
+        let value = store.find_value(hash, key)?;
         Some(read(value))
     }
 
@@ -63,8 +63,7 @@ impl<K: Hash + Eq, V, S: BuildHasher> Cache<K, V, S> {
     {
         let hash = hash_of(&self.hasher, key);
         let mut store = self.shards.of(hash).lock();
-        let (_, value) = store.find_pair(hash, key)?;
-        Some(change(value))
+        store.find_value(hash, key).map(change)
     }
 
     /// Has `change` change the value of a key, and returns what it returns. It records no hit.
