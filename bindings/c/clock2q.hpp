@@ -487,7 +487,7 @@ template <> struct argument<false> {
 template <class Key, class Value, class Hash = std::hash<Key>, class Equal = std::equal_to<Key>,
           class Listener = detail::no_listener>
 class cache {
-    template <class, class, class, class, class> friend class weighted_cache;
+    template <class, class, class, class, class, class> friend class weighted_cache;
     template <class, class, class, class, class, class> friend class expiring_cache;
     static constexpr bool listens = detail::listens<Listener>;
     static_assert(std::is_nothrow_destructible_v<Key> && std::is_nothrow_destructible_v<Value>,
@@ -575,7 +575,7 @@ class cache {
 
       private:
         friend class cache;
-        template <class, class, class, class, class> friend class weighted_cache;
+        template <class, class, class, class, class, class> friend class weighted_cache;
         template <class, class, class, class, class, class> friend class expiring_cache;
         struct destroy {
             const void *cache = nullptr;
@@ -1116,13 +1116,14 @@ class cache {
 //
 // The weigher is called once for each entry that is to be stored, before anything changes, and returns its weight.
 // Then others leave as by `evict`, until there is room for it under both limits. An entry that is heavier than the
-// limit alone isn't stored, and no other leaves for it. Values are only read, so that no weight changes.
+// limit alone isn't stored, no other leaves for it, and no listener hears of it. Values are only read, so that no weight
+// changes.
 //
-// What `cache` says of slots, pointers, users' code, exceptions and threads holds here too.
+// What `cache` says of slots, pointers, users' code, exceptions, listeners and threads holds here too.
 template <class Key, class Value, class Weigher = std::function<std::uint64_t(const Key &, const Value &)>,
-          class Hash = std::hash<Key>, class Equal = std::equal_to<Key>>
+          class Hash = std::hash<Key>, class Equal = std::equal_to<Key>, class Listener = detail::no_listener>
 class weighted_cache {
-    using entries = cache<Key, Value, Hash, Equal>;
+    using entries = cache<Key, Value, Hash, Equal, Listener>;
     using node = typename entries::node;
     template <class Other> using argument = typename entries::template argument<Other>;
 
@@ -1136,9 +1137,19 @@ class weighted_cache {
     // Makes a cache for `capacity` entries, whose weights are at most `max_weight` together. Throws what `cache` does.
     weighted_cache(size_type capacity, std::uint64_t max_weight, Weigher weigher = Weigher(), const Hash &hash = Hash(),
                    const Equal &equal = Equal())
-        : entries_(capacity, hash, equal), limit_(new limit{std::move(weigher), max_weight, 0, nullptr}) {
-        limit_->by_slot.reset(new std::uint64_t[capacity]());
-    }
+        : weighted_cache(entries(capacity, hash, equal), max_weight, std::move(weigher)) {}
+    weighted_cache(size_type capacity, policy shares, std::uint64_t max_weight, Weigher weigher = Weigher(),
+                   const Hash &hash = Hash(), const Equal &equal = Equal())
+        : weighted_cache(entries(capacity, shares, hash, equal), max_weight, std::move(weigher)) {}
+    // The same for a cache with a listener.
+    template <class Heard = Listener, class = std::enable_if_t<detail::listens<Heard>>>
+    weighted_cache(size_type capacity, std::uint64_t max_weight, Weigher weigher, Listener listener,
+                   const Hash &hash = Hash(), const Equal &equal = Equal())
+        : weighted_cache(entries(capacity, std::move(listener), hash, equal), max_weight, std::move(weigher)) {}
+    template <class Heard = Listener, class = std::enable_if_t<detail::listens<Heard>>>
+    weighted_cache(size_type capacity, policy shares, std::uint64_t max_weight, Weigher weigher, Listener listener,
+                   const Hash &hash = Hash(), const Equal &equal = Equal())
+        : weighted_cache(entries(capacity, shares, hash, equal, std::move(listener)), max_weight, std::move(weigher)) {}
     weighted_cache(weighted_cache &&) noexcept = default;
     weighted_cache &operator=(weighted_cache &&other) noexcept {
         weighted_cache taken(std::move(other));
@@ -1146,6 +1157,7 @@ class weighted_cache {
         return *this;
     }
     ~weighted_cache() {
+        if (entries_.state_ != nullptr) entries_.state_->hear_no_more();
         while (!empty()) clear(); // a destructor of a value may insert
     }
 
@@ -1178,13 +1190,30 @@ class weighted_cache {
     }
 
     // Takes a key out, and returns its entry or none.
-    template <class K = Key> node_type extract(const argument<K> &key) { return without(entries_.extract(key)); }
+    template <class K = Key> node_type extract(const argument<K> &key) {
+        if (entries_.state_ == nullptr) return node_type();
+        typename entries::leaving left = entries_.state_->none_left();
+        node *found = entries_.state_->find(key, entries_.hash_of(key), left);
+        if (found != nullptr) {
+            entries_.remove(found);
+            limit_->take_off(found);
+        }
+        left.tell_of(found);
+        return node_type(found, entries_.state_.get());
+    }
 
     // Takes a key out, and returns how many entries left: 1 or 0.
     template <class K = Key> size_type erase(const argument<K> &key) { return extract(key).empty() ? 0 : 1; }
 
     // Takes out the entry that would have to leave next, and returns it, or none.
-    node_type evict() noexcept { return without(entries_.evict()); }
+    node_type evict() noexcept {
+        node *gone = entries_.state_ == nullptr ? nullptr : entries_.state_->evict();
+        if (gone != nullptr) {
+            limit_->take_off(gone);
+            entries_.state_->none_left().tell_of(gone);
+        }
+        return node_type(gone, entries_.state_.get());
+    }
 
     // Takes all entries out, and forgets all keys. Takes time in proportion to the capacity.
     void clear() noexcept {
@@ -1248,9 +1277,14 @@ class weighted_cache {
             *end_ = left;
             end_ = &left->next;
         }
-        // Calls a function with each.
+        // Calls a function with each, after the listener has heard of it.
         template <class Left> void hand_over(Left &left) {
-            while (first_ != nullptr) left(node_type(std::exchange(first_, first_->next), from_.entries_.state_.get()));
+            typename entries::state &state = *from_.entries_.state_;
+            while (first_ != nullptr) {
+                node *next = std::exchange(first_, first_->next);
+                state.none_left().tell_of(next);
+                left(node_type(next, &state));
+            }
         }
 
       private:
@@ -1258,9 +1292,9 @@ class weighted_cache {
         node *first_ = nullptr, **end_ = &first_;
     };
 
-    node_type without(node_type left) noexcept {
-        if (left) limit_->take_off(left.owned_.get());
-        return left;
+    weighted_cache(entries &&made, std::uint64_t max_weight, Weigher &&weigher)
+        : entries_(std::move(made)), limit_(new limit{std::move(weigher), max_weight, 0, nullptr}) {
+        limit_->by_slot.reset(new std::uint64_t[entries_.capacity()]());
     }
 
     template <class K, class Other, class Left> bool pushed(K &&key, Other &&value, Left &left) {
@@ -1286,17 +1320,23 @@ class weighted_cache {
         return true;
     }
 
+    static void note_replaced(node *left) noexcept { entries::state::template note_left<reason::replaced>(left); }
+
     // Gives a new node its slot, that of the node of its key or one of its own. It calls no code of users.
     void link(node *fresh, std::uint64_t weight, node *found, leaving &gone) noexcept {
         typename entries::state &state = *entries_.state_;
         std::uint64_t own = found == nullptr ? 0 : limit_->by_slot[found->slot];
         while (limit_->weight - own > limit_->max_weight - weight) {
             node *last = state.evict();
-            if (last == found) found = nullptr, own = 0;
+            if (last == found) { // for its own new value
+                note_replaced(last);
+                found = nullptr, own = 0;
+            }
             gone.add(last);
         }
         if (found != nullptr) state.version++;
         node *more = found == nullptr ? state.link(fresh) : state.exchange(found->slot, fresh);
+        if (found != nullptr) note_replaced(found);
         while (more != nullptr) gone.add(std::exchange(more, more->next));
         limit_->weight += weight;
         limit_->by_slot[fresh->slot] = weight;
@@ -1355,9 +1395,10 @@ class expiring_cache {
     // std::invalid_argument unless `ttl` is above 0.
     expiring_cache(size_type capacity, duration ttl, Listener listener = Listener(), const Hash &hash = Hash(),
                    const Equal &equal = Equal())
-        : entries_(made(capacity, std::move(listener), hash, equal)), ttl_(ttl) {
-        if (!(ttl > duration::zero())) throw std::invalid_argument("clock2q: a ttl is above 0");
-    }
+        : entries_(capacity, hash, equal, heard_by(std::move(listener))), ttl_(above_zero(ttl)) {}
+    expiring_cache(size_type capacity, policy shares, duration ttl, Listener listener = Listener(),
+                   const Hash &hash = Hash(), const Equal &equal = Equal())
+        : entries_(capacity, shares, hash, equal, heard_by(std::move(listener))), ttl_(above_zero(ttl)) {}
 
     // Returns the value of a key, after a hit, or null. Counts a hit or a miss.
     template <class K = Key> Value *get(const argument<K> &key) {
@@ -1465,9 +1506,13 @@ class expiring_cache {
     friend void swap(expiring_cache &one, expiring_cache &other) noexcept { one.swap(other); }
 
   private:
-    static entries made(size_type capacity, Listener listener, const Hash &hash, const Equal &equal) {
-        if constexpr (listens) return entries(capacity, untimed{std::move(listener)}, hash, equal);
-        else return entries(capacity, hash, equal);
+    static auto heard_by(Listener listener) {
+        if constexpr (listens) return untimed{std::move(listener)};
+        else return listener;
+    }
+    static duration above_zero(duration ttl) {
+        if (!(ttl > duration::zero())) throw std::invalid_argument("clock2q: a ttl is above 0");
+        return ttl;
     }
     typename Clock::time_point deadline() const { return Clock::now() + ttl_; }
     template <class Make> timed made_with(Make &make) const {
@@ -1512,6 +1557,14 @@ class expiring_cache {
 template <class Key, class Value, class Listener = std::function<void(const Key &, Value &, reason)>,
           class Hash = std::hash<Key>, class Equal = std::equal_to<Key>>
 using listening_cache = cache<Key, Value, Hash, Equal, Listener>;
+
+// The same of one whose entries have weights:
+//
+//     clock2q::listening_weighted_cache<std::string, page> pages(1000, 1 << 20, size_of, write_back);
+template <class Key, class Value, class Weigher = std::function<std::uint64_t(const Key &, const Value &)>,
+          class Listener = std::function<void(const Key &, const Value &, reason)>, class Hash = std::hash<Key>,
+          class Equal = std::equal_to<Key>>
+using listening_weighted_cache = weighted_cache<Key, Value, Weigher, Hash, Equal, Listener>;
 
 } // namespace clock2q
 

@@ -15,6 +15,7 @@
 using clock2q::cache;
 using clock2q::expiring_cache;
 using clock2q::listening_cache;
+using clock2q::listening_weighted_cache;
 using clock2q::reason;
 
 static int failed = 0;
@@ -99,6 +100,70 @@ static void reasons() {
     words.put("g", 10);
     { listening_cache<std::string, int> taken(std::move(words)); }
     must(left.size() == 8, "a cache that is destroyed says nothing");
+}
+
+// The reasons of one whose entries have weights. The weight is right whenever the listener is called.
+static void reasons_with_weights() {
+    list left;
+    listening_weighted_cache<std::string, int> *words = nullptr;
+    auto weigh = [](const std::string &, int value) { return static_cast<std::uint64_t>(value); };
+    auto hear = [&](const std::string &key, int value, reason why) {
+        left.push_back({key, value, why});
+        std::uint64_t sum = 0;
+        for (const auto &entry : *words) sum += static_cast<std::uint64_t>(entry.second);
+        must(sum == words->weight(), "the cache is whole");
+    };
+    listening_weighted_cache<std::string, int> made(10, clock2q::policy{2, 1}, 20, weigh, hear);
+    words = &made;
+    made.put("a", 5);
+    made.put("a", 6);
+    must(left == list{{"a", 5, reason::replaced}}, "what is replaced is heard");
+    must(!made.put("a", 21) && left.size() == 1, "what is too heavy isn't");
+    made.put("b", 7);
+    made.put("c", 8);
+    must(left.size() == 2 && left[1].why == reason::evicted && made.weight() <= 20, "what leaves for a weight is");
+    std::size_t before = left.size(), handed = 0;
+    made.push("d", 20, [&](auto gone) { must(left[before + handed++].key == gone.key(), "what push hands over is, before"); });
+    must(handed == 2 && left.size() == before + 2 && left.back().why == reason::evicted, "each of them");
+    made.put("d", 19);
+    must(left.back() == heard{"d", 20, reason::replaced}, "an entry that leaves for its own new value is replaced");
+    must(made.extract("d").mapped() == 19 && left.back() == heard{"d", 19, reason::removed}, "what is removed is");
+    made.put("e", 3);
+    must(made.evict().key() == "e" && left.back() == heard{"e", 3, reason::evicted}, "what is evicted is");
+    made.put("f", 4);
+    made.set_max_weight(3);
+    must(left.back() == heard{"f", 4, reason::evicted}, "what leaves a smaller limit is");
+    made.put("g", 2);
+    made.clear();
+    must(left.back() == heard{"g", 2, reason::cleared}, "what is cleared is");
+    made.put("h", 1);
+    before = left.size();
+    { auto taken = std::move(made); }
+    must(left.size() == before, "a cache that is destroyed says nothing");
+}
+
+// A listener that stores and removes in a cache with weights.
+static void a_listener_that_weighs() {
+    std::uint64_t calls = 0, state = 5;
+    listening_weighted_cache<std::uint64_t, std::uint64_t> *words = nullptr;
+    auto weigh = [](std::uint64_t, std::uint64_t value) { return value % 8; };
+    listening_weighted_cache<std::uint64_t, std::uint64_t> made(20, 60, weigh, [&](std::uint64_t key, std::uint64_t value, reason) {
+        calls++;
+        std::uint64_t sum = 0;
+        for (const auto &entry : *words) sum += entry.second % 8;
+        must(sum == words->weight() && sum <= 60 && words->size() <= 20, "the cache is whole");
+        if (value % 3 == 0) words->put(key + 1, value + 1);
+        if (value % 11 == 0) words->erase(key + 2);
+        if (value % 101 == 0) words->clear();
+    });
+    words = &made;
+    for (std::uint64_t i = 0; i < 3000; i++) {
+        std::uint64_t key = drawn(state) % 50;
+        if (i % 7 == 0) made.erase(key);
+        else if (i % 13 == 0) made.evict();
+        else made.put(key, drawn(state) % 1000);
+    }
+    must(calls > 2000, "it was called");
 }
 
 struct constant {
@@ -294,6 +359,8 @@ int main(int count, char **words) {
     reasons();
     seventeen_of_one_hash();
     a_listener_that_calls();
+    reasons_with_weights();
+    a_listener_that_weighs();
     each_is_heard_once(calls);
     times();
     beside_a_map<std::string>(calls, [](int number) { return std::to_string(number); });

@@ -95,7 +95,7 @@ static void larger_is_useful() {
 
 // A full cache never hits a loop that is longer than Small and the history, and one that isn't from the third round on.
 static void longer_history_admits_a_longer_loop() {
-    auto last_hits = [](cache<int, int> tried) {
+    auto last_hits = [](auto tried) {
         for (int key = 0; key < 20; key++) tried.put(key, key);
         int hits = 0;
         for (int round = 0; round < 4; round++) {
@@ -109,6 +109,16 @@ static void longer_history_admits_a_longer_loop() {
     };
     must(last_hits(cache<int, int>(20, clock2q::policy{2, 1})) == 0, "never admitted");
     must(last_hits(cache<int, int>(20, clock2q::policy{2, 1, 18})) == 20, "admitted");
+    auto one = [](int, int) { return std::uint64_t{1}; };
+    must(last_hits(weighted_cache<int, int>(20, clock2q::policy{2, 1}, 100, one)) == 0, "never admitted with weights");
+    must(last_hits(weighted_cache<int, int>(20, clock2q::policy{2, 1, 18}, 100, one)) == 20, "admitted with weights");
+    using timed = clock2q::expiring_cache<int, int>;
+    must(last_hits(timed(20, clock2q::policy{2, 1}, std::chrono::hours(1))) == 0, "never admitted with times");
+    must(last_hits(timed(20, clock2q::policy{2, 1, 18}, std::chrono::hours(1))) == 20, "admitted with times");
+    clock2q::policy too_long{2, 1, 21};
+    must(is_refused([&] { cache<int, int> none(20, too_long); }), "a history that is longer than the cache");
+    must(is_refused([&] { weighted_cache<int, int> none(20, too_long, 100, one); }), "with weights");
+    must(is_refused([&] { timed none(20, too_long, std::chrono::hours(1)); }), "with times");
 }
 
 // It hits as often as a cache that was made as small, by nine tenths.

@@ -6,6 +6,7 @@ static int cache_traverse(Cache *self, visitproc visit, void *arg) {
     Py_VISIT(self->weigher);
     Py_VISIT(self->timer);
     Py_VISIT(self->listener);
+    Py_VISIT(self->postponed);
     for (size_t slot = 0; slot < self->reached; slot++) {
         Py_VISIT(self->pairs[slot].key);
         Py_VISIT(self->pairs[slot].value);
@@ -16,6 +17,7 @@ static int cache_traverse(Cache *self, visitproc visit, void *arg) {
 /* Drops what it holds. The listener doesn't hear of the pairs of a cache that is gone. */
 static int cache_tp_clear(Cache *self) {
     Py_CLEAR(self->listener);
+    Py_CLEAR(self->postponed);
     clear_pairs(self);
     Py_CLEAR(self->weigher);
     Py_CLEAR(self->timer);
@@ -281,7 +283,7 @@ static PyMemberDef cache_members[] = {
     {NULL, 0, 0, 0, NULL}};
 
 static PyType_Slot cache_type_slots[] = {{Py_tp_init, cache_init},
-                                         {Py_tp_doc, "Cache(maxsize, weigher=None, max_weight=None, *, ttl=None, timer=None, listener=None)\n--\n\n"
+                                         {Py_tp_doc, "Cache(maxsize, weigher=None, max_weight=None, *, ttl=None, timer=None, listener=None, history=None)\n--\n\n"
                                                      "What clock2q.Cache adds to."},
                                          {Py_tp_dealloc, cache_dealloc},
                                          {Py_tp_traverse, cache_traverse},

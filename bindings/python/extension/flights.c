@@ -115,17 +115,20 @@ static int wait_until_done(flight *call) {
     return failed ? -1 : 0;
 }
 
-/* Calls the function, and keeps its result unless results were cleared since. */
+/* Calls the function, and keeps its result unless results were cleared since. The listener hears which others left once
+ * nobody waits for the call any more. */
 static PyObject *fly(Cached *self, const made_call *made) {
     flight *call = begin_flight(self, made);
     if (call == NULL) return NULL;
     self->misses++;
     PyObject *value = PyObject_Vectorcall(self->function, made->args, (size_t)made->count, made->names);
+    postpone_listener(self->cache);
     if (value != NULL && is_under_way(self, call) && keep_result(self, made->key, made->hash, value) < 0) Py_CLEAR(value);
     call->value = Py_XNewRef(value);
     end_flight(self, call);
     PyThread_release_lock(call->done);
     release_flight(call);
+    end_postponing(self->cache);
     return value;
 }
 

@@ -34,10 +34,7 @@ static void free_room(room *own) {
 /* Takes the memory for more slots, and for pairs if the cache has any. Returns -1 with an exception if there is none. */
 static int make_room(Cache *cache, size_t capacity, room *made) {
     *made = (room){.capacity = capacity};
-    clock2q_memory before = begin_count();
-    uint32_t status = clock2q_tokens_new(&made->slots, capacity);
-    made->slots_size = end_count(before);
-    if (made_slots(status) < 0) return -1;
+    if (make_slots(cache, capacity, &made->slots, &made->slots_size) < 0) return -1;
     if (cache->pairs == NULL) return 0;
     made->pairs = PyMem_Calloc(capacity, sizeof *made->pairs);
     if (cache->weights != NULL) made->weights = PyMem_Calloc(capacity, sizeof *made->weights);

@@ -40,14 +40,33 @@ static PyObject *read_timing(PyObject *ttl, PyObject *timer, double *time) {
     return monotonic;
 }
 
-/* Takes the memory for slots, and counts it. Returns -1 with an exception if there is none. */
-static int make_slots(Cache *self, size_t maxsize) {
-    self->capacity = self->maxsize = maxsize;
-    if (maxsize == 0) return 0;
+int read_history(PyObject *history, Py_ssize_t most, const char *name, Py_ssize_t *number) {
+    *number = -1;
+    if (history == Py_None) return 0;
+    Py_ssize_t asked = PyNumber_AsSsize_t(history, NULL); /* a number beyond is clipped, and refused */
+    if (asked == -1 && PyErr_Occurred()) return -1;
+    *number = asked;
+    if (asked >= 0 && asked <= most) return 0;
+    PyErr_Format(PyExc_ValueError, "history is from 0 to %s", name);
+    return -1;
+}
+
+int make_slots(const Cache *cache, size_t capacity, clock2q_tokens *slots, size_t *size) {
     clock2q_memory before = begin_count();
-    uint32_t status = clock2q_tokens_new(&self->slots, maxsize);
-    self->slots_size = end_count(before);
+    uint32_t status = cache->history < 0
+                          ? clock2q_tokens_new(slots, capacity)
+                          : clock2q_tokens_with_history(slots, capacity, usual_small(capacity), usual_window(capacity),
+                                                        (size_t)cache->history);
+    *size = end_count(before);
     return made_slots(status);
+}
+
+/* Makes the slots for so many pairs, if there may be any. Returns -1 with an exception if that fails. */
+static int make_first_slots(Cache *self, Py_ssize_t maxsize, PyObject *history) {
+    if (may_make_slots(self->is_made, maxsize, 0, "maxsize") < 0) return -1;
+    if (read_history(history, maxsize, "maxsize", &self->history) < 0) return -1;
+    self->capacity = self->maxsize = (size_t)maxsize;
+    return maxsize == 0 ? 0 : make_slots(self, self->capacity, &self->slots, &self->slots_size);
 }
 
 /* Keeps an object if it isn't None. */
@@ -66,11 +85,12 @@ static int note_missing(Cache *self) {
 }
 
 int cache_init(Cache *self, PyObject *args, PyObject *keywords) {
-    static char *names[] = {"maxsize", "weigher", "max_weight", "ttl", "timer", "listener", NULL};
+    static char *names[] = {"maxsize", "weigher", "max_weight", "ttl", "timer", "listener", "history", NULL};
     Py_ssize_t maxsize, most = 0;
     PyObject *weigher = Py_None, *max_weight = Py_None, *ttl = Py_None, *timer = Py_None, *listener = Py_None;
-    if (!PyArg_ParseTupleAndKeywords(args, keywords, "n|OO$OOO:Cache", names, &maxsize, &weigher, &max_weight, &ttl, &timer,
-                                     &listener))
+    PyObject *history = Py_None;
+    if (!PyArg_ParseTupleAndKeywords(args, keywords, "n|OO$OOOO:Cache", names, &maxsize, &weigher, &max_weight, &ttl, &timer,
+                                     &listener, &history))
         return -1;
     if (read_weights(weigher, max_weight, &most) < 0) return -1;
     if (listener != Py_None && !PyCallable_Check(listener)) {
@@ -80,7 +100,7 @@ int cache_init(Cache *self, PyObject *args, PyObject *keywords) {
     double time = 0;
     timer = read_timing(ttl, timer, &time);
     if (timer == NULL) return -1;
-    if (may_make_slots(self->is_made, maxsize, 0, "maxsize") < 0 || make_slots(self, (size_t)maxsize) < 0) {
+    if (make_first_slots(self, maxsize, history) < 0) {
         Py_DECREF(timer);
         return -1;
     }
@@ -134,6 +154,11 @@ static PyObject *cache_listener(Cache *self, void *unused) {
     return or_none(self->listener);
 }
 
+static PyObject *cache_history(Cache *self, void *unused) {
+    (void)unused;
+    return !self->is_made || self->history < 0 ? Py_NewRef(Py_None) : PyLong_FromSsize_t(self->history);
+}
+
 PyGetSetDef cache_properties[] = {
     {"currsize", (getter)cache_currsize, NULL, "How many keys it holds.", NULL},
     {"weight", (getter)cache_weight, NULL, "What its pairs weigh together, or None without a weigher.", NULL},
@@ -142,4 +167,5 @@ PyGetSetDef cache_properties[] = {
     {"ttl", (getter)cache_ttl, NULL, "How long a pair is there after it was stored, or None.", NULL},
     {"timer", (getter)cache_timer, NULL, "What says the time, or None without a ttl.", NULL},
     {"listener", (getter)cache_listener, NULL, "What hears of the pairs that leave, or None.", NULL},
+    {"history", (getter)cache_history, NULL, "How many keys that left it remembers, or None for half as many as slots.", NULL},
     {NULL, NULL, NULL, NULL, NULL}};

@@ -16,11 +16,15 @@ PyStructSequence_Desc place_description = {
     "clock2q.Place", "The slot of a key, and the key that had it until now, if one had.", place_fields, 2};
 
 static int pages_init(Pages *self, PyObject *args, PyObject *keywords) {
-    static char *names[] = {"capacity", NULL};
-    Py_ssize_t capacity;
-    if (!PyArg_ParseTupleAndKeywords(args, keywords, "n:PageCache", names, &capacity)) return -1;
+    static char *names[] = {"capacity", "history", NULL};
+    Py_ssize_t capacity, number;
+    PyObject *history = Py_None;
+    if (!PyArg_ParseTupleAndKeywords(args, keywords, "n|$O:PageCache", names, &capacity, &history)) return -1;
     if (may_make_slots(self->slots.at != NULL, capacity, 1, "capacity") < 0) return -1;
-    return made_slots(clock2q_new(&self->slots, (size_t)capacity));
+    if (read_history(history, capacity, "capacity", &number) < 0) return -1;
+    size_t slots = (size_t)capacity;
+    if (number < 0) return made_slots(clock2q_new(&self->slots, slots));
+    return made_slots(clock2q_with_history(&self->slots, slots, usual_small(slots), usual_window(slots), (size_t)number));
 }
 
 static void pages_dealloc(Pages *self) {
@@ -145,7 +149,8 @@ static PyGetSetDef pages_properties[] = {
     {"capacity", (getter)pages_capacity, NULL, "How many keys can have a slot.", NULL}, {NULL, NULL, NULL, NULL, NULL}};
 
 static PyType_Slot pages_type_slots[] = {
-    {Py_tp_doc, "PageCache(capacity)\n--\n\nGives keys, ints from 0 to 2**64 - 1, slots for arrays of the caller's.\n\n"
+    {Py_tp_doc, "PageCache(capacity, *, history=None)\n--\n\nGives keys, ints from 0 to 2**64 - 1, slots for arrays of the caller's.\n\n"
+                "It remembers up to history keys that lost their slots, half as many as there are slots unless it is given.\n\n"
                 "An exception may come between a key's entry and what the caller then keeps at its slot, as\n"
                 "that of Ctrl-C: keep the key there too, and compare, as Cache does."},
     {Py_tp_init, pages_init},

@@ -50,6 +50,9 @@ typedef struct {
     double ttl;          /* how long after it was stored */
     double *deadlines;   /* by slot, what the timer is below until then */
     PyObject *listener;  /* or NULL */
+    PyObject *postponed; /* pairs of which it hears once nobody postpones that, or NULL */
+    size_t postponing;   /* how many calls postpone what it hears */
+    Py_ssize_t history;  /* how many keys that were evicted are remembered, or -1 if that wasn't said */
     PyObject *weak_references;
     char is_made;         /* whether __init__ was called */
     char has_missing;     /* whether the type had __missing__ when the cache was made */
@@ -155,7 +158,7 @@ void set_weight(Cache *cache, size_t slot, uint64_t weight);
 /* Has `finds_plainly` and `stores_plainly` say what is so, after pairs, maxsize, the weigher or the timer were set. */
 void set_plainness(Cache *cache);
 
-/* Calls the listener with a pair that has left. What it raises goes to sys.unraisablehook. */
+/* Calls the listener with a pair that has left, or postpones that. What it raises goes to sys.unraisablehook. */
 void call_listener(Cache *cache, pair left, reason why);
 
 /* Drops a pair that was taken out, last of all that a call does: the listener hears of it first, if there is one. */
@@ -171,6 +174,10 @@ int add_left(PyObject *list, pair left, reason why);
 
 /* Drops the pairs of such a list, and the list. */
 void drop_pairs(Cache *cache, PyObject *list);
+
+/* Has the listener, if there is one, hear of no pair until the second is called as often, which has it hear of all. */
+void postpone_listener(Cache *cache);
+void end_postponing(Cache *cache);
 
 /* Asks the timer. Returns -1 with an exception if it gives no number. */
 int read_timer(Cache *cache, double *now);
@@ -229,6 +236,23 @@ int may_make_slots(int is_made, Py_ssize_t capacity, Py_ssize_t least, const cha
 
 /* Returns 0 if the library made a cache, or -1 with an exception. */
 int made_slots(uint32_t status);
+
+/* The shares of a capacity that the library takes if it isn't given any: how many slots are for new keys, and for how
+ * many admissions each is young. */
+static inline size_t usual_small(size_t capacity) {
+    return capacity < 10 ? capacity > 1 : capacity / 10;
+}
+
+static inline size_t usual_window(size_t capacity) {
+    return (usual_small(capacity) + 1) / 2;
+}
+
+/* Reads how many keys that were evicted are remembered, of `most`: -1 for None. Returns -1 with an exception if it can't be
+ * so many. */
+int read_history(PyObject *history, Py_ssize_t most, const char *name, Py_ssize_t *number);
+
+/* Takes the memory for slots with the cache's history, and counts it. Returns -1 with an exception if there is none. */
+int make_slots(const Cache *cache, size_t capacity, clock2q_tokens *slots, size_t *size);
 
 /* Has the library take its memory where tracemalloc sees it, and counts that. The second returns how much it was, and
  * is given what the first returned. No other code runs between them. */

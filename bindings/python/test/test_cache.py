@@ -124,7 +124,7 @@ class MappingTest(unittest.TestCase):
         self.assertRegex(clock2q.__version__, r"^\d+\.\d+\.\d+$")
 
     def test_signature(self):
-        self.assertEqual(str(inspect.signature(Cache)), "(maxsize, weigher=None, max_weight=None, *, ttl=None, timer=None, listener=None)")
+        self.assertEqual(str(inspect.signature(Cache)), "(maxsize, weigher=None, max_weight=None, *, ttl=None, timer=None, listener=None, history=None)")
 
     def test_abstract_types(self):
         cache = Cache(3)

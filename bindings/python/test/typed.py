@@ -21,11 +21,13 @@ def caches() -> None:
     assert_type(cache.next_victim(), tuple[str, int] | None)
     assert_type(cache.ttl, float | None)
     assert_type(copy.copy(cache), Cache[str, int])
-    weighted = Cache[str, bytes](10, lambda key, value: len(value), 10**6)
+    weighted = Cache[str, bytes](10, lambda key, value: len(value), 10**6, history=9)
     assert_type(weighted["a"], bytes)
     Cache[str, int](10, ttl="5")  # type: ignore[call-overload]
     Cache[str, int](10, weigher=lambda key, value: 1)  # type: ignore[call-overload]
     Cache[int, int](10, listener=listen)  # type: ignore[arg-type]
+    Cache[int, int](10, history="5")  # type: ignore[call-overload]
+    assert_type(weighted.history, int | None)
     cache[1] = 1  # type: ignore[index]
 
 
@@ -44,7 +46,7 @@ class Shape:
         return ""
 
 
-@cached(1000, key=lambda rows: len(rows))
+@cached(1000, key=lambda rows: len(rows), listener=lambda size, total, reason: print(size, total, reason), history=900)
 def total(rows: list[int]) -> int:
     return sum(rows)
 
@@ -70,9 +72,10 @@ async def functions(shape: Shape) -> None:
     Shape.area(shape, 1)  # type: ignore[arg-type]
     Shape.area()  # type: ignore[call-arg]
     cached(10, lock=True, ttl="5")  # type: ignore[call-overload]
+    cached(10, history="5")  # type: ignore[call-overload]
 
 
 def pages() -> None:
-    place = PageCache(10).enter(7)
+    place = PageCache(10, history=9).enter(7)
     assert_type(place, Place)
     assert_type((place.slot, place.last), tuple[int, int | None])

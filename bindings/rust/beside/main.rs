@@ -27,7 +27,13 @@ struct Found {
 
 #[link(name = "clock2q", kind = "static")]
 extern "C" {
-    fn clock2q_with_policy(cache: *mut Handle, capacity: usize, small: usize, window: usize) -> u32;
+    fn clock2q_with_history(
+        cache: *mut Handle,
+        capacity: usize,
+        small: usize,
+        window: usize,
+        history: usize,
+    ) -> u32;
     fn clock2q_enter_key(cache: *mut Handle, key: u64) -> Taken;
     fn clock2q_find_key(cache: *mut Handle, key: u64) -> Found;
     fn clock2q_at(cache: *mut Handle, slot: usize, key: u64) -> bool;
@@ -41,18 +47,22 @@ extern "C" {
     fn clock2q_release(cache: Handle);
 }
 
-/// The capacity, Small's share and the window.
-const SHARES: [(usize, usize, usize); 10] = [
-    (1, 0, 0),
-    (2, 1, 1),
-    (3, 2, 1),
-    (7, 6, 6),
-    (10, 1, 1),
-    (40, 20, 20),
-    (100, 10, 5),
-    (1000, 100, 50),
-    (10_000, 1000, 500),
-    (100_000, 10_000, 5000),
+/// The capacity, Small's share, the window and how many keys are remembered.
+const SHARES: [(usize, usize, usize, usize); 14] = [
+    (1, 0, 0, 0),
+    (2, 1, 1, 1),
+    (3, 2, 1, 3),
+    (7, 6, 6, 3),
+    (10, 1, 1, 5),
+    (10, 1, 1, 10),
+    (40, 20, 20, 0),
+    (40, 20, 20, 20),
+    (100, 10, 5, 50),
+    (100, 10, 5, 90),
+    (1000, 100, 50, 500),
+    (1000, 100, 50, 900),
+    (10_000, 1000, 500, 5000),
+    (100_000, 10_000, 5000, 50_000),
 ];
 
 impl Found {
@@ -74,12 +84,12 @@ struct Beside {
 }
 
 impl Beside {
-    fn new((capacity, small, window): (usize, usize, usize)) -> Beside {
+    fn new((capacity, small, window, history): (usize, usize, usize, usize)) -> Beside {
         let mut proved = Handle { at: null_mut() };
         // SAFETY: there is no cache at the pointer yet.
-        let made = unsafe { clock2q_with_policy(&mut proved, capacity, small, window) };
+        let made = unsafe { clock2q_with_history(&mut proved, capacity, small, window, history) };
         assert_eq!(made, 0);
-        let erased = PageCache::with_policy(capacity, small, window).expect("a cache");
+        let erased = PageCache::with_history(capacity, small, window, history).expect("a cache");
         Beside { erased, proved }
     }
 

@@ -1,10 +1,14 @@
 """What the map uses of the core, and what rustc has to see of it."""
 import re
 
-# What the map uses beside what is public, by the source that has it: `pub(crate)` comes before it.
+# What the map uses beside what is public, by the source that has it: `pub(crate)` comes before it, in place of
+# `pub(super)` if that does.
 OPENED = {
     'clock2q_cache/src/cache.rt': ['directory: Directory<', 'fn record_hit('],
+    'clock2q_cache/src/lib.rt': ['mod shares;'],
     'clock2q_directory/src/directory.rt': ['index: Index<', 'remembered: Keys<'],
+    'clock2q_handles/src/candidates.rt': ['reader: Reader<', 'slot: usize,', 'wanted: Wanted,'],
+    'clock2q_handles/src/metadata.rt': ['fn is(', 'fn ends_walk_for('],
 }
 
 # What lets rustc see that a place is within a table: a mask that is the length less one, which it is proved to be. By the
@@ -25,10 +29,10 @@ INLINED = {'clock2q_directory/src/directory/changes.rt': ['put_key']}
 def open_items(text):
     """Lets the map name fields and functions of the cache that are private in the sources."""
     for start in OPENED.get(text.name, []):
-        found = re.findall(rf'^[ \t]+{re.escape(start)}', text.code, re.M)
+        found = re.findall(rf'^[ \t]*((?:pub\(super\) )?){re.escape(start)}', text.code, re.M)
         if len(found) != 1:
             text.refuse(0, f'{len(found)} lines that begin with {start!r}, which the map uses')
-        text.replace(rf'^[ \t]+()(?={re.escape(start)})', 'pub(crate) ')
+        text.replace(rf'^[ \t]*({re.escape(found[0])}){re.escape(start)}', 'pub(crate) ')
 
 
 def show_bounds(text):

@@ -26,7 +26,16 @@ pub enum Command {
 #[derive(Clone, Copy, Debug)]
 pub struct Made {
     pub capacity: u64,
-    pub shares: Option<(u64, u64)>,
+    pub shares: Option<Shares>,
+}
+
+/// How many slots are for new keys, for how many admissions each is young, and how many evicted keys are remembered, if
+/// that is said.
+#[derive(Clone, Copy, Debug)]
+pub struct Shares {
+    pub small: usize,
+    pub window: usize,
+    pub history: Option<usize>,
 }
 
 /// Why there are no replies.
@@ -90,9 +99,19 @@ fn command(words: &[&str]) -> Option<Command> {
 }
 
 fn made(words: &[&str]) -> Option<Made> {
+    // A share that is no number of the machine's is more than any capacity.
+    let share = |word| number(word).map(|share| usize::try_from(share).unwrap_or(usize::MAX));
     let (capacity, shares) = match words {
         ["new", capacity] => (capacity, None),
-        ["new", capacity, small, window] => (capacity, Some((number(small)?, number(window)?))),
+        ["new", capacity, small, window] | ["new", capacity, small, window, _] => {
+            let history = words.get(4);
+            let shares = Shares {
+                small: share(small)?,
+                window: share(window)?,
+                history: history.map(|word| share(word).ok_or(())).transpose().ok()?,
+            };
+            (capacity, Some(shares))
+        }
         _ => return None,
     };
     let capacity = number(capacity).filter(|capacity| *capacity > 0)?;

@@ -1,6 +1,6 @@
 //! The calls of the erased core.
 
-use crate::commands::{Command, Made, Refusal};
+use crate::commands::{Command, Made, Refusal, Shares};
 use crate::replies::{flag, stored, value, Calls};
 use clock2q::proved::cache::{Cache, CacheError};
 use clock2q::proved::rattle::Global;
@@ -16,11 +16,16 @@ impl<S: BuildHasher + Default> Core<S> {
         let capacity = NonZeroUsize::new(capacity).ok_or(Refusal::Capacity)?;
         let cache = match made.shares {
             None => Cache::with_hasher(Global, capacity, S::default()),
-            Some((small, window)) => {
-                let [small, window] =
-                    [small, window].map(|share| usize::try_from(share).unwrap_or(usize::MAX));
-                Cache::with_policy(Global, capacity, small, window, S::default())
-            }
+            Some(Shares {
+                small,
+                window,
+                history,
+            }) => match history {
+                Some(history) => {
+                    Cache::with_history(Global, capacity, small, window, history, S::default())
+                }
+                None => Cache::with_policy(Global, capacity, small, window, S::default()),
+            },
         };
         cache.map(Core).map_err(|refusal| match refusal {
             CacheError::Memory => Refusal::Memory,

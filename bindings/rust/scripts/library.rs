@@ -1,6 +1,6 @@
 //! The calls of the C library, with the values in an array by slot, as the header asks for.
 
-use crate::commands::{Command, Made, Refusal};
+use crate::commands::{Command, Made, Refusal, Shares};
 use crate::replies::{flag, stored, value, Calls};
 use std::ffi::c_void;
 use std::ptr::null_mut;
@@ -30,6 +30,13 @@ extern "C" {
     fn clock2q_new(cache: *mut Handle, capacity: usize) -> u32;
     fn clock2q_with_policy(cache: *mut Handle, capacity: usize, small: usize, window: usize)
         -> u32;
+    fn clock2q_with_history(
+        cache: *mut Handle,
+        capacity: usize,
+        small: usize,
+        window: usize,
+        history: usize,
+    ) -> u32;
     fn clock2q_enter_key(cache: *mut Handle, key: u64) -> Place;
     fn clock2q_find_key(cache: *mut Handle, key: u64) -> Found;
     fn clock2q_at(cache: *mut Handle, slot: usize, key: u64) -> bool;
@@ -57,11 +64,16 @@ impl Library {
         // SAFETY: there is no cache at the pointer yet.
         let status = match made.shares {
             None => unsafe { clock2q_new(&mut handle, capacity) },
-            Some((small, window)) => {
-                let [small, window] =
-                    [small, window].map(|share| usize::try_from(share).unwrap_or(usize::MAX));
-                unsafe { clock2q_with_policy(&mut handle, capacity, small, window) }
-            }
+            Some(Shares {
+                small,
+                window,
+                history,
+            }) => match history {
+                Some(history) => unsafe {
+                    clock2q_with_history(&mut handle, capacity, small, window, history)
+                },
+                None => unsafe { clock2q_with_policy(&mut handle, capacity, small, window) },
+            },
         };
         match status {
             0 => Ok(Library {

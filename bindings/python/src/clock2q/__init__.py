@@ -65,7 +65,7 @@ class ValuesView(abc.ValuesView):
 class Cache(_extension.Cache, abc.MutableMapping):
     """A mapping of at most maxsize keys, from 0 to MAX_CAPACITY.
 
-    Cache(maxsize, weigher=None, max_weight=None, *, ttl=None, timer=None, listener=None)
+    Cache(maxsize, weigher=None, max_weight=None, *, ttl=None, timer=None, listener=None, history=None)
 
     When a new key comes to a full cache, the replacement chooses one that leaves. All memory but that of
     keys and values is taken when the cache is made and when the first pair is stored. If maxsize is 0, to
@@ -85,7 +85,11 @@ class Cache(_extension.Cache, abc.MutableMapping):
     value of its key; "removed" by del or pop; "expired"; or "cleared". What the listener raises goes to
     sys.unraisablehook. It isn't called when the cache itself is dropped.
 
-    A copy, or what a pickle is loaded to, has the same pairs, weigher and listener, and begins anew with their use:
+    history is how many keys that left for others are remembered, from 0 to maxsize: half of maxsize unless it is given.
+    From maxsize - maxsize // 10 on, a full cache admits every loop of new keys that fits beside the keys that were hit.
+    It stays when the cache is resized.
+
+    A copy, or what a pickle is loaded to, has the same pairs, weigher, listener and history, and begins anew with their use:
     each key is new there. A cache with a ttl has no copy.
 
     [], get and setdefault count hits and misses. `in` and peek change nothing. Iteration is over what was
@@ -109,12 +113,13 @@ class Cache(_extension.Cache, abc.MutableMapping):
     def __reduce__(self):
         if self.ttl is not None:
             raise TypeError("a Cache with a ttl can't be pickled or copied: a timer's times mean nothing elsewhere")
-        made_with = self.maxsize, self.weigher, self.max_weight, self.listener
+        history = None if self.history is None else min(self.history, self.maxsize)
+        made_with = self.maxsize, self.weigher, self.max_weight, self.listener, history
         return __newobj__, (type(self),), (made_with, self._pairs(), getattr(self, "__dict__", None))
 
     def __setstate__(self, state):
-        (maxsize, weigher, max_weight, listener), pairs, attributes = state
-        Cache.__init__(self, maxsize, weigher, max_weight, listener=listener)
+        (maxsize, weigher, max_weight, listener, history), pairs, attributes = state
+        Cache.__init__(self, maxsize, weigher, max_weight, listener=listener, history=history)
         if attributes:
             self.__dict__.update(attributes)
         for key, value in pairs:
@@ -128,7 +133,7 @@ def _async_kind(function):
     return getattr(getattr(function, "__code__", None), "co_flags", 0) & (_COROUTINE | _ASYNC_GENERATOR)
 
 
-def cached(maxsize=128, typed=False, *, key=None, lock=False, ttl=None, timer=None):
+def cached(maxsize=128, typed=False, *, key=None, lock=False, ttl=None, timer=None, listener=None, history=None):
     """Keeps a function's last results, at most maxsize of them: @cached or @cached(1000).
 
     If maxsize is None, all results are kept; if it is 0 or less, none is. Arguments are hashable. If typed, 3 and 3.0
@@ -147,15 +152,20 @@ def cached(maxsize=128, typed=False, *, key=None, lock=False, ttl=None, timer=No
     task of its own; what it raises goes to all of them, and isn't kept. If all are cancelled, so is the task.
 
     With a ttl, a number above 0, a result is kept so long by the timer, time.monotonic unless another is given.
+
+    listener(key, result, reason) is called after each result that leaves, as a Cache's is, once nobody waits for a call
+    for which it left. The key is what key returned, or as functools makes it: a str or int that is the only argument, or
+    else a tuple of the arguments. history is how many keys whose results left are remembered, as by a Cache.
     """
+    of_cache = {"ttl": ttl, "timer": timer, "listener": listener, "history": history}
     if callable(maxsize):
-        return cached(128, typed, key=key, lock=lock, ttl=ttl, timer=timer)(maxsize)
+        return cached(128, typed, key=key, lock=lock, **of_cache)(maxsize)
     if maxsize is not None:
         maxsize = max(index(maxsize), 0)
         if maxsize > MAX_CAPACITY:
             raise ValueError(f"maxsize is at most {MAX_CAPACITY}, or None")
-    elif ttl is not None:
-        raise TypeError("ttl comes with a maxsize")
+    elif given := next((name for name in ("ttl", "listener", "history") if of_cache[name] is not None), None):
+        raise TypeError(f"{given} comes with a maxsize")
     if key is not None and (typed or not callable(key)):
         raise TypeError("key is a function, and says what typed would")
 
@@ -165,7 +175,7 @@ def cached(maxsize=128, typed=False, *, key=None, lock=False, ttl=None, timer=No
             raise TypeError("cached decorates a function")
         if kind & _ASYNC_GENERATOR:
             raise TypeError("cached decorates no async generator: what that returns can be iterated over only once")
-        kept = _extension.Cached(function, maxsize, typed, CacheInfo, key, lock, ttl=ttl, timer=timer)
+        kept = _extension.Cached(function, maxsize, typed, CacheInfo, key, lock, **of_cache)
         if kind:
             from ._async import shared
 

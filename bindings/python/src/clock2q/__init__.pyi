@@ -50,6 +50,7 @@ class Cache(MutableMapping[_K, _V]):
         ttl: SupportsFloat | None = None,
         timer: Callable[[], SupportsFloat] | None = None,
         listener: Callable[[_K, _V, Reason], object] | None = None,
+        history: SupportsIndex | None = None,
     ) -> None: ...
     @overload
     def __init__(
@@ -61,6 +62,7 @@ class Cache(MutableMapping[_K, _V]):
         ttl: SupportsFloat | None = None,
         timer: Callable[[], SupportsFloat] | None = None,
         listener: Callable[[_K, _V, Reason], object] | None = None,
+        history: SupportsIndex | None = None,
     ) -> None: ...
     @property
     def maxsize(self) -> int: ...
@@ -80,6 +82,8 @@ class Cache(MutableMapping[_K, _V]):
     def ttl(self) -> float | None: ...
     @property
     def timer(self) -> Callable[[], SupportsFloat] | None: ...
+    @property
+    def history(self) -> int | None: ...
     @property
     def listener(self) -> Callable[[_K, _V, Reason], object] | None: ...
     def __getitem__(self, key: _K, /) -> _V: ...
@@ -138,6 +142,8 @@ def cached(
     lock: bool = False,
     ttl: SupportsFloat | None = None,
     timer: Callable[[], SupportsFloat] | None = None,
+    listener: Callable[[Any, _R, Reason], object] | None = None,
+    history: SupportsIndex | None = None,
 ) -> _Cached[_P, _R]: ...
 @overload
 def cached(
@@ -148,6 +154,8 @@ def cached(
     lock: bool = False,
     ttl: SupportsFloat | None = None,
     timer: Callable[[], SupportsFloat] | None = None,
+    listener: Callable[[Any, Any, Reason], object] | None = None,
+    history: SupportsIndex | None = None,
 ) -> Callable[[Callable[_P, _R]], _Cached[_P, _R]]: ...
 
 @final
@@ -162,7 +170,7 @@ class Place(tuple[int, int | None]):
     def last(self) -> int | None: ...
 
 class PageCache:
-    def __init__(self, capacity: int) -> None: ...
+    def __init__(self, capacity: int, *, history: SupportsIndex | None = None) -> None: ...
     @property
     def capacity(self) -> int: ...
     def enter(self, key: int, /) -> Place: ...

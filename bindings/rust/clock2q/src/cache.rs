@@ -1,7 +1,7 @@
 //! Keys and their values.
 
 use crate::before::Before;
-use crate::slots::Slots;
+use crate::slots::{Shares, Slots};
 use crate::store::{hash_of, Store};
 use crate::{DefaultHashBuilder, Drain, Entry, Iter, IterMut, Keys, Refused, Values, ValuesMut};
 use core::borrow::Borrow;
@@ -133,7 +133,10 @@ impl<K, V, S> Cache<K, V, S> {
         hasher: S,
     ) -> Result<Cache<K, V, S>, Refused> {
         Ok(Cache {
-            store: Store::new(Slots::with_policy(capacity, small, window)?)?,
+            store: Store::new(Slots::with_shares(
+                capacity,
+                Shares::of_policy(small, window),
+            )?)?,
             hasher,
         })
     }
@@ -150,8 +153,9 @@ impl<K, V, S> Cache<K, V, S> {
         history: usize,
         hasher: S,
     ) -> Result<Cache<K, V, S>, Refused> {
+        let shares = Shares::of_history(small, window, history);
         Ok(Cache {
-            store: Store::new(Slots::with_history(capacity, small, window, history)?)?,
+            store: Store::new(Slots::with_shares(capacity, shares)?)?,
             hasher,
         })
     }
@@ -274,8 +278,7 @@ impl<K: Hash + Eq, V, S: BuildHasher> Cache<K, V, S> {
         K: Borrow<Q>,
         Q: Hash + Eq + ?Sized,
     {
-        let (_, value) = self.store.find_pair(hash_of(&self.hasher, key), key)?;
-        Some(value)
+        self.store.find_value(hash_of(&self.hasher, key), key)
     }
 
     /// Returns the key that is here and its value, after a hit.

@@ -25,6 +25,7 @@ extern crate std;
 
 mod before;
 mod cache;
+mod cause;
 mod collect;
 mod entries;
 mod entry;
@@ -43,15 +44,16 @@ mod weighted;
 mod weights;
 
 pub use cache::Cache;
+pub use cause::Cause;
 pub use entry::{Entry, OccupiedEntry, VacantEntry};
 #[cfg(feature = "std")]
-pub use expiring::{Builder, Cause, Clock, ExpiringCache, SystemClock, TurnedClock};
+pub use expiring::{Builder, Clock, ExpiringCache, SystemClock, TurnedClock};
 pub use iter::{Drain, IntoIter, Iter, IterMut, Keys, Values, ValuesMut};
 pub use pages::{PageCache, Place};
 pub use proved::cache::MAX_CAPACITY;
 pub use proved::handles::{Candidates, Table, TableError};
 pub use refused::Refused;
-pub use weighted::WeightedCache;
+pub use weighted::{WeightedCache, WeightedEntry, WeightedOccupiedEntry, WeightedVacantEntry};
 
 /// The builder of hashers that a cache has if nothing else is said.
 #[cfg(feature = "std")]

@@ -1,6 +1,6 @@
 //! The slots that the proved cache gives keys, of which it has the hashes alone.
 
-use crate::proved::cache::{Cache, DefaultHashBuilder};
+use crate::proved::cache::{shares as usual, Cache, DefaultHashBuilder};
 pub(crate) use crate::proved::directory::found::Found;
 use crate::proved::directory::handle::Handle;
 use crate::proved::directory::place::Place;
@@ -22,17 +22,43 @@ fn spread(hash: u64) -> u64 {
 /// key of a slot by looking at what they keep there, and a key that left is known by its hash.
 pub(crate) struct Slots {
     cache: Cache<(), ()>,
-    /// Those that were asked for, if any.
-    shares: Option<Shares>,
+    /// Those that were asked for.
+    shares: Shares,
 }
 
-/// How many slots are for new keys, for how many admissions each is young, and how many keys that were evicted are
-/// remembered, if not half as many as there are slots.
-#[derive(Clone, Copy)]
-struct Shares {
-    small: usize,
-    window: usize,
-    history: Option<usize>,
+/// What a cache is asked to be like. What isn't said is as usual.
+#[derive(Clone, Copy, Debug, Default)]
+pub(crate) struct Shares {
+    /// How many slots are for new keys, and for how many admissions each is young.
+    pub(crate) small_and_window: Option<(usize, usize)>,
+    /// How many keys that were evicted are remembered.
+    pub(crate) history: Option<usize>,
+}
+
+impl Shares {
+    pub(crate) fn of_policy(small: usize, window: usize) -> Shares {
+        Shares {
+            small_and_window: Some((small, window)),
+            history: None,
+        }
+    }
+
+    pub(crate) fn of_history(small: usize, window: usize, history: usize) -> Shares {
+        Shares {
+            small_and_window: Some((small, window)),
+            history: Some(history),
+        }
+    }
+}
+
+/// What the first place of the index says of a key.
+pub(crate) enum AtHome {
+    /// It has this slot.
+    Found(usize),
+    /// It has none.
+    Absent,
+    /// Others have to be looked at.
+    Unknown,
 }
 
 /// Returns a capacity that isn't 0.
@@ -42,65 +68,42 @@ pub(crate) fn some(capacity: usize) -> Result<NonZeroUsize, Refused> {
 
 impl Slots {
     pub(crate) fn new(capacity: usize) -> Result<Slots, Refused> {
+        Slots::with_shares(capacity, Shares::default())
+    }
+
+    pub(crate) fn with_shares(capacity: usize, shares: Shares) -> Result<Slots, Refused> {
+        let usual = usual::Shares::usual(capacity);
+        let (small, window) = shares
+            .small_and_window
+            .unwrap_or((usual.small(), usual.window()));
+        let history = shares.history.unwrap_or(usual.history());
+        let (some, hasher) = (some(capacity)?, DefaultHashBuilder::default());
         Ok(Slots {
-            cache: Cache::new(Global, some(capacity)?)?,
-            shares: None,
-        })
-    }
-
-    pub(crate) fn with_policy(
-        capacity: usize,
-        small: usize,
-        window: usize,
-    ) -> Result<Slots, Refused> {
-        Slots::with_shares(
-            capacity,
-            Shares {
-                small,
-                window,
-                history: None,
-            },
-        )
-    }
-
-    pub(crate) fn with_history(
-        capacity: usize,
-        small: usize,
-        window: usize,
-        history: usize,
-    ) -> Result<Slots, Refused> {
-        Slots::with_shares(
-            capacity,
-            Shares {
-                small,
-                window,
-                history: Some(history),
-            },
-        )
-    }
-
-    fn with_shares(capacity: usize, shares: Shares) -> Result<Slots, Refused> {
-        let Shares {
-            small,
-            window,
-            history,
-        } = shares;
-        let some = some(capacity)?;
-        let hasher = DefaultHashBuilder::default();
-        Ok(Slots {
-            cache: match history {
-                Some(history) => Cache::with_history(Global, some, small, window, history, hasher)?,
-                None => Cache::with_policy(Global, some, small, window, hasher)?,
-            },
-            shares: Some(shares),
+            cache: Cache::with_history(Global, some, small, window, history, hasher)?,
+            shares,
         })
     }
 
     /// Makes one of this capacity and these shares, in which no key has a slot.
     pub(crate) fn empty_one(&self) -> Result<Slots, Refused> {
-        match self.shares {
-            Some(shares) => Slots::with_shares(self.capacity(), shares),
-            None => Slots::new(self.capacity()),
+        Slots::with_shares(self.capacity(), self.shares)
+    }
+
+    /// Looks for a key of this hash, for which `is_it` returns true, in the first place of the index alone, where almost
+    /// all are that have a slot. It needs few registers, so that its caller has none to save. Nothing changes.
+    #[inline(always)]
+    pub(crate) fn find_at_home(&self, hash: u64, is_it: impl FnOnce(usize) -> bool) -> AtHome {
+        let mut home = self.cache.directory.index.handles(spread(hash));
+        let metadata = home.reader.read(home.slot);
+        if !metadata.is(home.wanted) {
+            return match metadata.ends_walk_for(home.wanted) {
+                true => AtHome::Absent,
+                false => AtHome::Unknown,
+            };
+        }
+        match Handle::unpack(home.reader.handle(home.slot)) {
+            Handle::Resident(slot) if is_it(slot as usize) => AtHome::Found(slot as usize),
+            _ => AtHome::Unknown,
         }
     }
 

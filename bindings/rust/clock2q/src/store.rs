@@ -2,7 +2,7 @@
 
 use crate::before::Before;
 use crate::entries::{Drained, Entries};
-use crate::slots::{Found, Slots};
+use crate::slots::{AtHome, Found, Slots};
 use crate::Refused;
 use alloc::vec::Vec;
 use core::borrow::Borrow;
@@ -289,6 +289,41 @@ impl<K: Eq, V> Store<K, V> {
             _ => self.misses += 1,
         }
         found
+    }
+
+    /// Returns the value of a key, after a hit, and counts.
+    #[inline(always)]
+    pub(crate) fn find_value<Q>(&mut self, hash: u64, key: &Q) -> Option<&mut V>
+    where
+        K: Borrow<Q>,
+        Q: Eq + ?Sized,
+    {
+        let is_it = |slot| self.entries.has(slot, key);
+        match self.slots.find_at_home(hash, is_it) {
+            AtHome::Found(slot) => {
+                let (_, value) = self.entries.pair_mut(slot)?;
+                self.slots.hit(slot);
+                self.hits += 1;
+                Some(value)
+            }
+            AtHome::Absent => {
+                self.misses += 1;
+                None
+            }
+            AtHome::Unknown => self.find_value_further(hash, key),
+        }
+    }
+
+    /// Does so wherever the key is.
+    #[cold]
+    #[inline(never)]
+    fn find_value_further<Q>(&mut self, hash: u64, key: &Q) -> Option<&mut V>
+    where
+        K: Borrow<Q>,
+        Q: Eq + ?Sized,
+    {
+        let (_, value) = self.find_pair(hash, key)?;
+        Some(value)
     }
 
     /// Returns the pair of a key, after a hit, and counts.

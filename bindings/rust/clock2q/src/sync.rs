@@ -7,12 +7,12 @@ mod shard;
 mod shards;
 mod weighted;
 
-use crate::slots::Slots;
+use crate::slots::Shares;
 use crate::store::Store;
 use crate::{DefaultHashBuilder, Refused};
 pub use expiring::ExpiringCache;
 use shard::Pairs;
-use shards::{count_for, part, usual_count, Shards};
+use shards::{count_for, part, slots_of_part, usual_count, Shards};
 use std::fmt;
 use std::sync::{Mutex, MutexGuard, PoisonError};
 use std::vec::{self, Vec};
@@ -28,7 +28,7 @@ pub use weighted::WeightedCache;
 ///
 /// `Hash` and the closure of [`get_or_insert_with`](Cache::get_or_insert_with) run without a lock, and keys and
 /// values are dropped without one. `Eq`, `Clone` and the closures of [`get_with`](Cache::get_with),
-/// [`peek_with`](Cache::peek_with), [`retain`](Cache::retain) and [`for_each`](Cache::for_each) run under the
+/// [`get_mut_with`](Cache::get_mut_with), [`peek_mut_with`](Cache::peek_mut_with), [`peek_with`](Cache::peek_with), [`retain`](Cache::retain) and [`for_each`](Cache::for_each) run under the
 /// lock of a shard: if one of them uses this cache, it may wait for ever or panic. After a panic the cache is
 /// whole, and no lock is poisoned.
 ///
@@ -72,8 +72,7 @@ impl<K, V> Pairs<K, V> for Store<K, V> {
     where
         K: Eq,
     {
-        let (_, value) = self.find_pair(hash, key)?;
-        Some(value)
+        self.find_value(hash, key).map(|value| &*value)
     }
 
     fn peek(&self, hash: u64, key: &K) -> Option<&V>
@@ -135,6 +134,29 @@ impl<K, V> Cache<K, V> {
     ) -> Result<Cache<K, V>, Refused> {
         Cache::with_policy_and_hasher(capacity, small, window, DefaultHashBuilder::default())
     }
+
+    /// Makes a cache with the shares of [`with_policy`](Cache::with_policy) that remembers up to `history` evicted
+    /// keys in place of half the capacity. They are divided among the shards too.
+    ///
+    /// # Errors
+    ///
+    /// Those of [`with_policy`](Cache::with_policy), and [`Refused::Policy`] unless `history <= capacity`.
+    ///
+    /// ```
+    /// // A loop of new keys that fits beside the keys that were hit is admitted, however long it is.
+    /// let cache = clock2q::sync::Cache::<u64, u64>::with_history(1000, 100, 50, 900)?;
+    /// assert_eq!(cache.capacity(), 1000);
+    /// # Ok::<(), clock2q::Refused>(())
+    /// ```
+    pub fn with_history(
+        capacity: usize,
+        small: usize,
+        window: usize,
+        history: usize,
+    ) -> Result<Cache<K, V>, Refused> {
+        let hasher = DefaultHashBuilder::default();
+        Cache::with_history_and_hasher(capacity, small, window, history, hasher)
+    }
 }
 
 impl<K, V, S> Cache<K, V, S> {
@@ -158,10 +180,7 @@ impl<K, V, S> Cache<K, V, S> {
         shards: usize,
         hasher: S,
     ) -> Result<Cache<K, V, S>, Refused> {
-        let shards = Shards::new(capacity, shards, |at, count| {
-            Store::new(Slots::new(part(capacity as u64, at, count) as usize)?)
-        })?;
-        Ok(Cache::of(shards, capacity, hasher))
+        Cache::made(capacity, shards, &Shares::default(), hasher)
     }
 
     /// Makes a cache with the shares of [`with_policy`](Cache::with_policy) and a hasher.
@@ -175,21 +194,41 @@ impl<K, V, S> Cache<K, V, S> {
         window: usize,
         hasher: S,
     ) -> Result<Cache<K, V, S>, Refused> {
-        let shards = count_for(capacity, small, window)?;
-        let shards = Shards::new(capacity, shards, |at, count| {
-            let of = |whole| part(whole as u64, at, count) as usize;
-            Store::new(Slots::with_policy(of(capacity), of(small), of(window))?)
-        })?;
-        Ok(Cache::of(shards, capacity, hasher))
+        let shares = Shares::of_policy(small, window);
+        Cache::made(capacity, count_for(capacity, &shares)?, &shares, hasher)
     }
 
-    fn of(shards: Shards<Store<K, V>, K, V>, capacity: usize, hasher: S) -> Cache<K, V, S> {
-        Cache {
+    /// Makes a cache with the history of [`with_history`](Cache::with_history) and a hasher.
+    ///
+    /// # Errors
+    ///
+    /// Those of [`with_history`](Cache::with_history).
+    pub fn with_history_and_hasher(
+        capacity: usize,
+        small: usize,
+        window: usize,
+        history: usize,
+        hasher: S,
+    ) -> Result<Cache<K, V, S>, Refused> {
+        let shares = Shares::of_history(small, window, history);
+        Cache::made(capacity, count_for(capacity, &shares)?, &shares, hasher)
+    }
+
+    fn made(
+        capacity: usize,
+        shards: usize,
+        shares: &Shares,
+        hasher: S,
+    ) -> Result<Cache<K, V, S>, Refused> {
+        let shards = Shards::new(capacity, shards, |at, count| {
+            Store::new(slots_of_part(capacity, shares, at, count)?)
+        })?;
+        Ok(Cache {
             shards,
             hasher,
             made: capacity,
             capacity: Mutex::new(capacity),
-        }
+        })
     }
 
     /// Returns how many keys there are.
@@ -239,7 +278,8 @@ impl<K, V, S> Cache<K, V, S> {
     }
 
     /// Returns how many look-ups found their key, since the cache was made. Those of
-    /// [`get`](Cache::get), [`get_with`](Cache::get_with),
+    /// [`get`](Cache::get), [`get_with`](Cache::get_with), [`get_mut_with`](Cache::get_mut_with),
+    /// [`get_key_value`](Cache::get_key_value),
     /// [`get_or_insert_with`](Cache::get_or_insert_with) and
     /// [`try_get_or_insert_with`](Cache::try_get_or_insert_with) are counted.
     pub fn hits(&self) -> u64 {

@@ -1,13 +1,15 @@
 //! Pairs with weights.
 
-use crate::slots::{Found, Slots};
-use crate::store::hash_of;
-use crate::weights::{Stored, WeightedStore};
-use crate::{DefaultHashBuilder, Iter, Refused};
-use alloc::vec::Vec;
-use core::borrow::Borrow;
+mod collect;
+mod entry;
+mod keyed;
+
+use crate::slots::{Found, Shares, Slots};
+use crate::weights::{tell_all, Stored, WeightedStore};
+use crate::{Cause, DefaultHashBuilder, Iter, Refused};
+use alloc::vec;
 use core::fmt;
-use core::hash::{BuildHasher, Hash};
+pub use entry::{WeightedEntry, WeightedOccupiedEntry, WeightedVacantEntry};
 
 /// A [`Cache`](crate::Cache) whose pairs have weights, of which the sum is limited too.
 ///
@@ -31,10 +33,11 @@ use core::hash::{BuildHasher, Hash};
 /// assert!(texts.insert(8, "8".repeat(1_000_001)).is_err());
 /// # Ok::<(), clock2q::Refused>(())
 /// ```
-pub struct WeightedCache<K, V, W, S = DefaultHashBuilder> {
+pub struct WeightedCache<K, V, W, S = DefaultHashBuilder, L = fn(&K, &V, Cause)> {
     store: WeightedStore<K, V>,
     weigher: W,
     hasher: S,
+    listener: Option<L>,
 }
 
 #[cfg(feature = "std")]
@@ -60,12 +63,27 @@ impl<K, V, W: Fn(&K, &V) -> u64> WeightedCache<K, V, W> {
         max_weight: u64,
         weigher: W,
     ) -> Result<Self, Refused> {
-        let slots = Slots::with_policy(capacity, small, window)?;
-        Ok(WeightedCache {
-            store: WeightedStore::new(slots, max_weight)?,
-            weigher,
-            hasher: DefaultHashBuilder::default(),
-        })
+        let shares = Shares::of_policy(small, window);
+        let hasher = DefaultHashBuilder::default();
+        WeightedCache::made(capacity, shares, max_weight, weigher, hasher)
+    }
+
+    /// Makes a cache with the history of [`Cache::with_history`](crate::Cache::with_history).
+    ///
+    /// # Errors
+    ///
+    /// Those of [`Cache::with_history`](crate::Cache::with_history).
+    pub fn with_history(
+        capacity: usize,
+        small: usize,
+        window: usize,
+        history: usize,
+        max_weight: u64,
+        weigher: W,
+    ) -> Result<Self, Refused> {
+        let shares = Shares::of_history(small, window, history);
+        let hasher = DefaultHashBuilder::default();
+        WeightedCache::made(capacity, shares, max_weight, weigher, hasher)
     }
 }
 
@@ -81,15 +99,53 @@ impl<K, V, W: Fn(&K, &V) -> u64, S> WeightedCache<K, V, W, S> {
         weigher: W,
         hasher: S,
     ) -> Result<Self, Refused> {
+        WeightedCache::made(capacity, Shares::default(), max_weight, weigher, hasher)
+    }
+
+    fn made(
+        capacity: usize,
+        shares: Shares,
+        max_weight: u64,
+        weigher: W,
+        hasher: S,
+    ) -> Result<Self, Refused> {
+        let slots = Slots::with_shares(capacity, shares)?;
         Ok(WeightedCache {
-            store: WeightedStore::new(Slots::new(capacity)?, max_weight)?,
+            store: WeightedStore::new(slots, max_weight)?,
             weigher,
             hasher,
+            listener: None,
         })
     }
 }
 
-impl<K, V, W, S> WeightedCache<K, V, W, S> {
+impl<K, V, W, S, L> WeightedCache<K, V, W, S, L> {
+    /// Has `listener` hear each pair that leaves from now on, and why, last in the call that has it leave, when the cache
+    /// is whole. If it panics, what the call did stays done.
+    ///
+    /// ```
+    /// use clock2q::{Cause, WeightedCache};
+    ///
+    /// let mut left = Vec::new();
+    /// let texts = WeightedCache::new(1000, 10, |_: &u32, text: &&str| text.len() as u64)?;
+    /// let mut texts = texts.heard_by(|key, _, cause| left.push((*key, cause)));
+    /// texts.insert(7, "seven").expect("it is light");
+    /// texts.insert(8, "eightyeight").expect_err("it is too heavy");
+    /// texts.insert(9, "nineteen").expect("it is light");
+    /// texts.remove(&9);
+    /// drop(texts);
+    /// assert_eq!(left, [(7, Cause::Evicted), (9, Cause::Removed)]);
+    /// # Ok::<(), clock2q::Refused>(())
+    /// ```
+    pub fn heard_by<M: FnMut(&K, &V, Cause)>(self, listener: M) -> WeightedCache<K, V, W, S, M> {
+        WeightedCache {
+            store: self.store,
+            weigher: self.weigher,
+            hasher: self.hasher,
+            listener: Some(listener),
+        }
+    }
+
     /// Returns how many pairs there are.
     pub fn len(&self) -> usize {
         self.store.pairs.len()
@@ -105,15 +161,6 @@ impl<K, V, W, S> WeightedCache<K, V, W, S> {
         self.store.pairs.capacity()
     }
 
-    /// Has the cache hold `capacity` pairs at most, as [`Cache::resize`](crate::Cache::resize) does.
-    ///
-    /// # Errors
-    ///
-    /// Those of [`Cache::resize`](crate::Cache::resize).
-    pub fn resize(&mut self, capacity: usize) -> Result<(), Refused> {
-        self.store.resize(capacity).map(drop)
-    }
-
     /// Returns the sum of the weights of all pairs.
     pub fn weight(&self) -> u64 {
         self.store.weight
@@ -122,12 +169,6 @@ impl<K, V, W, S> WeightedCache<K, V, W, S> {
     /// Returns the most that the sum of the weights may be.
     pub fn max_weight(&self) -> u64 {
         self.store.max_weight
-    }
-
-    /// Has the sum of the weights be at most `max_weight` from now on. Pairs leave as by
-    /// [`evict`](WeightedCache::evict) until it is, and are dropped then.
-    pub fn set_max_weight(&mut self, max_weight: u64) {
-        drop(self.store.set_max_weight(max_weight));
     }
 
     /// Returns how many look-ups found their key, of those that record hits.
@@ -140,9 +181,9 @@ impl<K, V, W, S> WeightedCache<K, V, W, S> {
         self.store.pairs.misses
     }
 
-    /// Removes the pair that would have to leave next, and returns it; nothing if there is none.
-    pub fn evict(&mut self) -> Option<(K, V)> {
-        self.store.evict()
+    /// Returns the hasher.
+    pub fn hasher(&self) -> &S {
+        &self.hasher
     }
 
     /// Returns the pair that [`evict`](WeightedCache::evict) would remove. Records no hit.
@@ -151,117 +192,101 @@ impl<K, V, W, S> WeightedCache<K, V, W, S> {
         Some((key, &weighed.value))
     }
 
-    /// Removes all pairs, and forgets those that left.
-    pub fn clear(&mut self) {
-        self.store.clear();
-    }
-
     /// Returns the pairs, in any order. It records no hit.
     pub fn iter(&self) -> impl ExactSizeIterator<Item = (&K, &V)> {
         let pairs = &self.store.pairs.entries;
         Iter::new(pairs.iter(), self.len()).map(|(key, held)| (key, &held.value))
     }
-}
 
-impl<K: Hash + Eq, V, W, S: BuildHasher> WeightedCache<K, V, W, S> {
-    /// Returns the value of a key, after a hit.
-    #[inline]
-    pub fn get<Q>(&mut self, key: &Q) -> Option<&V>
-    where
-        K: Borrow<Q>,
-        Q: Hash + Eq + ?Sized,
-    {
-        self.store.find(hash_of(&self.hasher, key), key)
-    }
-
-    /// Returns the value of a key. It records no hit.
-    pub fn peek<Q>(&self, key: &Q) -> Option<&V>
-    where
-        K: Borrow<Q>,
-        Q: Hash + Eq + ?Sized,
-    {
-        self.store.peek(hash_of(&self.hasher, key), key)
-    }
-
-    /// Returns true if the key is here. It records no hit.
-    pub fn contains_key<Q>(&self, key: &Q) -> bool
-    where
-        K: Borrow<Q>,
-        Q: Hash + Eq + ?Sized,
-    {
-        self.peek(key).is_some()
-    }
-
-    /// Removes a key, and returns its value. A key that isn't here is forgotten.
-    pub fn remove<Q>(&mut self, key: &Q) -> Option<V>
-    where
-        K: Borrow<Q>,
-        Q: Hash + Eq + ?Sized,
-    {
-        let hash = hash_of(&self.hasher, key);
-        let found = self.store.look_up(hash, key);
-        let removed = self.store.remove_found(&found, hash);
-        removed.map(|(_, value)| value)
-    }
-
-    /// Removes the pairs for which `keep` returns false. It records no hit.
-    pub fn retain(&mut self, keep: impl FnMut(&K, &V) -> bool) {
-        self.store.retain(keep, drop);
-    }
-}
-
-impl<K: Hash + Eq, V, W: Fn(&K, &V) -> u64, S: BuildHasher> WeightedCache<K, V, W, S> {
-    /// Stores a value for a key, and returns the one before, if the key was here and didn't have to leave for its own
-    /// new value. The pairs that leave are dropped.
-    ///
-    /// # Errors
-    ///
-    /// The pair, if it is heavier than [`max_weight`](WeightedCache::max_weight). The cache is as it was.
-    pub fn insert(&mut self, key: K, value: V) -> Result<Option<V>, (K, V)> {
-        let stored = self.store_pair(key, value)?;
-        Ok(stored.before.map(|(_, value)| value))
-    }
-
-    /// Stores a value for a key, and returns the pairs that left for it, and last `key` and its value before, if it
-    /// was here and still is.
-    ///
-    /// # Errors
-    ///
-    /// Those of [`insert`](WeightedCache::insert).
-    pub fn push(&mut self, key: K, value: V) -> Result<Vec<(K, V)>, (K, V)> {
-        Ok(self.store_pair(key, value)?.into_pairs())
-    }
-
-    /// Returns the value of a key, after a hit or after storing what `make` returns. The pairs that leave are dropped.
-    ///
-    /// # Errors
-    ///
-    /// The pair, if it is heavier than [`max_weight`](WeightedCache::max_weight). The cache is as it was, but for the
-    /// count of misses.
-    pub fn get_or_insert_with(&mut self, key: K, make: impl FnOnce() -> V) -> Result<&V, (K, V)> {
-        let hash = hash_of(&self.hasher, &key);
-        let slot = match self.store.pairs.look_up_counted(hash, &key) {
-            Found::Resident(slot) => slot as usize,
-            found => {
-                let value = make();
-                let weight = (self.weigher)(&key, &value);
-                let stored = self.store.push_at(found, hash, (key, value), weight)?;
-                stored.slot
-            }
-        };
+    /// Returns the pair at a slot that a key has.
+    fn pair_at(&self, slot: usize) -> (&K, &V) {
         let pair = self.store.pairs.entries.pair(slot);
-        Ok(&pair.expect("a pair is at its slot").1.value)
+        let (key, held) = pair.expect("a pair is at its slot");
+        (key, &held.value)
     }
 
-    fn store_pair(&mut self, key: K, value: V) -> Result<Stored<K, V>, (K, V)> {
-        let weight = (self.weigher)(&key, &value);
-        let hash = hash_of(&self.hasher, &key);
-        let found = self.store.look_up(hash, &key);
-        self.store.push_at(found, hash, (key, value), weight)
+    /// Returns the keys, in any order.
+    pub fn keys(&self) -> impl ExactSizeIterator<Item = &K> {
+        self.iter().map(|(key, _)| key)
+    }
+
+    /// Returns the values, in any order. It records no hit.
+    pub fn values(&self) -> impl ExactSizeIterator<Item = &V> {
+        self.iter().map(|(_, value)| value)
     }
 }
 
-impl<K, V, W, S> fmt::Debug for WeightedCache<K, V, W, S> {
+impl<K, V, W, S, L: FnMut(&K, &V, Cause)> WeightedCache<K, V, W, S, L> {
+    /// Has the cache hold `capacity` pairs at most, as [`Cache::resize`](crate::Cache::resize) does.
+    ///
+    /// # Errors
+    ///
+    /// Those of [`Cache::resize`](crate::Cache::resize).
+    pub fn resize(&mut self, capacity: usize) -> Result<(), Refused> {
+        let left = self.store.resize(capacity)?;
+        tell_all(&mut self.listener, &left, Cause::Evicted);
+        Ok(())
+    }
+
+    /// Has the sum of the weights be at most `max_weight` from now on. Pairs leave as by
+    /// [`evict`](WeightedCache::evict) until it is, and are dropped then.
+    pub fn set_max_weight(&mut self, max_weight: u64) {
+        let left = self.store.set_max_weight(max_weight);
+        tell_all(&mut self.listener, &left, Cause::Evicted);
+    }
+
+    /// Removes the pair that would have to leave next, and returns it; nothing if there is none.
+    pub fn evict(&mut self) -> Option<(K, V)> {
+        let left = self.store.evict();
+        tell_all(&mut self.listener, &left, Cause::Evicted);
+        left
+    }
+
+    /// Removes all pairs, and forgets those that left. If there is a listener, they are kept in a vector until it has
+    /// heard them.
+    pub fn clear(&mut self) {
+        match self.listener {
+            Some(_) => drop(self.drain()),
+            None => self.store.clear(),
+        }
+    }
+
+    /// Removes all pairs, forgets those that left, and returns the pairs, in any order.
+    pub fn drain(&mut self) -> vec::IntoIter<(K, V)> {
+        let left = self.store.take_all();
+        tell_all(&mut self.listener, &left, Cause::Cleared);
+        left.into_iter()
+    }
+
+    /// Stores a pair, for whose key a look-up returned `found`, and has the listener hear which left.
+    fn store_at(
+        &mut self,
+        found: Found,
+        hash: u64,
+        pair: (K, V),
+        weight: u64,
+    ) -> Result<Stored<K, V>, (K, V)> {
+        let stored = self.store.push_at(found, hash, pair, weight)?;
+        stored.tell(&mut self.listener);
+        Ok(stored)
+    }
+
+    /// Removes the pair at a slot that a key has, and returns it.
+    fn remove_at(&mut self, slot: usize) -> (K, V) {
+        let removed = self.store.remove_at(slot);
+        tell_all(&mut self.listener, &removed, Cause::Removed);
+        removed.expect("a pair is at its slot")
+    }
+
+    /// Removes the pairs for which `keep` returns false, each as soon as it does. It records no hit.
+    pub fn retain(&mut self, keep: impl FnMut(&K, &V) -> bool) {
+        let listener = &mut self.listener;
+        let gone = |pair| tell_all(listener, [&pair], Cause::Removed);
+        self.store.retain(keep, gone);
+    }
+}
+
+impl<K, V, W, S, L> fmt::Debug for WeightedCache<K, V, W, S, L> {
     fn fmt(&self, formatter: &mut fmt::Formatter<'_>) -> fmt::Result {
         formatter
             .debug_struct("WeightedCache")

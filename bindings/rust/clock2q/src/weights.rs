@@ -2,7 +2,7 @@
 
 use crate::slots::{Found, Slots};
 use crate::store::Store;
-use crate::Refused;
+use crate::{Cause, Refused};
 use alloc::vec::Vec;
 use core::borrow::Borrow;
 use core::mem;
@@ -21,9 +21,34 @@ pub(crate) struct Stored<K, V> {
     pub(crate) before: Option<(K, V)>,
     /// The pairs that left.
     pub(crate) left: Vec<(K, V)>,
+    /// Where among them the pair of the key is, if it left for its own new value.
+    own: Option<usize>,
+}
+
+/// Calls a listener, if there is one, with pairs that left.
+pub(crate) fn tell_all<'a, K: 'a, V: 'a>(
+    listener: &mut Option<impl FnMut(&K, &V, Cause)>,
+    left: impl IntoIterator<Item = &'a (K, V)>,
+    cause: Cause,
+) {
+    if let Some(listener) = listener {
+        left.into_iter()
+            .for_each(|(key, value)| listener(key, value, cause));
+    }
 }
 
 impl<K, V> Stored<K, V> {
+    /// Calls a listener with all pairs that left or were replaced, if there is one.
+    pub(crate) fn tell(&self, listener: &mut Option<impl FnMut(&K, &V, Cause)>) {
+        let own = self.own.unwrap_or(self.left.len());
+        let (before, from) = self.left.split_at(own);
+        let (own, after) = from.split_at(from.len().min(1));
+        tell_all(listener, before, Cause::Evicted);
+        tell_all(listener, own, Cause::Replaced);
+        tell_all(listener, after, Cause::Evicted);
+        tell_all(listener, &self.before, Cause::Replaced);
+    }
+
     /// Returns all pairs that left or were replaced, this one last.
     pub(crate) fn into_pairs(self) -> Vec<(K, V)> {
         let mut pairs = self.left;
@@ -56,6 +81,11 @@ impl<K, V> WeightedStore<K, V> {
         }
         self.max_weight = max_weight;
         left
+    }
+
+    /// Removes the pair at a slot, and returns it.
+    pub(crate) fn remove_at(&mut self, slot: usize) -> Option<(K, V)> {
+        self.pairs.remove_at(slot).map(|pair| self.without(pair))
     }
 
     /// Removes the pair that would leave next, and returns it.
@@ -110,7 +140,7 @@ impl<K: Eq, V> WeightedStore<K, V> {
         K: Borrow<Q>,
         Q: Eq + ?Sized,
     {
-        let (_, held) = self.pairs.find_pair(hash, key)?;
+        let held = self.pairs.find_value(hash, key)?;
         Some(&held.value)
     }
 
@@ -136,7 +166,6 @@ impl<K: Eq, V> WeightedStore<K, V> {
 
 impl<K, V> WeightedStore<K, V> {
     /// Removes all pairs, and returns them.
-    #[cfg(feature = "std")] // as threads need it
     pub(crate) fn take_all(&mut self) -> Vec<(K, V)> {
         self.weight = 0;
         let mut left = Vec::with_capacity(self.pairs.len());
@@ -163,18 +192,24 @@ impl<K, V> WeightedStore<K, V> {
         if weight > self.max_weight {
             return Err((key, value));
         }
-        let own = match found {
+        let here = match found {
             Found::Resident(slot) => Some(slot as usize),
             _ => None,
         };
-        let (own, mut left) = self.make_room(own, weight);
+        let mut left = Vec::new();
+        let own = self.make_room(here, weight, &mut left);
         let held = Weighed { value, weight };
-        if let Some(slot) = own {
+        if let (Some(slot), None) = (here, own) {
             let (_, here) = self.pairs.entries.pair_mut(slot).expect("a pair is here");
             let before = mem::replace(here, held);
             self.weight = self.weight - before.weight + weight;
             let before = Some((key, before.value));
-            return Ok(Stored { slot, before, left });
+            return Ok(Stored {
+                slot,
+                before,
+                left,
+                own,
+            });
         }
         self.weight += weight;
         let found = match left.is_empty() {
@@ -192,22 +227,28 @@ impl<K, V> WeightedStore<K, V> {
             slot,
             before: None,
             left,
+            own,
         })
     }
 
-    /// Has pairs leave until there is room for a weight in place of the one at a slot, if there is one, after
-    /// a hit of it. Returns the slot if its pair is still there, and the pairs that left.
-    fn make_room(&mut self, mut found: Option<usize>, weight: u64) -> (Option<usize>, Vec<(K, V)>) {
-        let mut left = Vec::new();
-        let mut own = found.map_or(0, |slot| self.hit(slot));
+    /// Has pairs leave until there is room for a weight in place of the one at a slot, if there is one, after a hit of it.
+    /// Returns where among those that left the pair of this slot is, if it left too.
+    fn make_room(
+        &mut self,
+        here: Option<usize>,
+        weight: u64,
+        left: &mut Vec<(K, V)>,
+    ) -> Option<usize> {
+        let mut at = None;
+        let mut own = here.map_or(0, |slot| self.hit(slot));
         while self.weight - own > self.max_weight - weight {
             let (slot, pair) = self.pairs.evict().expect("what has a weight is here");
-            left.push(self.without(pair));
-            if found == Some(slot) {
-                found = None;
+            if here == Some(slot) && at.is_none() {
+                at = Some(left.len());
                 own = 0;
             }
+            left.push(self.without(pair));
         }
-        (found, left)
+        at
     }
 }

@@ -1,10 +1,10 @@
 //! Making caches whose pairs may expire.
 
 use super::cache::ExpiringCache;
-use super::{nobody, Cause, Clock, SystemClock};
-use crate::slots::Slots;
+use super::{nobody, Clock, SystemClock};
+use crate::slots::{Shares, Slots};
 use crate::store::Store;
-use crate::{sync, DefaultHashBuilder, Refused};
+use crate::{sync, Cause, DefaultHashBuilder, Refused};
 use std::marker::PhantomData;
 use std::time::Duration;
 
@@ -26,7 +26,7 @@ use std::time::Duration;
 #[derive(Clone, Debug)]
 pub struct Builder<K, V, L = fn(&K, &V, Cause), C = SystemClock, S = DefaultHashBuilder> {
     pub(crate) capacity: usize,
-    pub(crate) shares: Option<(usize, usize)>,
+    pub(crate) shares: Shares,
     pub(crate) time_to_live: Option<Duration>,
     pub(crate) listener: L,
     pub(crate) clock: C,
@@ -39,7 +39,7 @@ impl<K, V> Builder<K, V> {
     pub fn new(capacity: usize) -> Builder<K, V> {
         Builder {
             capacity,
-            shares: None,
+            shares: Shares::default(),
             time_to_live: None,
             listener: nobody,
             clock: SystemClock::default(),
@@ -58,7 +58,20 @@ impl<K, V, L, C, S> Builder<K, V, L, C, S> {
 
     /// Has `small` slots be for new keys, each young until `window` more were admitted.
     pub fn policy(mut self, small: usize, window: usize) -> Self {
-        self.shares = Some((small, window));
+        self.shares.small_and_window = Some((small, window));
+        self
+    }
+
+    /// Has up to `history` evicted keys be remembered, in place of half the capacity.
+    ///
+    /// ```
+    /// let builder = clock2q::Builder::new(1000).history(900);
+    /// let mut cache = builder.build()?;
+    /// cache.insert("seven", 7);
+    /// # Ok::<(), clock2q::Refused>(())
+    /// ```
+    pub fn history(mut self, history: usize) -> Self {
+        self.shares.history = Some(history);
         self
     }
 
@@ -114,12 +127,9 @@ impl<K, V, L, C, S> Builder<K, V, L, C, S> {
     ///
     /// # Errors
     ///
-    /// Those of [`Cache::with_policy`](crate::Cache::with_policy).
+    /// Those of [`Cache::with_history`](crate::Cache::with_history).
     pub fn build(self) -> Result<ExpiringCache<K, V, L, C, S>, Refused> {
-        let slots = match self.shares {
-            Some((small, window)) => Slots::with_policy(self.capacity, small, window)?,
-            None => Slots::new(self.capacity)?,
-        };
+        let slots = Slots::with_shares(self.capacity, self.shares)?;
         Ok(ExpiringCache::of(Store::new(slots)?, self))
     }
 
@@ -127,7 +137,7 @@ impl<K, V, L, C, S> Builder<K, V, L, C, S> {
     ///
     /// # Errors
     ///
-    /// Those of [`sync::Cache::with_policy`].
+    /// Those of [`sync::Cache::with_history`].
     pub fn build_shared(self) -> Result<sync::ExpiringCache<K, V, L, C, S>, Refused> {
         sync::ExpiringCache::of(self)
     }

@@ -1,10 +1,10 @@
 //! A map whose pairs may expire.
 
 use super::timed::{moment, Gone, Timed};
-use super::{Builder, Cause, Clock, SystemClock};
+use super::{Builder, Clock, SystemClock};
 use crate::slots::Found;
 use crate::store::{hash_of, Store};
-use crate::{DefaultHashBuilder, Refused};
+use crate::{Cause, DefaultHashBuilder, Refused};
 use std::borrow::Borrow;
 use std::fmt;
 use std::hash::{BuildHasher, Hash};

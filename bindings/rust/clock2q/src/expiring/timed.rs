@@ -1,9 +1,9 @@
 //! Pairs whose time is limited, and those of them that left.
 
-use super::Cause;
 use crate::before::Before;
 use crate::slots::Found;
 use crate::store::Store;
+use crate::Cause;
 use std::borrow::Borrow;
 use std::time::Duration;
 

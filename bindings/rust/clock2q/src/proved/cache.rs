@@ -25,7 +25,7 @@ mod error;
 mod filling;
 mod hashes;
 mod occupant;
-mod shares;
+pub(crate) mod shares;
 mod vacancies;
 
 pub use cache::{Cache, DefaultHashBuilder, Iter, Keys, MAX_CAPACITY, Values};

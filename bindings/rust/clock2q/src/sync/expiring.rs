@@ -4,10 +4,9 @@ mod keyed;
 
 use super::locked;
 use super::shard::Pairs;
-use super::shards::{count_for, part, usual_count, Shards};
+use super::shards::{count_for, part, slots_of_part, Shards};
 use crate::expiring::timed::{moment, Gone, Timed};
 use crate::expiring::Builder;
-use crate::slots::Slots;
 use crate::store::Store;
 use crate::{Cause, Clock, DefaultHashBuilder, Refused, SystemClock};
 use std::fmt;
@@ -136,16 +135,9 @@ impl<K, V> ExpiringCache<K, V> {
 impl<K, V, L, C, S> ExpiringCache<K, V, L, C, S> {
     pub(crate) fn of(builder: Builder<K, V, L, C, S>) -> Result<Self, Refused> {
         let (capacity, clock) = (builder.capacity, Arc::new(builder.clock));
-        let shards = match builder.shares {
-            Some((small, window)) => count_for(capacity, small, window)?,
-            None => usual_count(capacity),
-        };
-        let shards = Shards::new(capacity, shards, |at, count| {
-            let of = |whole| part(whole as u64, at, count) as usize;
-            let slots = match builder.shares {
-                Some((small, window)) => Slots::with_policy(of(capacity), of(small), of(window))?,
-                None => Slots::new(of(capacity))?,
-            };
+        let shares = &builder.shares;
+        let shards = Shards::new(capacity, count_for(capacity, shares)?, |at, count| {
+            let slots = slots_of_part(capacity, shares, at, count)?;
             Ok(TimedPairs {
                 store: Store::new(slots)?,
                 clock: Arc::clone(&clock),

@@ -26,8 +26,56 @@ impl<K: Hash + Eq, V, S: BuildHasher> Cache<K, V, S> {
     {
         let hash = hash_of(&self.hasher, key);
         let mut store = self.shards.of(hash).lock();
-        let (_, value) = store.find_pair(hash, key)?;
+        let value = store.find_value(hash, key)?;
         Some(read(value))
+    }
+
+    /// Returns clones of the key that is here and of its value, after a hit.
+    pub fn get_key_value<Q>(&self, key: &Q) -> Option<(K, V)>
+    where
+        K: Borrow<Q> + Clone,
+        Q: Hash + Eq + ?Sized,
+        V: Clone,
+    {
+        let hash = hash_of(&self.hasher, key);
+        // Before the lock, so that it is dropped after it if the value's clone panics.
+        let own;
+        let mut store = self.shards.of(hash).lock();
+        let (key, value) = store.find_pair(hash, key)?;
+        own = key.clone();
+        let value = value.clone();
+        Some((own, value))
+    }
+
+    /// Has `change` change the value of a key, after a hit, and returns what it returns.
+    ///
+    /// ```
+    /// let cache = clock2q::sync::Cache::new(100)?;
+    /// cache.insert("seven", 7);
+    /// cache.get_mut_with("seven", |value| *value += 1);
+    /// assert_eq!(cache.get("seven"), Some(8));
+    /// # Ok::<(), clock2q::Refused>(())
+    /// ```
+    pub fn get_mut_with<Q, R>(&self, key: &Q, change: impl FnOnce(&mut V) -> R) -> Option<R>
+    where
+        K: Borrow<Q>,
+        Q: Hash + Eq + ?Sized,
+    {
+        let hash = hash_of(&self.hasher, key);
+        let mut store = self.shards.of(hash).lock();
+        store.find_value(hash, key).map(change)
+    }
+
+    /// Has `change` change the value of a key, and returns what it returns. It records no hit.
+    pub fn peek_mut_with<Q, R>(&self, key: &Q, change: impl FnOnce(&mut V) -> R) -> Option<R>
+    where
+        K: Borrow<Q>,
+        Q: Hash + Eq + ?Sized,
+    {
+        let hash = hash_of(&self.hasher, key);
+        let mut store = self.shards.of(hash).lock();
+        let (_, value) = store.peek_mut(hash, key)?;
+        Some(change(value))
     }
 
     /// Returns a clone of the value of a key. It records no hit.
@@ -157,6 +205,13 @@ impl<K: Hash + Eq, V, S: BuildHasher> Cache<K, V, S> {
         drop(store);
         drop(outdated);
         removed
+    }
+}
+
+/// Inserts a copy of each pair.
+impl<'a, K: Hash + Eq + Copy, V: Copy, S: BuildHasher> Extend<(&'a K, &'a V)> for Cache<K, V, S> {
+    fn extend<I: IntoIterator<Item = (&'a K, &'a V)>>(&mut self, pairs: I) {
+        self.extend(pairs.into_iter().map(|(key, value)| (*key, *value)));
     }
 }
 

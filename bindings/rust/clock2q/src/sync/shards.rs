@@ -1,6 +1,7 @@
 //! What is divided among shards.
 
 use super::shard::{Pairs, Shard};
+use crate::slots::{Shares, Slots};
 use crate::Refused;
 use std::boxed::Box;
 use std::ops::Deref;
@@ -22,17 +23,40 @@ pub(super) fn usual_count(capacity: usize) -> usize {
     (capacity / SHARD_CAPACITY).clamp(1, SHARDS)
 }
 
-/// Returns how many shards a cache has if `small` of its slots are for new keys, which are young until `window` more were
-/// admitted: each shard has a part of each share.
-pub(super) fn count_for(capacity: usize, small: usize, window: usize) -> Result<usize, Refused> {
+/// Returns how many shards a cache of these shares has: each shard has a part of each of them but of the history, of which
+/// some have none if it is short.
+pub(super) fn count_for(capacity: usize, shares: &Shares) -> Result<usize, Refused> {
     if capacity == 0 {
         return Err(Refused::Capacity);
     }
+    if shares.history.is_some_and(|history| history > capacity) {
+        return Err(Refused::Policy);
+    }
+    let Some((small, window)) = shares.small_and_window else {
+        return Ok(usual_count(capacity));
+    };
     if small >= capacity || window > small || (small == 0) != (window == 0) {
         return Err(Refused::Policy);
     }
     let most = if small == 0 { SHARDS } else { window };
     Ok(usual_count(capacity).min(most).min(capacity - small))
+}
+
+/// Makes the slots of a shard, of a capacity and shares that are divided among all.
+pub(super) fn slots_of_part(
+    capacity: usize,
+    shares: &Shares,
+    at: usize,
+    count: usize,
+) -> Result<Slots, Refused> {
+    let of = |whole: usize| part(whole as u64, at, count) as usize;
+    let own = Shares {
+        small_and_window: shares
+            .small_and_window
+            .map(|(small, window)| (of(small), of(window))),
+        history: shares.history.map(of),
+    };
+    Slots::with_shares(of(capacity), own)
 }
 
 /// Returns a part of a whole that is divided into parts, which differ by at most 1.

@@ -4,10 +4,10 @@ mod keyed;
 
 use super::locked;
 use super::shard::Pairs;
-use super::shards::{count_for, part, usual_count, Shards};
-use crate::slots::Slots;
-use crate::weights::WeightedStore;
-use crate::{DefaultHashBuilder, Refused};
+use super::shards::{count_for, part, slots_of_part, usual_count, Shards};
+use crate::slots::Shares;
+use crate::weights::{tell_all, WeightedStore};
+use crate::{Cause, DefaultHashBuilder, Refused};
 use std::fmt;
 use std::sync::Mutex;
 use std::vec::{self, Vec};
@@ -34,10 +34,11 @@ use std::vec::{self, Vec};
 /// assert_eq!(texts.weight(), 5);
 /// # Ok::<(), clock2q::Refused>(())
 /// ```
-pub struct WeightedCache<K, V, W, S = DefaultHashBuilder> {
+pub struct WeightedCache<K, V, W, S = DefaultHashBuilder, L = fn(&K, &V, Cause)> {
     shards: Shards<WeightedStore<K, V>, K, V>,
     weigher: W,
     hasher: S,
+    listener: Option<L>,
     /// How many keys there are slots for.
     made: usize,
     /// How many of them there may be. Whoever changes it has this lock meanwhile.
@@ -106,16 +107,29 @@ impl<K, V, W: Fn(&K, &V) -> u64> WeightedCache<K, V, W> {
         max_weight: u64,
         weigher: W,
     ) -> Result<Self, Refused> {
+        let shares = Shares::of_policy(small, window);
+        let shards = count_for(capacity, &shares)?;
         let hasher = DefaultHashBuilder::default();
-        let shards = count_for(capacity, small, window)?;
-        let shards = Shards::new(capacity, shards, |at, count| {
-            let of = |whole| part(whole as u64, at, count) as usize;
-            let slots = Slots::with_policy(of(capacity), of(small), of(window))?;
-            WeightedStore::new(slots, part(max_weight, at, count))
-        })?;
-        Ok(WeightedCache::of(
-            shards, weigher, hasher, capacity, max_weight,
-        ))
+        WeightedCache::made(capacity, max_weight, shards, &shares, weigher, hasher)
+    }
+
+    /// Makes a cache with the history of [`sync::Cache::with_history`](super::Cache::with_history).
+    ///
+    /// # Errors
+    ///
+    /// Those of [`sync::Cache::with_history`](super::Cache::with_history).
+    pub fn with_history(
+        capacity: usize,
+        small: usize,
+        window: usize,
+        history: usize,
+        max_weight: u64,
+        weigher: W,
+    ) -> Result<Self, Refused> {
+        let shares = Shares::of_history(small, window, history);
+        let shards = count_for(capacity, &shares)?;
+        let hasher = DefaultHashBuilder::default();
+        WeightedCache::made(capacity, max_weight, shards, &shares, weigher, hasher)
     }
 }
 
@@ -148,31 +162,60 @@ impl<K, V, W: Fn(&K, &V) -> u64, S> WeightedCache<K, V, W, S> {
         weigher: W,
         hasher: S,
     ) -> Result<Self, Refused> {
-        let shards = Shards::new(capacity, shards, |at, count| {
-            let slots = Slots::new(part(capacity as u64, at, count) as usize)?;
-            WeightedStore::new(slots, part(max_weight, at, count))
-        })?;
-        Ok(WeightedCache::of(
-            shards, weigher, hasher, capacity, max_weight,
-        ))
+        let shares = Shares::default();
+        WeightedCache::made(capacity, max_weight, shards, &shares, weigher, hasher)
     }
-}
 
-impl<K, V, W, S> WeightedCache<K, V, W, S> {
-    fn of(
-        shards: Shards<WeightedStore<K, V>, K, V>,
-        weigher: W,
-        hasher: S,
+    fn made(
         capacity: usize,
         max_weight: u64,
-    ) -> Self {
-        WeightedCache {
+        shards: usize,
+        shares: &Shares,
+        weigher: W,
+        hasher: S,
+    ) -> Result<Self, Refused> {
+        let shards = Shards::new(capacity, shards, |at, count| {
+            let slots = slots_of_part(capacity, shares, at, count)?;
+            WeightedStore::new(slots, part(max_weight, at, count))
+        })?;
+        Ok(WeightedCache {
             shards,
             weigher,
             hasher,
+            listener: None,
             made: capacity,
             capacity: Mutex::new(capacity),
             max_weight: Mutex::new(max_weight),
+        })
+    }
+}
+
+impl<K, V, W, S, L> WeightedCache<K, V, W, S, L> {
+    /// Has `listener` hear each pair that leaves from now on, and why. The thread whose call has a pair leave calls it
+    /// last, without a lock, so several threads may call it at once.
+    ///
+    /// ```
+    /// use clock2q::{sync::WeightedCache, Cause};
+    /// use std::sync::Mutex;
+    ///
+    /// let left = Mutex::new(Vec::new());
+    /// let texts = WeightedCache::new(100, 10, |_: &u32, text: &&str| text.len() as u64)?;
+    /// let texts = texts.heard_by(|key, _, cause| left.lock().unwrap().push((*key, cause)));
+    /// texts.insert(7, "seven").expect("it is light");
+    /// texts.insert(8, "nineteen").expect("it is light");
+    /// texts.clear();
+    /// assert_eq!(*left.lock().unwrap(), [(7, Cause::Evicted), (8, Cause::Cleared)]);
+    /// # Ok::<(), clock2q::Refused>(())
+    /// ```
+    pub fn heard_by<M: Fn(&K, &V, Cause)>(self, listener: M) -> WeightedCache<K, V, W, S, M> {
+        WeightedCache {
+            shards: self.shards,
+            weigher: self.weigher,
+            hasher: self.hasher,
+            listener: Some(listener),
+            made: self.made,
+            capacity: self.capacity,
+            max_weight: self.max_weight,
         }
     }
 
@@ -192,28 +235,6 @@ impl<K, V, W, S> WeightedCache<K, V, W, S> {
         *locked(&self.capacity)
     }
 
-    /// Has the cache hold `capacity` pairs at most, as [`sync::Cache::resize`](super::Cache::resize) does.
-    ///
-    /// # Errors
-    ///
-    /// Those of [`sync::Cache::resize`](super::Cache::resize).
-    pub fn resize(&self, capacity: usize) -> Result<(), Refused> {
-        let count = self.shards.len();
-        if capacity < count || capacity > self.made {
-            return Err(Refused::Capacity);
-        }
-        let mut left = Vec::new();
-        let mut present = locked(&self.capacity);
-        for (at, shard) in self.shards.iter().enumerate() {
-            let limit = part(capacity as u64, at, count) as usize;
-            left.extend(shard.lock().resize(limit)?);
-        }
-        *present = capacity;
-        drop(present);
-        drop(left);
-        Ok(())
-    }
-
     /// Returns how many shards there are.
     pub fn shards(&self) -> usize {
         self.shards.len()
@@ -227,21 +248,6 @@ impl<K, V, W, S> WeightedCache<K, V, W, S> {
     /// Returns the most that the sum of the weights may be.
     pub fn max_weight(&self) -> u64 {
         *locked(&self.max_weight)
-    }
-
-    /// Has the sum of the weights be at most `max_weight` from now on, divided among the shards. Pairs leave each
-    /// as by [`WeightedCache::set_max_weight`](crate::WeightedCache::set_max_weight), and are dropped without a
-    /// lock.
-    pub fn set_max_weight(&self, max_weight: u64) {
-        let mut left = Vec::new();
-        let mut present = locked(&self.max_weight);
-        for (at, shard) in self.shards.iter().enumerate() {
-            let limit = part(max_weight, at, self.shards.len());
-            left.extend(shard.lock().set_max_weight(limit));
-        }
-        *present = max_weight;
-        drop(present);
-        drop(left);
     }
 
     /// Returns how many look-ups found their key, of those that record hits.
@@ -265,36 +271,6 @@ impl<K, V, W, S> WeightedCache<K, V, W, S> {
         &self.hasher
     }
 
-    /// Removes the pair that would have to leave next from the shard that has most pairs, and returns it; nothing if no
-    /// shard has one.
-    pub fn evict(&self) -> Option<(K, V)> {
-        self.shards.evict()
-    }
-
-    /// Removes all pairs, and forgets those that left. Those of each shard are kept in a vector until it has none.
-    pub fn clear(&self) {
-        self.clear_with(|key, value| drop((key, value)));
-    }
-
-    fn clear_with(&self, mut gone: impl FnMut(K, V)) {
-        self.shards.iter().for_each(|shard| shard.clear(&mut gone));
-    }
-
-    /// Removes all pairs, forgets those that left, and returns the pairs, in any order.
-    pub fn drain(&self) -> vec::IntoIter<(K, V)> {
-        let mut left = Vec::new();
-        self.clear_with(|key, value| left.push((key, value)));
-        left.into_iter()
-    }
-
-    /// Removes the pairs for which `keep` returns false, as [`sync::Cache::retain`](super::Cache::retain) does.
-    pub fn retain(&self, mut keep: impl FnMut(&K, &V) -> bool) {
-        let mut gone = |key, value| drop((key, value));
-        self.shards
-            .iter()
-            .for_each(|shard| shard.retain(&mut keep, &mut gone));
-    }
-
     /// Calls `see` with each pair, shard by shard, each under its lock, in any order. It records no hit.
     pub fn for_each(&self, mut see: impl FnMut(&K, &V)) {
         self.shards
@@ -312,7 +288,92 @@ impl<K, V, W, S> WeightedCache<K, V, W, S> {
     }
 }
 
-impl<K, V, W, S> fmt::Debug for WeightedCache<K, V, W, S> {
+impl<K, V, W, S, L: Fn(&K, &V, Cause)> WeightedCache<K, V, W, S, L> {
+    /// Has the listener hear pairs that left. No lock is held.
+    fn tell<'a>(&self, left: impl IntoIterator<Item = &'a (K, V)>, cause: Cause)
+    where
+        K: 'a,
+        V: 'a,
+    {
+        tell_all(&mut self.listener.as_ref(), left, cause);
+    }
+
+    /// Has the cache hold `capacity` pairs at most, as [`sync::Cache::resize`](super::Cache::resize) does.
+    ///
+    /// # Errors
+    ///
+    /// Those of [`sync::Cache::resize`](super::Cache::resize).
+    pub fn resize(&self, capacity: usize) -> Result<(), Refused> {
+        let count = self.shards.len();
+        if capacity < count || capacity > self.made {
+            return Err(Refused::Capacity);
+        }
+        let mut left = Vec::new();
+        let mut present = locked(&self.capacity);
+        for (at, shard) in self.shards.iter().enumerate() {
+            let limit = part(capacity as u64, at, count) as usize;
+            left.extend(shard.lock().resize(limit)?);
+        }
+        *present = capacity;
+        drop(present);
+        self.tell(&left, Cause::Evicted);
+        Ok(())
+    }
+
+    /// Has the sum of the weights be at most `max_weight` from now on, divided among the shards. Pairs leave each
+    /// as by [`WeightedCache::set_max_weight`](crate::WeightedCache::set_max_weight), and are dropped without a
+    /// lock.
+    pub fn set_max_weight(&self, max_weight: u64) {
+        let mut left = Vec::new();
+        let mut present = locked(&self.max_weight);
+        for (at, shard) in self.shards.iter().enumerate() {
+            let limit = part(max_weight, at, self.shards.len());
+            left.extend(shard.lock().set_max_weight(limit));
+        }
+        *present = max_weight;
+        drop(present);
+        self.tell(&left, Cause::Evicted);
+    }
+
+    /// Removes the pair that would have to leave next from the shard that has most pairs, and returns it; nothing if no
+    /// shard has one.
+    pub fn evict(&self) -> Option<(K, V)> {
+        let left = self.shards.evict();
+        self.tell(&left, Cause::Evicted);
+        left
+    }
+
+    /// Removes all pairs, and forgets those that left. Those of each shard are kept in a vector until it has none.
+    pub fn clear(&self) {
+        self.clear_with(drop);
+    }
+
+    fn clear_with(&self, mut gone: impl FnMut((K, V))) {
+        let mut heard = |key, value| {
+            let pair = (key, value);
+            self.tell([&pair], Cause::Cleared);
+            gone(pair);
+        };
+        self.shards.iter().for_each(|shard| shard.clear(&mut heard));
+    }
+
+    /// Removes all pairs, forgets those that left, and returns the pairs, in any order.
+    pub fn drain(&self) -> vec::IntoIter<(K, V)> {
+        let mut left = Vec::new();
+        self.clear_with(|pair| left.push(pair));
+        left.into_iter()
+    }
+
+    /// Removes the pairs for which `keep` returns false, as [`sync::Cache::retain`](super::Cache::retain) does.
+    pub fn retain(&self, mut keep: impl FnMut(&K, &V) -> bool) {
+        let mut gone = |key, value| self.tell([&(key, value)], Cause::Removed);
+        self.shards
+            .iter()
+            .for_each(|shard| shard.retain(&mut keep, &mut gone));
+    }
+}
+
+impl<K, V, W, S, L> fmt::Debug for WeightedCache<K, V, W, S, L> {
     fn fmt(&self, formatter: &mut fmt::Formatter<'_>) -> fmt::Result {
         formatter
             .debug_struct("WeightedCache")

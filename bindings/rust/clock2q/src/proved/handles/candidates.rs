@@ -25,9 +25,9 @@ use crate::proved::handles::slots::Reader;
 /// # }
 /// ```
 pub struct Candidates<'a, H: Copy + Eq + Default> {
-    pub(super) reader: Reader<'a, H>,
-    pub(super) slot: usize,
-    pub(super) wanted: Wanted,
+    pub(crate) reader: Reader<'a, H>,
+    pub(crate) slot: usize,
+    pub(crate) wanted: Wanted,
 }
 
 impl<'a, H: Copy + Eq + Default> Candidates<'a, H> {

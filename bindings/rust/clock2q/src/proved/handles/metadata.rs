@@ -31,13 +31,13 @@ impl Metadata {
 
     /// Returns true if a walk that looks for `wanted` in this slot ends here.
     #[inline]
-    pub(super) fn ends_walk_for(self, wanted: Wanted) -> bool {
+    pub(crate) fn ends_walk_for(self, wanted: Wanted) -> bool {
         u64::from(self.word) < wanted.word / WANTED_UNIT * WANTED_UNIT
     }
 
     /// Returns true if the slot holds an entry that the walk looks for.
     #[inline]
-    pub(super) fn is(self, wanted: Wanted) -> bool {
+    pub(crate) fn is(self, wanted: Wanted) -> bool {
         u64::from(self.word) == wanted.word
     }
 

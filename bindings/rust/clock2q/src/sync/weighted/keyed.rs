@@ -3,12 +3,13 @@
 use super::WeightedCache;
 use crate::store::hash_of;
 use crate::weights::{Stored, WeightedStore};
+use crate::Cause;
 use std::borrow::Borrow;
 use std::convert::Infallible;
 use std::hash::{BuildHasher, Hash};
 use std::vec::Vec;
 
-impl<K: Hash + Eq, V, W, S: BuildHasher> WeightedCache<K, V, W, S> {
+impl<K: Hash + Eq, V, W, S: BuildHasher, L> WeightedCache<K, V, W, S, L> {
     /// Returns a clone of the value of a key, after a hit.
     pub fn get<Q>(&self, key: &Q) -> Option<V>
     where
@@ -59,7 +60,9 @@ impl<K: Hash + Eq, V, W, S: BuildHasher> WeightedCache<K, V, W, S> {
         let hash = hash_of(&self.hasher, key);
         self.shards.of(hash).lock().peek(hash, key).is_some()
     }
+}
 
+impl<K: Hash + Eq, V, W, S: BuildHasher, L: Fn(&K, &V, Cause)> WeightedCache<K, V, W, S, L> {
     /// Removes a key, and returns its value. A key that isn't here is forgotten.
     pub fn remove<Q>(&self, key: &Q) -> Option<V>
     where
@@ -82,11 +85,16 @@ impl<K: Hash + Eq, V, W, S: BuildHasher> WeightedCache<K, V, W, S> {
         let removed = store.remove_found(&found, hash);
         drop(store);
         drop(outdated);
+        self.tell(&removed, Cause::Removed);
         removed
     }
 }
 
-impl<K: Hash + Eq, V, W: Fn(&K, &V) -> u64, S: BuildHasher> WeightedCache<K, V, W, S> {
+impl<K: Hash + Eq, V, W, S: BuildHasher, L> WeightedCache<K, V, W, S, L>
+where
+    W: Fn(&K, &V) -> u64,
+    L: Fn(&K, &V, Cause),
+{
     /// Stores a value for a key, and returns the one before, if the key was here and didn't have to leave for its own
     /// new value. The pairs that leave are dropped.
     ///
@@ -122,6 +130,9 @@ impl<K: Hash + Eq, V, W: Fn(&K, &V) -> u64, S: BuildHasher> WeightedCache<K, V, 
         let stored = store.push_at(found, hash, (key, value), weight);
         drop(store);
         drop(outdated);
+        if let Ok(stored) = &stored {
+            stored.tell(&mut self.listener.as_ref());
+        }
         stored
     }
 
@@ -162,12 +173,43 @@ impl<K: Hash + Eq, V, W: Fn(&K, &V) -> u64, S: BuildHasher> WeightedCache<K, V, 
         V: Clone,
     {
         let hash = hash_of(&self.hasher, &key);
+        let mut stored = None;
         let push = |store: &mut WeightedStore<K, V>, pair: &mut Option<(K, V)>| {
             let (key, value) = pair.as_ref()?;
             let weight = (self.weigher)(key, value);
             let found = store.look_up(hash, key);
-            Some(store.push_at(found, hash, pair.take()?, weight))
+            stored = Some(store.push_at(found, hash, pair.take()?, weight));
+            Some(())
         };
-        self.shards.of(hash).value_or_make(hash, key, make, push)
+        let value = self.shards.of(hash).value_or_make(hash, key, make, push)?;
+        if let Some(Ok(stored)) = &stored {
+            stored.tell(&mut self.listener.as_ref());
+        }
+        Ok(value)
+    }
+}
+
+/// Inserts a copy of each pair that isn't too heavy.
+impl<'a, K: Hash + Eq + Copy, V: Copy, W, S: BuildHasher, L> Extend<(&'a K, &'a V)>
+    for WeightedCache<K, V, W, S, L>
+where
+    W: Fn(&K, &V) -> u64,
+    L: Fn(&K, &V, Cause),
+{
+    fn extend<I: IntoIterator<Item = (&'a K, &'a V)>>(&mut self, pairs: I) {
+        self.extend(pairs.into_iter().map(|(key, value)| (*key, *value)));
+    }
+}
+
+/// Inserts each pair that isn't too heavy, and drops the others.
+impl<K: Hash + Eq, V, W, S: BuildHasher, L> Extend<(K, V)> for WeightedCache<K, V, W, S, L>
+where
+    W: Fn(&K, &V) -> u64,
+    L: Fn(&K, &V, Cause),
+{
+    fn extend<I: IntoIterator<Item = (K, V)>>(&mut self, pairs: I) {
+        for (key, value) in pairs {
+            drop(self.insert(key, value));
+        }
     }
 }
