@@ -4,7 +4,7 @@ import re
 # What the map uses beside what is public, by the source that has it: `pub(crate)` comes before it.
 OPENED = {
     'clock2q_cache/src/cache.rt': ['directory: Directory<', 'fn record_hit('],
-    'clock2q_directory/src/directory.rt': ['index: Index<', 'remembered: Keys<'],
+    'clock2q_directory/src/directory.rt': ['index: Index<', 'history: Ghost<'],
 }
 
 # What lets rustc see that a place is within a table: a mask that is the length less one, which it is proved to be. By the
@@ -19,7 +19,7 @@ SEEN = {
 }
 
 # What rustc would leave out of line, and its callers have many registers to save for.
-INLINED = {'clock2q_directory/src/directory/changes.rt': ['put_key']}
+INLINED = {'clock2q_directory/src/history.rt': ['push']}
 
 
 def open_items(text):
