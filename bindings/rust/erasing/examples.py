@@ -3,7 +3,7 @@ those after it."""
 
 GLOBAL = 'use clock2q::proved::rattle::Global;'
 CACHE = 'use clock2q::proved::cache::{Cache, CacheError, Entered, MAX_CAPACITY, Occupant};'
-DIRECTORY = 'use clock2q::proved::directory::{directory::Directory, handle::Handle, index::Index, keys::Keys, place::Place};'
+DIRECTORY = 'use clock2q::proved::directory::{directory::Directory, handle::Handle, index::Index, keys::Keys, newcomer::Newcomer};'
 HANDLES = 'use clock2q::proved::handles::{partition, Table, TableError};'
 QUEUES = 'use clock2q::proved::queues::{order::Order, queues::Queues};'
 UNUSED = '#![allow(unused)]'

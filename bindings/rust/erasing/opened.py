@@ -6,7 +6,7 @@ import re
 OPENED = {
     'clock2q_cache/src/cache.rt': ['directory: Directory<', 'fn record_hit('],
     'clock2q_cache/src/lib.rt': ['mod shares;'],
-    'clock2q_directory/src/directory.rt': ['index: Index<', 'remembered: Keys<'],
+    'clock2q_directory/src/directory.rt': ['index: Index<', 'history: Ghost<'],
     'clock2q_handles/src/candidates.rt': ['reader: Reader<', 'slot: usize,', 'wanted: Wanted,'],
     'clock2q_handles/src/metadata.rt': ['fn is(', 'fn ends_walk_for('],
 }
@@ -23,7 +23,7 @@ SEEN = {
 }
 
 # What rustc would leave out of line, and its callers have many registers to save for.
-INLINED = {'clock2q_directory/src/directory/changes.rt': ['put_key']}
+INLINED = {'clock2q_directory/src/history.rt': ['push']}
 
 
 def open_items(text):

@@ -1,6 +1,6 @@
 -- Where a key that is not known is inserted: the number of inspections by the hand, and the value that its slot then
 -- has. No public clause cites this file.
-use Rattle.std.specs.Prelude.{◌≡◌, ℕ, ◌+◌, Bool, not, ◌&&◌, ◌==◌, if◌then◌else◌, nat_lt, length, Option, Some, None, MatchOption, is_some}
+use Rattle.std.specs.Prelude.{◌≡◌, ℕ, ◌+◌, Bool, true, false, not, ◌&&◌, ◌==◌, if◌then◌else◌, nat_lt, length, Option, Some, None, MatchOption, is_some}
 use Rattle.std.specs.Borrow.{Bor}
 use Rattle.std.specs.Fn.{Once, FnOnceReturnsAt}
 use Rattle.std.specs.List.{last_or, list_any}
@@ -10,7 +10,7 @@ use Rattle.std.specs.HashMap.Lent.{HashMembers}
 use Rattle.clock2q_machine.specs.Shares.{main_share}
 use Rattle.clock2q_machine.specs.Entries.{inspections}
 use Rattle.clock2q_handles.specs.Positions.{GapValue}
-use Rattle.clock2q_directory.specs.declared.found.Found.{Found}
+use Rattle.clock2q_directory.specs.declared.handle.Found.{Found}
 use Rattle.clock2q_directory.specs.Index.{IsGapFor}
 use Rattle.clock2q_directory.specs.History.{place_of, found_place, found_gap}
 use Rattle.clock2q_directory.specs.Keys.{IsValueFor}
@@ -18,9 +18,16 @@ use Rattle.clock2q_machine.specs.Machine.{Machine, Placement, vacancy, forgotten
 use Rattle.clock2q_machine.specs.Whole.{known_count}
 use Rattle.clock2q_machine.specs.Bounds.{goes_on}
 use Rattle.clock2q_machine.specs.Leaving.{leaves_for_main, leaves_for_small}
+use Rattle.clock2q_cache.specs.declared.cache.insertion.Admission.{Admission}
+use Rattle.clock2q_cache.specs.declared.cache.insertion.Admission.TheVariants.{Small, Main}
 use Rattle.clock2q_cache.specs.CacheState.{CacheState}
 use Rattle.clock2q_cache.specs.Costs.{Spends}
 use Rattle.clock2q_cache.specs.Places.{Reindexes, discarded, hash_in, out_of}
+
+-- whether a newcomer goes into Main
+abbrev pub is_main : Admission → Bool
+is_main Small = false
+is_main Main = true
 
 module _ {K V : Type 0} where
   -- for a key that enters Main

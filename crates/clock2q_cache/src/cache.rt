@@ -1,6 +1,5 @@
 //! The cache itself: lookups, hits and `put`.
 
-mod clearing;
 mod construction;
 mod debug;
 mod evicting;
@@ -8,15 +7,12 @@ mod fetching;
 mod filling;
 mod insertion;
 mod iteration;
-mod making_room;
 mod removal;
 mod slots;
-mod victim;
 
-use crate::hashes::hash_of;
 use crate::shares::Shares;
 use clock2q_directory::directory::Directory;
-use clock2q_directory::found::Found;
+use clock2q_directory::handle::Found;
 use clock2q_queues::queues::Queues;
 pub use iteration::{Iter, Keys, Values};
 use std::alloc::{Allocator, Global};
@@ -268,7 +264,7 @@ impl<K: Hash + Eq, V, S: BuildHasher, A: Allocator> Cache<K, V, S, A> {
         ensures { result ≡
             hash_of S.BuildHasher S.Hasher.Hasher self.now.hasher (K.hash_input key.now) }
     {
-        hash_of(&self.hasher, key)
+        self.hasher.hash_one(key)
     }
 
     /// Returns the slot of a resident key, and counts no comparison.
@@ -277,8 +273,7 @@ impl<K: Hash + Eq, V, S: BuildHasher, A: Allocator> Cache<K, V, S, A> {
         ensures made { IfSome result (λ slot. slot < length self.now.machine.values) }
         ensures whole { IsWhole K.eq self.now.machine }
     {
-        let hash = hash_of(&self.hasher, key);
-        self.directory.slot_of(hash, key)
+        self.directory.slot_of(self.hash(key), key)
     }
 
     /// Returns the slot of a resident key.
@@ -433,11 +428,11 @@ impl<K: Hash + Eq + Drop, V: Drop, S: BuildHasher, A: Allocator> Cache<K, V, S, 
             return None;
         };
         self.record_hit(slot, &key);
-        Some(self.replace(slot, value))
+        Some(self.replace_value(slot, value))
     }
 
     /// Replaces the value of a slot, and returns the old one.
-    fn replace(&mut self, slot: u32, value: V) -> V
+    fn replace_value(&mut self, slot: u32, value: V) -> V
         requires { slot < length self.old.machine.values }
         ensures value { slice_get self.old.machine.values slot ≡ Some result }
         ensures machine { self.new.machine ≡ stored slot value self.old.machine }

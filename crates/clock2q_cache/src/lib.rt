@@ -22,11 +22,8 @@
 mod cache;
 mod entered;
 mod error;
-mod filling;
-mod hashes;
 mod occupant;
 mod shares;
-mod vacancies;
 
 pub use cache::{Cache, DefaultHashBuilder, Iter, Keys, MAX_CAPACITY, Values};
 pub use entered::Entered;

@@ -11,7 +11,7 @@ use Rattle.clock2q_queues.specs.Rings.{without}
 use Rattle.clock2q_queues.specs.Order.{PlaceOrder, IsWholeOrder, used}
 use Rattle.clock2q_directory.specs.Keys.{KeyPlaces, hash_at, hashed_at, entries_of, is_key_at}
 use Rattle.clock2q_directory.specs.Indexes.{IsIndex, HasHash, has_key}
-use Rattle.clock2q_directory.specs.declared.found.Found.{Found}
+use Rattle.clock2q_directory.specs.declared.handle.Found.{Found}
 use Rattle.clock2q_directory.specs.History.{Remembered, IsHistory, forgotten, remembered_from, accesses_of, places_with, places_from, place_of, found_place, freed_place}
 use Rattle.clock2q_queues.specs.Cells.{Rises}
 use Rattle.clock2q_queues.proofs.Rings.{among_first, among_later, below_of, IsDistinct-left, AllByRecursion-left, distinct_none, distinct_first, distinct_rest, distinct_more}

@@ -5,7 +5,7 @@ use Rattle.std.specs.List.{find, AllByRecursion}
 use Rattle.std.specs.Cmp.{IsEquivalence}
 use Rattle.std.proofs.lemmas.Bool.{cases_Bool, lt-ltb, le-ltb, ltb-true, ltb-false}
 use Rattle.clock2q_directory.specs.declared.handle.Handle.{Handle}
-use Rattle.clock2q_directory.specs.declared.found.Found.{Found}
+use Rattle.clock2q_directory.specs.declared.handle.Found.{Found}
 use Rattle.clock2q_handles.specs.Homes.{candidates}
 use Rattle.clock2q_handles.specs.Positions.{GapValue}
 use Rattle.clock2q_directory.specs.Index as known

@@ -67,6 +67,13 @@ module _ {K V : Type 0} {order : PlaceOrder} {keys : List (Entry K V)} {place : 
       let there = (last_taken order.places place last (IsDistinct-left order.places order.free w.apart)).1 in
       i.listed hash place ∙ rw (there, named-own homes keys hash place at) refl
 
+-- the place for the next key was used before, or is the next one
+pub place-next : (order : PlaceOrder) (place : ℕ) → IsWholeOrder order → length order.places < order.limit → place ≡ next_place order → place ≤ used order
+place-next order place w room is =
+    let n : place_for (length order.places) order.free < suc (length order.places) + length (drop 1 order.free) =
+    (FitsNext-from order.limit order.places order.free w.apart w.below w.within room).below.0 in
+    rw is (used_next order.places order.free n).0
+
 module _ {K V : Type 0} {index : IndexState} {order order' : PlaceOrder} {keys : List (Entry K V)} {place : ℕ}
     (i : IsIndex (known.places index) keys order.places) (as_many : length keys ≡ used order) (w : IsWholeOrder order) where
   pub MakesPlace-new : length order.places < order.limit → place ≡ next_place order

@@ -8,7 +8,7 @@ use Rattle.clock2q_handles.specs.Positions.{GapValue}
 use Rattle.clock2q_queues.specs.Rings.{without}
 use Rattle.clock2q_directory.specs.Index as known
 use Rattle.clock2q_directory.specs.Index.{IndexState, index_code, first_remembered, is_shared, entered_from, left, looked_up, remembered_at, forgotten_at, HasSlotUnder}
-use Rattle.clock2q_directory.specs.declared.found.Found.{Found}
+use Rattle.clock2q_directory.specs.declared.handle.Found.{Found}
 use Rattle.clock2q_queues.specs.Cells.{Rises}
 use Rattle.clock2q_directory.specs.declared.keys.store.Entry.{Entry}
 use Rattle.clock2q_directory.specs.Keys.{KeyPlaces, entries_of}

@@ -10,6 +10,7 @@ ghost use Rattle.clock2q_directory.specs.DirectoryLends.{LendsValueOf};
 mod changes;
 mod lookups;
 
+use crate::history::Ghost;
 use crate::index::Index;
 use crate::keys::Keys;
 use clock2q_queues::order::Order;
@@ -28,8 +29,8 @@ use std::marker::Model;
 ///
 /// ```
 /// let mut directory: Directory<u64, u64> = Directory::new(rt.alloc(), 1, 2)?;
-/// directory.enter(None, 0, hash_of(1), 1, Some(10));
-/// directory.remember(None, 0, hash_of(2), 2, Some(20));
+/// directory.enter(0, Newcomer { gap: None, hash: hash_of(1), key: 1, value: Some(10) });
+/// directory.replace_remembering(0, Newcomer { gap: None, hash: hash_of(2), key: 2, value: Some(20) });
 /// let found = directory.lookup(hash_of(1), &1);
 /// assert!(rt; directory.forget(hash_of(1), &1, &found));
 /// assert_eq!(rt; *directory.value(0), 20);
@@ -37,8 +38,7 @@ use std::marker::Model;
 #[derive(Drop)]
 pub struct Directory<K: Eq, V, A: Allocator = Global> {
     index: Index<A>,
-    order: Order<A>,
-    remembered: Keys<K, (), A>,
+    history: Ghost<K, A>,
     residents: Keys<K, V, A>,
 }
 
@@ -50,9 +50,9 @@ impl<K: Eq, V, A: Allocator> Model for Directory<K, V, A> {
 
     ghost coded = { known_code K.code V.code };
 
-    ghost view = { λ d. known (remembered_from d.index d.order d.remembered) d.residents };
+    ghost view = { λ d. known (remembered_from d.index d.history.order d.history.keys) d.residents };
 
-    ghost invariant = { λ d. IsHistory K.eq d.index d.order d.remembered };
+    ghost invariant = { λ d. IsHistory K.eq d.index d.history.order d.history.keys };
 }
 
 impl<K: Eq + Drop, V: Drop, A: Allocator + Copy> Directory<K, V, A> {
@@ -74,8 +74,10 @@ impl<K: Eq + Drop, V: Drop, A: Allocator + Copy> Directory<K, V, A> {
     {
         Ok(Directory {
             index: Index::new(alloc, slots, limit)?,
-            order: Order::new(alloc, limit as u32)?,
-            remembered: Keys::new(alloc, limit)?,
+            history: Ghost {
+                order: Order::new(alloc, limit as u32)?,
+                keys: Keys::new(alloc, limit)?,
+            },
             residents: Keys::new(alloc, slots)?,
         })
     }
@@ -89,7 +91,7 @@ impl<K: Eq, V, A: Allocator> Directory<K, V, A> {
         ensures within { IsWithinCapacity self.now.history.places.index }
     {
         let _ = self.index.is_shared(); // whose contract says that the entries fit
-        self.order.len() as usize
+        self.history.order.len() as usize
     }
 
     /// Returns the number of slots that have a key and a value, with a resident or without.

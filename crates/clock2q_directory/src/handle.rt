@@ -1,8 +1,10 @@
-//! The handles of the index, each the slot or the place of a known key.
-ghost use Rattle.std.specs.Prelude.{◌≡◌, ◌<◌, ◌^◌};
+//! Where a known key is: at a slot, if it is a resident, or at a place of the history, which the
+//! literature calls Ghost, if it is one of those that Small evicted.
+ghost use Rattle.std.specs.Prelude.{◌≡◌, ◌<◌, ◌^◌, None};
 ghost use Rattle.clock2q_directory.specs.Index.{number_in, packed, unpacked};
+ghost use Rattle.clock2q_directory.specs.History.{found_slot, found_place, found_gap};
 
-use crate::place::Place;
+use clock2q_handles::Gap;
 
 /// The smallest number of a remembered key's handle.
 const REMEMBERED: u32 = 1 << 31;
@@ -14,14 +16,14 @@ const REMEMBERED: u32 = 1 << 31;
 ///
 /// ```
 /// assert_eq!(rt; Handle::Resident(7).pack(), 7);
-/// assert_eq!(rt; Handle::Remembered(Place::new(7)).pack(), 2_147_483_655);
+/// assert_eq!(rt; Handle::Remembered(7).pack(), 2_147_483_655);
 /// ```
 #[derive(Clone, Copy)]
 pub enum Handle {
     /// The slot of a resident.
     Resident(u32),
-    /// The place of a remembered key.
-    Remembered(Place),
+    /// The place of a remembered key, which is no slot.
+    Remembered(u32),
 }
 
 impl Handle {
@@ -32,7 +34,7 @@ impl Handle {
     {
         match self {
             Handle::Resident(slot) => slot,
-            Handle::Remembered(place) => REMEMBERED + place.number(),
+            Handle::Remembered(place) => REMEMBERED + place,
         }
     }
 
@@ -43,7 +45,42 @@ impl Handle {
         if number < REMEMBERED {
             Handle::Resident(number)
         } else {
-            Handle::Remembered(Place::new(number - REMEMBERED))
+            Handle::Remembered(number - REMEMBERED)
+        }
+    }
+}
+
+/// What a lookup of a key finds.
+#[derive(Drop)]
+pub enum Found {
+    /// The slot of a resident.
+    Resident(u32),
+    /// The place of a remembered key.
+    Remembered(u32),
+    /// Neither, with the gap where the key would go if the walk reached it.
+    Absent(Option<Gap>),
+}
+
+impl Found {
+    /// Returns the result of a search of the history alone, for a key that is not resident.
+    pub fn from_place(place: Option<u32>) -> Self
+        ensures slot { found_slot result ≡ None }
+        ensures place { found_place result ≡ place }
+        ensures gap { found_gap result ≡ None }
+    {
+        match place {
+            Some(place) => Found::Remembered(place),
+            None => Found::Absent(None),
+        }
+    }
+
+    /// Returns the gap where the key would go, if it is absent and the gap is known.
+    pub fn gap(self) -> Option<Gap>
+        ensures gap { result ≡ found_gap self }
+    {
+        match self {
+            Found::Absent(gap) => gap,
+            Found::Resident(_) | Found::Remembered(_) => None,
         }
     }
 }

@@ -9,7 +9,6 @@ ghost use Rattle.clock2q_directory.specs.Index.{emptied, index_for, index_room, 
 mod succession;
 
 use crate::handle::Handle;
-use crate::place::Place;
 use clock2q_count::Count;
 use clock2q_handles::{Candidates, Gap, Table};
 use std::alloc::{AllocError, Allocator, Global};
@@ -59,9 +58,9 @@ pub fn index_room(most: usize) -> usize
 /// ```
 /// let mut index = Index::new(rt.alloc(), 2, 1)?;
 /// index.add_slot(None, 7, 0);
-/// index.remember(7, 0, Place::new(0));
+/// index.remember(7, 0, 0);
 /// index.add_slot(None, 9, 0);
-/// index.forget(Some(7), Place::new(0));
+/// index.forget(Some(7), 0);
 /// ```
 #[derive(Drop)]
 pub struct Index<A: Allocator = Global> {
@@ -171,11 +170,11 @@ impl<A: Allocator> Index<A> {
 
     /// Adds the slot of a key that becomes resident in place of another, which leaves.
     #[inline(always)]
-    pub fn renew(&mut self, gap: Option<Gap>, hash: u64, slot: u32, old_hash: u64)
+    pub fn replace(&mut self, gap: Option<Gap>, hash: u64, slot: u32, old_hash: u64)
         requires held { HasSlotUnder old_hash slot self.old }
         requires gap { IsGapFor gap hash self.old }
         requires room { HasRoomBeside self.old }
-        ensures renewed { self.new ≡ entered_from self.old (is_some gap) hash slot (left old_hash slot self.old) }
+        ensures replaced { self.new ≡ entered_from self.old (is_some gap) hash slot (left old_hash slot self.old) }
     {
         let is_found = gap.is_some();
         let gap = self.usable(gap);
@@ -209,7 +208,7 @@ impl<A: Allocator> Index<A> {
 
     /// Replaces the slot of a resident that leaves with the place at which it is remembered.
     #[inline(always)]
-    pub fn remember(&mut self, hash: u64, slot: u32, place: Place)
+    pub fn remember(&mut self, hash: u64, slot: u32, place: u32)
         requires held { HasSlotUnder hash slot self.old }
         requires short { place < 2 ^ 31 }
         requires room { HasPlaceRoom self.old }
@@ -222,13 +221,13 @@ impl<A: Allocator> Index<A> {
             self.shared.replace_handle(hash, slot, handle);
         } else {
             self.shared.remove_existing(hash, slot);
-            self.own.insert_at_gap(None, hash, place.number());
+            self.own.insert_at_gap(None, hash, place);
         }
     }
 
     /// Removes the place of the key with this hash, which is forgotten. Without a hash nothing changes.
     #[inline(always)]
-    pub fn forget(&mut self, hash: Option<u64>, place: Place)
+    pub fn forget(&mut self, hash: Option<u64>, place: u32)
         requires short { place < 2 ^ 31 }
         requires held { IfSome hash (λ hash. list_any (nat_eq place) (candidates (places self.old) hash) ≡ true) }
         ensures forgotten { self.new ≡ forgotten_if hash place self.old }
@@ -242,7 +241,7 @@ impl<A: Allocator> Index<A> {
             let handle = Handle::Remembered(place).pack();
             self.shared.remove_existing(hash, handle);
         } else {
-            self.own.remove_existing(hash, place.number());
+            self.own.remove_existing(hash, place);
         }
     }
 

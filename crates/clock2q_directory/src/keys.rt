@@ -1,5 +1,5 @@
 //! Keys with their hashes and values, each at a place, and lookups through an index.
-ghost use Rattle.std.specs.Prelude.{◌≡◌, ◌+◌, ◌^◌, ◌<◌, ◌≤◌, Some, length, IfNone};
+ghost use Rattle.std.specs.Prelude.{◌≡◌, ◌+◌, ◌<◌, ◌≤◌, length, IfNone};
 ghost use Rattle.std.specs.List.{find, AllByRecursion};
 ghost use Rattle.clock2q_directory.specs.Index.{slots_among, places_among};
 
@@ -7,51 +7,29 @@ mod hashed;
 mod store;
 
 use crate::handle::Handle;
-use crate::place::Place;
 use clock2q_count::Count;
 use clock2q_handles::Candidates;
 use std::alloc::Allocator;
 pub use store::{Entry, Keys};
 
 impl<K: Drop, V: Drop, A: Allocator> Keys<K, V, A> {
-    ghost use Rattle.clock2q_directory.specs.Keys.{entry, written, hash_at, key_at, Writes};
+    ghost use Rattle.clock2q_directory.specs.Keys.{Writes};
 
-    /// Writes a key and a value to a place: to the next one, or to one that has them, whose old key
-    /// and value are dropped.
-    pub fn write(&mut self, place: u32, hash: u64, key: K, value: V)
-        requires next { place ≤ length self.old.entries }
-        requires room { place < self.old.room }
-        requires few { length self.old.entries < 2 ^ 32 }
-        ensures written { self.new ≡
-            record self.old {
-              entries = written place (entry hash key value) self.old.entries;
-              writes = self.old.writes + 1;
-            } }
-    {
-        if place == self.len() as u32 {
-            self.push(hash, key, value);
-        } else {
-            self.refill(place, hash, key, Some(value));
-        }
-    }
-
-    /// Writes a key to a place as [`write`](Keys::write) does. Without a value, the place keeps the
-    /// one that it has.
+    /// Writes a key to a place: to the next one, which has to come with a value, or over the one that
+    /// is there, which is dropped. Without a value, the place keeps the one that it has.
     #[inline(always)]
     pub fn put(&mut self, place: u32, hash: u64, key: K, value: Option<V>)
         requires next { place ≤ length self.old.entries }
         requires had { IfNone value (place < length self.old.entries) }
         requires room { place < self.old.room }
-        requires few { length self.old.entries < 2 ^ 32 }
         ensures entries { Writes hash key value place self.old.entries self.new.entries }
         ensures kept { self.new ≡
             record self.old { entries = self.new.entries; writes = self.old.writes + 1 } }
     {
-        match value {
-            Some(value) => self.write(place, hash, key, value),
-            None => {
-                self.replace(place, hash, key);
-            }
+        if (place as usize) < self.len() {
+            self.replace(place, hash, key, value);
+        } else if let Some(value) = value {
+            self.push(hash, key, value);
         }
     }
 }
@@ -93,7 +71,7 @@ impl<K: Eq, V, A: Allocator> Keys<K, V, A> {
 
     /// Returns the first place among `handles` that has `key`, and counts each comparison. Slots
     /// are skipped.
-    pub fn find_remembered(&mut self, mut handles: Candidates<'_, u32>, key: &K) -> Option<Place>
+    pub fn find_remembered(&mut self, mut handles: Candidates<'_, u32>, key: &K) -> Option<u32>
         requires used { AllByRecursion (λ place. place < length self.old.entries)
             (places_among handles.left) }
         ensures found { result ≡
@@ -107,7 +85,7 @@ impl<K: Eq, V, A: Allocator> Keys<K, V, A> {
     {
         while let Some(handle) = handles.next() {
             if let Handle::Remembered(place) = Handle::unpack(handle) {
-                if self.key_equals(place.number(), key) {
+                if self.key_equals(place, key) {
                     return Some(place);
                 }
             }

@@ -1,7 +1,7 @@
 -- The gap that a lookup found for a hash.
 use Rattle.std.proofs.Common.{◌≡◌, ℕ, Option, sym, subst}
 use Rattle.clock2q_handles.specs.Positions.{GapValue}
-use Rattle.clock2q_directory.specs.declared.found.Found.{Found}
+use Rattle.clock2q_directory.specs.declared.handle.Found.{Found}
 use Rattle.clock2q_directory.specs.Index.{IsGapFor}
 use Rattle.clock2q_directory.specs.History.{Remembered, Places, freed_place, places_looked_up, found_gap, found_place}
 

@@ -5,7 +5,8 @@ ghost use Rattle.clock2q_directory.specs.History.{is_remembered};
 ghost use Rattle.tests_queues.specs.Beside.{IsAlone, HasResident};
 
 use clock2q_directory::directory::Directory;
-use clock2q_directory::found::Found;
+use clock2q_directory::handle::Found;
+use clock2q_directory::newcomer::Newcomer;
 use clock2q_handles::Gap;
 use std::alloc::{AllocError, Allocator, Global};
 use std::marker::Model;
@@ -129,7 +130,13 @@ fn enter<A: Allocator>(
     ensures resident { HasResident key hashes directory.new.history directory.new.residents }
     ensures remembered { directory.new.history.entries ≡ directory.old.history.entries }
 {
-    directory.enter(gap, 0, key % hashes, key, Some(()));
+    let newcomer = Newcomer {
+        gap,
+        hash: key % hashes,
+        key,
+        value: Some(()),
+    };
+    directory.enter(0, newcomer);
 }
 
 /// Looks the resident up, and remembers it when [`NOBODY`] takes its slot, at the gap that a lookup
@@ -141,7 +148,13 @@ fn remember<A: Allocator>(directory: &mut Directory<u64, (), A>, key: u64, hashe
 {
     let found = directory.lookup(key % hashes, &key);
     let gap = directory.lookup(NOBODY % hashes, &NOBODY).gap();
-    directory.remember(gap, 0, NOBODY % hashes, NOBODY, Some(()));
+    let newcomer = Newcomer {
+        gap,
+        hash: NOBODY % hashes,
+        key: NOBODY,
+        value: Some(()),
+    };
+    directory.replace_remembering(0, newcomer);
     found
 }
 
@@ -164,7 +177,13 @@ fn replace<A: Allocator>(directory: &mut Directory<u64, (), A>, key: u64, hashes
 {
     let _ = key;
     let gap = directory.lookup(NOBODY % hashes, &NOBODY).gap();
-    directory.renew(gap, 0, NOBODY % hashes, NOBODY, None)
+    let newcomer = Newcomer {
+        gap,
+        hash: NOBODY % hashes,
+        key: NOBODY,
+        value: None,
+    };
+    directory.replace(0, newcomer)
 }
 
 /// Takes the slot away from the resident.

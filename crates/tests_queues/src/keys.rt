@@ -46,7 +46,7 @@ fn replace_first(keys: &mut Keys<u64, u64>) -> Result<(), Fail>
     ensures len { length keys.new.entries ≡ length keys.old.entries }
     ensures room { keys.new.room ≡ keys.old.room }
 {
-    same(keys.replace(0, 9, 90), (7, 70))?;
+    same(keys.replace(0, 9, 90, None), (7, 70))?;
     same(keys.hash(0), 9)?;
     have(keys, 90, 80)?;
     have_values(keys, 700, 800)
@@ -70,7 +70,7 @@ fn replace_both(keys: &mut Keys<u64, u64>) -> Result<(), Fail>
     have(keys, 70, 80)?;
     replace_first(keys)?;
     replace_first_value(keys)?;
-    keys.write(1, 6, 60, 600);
+    keys.put(1, 6, 60, Some(600));
     if keys.len() != 2 {
         return Err(Fail::from("not two keys"));
     }
@@ -84,7 +84,7 @@ fn replace_both(keys: &mut Keys<u64, u64>) -> Result<(), Fail>
 fn two_keys(rt: HostRuntime) -> Result<(), Fail> {
     let mut keys: Keys<u64, u64> = Keys::new(rt.alloc(), 2)?;
     keys.push(7, 70, 700);
-    keys.write(1, 8, 80, 800);
+    keys.put(1, 8, 80, Some(800));
     same(keys.len(), 2)?;
     replace_both(&mut keys)
 }

@@ -1,9 +1,8 @@
 //! The slots that the proved cache gives keys, of which it has the hashes alone.
 
 use crate::proved::cache::{shares as usual, Cache, DefaultHashBuilder};
-pub(crate) use crate::proved::directory::found::Found;
+pub(crate) use crate::proved::directory::handle::Found;
 use crate::proved::directory::handle::Handle;
-use crate::proved::directory::place::Place;
 use crate::proved::rattle::Global;
 use crate::Refused;
 use core::num::NonZeroUsize;
@@ -158,7 +157,7 @@ impl Slots {
         for handle in directory.index.handles(hash).map(Handle::unpack) {
             match handle {
                 Handle::Resident(slot) if is_it(slot as usize) => return Some(handle),
-                Handle::Remembered(place) if directory.remembered.hash(place.number()) == hash => {
+                Handle::Remembered(place) if directory.history.keys.hash(place) == hash => {
                     left = Some(handle);
                 }
                 _ => {}
@@ -173,8 +172,8 @@ impl Slots {
     fn look_up_apart(&self, hash: u64) -> Option<Handle> {
         let (hash, directory) = (spread(hash), &self.cache.directory);
         let mut places = directory.index.own_places(hash);
-        let found = places.find(|place| directory.remembered.hash(*place) == hash);
-        found.map(|place| Handle::Remembered(Place::new(place)))
+        let found = places.find(|place| directory.history.keys.hash(*place) == hash);
+        found.map(Handle::Remembered)
     }
 
     /// Returns whether a key of this hash left, given that none of this hash and of what the caller looked for has a slot.

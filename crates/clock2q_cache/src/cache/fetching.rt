@@ -2,7 +2,7 @@
 use crate::cache::Cache;
 use crate::entered::Entered;
 use clock2q_count::GhostValue;
-use clock2q_directory::found::Found;
+use clock2q_directory::handle::Found;
 use std::alloc::Allocator;
 use std::hash::{BuildHasher, Hash};
 

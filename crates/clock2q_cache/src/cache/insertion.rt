@@ -1,10 +1,35 @@
 //! Insertion of a key that is not resident.
+ghost use Rattle.std.specs.Prelude.{◌≡◌, ◌+◌, ◌<◌, ◌^◌, drop, reverse, Some, vec_capacity};
+ghost use Rattle.clock2q_machine.specs.Machine.{vacant_slot};
+ghost use Rattle.clock2q_cache.specs.Insertions.{is_main};
+
 use crate::cache::Cache;
-use crate::vacancies::take_vacancy;
-use clock2q_directory::found::Found;
-use clock2q_handles::Gap;
+use clock2q_directory::handle::Found;
+use clock2q_directory::newcomer::Newcomer;
 use std::alloc::Allocator;
 use std::hash::{BuildHasher, Hash};
+
+/// The queue that a new resident goes into.
+#[derive(Clone, Copy)]
+pub(super) enum Admission {
+    /// Small, as its newest slot.
+    Small,
+    /// Main, just before the hand.
+    Main,
+}
+
+impl Admission {
+    /// Returns Main if a key goes there, and Small otherwise.
+    fn main_if(goes: bool) -> Self
+        ensures { is_main result ≡ goes }
+    {
+        if goes {
+            Admission::Main
+        } else {
+            Admission::Small
+        }
+    }
+}
 
 impl<K: Hash + Eq + Drop, V: Drop, S: BuildHasher, A: Allocator> Cache<K, V, S, A> {
     ghost use Rattle.std.specs.Prelude.{◌≡◌, ◌==◌, ◌+◌, ◌<◌, length, true, false, None, IfSome, IfNone, is_some, slice_get};
@@ -21,7 +46,7 @@ impl<K: Hash + Eq + Drop, V: Drop, S: BuildHasher, A: Allocator> Cache<K, V, S, 
     ghost use Rattle.clock2q_machine.specs.Entries.{inspections};
     ghost use Rattle.clock2q_cache.specs.Closures.{Reuses};
     ghost use Rattle.clock2q_cache.specs.Places.{known_at, looked_for};
-    ghost use Rattle.clock2q_cache.specs.Insertions.{Enters, EntersMain, EntersQueue, EntersSmall, IsAbsent, IsFoundFor, IsUnknown, Notes, Admits, into_queue, makes_slot, next_is_vacant, leaves_placed};
+    ghost use Rattle.clock2q_cache.specs.Insertions.{Enters, EntersMain, EntersQueue, EntersSmall, IsAbsent, IsFoundFor, IsUnknown, Notes, Admits, into_queue, makes_slot, next_is_vacant, leaves_placed, is_main};
     ghost use Rattle.clock2q_machine.specs.Leaving.{leaves_for, leaves_for_main};
     ghost use Rattle.clock2q_machine.specs.Machine.{vacancy, goes_to_main, placement, inserted};
 
@@ -37,9 +62,14 @@ impl<K: Hash + Eq + Drop, V: Drop, S: BuildHasher, A: Allocator> Cache<K, V, S, 
         ensures counts { Spends (inspections_for (K.eq key) self.old.machine)
             (inspections_for (K.eq key) self.old.machine + 36) 0 self.old.counts self.new.counts }
     {
-        let main = self.choose_queue(hash, &key, &found);
-        self.insert_unknown(found.gap(), hash, key, Some(value), main, |_| ())
-            .0
+        let admission = self.choose_queue(hash, &key, &found);
+        let newcomer = Newcomer {
+            gap: found.gap(),
+            hash,
+            key,
+            value: Some(value),
+        };
+        self.insert_unknown(newcomer, admission, |_| ()).0
     }
 
     /// Inserts a key that is not resident, whether or not the history has it. A slot that was made
@@ -70,54 +100,66 @@ impl<K: Hash + Eq + Drop, V: Drop, S: BuildHasher, A: Allocator> Cache<K, V, S, 
             (remembered_in self.old.known) hash)) self.old.counts self.new.counts }
     {
         let found = self.find_place(hash, &key);
-        let main = self.choose_queue(hash, &key, &found);
-        let value = self.makes_slot(main).then(make);
-        let (slot, left) = self.insert_unknown(found.gap(), hash, key, value, main, |_| ());
+        let admission = self.choose_queue(hash, &key, &found);
+        let value = self.makes_slot(admission).then(make);
+        let newcomer = Newcomer {
+            gap: found.gap(),
+            hash,
+            key,
+            value,
+        };
+        let (slot, left) = self.insert_unknown(newcomer, admission, |_| ());
         (slot, left.is_some())
     }
 
-    /// Inserts a key that is not known into Main or into Small. A lookup may have found the gap for
-    /// its hash. If a resident leaves, `leaves` is called with its key, and what it returns comes back
-    /// beside the slot.
+    /// Inserts a key that is not known into the queue that was chosen. If a resident leaves, `leaves`
+    /// is called with its key, and what it returns comes back beside the slot.
     pub(super) fn insert_unknown<R, F: FnOnce(&K) -> R>(
         &mut self,
-        gap: Option<Gap>,
-        hash: u64,
-        key: K,
-        value: Option<V>,
-        main: bool,
+        newcomer: Newcomer<K, V>,
+        admission: Admission,
         leaves: F,
     ) -> (u32, Option<R>)
         requires callable { F.IsAlwaysCallable leaves }
-        requires unknown { IsUnknown K.Hash S.BuildHasher S.Hasher.Hasher key hash gap self.old }
-        requires small { main ≡ false → goes_to_main false self.old.machine ≡ false }
-        requires had { IfNone value
-            ((into_queue main key self.old.machine).slot < length self.old.machine.values) }
-        ensures entered { EntersQueue K.Hash S.BuildHasher S.Hasher.Hasher main key value (is_some gap) result.0 self.old self.new }
+        requires unknown { IsUnknown K.Hash S.BuildHasher S.Hasher.Hasher newcomer.key newcomer.hash newcomer.gap self.old }
+        requires small { is_main admission ≡ false → goes_to_main false self.old.machine ≡ false }
+        requires had { IfNone newcomer.value
+            ((into_queue (is_main admission) newcomer.key self.old.machine).slot
+            < length self.old.machine.values) }
+        ensures entered { EntersQueue K.Hash S.BuildHasher S.Hasher.Hasher (is_main admission)
+            newcomer.key newcomer.value (is_some newcomer.gap) result.0 self.old self.new }
         ensures left { Notes F.FnOnce leaves
-            (leaves_placed main self.old.machine) result.0 result.1 }
+            (leaves_placed (is_main admission) self.old.machine) result.0 result.1 }
     {
-        if main {
-            if self.main_is_full() {
-                self.replace_victim(gap, hash, key, value, leaves)
-            } else {
-                (self.join(gap, hash, key, value, true), None)
+        match admission {
+            Admission::Main => {
+                if self.main_is_full() {
+                    self.replace_victim(newcomer, leaves)
+                } else {
+                    (self.join(newcomer, Admission::Main), None)
+                }
             }
-        } else if self.has_vacancy() {
-            (self.join(gap, hash, key, value, false), None)
-        } else if self.tail_is_promoted() {
-            self.promote_tail(gap, hash, key, value, leaves)
-        } else {
-            self.evict_tail(gap, hash, key, value, leaves)
+            Admission::Small => {
+                if self.has_vacancy() {
+                    (self.join(newcomer, Admission::Small), None)
+                } else if self.tail_is_promoted() {
+                    self.promote_tail(newcomer, leaves)
+                } else {
+                    self.replace_tail(newcomer, leaves)
+                }
+            }
         }
     }
 
-    /// Returns true if a slot is made for a key that goes into Main or into Small.
-    pub(super) fn makes_slot(&self, main: bool) -> bool
-        ensures makes { result ≡ makes_slot main self.now.machine }
+    /// Returns true if a slot is made for a key that goes into this queue.
+    pub(super) fn makes_slot(&self, admission: Admission) -> bool
+        ensures makes { result ≡ makes_slot (is_main admission) self.now.machine }
         ensures whole { IsWhole K.eq self.now.machine }
     {
-        self.next_is_vacant() && !(main && self.main_is_full())
+        match admission {
+            Admission::Main => self.next_is_vacant() && !self.main_is_full(),
+            Admission::Small => self.next_is_vacant(),
+        }
     }
 
     /// Returns true if no slot is free and one was never made.
@@ -146,67 +188,70 @@ impl<K: Hash + Eq + Drop, V: Drop, S: BuildHasher, A: Allocator> Cache<K, V, S, 
     }
 
     /// Chooses the queue for a key that is not resident, for which a lookup found `found`, and erases
-    /// the key from the history. Returns true for Main.
-    pub(super) fn choose_queue(&mut self, hash: u64, key: &K, found: &Found) -> bool
+    /// the key from the history.
+    pub(super) fn choose_queue(&mut self, hash: u64, key: &K, found: &Found) -> Admission
         requires found { IsFoundFor K.eq found.now key.now hash self.old }
         requires absent { IsAbsent K.Hash S.BuildHasher S.Hasher.Hasher key.now hash self.old }
-        ensures sent { Admits K.Hash S.BuildHasher S.Hasher.Hasher key.now hash result self.old self.new }
+        ensures sent { Admits K.Hash S.BuildHasher S.Hasher.Hasher key.now hash (is_main result) self.old self.new }
         ensures unknown { IsUnknown K.Hash S.BuildHasher S.Hasher.Hasher key.now hash
             (found_gap found.now) self.new }
-        ensures small { result ≡ false → goes_to_main false self.new.machine ≡ false }
+        ensures small { is_main result ≡ false → goes_to_main false self.new.machine ≡ false }
     {
         if self.forget(hash, key, found) {
-            return true;
+            return Admission::Main;
         }
         let share = self.shares.small();
         if self.has_vacancy() {
-            return share <= self.queues.small_len();
+            return Admission::main_if(share <= self.queues.small_len());
         }
-        share == 0
+        Admission::main_if(share == 0)
     }
 
     /// Inserts a key into a full Main, in place of its victim.
     fn replace_victim<R, F: FnOnce(&K) -> R>(
         &mut self,
-        gap: Option<Gap>,
-        hash: u64,
-        key: K,
-        value: Option<V>,
+        newcomer: Newcomer<K, V>,
         leaves: F,
     ) -> (u32, Option<R>)
         requires callable { F.IsAlwaysCallable leaves }
-        requires unknown { IsUnknown K.Hash S.BuildHasher S.Hasher.Hasher key hash gap self.old }
+        requires unknown { IsUnknown K.Hash S.BuildHasher S.Hasher.Hasher newcomer.key newcomer.hash newcomer.gap self.old }
         requires full { length self.old.machine.main ≡ main_share self.old.machine.shares }
-        ensures entered { EntersMain K.Hash S.BuildHasher S.Hasher.Hasher key value (is_some gap)
+        ensures entered { EntersMain K.Hash S.BuildHasher S.Hasher.Hasher newcomer.key newcomer.value (is_some newcomer.gap)
             (inspections self.old.machine.main) result.0 self.old self.new }
         ensures left { Notes F.FnOnce leaves (leaves_for_main self.old.machine) result.0 result.1 }
     {
         let victim = self.queues.reuse_victim();
-        let old = self.directory.renew(gap, victim, hash, key, value);
+        let old = self.directory.replace(victim, newcomer);
         (victim, Some(leaves(&old.1)))
     }
 
-    /// Inserts a key into Main or into Small, which has room, at a vacancy.
+    /// Inserts a key into a queue that has room, at a vacancy.
     #[inline(always)]
-    fn join(&mut self, gap: Option<Gap>, hash: u64, key: K, value: Option<V>, main: bool) -> u32
-        requires unknown { IsUnknown K.Hash S.BuildHasher S.Hasher.Hasher key hash gap self.old }
-        requires main { main ≡ true →
+    fn join(&mut self, newcomer: Newcomer<K, V>, admission: Admission) -> u32
+        requires unknown { IsUnknown K.Hash S.BuildHasher S.Hasher.Hasher newcomer.key newcomer.hash newcomer.gap self.old }
+        requires main { is_main admission ≡ true →
             length self.old.machine.main < main_share self.old.machine.shares }
-        requires small { main ≡ false →
+        requires small { is_main admission ≡ false →
             length self.old.machine.small < self.old.machine.shares.small }
-        requires had { IfNone value
-            ((into_queue main key self.old.machine).slot < length self.old.machine.values) }
-        ensures entered { Enters K.Hash S.BuildHasher S.Hasher.Hasher key value
-            (into_queue main key self.old.machine) (is_some gap) None 0 28 result self.old self.new }
+        requires had { IfNone newcomer.value
+            ((into_queue (is_main admission) newcomer.key self.old.machine).slot
+            < length self.old.machine.values) }
+        ensures entered { Enters K.Hash S.BuildHasher S.Hasher.Hasher newcomer.key newcomer.value
+            (into_queue (is_main admission) newcomer.key self.old.machine) (is_some newcomer.gap)
+            None 0 28 result self.old self.new }
     {
         let slot = take_vacancy(&mut self.free, self.directory.made());
-        self.directory.enter(gap, slot, hash, key, value);
-        if main {
-            self.queues.append(slot);
-            return slot;
+        self.directory.enter(slot, newcomer);
+        match admission {
+            Admission::Main => {
+                self.queues.append(slot);
+                slot
+            }
+            Admission::Small => {
+                self.queues.admit(slot);
+                slot
+            }
         }
-        self.queues.admit(slot);
-        slot
     }
 
     /// Returns true if Small's tail moves on to Main.
@@ -222,21 +267,18 @@ impl<K: Hash + Eq + Drop, V: Drop, S: BuildHasher, A: Allocator> Cache<K, V, S, 
     }
 
     /// Inserts a key into Small in the slot of its tail, which is evicted and remembered.
-    fn evict_tail<R, F: FnOnce(&K) -> R>(
+    fn replace_tail<R, F: FnOnce(&K) -> R>(
         &mut self,
-        gap: Option<Gap>,
-        hash: u64,
-        key: K,
-        value: Option<V>,
+        newcomer: Newcomer<K, V>,
         leaves: F,
     ) -> (u32, Option<R>)
         requires callable { F.IsAlwaysCallable leaves }
-        requires unknown { IsUnknown K.Hash S.BuildHasher S.Hasher.Hasher key hash gap self.old }
+        requires unknown { IsUnknown K.Hash S.BuildHasher S.Hasher.Hasher newcomer.key newcomer.hash newcomer.gap self.old }
         requires some { 0 < length self.old.machine.small }
         requires full { vacancy self.old.machine ≡ None }
         requires out { IfSome (last_or None self.old.machine.small)
             (λ tail. is_promoted tail.age ≡ false) }
-        ensures entered { EntersSmall K.Hash S.BuildHasher S.Hasher.Hasher key value (is_some gap)
+        ensures entered { EntersSmall K.Hash S.BuildHasher S.Hasher.Hasher newcomer.key newcomer.value (is_some newcomer.gap)
             (option_map (λ tail. tail.key)
             (last_or None self.old.machine.small)) 0 28 result.0 self.old self.new }
         ensures left { Notes F.FnOnce leaves
@@ -244,26 +286,23 @@ impl<K: Hash + Eq + Drop, V: Drop, S: BuildHasher, A: Allocator> Cache<K, V, S, 
     {
         let tail = self.queues.reuse_tail();
         let left = leaves(self.directory.key(tail));
-        self.directory.remember(gap, tail, hash, key, value);
+        self.directory.replace_remembering(tail, newcomer);
         (tail, Some(left))
     }
 
     /// Inserts a key into Small in the slot of Main's victim, while Small's tail moves on to Main.
     fn promote_tail<R, F: FnOnce(&K) -> R>(
         &mut self,
-        gap: Option<Gap>,
-        hash: u64,
-        key: K,
-        value: Option<V>,
+        newcomer: Newcomer<K, V>,
         leaves: F,
     ) -> (u32, Option<R>)
         requires callable { F.IsAlwaysCallable leaves }
-        requires unknown { IsUnknown K.Hash S.BuildHasher S.Hasher.Hasher key hash gap self.old }
+        requires unknown { IsUnknown K.Hash S.BuildHasher S.Hasher.Hasher newcomer.key newcomer.hash newcomer.gap self.old }
         requires some { 0 < length self.old.machine.small }
         requires full { vacancy self.old.machine ≡ None }
         requires on { IfSome (last_or None self.old.machine.small)
             (λ tail. is_promoted tail.age ≡ true) }
-        ensures entered { EntersSmall K.Hash S.BuildHasher S.Hasher.Hasher key value (is_some gap) None
+        ensures entered { EntersSmall K.Hash S.BuildHasher S.Hasher.Hasher newcomer.key newcomer.value (is_some newcomer.gap) None
             (inspections self.old.machine.main) 28 result.0 self.old self.new }
         ensures left { Notes F.FnOnce leaves
             (leaves_placed false self.old.machine) result.0 result.1 }
@@ -274,8 +313,22 @@ impl<K: Hash + Eq + Drop, V: Drop, S: BuildHasher, A: Allocator> Cache<K, V, S, 
             unreachable!()
         };
         self.queues.append(tail);
-        let old = self.directory.renew(gap, slot, hash, key, value);
+        let old = self.directory.replace(slot, newcomer);
         self.queues.admit(slot);
         (slot, Some(leaves(&old.1)))
+    }
+}
+
+/// Returns the slot for a new resident: the one that was freed last, otherwise the lowest that has
+/// no value yet.
+fn take_vacancy<A: Allocator>(free: &mut Vec<u32, A>, made: usize) -> u32
+    requires { made < 2 ^ 32 }
+    ensures slot { vacant_slot (reverse free.old.items) made (made + 1) ≡ Some result }
+    ensures others { reverse free.new.items ≡ drop 1 (reverse free.old.items) }
+    ensures capacity { vec_capacity free.new ≡ vec_capacity free.old }
+{
+    match free.pop() {
+        Some(slot) => slot,
+        None => made as u32,
     }
 }

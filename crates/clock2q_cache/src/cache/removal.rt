@@ -1,7 +1,8 @@
-//! Removal of residents: one by its key, or all that a closure rejects.
+//! Removal of one key, of those that a closure picks, and of all.
+ghost use Rattle.std.specs.Prelude.{◌≡◌, ◌∷◌, ◌<◌, reverse, vec_len, vec_capacity};
+
 use crate::cache::Cache;
-use crate::vacancies::free_slot;
-use clock2q_directory::found::Found;
+use clock2q_directory::handle::Found;
 use std::alloc::Allocator;
 use std::hash::{BuildHasher, Hash};
 
@@ -113,4 +114,39 @@ impl<K: Hash + Eq, V, S: BuildHasher, A: Allocator> Cache<K, V, S, A> {
         self.queues.leave(slot);
         free_slot(&mut self.free, slot);
     }
+}
+
+impl<K: Hash + Eq + Drop, V: Drop, S: BuildHasher, A: Allocator> Cache<K, V, S, A> {
+    ghost use Rattle.std.specs.Prelude.{◌≡◌, []};
+    ghost use Rattle.clock2q_directory.specs.History.{places_with};
+    ghost use Rattle.clock2q_directory.specs.Index.{emptied};
+    ghost use Rattle.clock2q_machine.specs.Calls.{Clear};
+    ghost use Rattle.clock2q_cache.specs.Costs.{Costs};
+    ghost use Rattle.clock2q_machine.specs.Machine.{cleared};
+
+    /// Removes every key with its value, and the history. The cache is then as new, but keeps its
+    /// memory.
+    ///
+    /// # Cost
+    ///
+    /// Time in proportion to the capacity: one access to each slot of the index. No key is hashed.
+    pub fn clear(&mut self)
+        ensures machine { self.new.machine ≡ cleared self.old.machine }
+        ensures known { self.new.known ≡ places_with (emptied self.old.known.index) [] [] }
+        ensures hasher { self.new.hasher ≡ self.old.hasher }
+        ensures costs { Costs K.Hash S.BuildHasher S.Hasher.Hasher Clear self.old self.new }
+    {
+        self.directory.clear();
+        self.queues.clear();
+        self.free.clear();
+    }
+}
+
+/// Adds a slot to the free ones. It is the next to be taken.
+pub(super) fn free_slot<A: Allocator>(free: &mut Vec<u32, A>, slot: u32)
+    requires room { vec_len free.old < vec_capacity free.old }
+    ensures top { reverse free.new.items ≡ slot ∷ reverse free.old.items }
+    ensures capacity { vec_capacity free.new ≡ vec_capacity free.old }
+{
+    free.push_reserved(slot);
 }

@@ -1,20 +1,7 @@
 //! What happens to a key: it enters, leaves, is remembered or forgotten.
-ghost use Rattle.std.specs.Prelude.{◌≡◌, ◌+◌, ◌^◌, ◌<◌, ◌≤◌, true, length, IfSome, nat_eq};
-ghost use Rattle.std.specs.List.{list_any};
-ghost use Rattle.clock2q_handles.specs.Homes.{candidates};
-ghost use Rattle.clock2q_queues.specs.Order.{IsWholeOrder, used};
-ghost use Rattle.clock2q_directory.specs.Keys.{entry, written};
-ghost use Rattle.clock2q_directory.specs.Indexes.{IsIndex};
-ghost use Rattle.clock2q_directory.specs.Index.{places, forgotten_if};
-ghost use Rattle.clock2q_directory.specs.History.{MakesPlace};
-
 use crate::directory::Directory;
-use crate::found::Found;
-use crate::index::Index;
-use crate::keys::Keys;
-use crate::place::Place;
-use clock2q_handles::Gap;
-use clock2q_queues::order::Order;
+use crate::handle::Found;
+use crate::newcomer::Newcomer;
 use std::alloc::Allocator;
 
 impl<K: Eq, V, A: Allocator> Directory<K, V, A> {
@@ -65,19 +52,13 @@ impl<K: Eq, V, A: Allocator> Directory<K, V, A> {
     {
         let key = *self.residents.key(slot);
         let hash = self.residents.hash(slot);
-        if self.order.limit() == 0 {
+        if self.history.order.limit() == 0 {
             self.index.remove_slot(hash, slot);
             return key;
         }
-        let (place, oldest) = put_key(
-            &self.index,
-            &mut self.order,
-            &mut self.remembered,
-            hash,
-            key,
-        );
-        self.index.forget(oldest, place);
-        self.index.remember(hash, slot, place);
+        let retired = self.history.push(hash, key);
+        self.index.forget(retired.oldest, retired.place);
+        self.index.remember(hash, slot, retired.place);
         key
     }
 
@@ -103,12 +84,12 @@ impl<K: Eq, V, A: Allocator> Directory<K, V, A> {
         ensures accesses { Rises 0 7 self.old.history.accesses self.new.history.accesses }
     {
         let _ = key;
-        let _ = self.order.len();
+        let _ = self.history.order.len();
         let Found::Remembered(place) = *found else {
             return false;
         };
         self.index.forget(Some(hash), place);
-        self.order.unlink(place.number());
+        self.history.order.unlink(place);
         true
     }
 
@@ -130,8 +111,8 @@ impl<K: Eq, V, A: Allocator> Directory<K, V, A> {
     {
         self.residents.clear();
         self.index.clear();
-        self.order.clear();
-        self.remembered.clear();
+        self.history.order.clear();
+        self.history.keys.clear();
     }
 }
 
@@ -143,122 +124,93 @@ impl<K: Eq + Drop, V: Drop, A: Allocator> Directory<K, V, A> {
     ghost use Rattle.clock2q_directory.specs.Directory.{IsVacant, IsResident, IsWithinRoom, Remembers};
 
     /// Makes a key the resident of a slot that has none, with a new value, or with the one that the
-    /// slot had. A lookup may have found the gap for its hash.
+    /// slot had.
     #[inline(always)]
-    pub fn enter(&mut self, gap: Option<Gap>, slot: u32, hash: u64, key: K, value: Option<V>)
-        requires vacant { IsVacant value slot self.old }
-        requires gap { IsGapFor gap hash self.old.history.places.index }
+    pub fn enter(&mut self, slot: u32, newcomer: Newcomer<K, V>)
+        requires vacant { IsVacant newcomer.value slot self.old }
+        requires gap { IsGapFor newcomer.gap newcomer.hash self.old.history.places.index }
         ensures index { self.new.history ≡
-            record self.old.history { places = record self.old.history.places { index = entered (is_some gap) hash slot self.old.history.places.index } } }
-        ensures entries { Writes hash key value slot self.old.residents.entries self.new.residents.entries }
+            record self.old.history { places = record self.old.history.places { index = entered (is_some newcomer.gap) newcomer.hash slot self.old.history.places.index } } }
+        ensures entries { Writes newcomer.hash newcomer.key newcomer.value slot self.old.residents.entries self.new.residents.entries }
         ensures kept { self.new.residents ≡
             record self.old.residents {
               entries = self.new.residents.entries;
               writes = self.old.residents.writes + 1;
             } }
     {
+        let Newcomer {
+            gap,
+            hash,
+            key,
+            value,
+        } = newcomer;
         self.residents.put(slot, hash, key, value);
         self.index.add_slot(gap, hash, slot);
     }
 
     /// Makes a key the resident of a slot in place of another, which is no longer known, with a new
     /// value, or with the one that the slot had. Returns the other's hash and key.
-    pub fn renew(
-        &mut self,
-        gap: Option<Gap>,
-        slot: u32,
-        hash: u64,
-        key: K,
-        value: Option<V>,
-    ) -> (u64, K)
+    #[inline(always)]
+    pub fn replace(&mut self, slot: u32, newcomer: Newcomer<K, V>) -> (u64, K)
         requires resident { IsResident slot self.old }
-        requires gap { IsGapFor gap hash self.old.history.places.index }
+        requires gap { IsGapFor newcomer.gap newcomer.hash self.old.history.places.index }
         requires room { IsWithinRoom self.old.history }
         ensures hash { hash_at self.old.residents.entries slot ≡ Some result.0 }
         ensures key { key_at self.old.residents.entries slot ≡ Some result.1 }
         ensures index { self.new.history ≡
             record self.old.history {
               places = record self.old.history.places {
-                index = entered_from self.old.history.places.index (is_some gap) hash slot
+                index = entered_from self.old.history.places.index (is_some newcomer.gap) newcomer.hash slot
                     (left result.0 slot self.old.history.places.index);
               };
             } }
-        ensures entries { Writes hash key value slot self.old.residents.entries self.new.residents.entries }
+        ensures entries { Writes newcomer.hash newcomer.key newcomer.value slot self.old.residents.entries self.new.residents.entries }
         ensures kept { self.new.residents ≡
             record self.old.residents {
               entries = self.new.residents.entries;
               writes = self.old.residents.writes + 1;
             } }
     {
-        let old = self.residents.refill(slot, hash, key, value);
-        self.index.renew(gap, hash, slot, old.0);
+        let Newcomer {
+            gap,
+            hash,
+            key,
+            value,
+        } = newcomer;
+        let old = self.residents.replace(slot, hash, key, value);
+        self.index.replace(gap, hash, slot, old.0);
         old
     }
 
     /// Makes a key the resident of a slot in place of another, which is remembered as the newest.
     /// If the history is full, the oldest remembered key is forgotten.
-    pub fn remember(&mut self, gap: Option<Gap>, slot: u32, hash: u64, key: K, value: Option<V>)
+    #[inline(always)]
+    pub fn replace_remembering(&mut self, slot: u32, newcomer: Newcomer<K, V>)
         requires resident { IsResident slot self.old }
-        requires gap { IsGapFor gap hash self.old.history.places.index }
+        requires gap { IsGapFor newcomer.gap newcomer.hash self.old.history.places.index }
         requires room { IsWithinRoom self.old.history }
         requires absent { (old : K) → key_at self.old.residents.entries slot ≡ Some old →
             is_remembered K.eq old self.old.history.entries ≡ false }
-        ensures index { Remembers (is_some gap) hash slot self.old self.new.history }
-        ensures entries { Writes hash key value slot self.old.residents.entries self.new.residents.entries }
+        ensures index { Remembers (is_some newcomer.gap) newcomer.hash slot self.old self.new.history }
+        ensures entries { Writes newcomer.hash newcomer.key newcomer.value slot self.old.residents.entries self.new.residents.entries }
         ensures kept { self.new.residents ≡
             record self.old.residents {
               entries = self.new.residents.entries;
               writes = self.old.residents.writes + 1;
             } }
     {
-        let (old_hash, old_key) = self.residents.refill(slot, hash, key, value);
-        if self.order.limit() == 0 {
-            self.index.renew(gap, hash, slot, old_hash);
+        let Newcomer {
+            gap,
+            hash,
+            key,
+            value,
+        } = newcomer;
+        let (old_hash, old_key) = self.residents.replace(slot, hash, key, value);
+        if self.history.order.limit() == 0 {
+            self.index.replace(gap, hash, slot, old_hash);
             return;
         }
-        let (place, oldest) = put_key(
-            &self.index,
-            &mut self.order,
-            &mut self.remembered,
-            old_hash,
-            old_key,
-        );
-        self.index.succeed(gap, hash, slot, old_hash, place, oldest);
+        let retired = self.history.push(old_hash, old_key);
+        self.index.replace_remembering(gap, hash, slot, retired);
     }
-}
-
-/// Writes a key to a place at the front: to a free one, or, if every place has a key, to the oldest
-/// key's. Then it also returns the hash of that key, which the index still has.
-fn put_key<K: Drop, A: Allocator>(
-    index: &Index<A>,
-    order: &mut Order<A>,
-    keys: &mut Keys<K, (), A>,
-    hash: u64,
-    key: K,
-) -> (Place, Option<u64>)
-    requires indexed { IsIndex (places index.now) keys.old.entries order.old.places }
-    requires as_many { length keys.old.entries ≡ used order.old }
-    requires room { order.old.limit ≤ keys.old.room }
-    requires some { 0 < order.old.limit }
-    requires short { order.old.limit < 2 ^ 24 }
-    ensures made { MakesPlace index.now (forgotten_if result.1 result.0 index.now) order.old order.new
-        keys.old.entries result.0 }
-    ensures held { IfSome result.1
-        (λ oldest. list_any (nat_eq result.0) (candidates (places index.now) oldest) ≡ true) }
-    ensures written { keys.new ≡
-        record keys.old {
-          entries = written result.0 (entry hash key tt) keys.old.entries;
-          writes = keys.old.writes + 1;
-        } }
-    ensures whole { IsWholeOrder order.new }
-{
-    let _ = index;
-    if order.len() < order.limit() {
-        let place = Place::new(order.push());
-        keys.write(place.number(), hash, key, ());
-        return (place, None);
-    }
-    let place = Place::new(order.reuse_oldest());
-    let (oldest_hash, _) = keys.refill(place.number(), hash, key, Some(()));
-    (place, Some(oldest_hash))
 }

@@ -10,10 +10,8 @@ ghost use Rattle.clock2q_directory.specs.Index.{is_shared, slots, places, slots_
 ghost use Rattle.clock2q_directory.specs.History.{place_of, places_looked_up, found_slot, found_place, found_gap, first_known};
 
 use crate::directory::Directory;
-use crate::found::Found;
-use crate::handle::Handle;
+use crate::handle::{Found, Handle};
 use crate::keys::Keys;
-use crate::place::Place;
 use clock2q_count::Count;
 use clock2q_handles::{Candidates, Gap};
 use std::alloc::Allocator;
@@ -57,7 +55,7 @@ impl<K: Eq, V, A: Allocator> Directory<K, V, A> {
             self.index.handles(hash),
             key,
             &mut self.residents,
-            &mut self.remembered,
+            &mut self.history.keys,
         );
         match found {
             // checked late, since most keys are found in the table of the slots
@@ -83,8 +81,8 @@ impl<K: Eq, V, A: Allocator> Directory<K, V, A> {
             (length (candidates
             (places self.old.history.places.index) hash)) self.old.history.comparisons self.new.history.comparisons }
     {
-        match self.remembered.find(self.index.own_places(hash), key) {
-            Some(place) => Found::Remembered(Place::new(place)),
+        match self.history.keys.find(self.index.own_places(hash), key) {
+            Some(place) => Found::Remembered(place),
             None => Found::Absent(gap),
         }
     }
@@ -113,7 +111,7 @@ impl<K: Eq, V, A: Allocator> Directory<K, V, A> {
 
     /// Returns the place of a remembered key, and counts each comparison. Slots are skipped. The
     /// index is charged one lookup.
-    pub fn find_remembered(&mut self, hash: u64, key: &K) -> Option<Place>
+    pub fn find_remembered(&mut self, hash: u64, key: &K) -> Option<u32>
         requires hash { HasHash K.eq hash key.now self.old.history.entries }
         ensures place { result ≡
             place_of (K.eq key.now)
@@ -130,12 +128,10 @@ impl<K: Eq, V, A: Allocator> Directory<K, V, A> {
     {
         self.index.charge_lookup(hash);
         if self.index.is_shared() {
-            return self
-                .remembered
-                .find_remembered(self.index.handles(hash), key);
+            let handles = self.index.handles(hash);
+            return self.history.keys.find_remembered(handles, key);
         }
-        let place = self.remembered.find(self.index.own_places(hash), key)?;
-        Some(Place::new(place))
+        self.history.keys.find(self.index.own_places(hash), key)
     }
 
     /// Returns the slot of a resident key. It counts no comparison, and charges the index nothing.
@@ -203,7 +199,7 @@ fn look_among<K: Eq, V, A: Allocator>(
                 }
             }
             Handle::Remembered(place) => {
-                if remembered.key_equals(place.number(), key) {
+                if remembered.key_equals(place, key) {
                     return Found::Remembered(place);
                 }
             }

@@ -1,7 +1,7 @@
 //! A key that becomes resident in place of another, which is remembered.
 use crate::handle::Handle;
+use crate::history::Retired;
 use crate::index::{Index, charge};
-use crate::place::Place;
 use clock2q_handles::Gap;
 use std::alloc::Allocator;
 
@@ -12,89 +12,55 @@ impl<A: Allocator> Index<A> {
     /// Adds the slot of a key that becomes resident in place of another, which is remembered at a
     /// place: that of the oldest key, if one is forgotten.
     #[inline(always)]
-    pub fn succeed(
-        &mut self,
-        gap: Option<Gap>,
-        hash: u64,
-        slot: u32,
-        old_hash: u64,
-        place: Place,
-        oldest: Option<u64>,
-    )
-        requires may { MaySucceed slot old_hash place oldest self.old }
+    pub fn replace_remembering(&mut self, gap: Option<Gap>, hash: u64, slot: u32, retired: Retired)
+        requires may { MaySucceed slot retired.hash retired.place retired.oldest self.old }
         requires beside { HasRoomBeside self.old }
-        requires room { HasPlaceRoom (forgotten_if oldest place self.old) }
+        requires room { HasPlaceRoom (forgotten_if retired.oldest retired.place self.old) }
         requires gap { IsGapFor gap hash self.old }
-        ensures renewed { self.new ≡ entered_from self.old (is_some gap) hash slot
-            (remembered_at old_hash slot place (forgotten_if oldest place self.old)) }
+        ensures replaced { self.new ≡ entered_from self.old (is_some gap) hash slot
+            (remembered_at retired.hash slot retired.place
+            (forgotten_if retired.oldest retired.place self.old)) }
     {
-        if self.is_shared() {
-            self.succeed_shared(gap, hash, slot, old_hash, place, oldest);
-        } else {
-            self.succeed_apart(hash, slot, old_hash, place, oldest);
+        if !self.is_shared() {
+            self.replace_apart(hash, slot, retired);
+            return;
+        }
+        let seen = (hash, retired, gap.is_some());
+        charge(&self.shared, &self.own, &mut self.charged, &seen);
+        let handle = Handle::Remembered(retired.place).pack();
+        match retired.oldest {
+            Some(oldest) => {
+                self.shared.exchange(gap, hash, slot, oldest, handle);
+                self.shared.replace_handle(retired.hash, slot, handle);
+            }
+            None => {
+                self.shared.insert_at_gap(gap, hash, slot);
+                self.shared.replace_handle(retired.hash, slot, handle);
+            }
         }
     }
 
-    /// Does what `succeed` does if the places have a table of their own. It is out of line, since it
-    /// is rare. A table of the slots alone may have no room for a key before another leaves, so the gap
-    /// is of no use.
+    /// Does what `replace_remembering` does if the places have a table of their own. It is out of line,
+    /// since it is rare. A table of the slots alone may have no room for a key before another leaves, so
+    /// the gap is of no use.
     #[inline(never)]
-    fn succeed_apart(
-        &mut self,
-        hash: u64,
-        slot: u32,
-        old_hash: u64,
-        place: Place,
-        oldest: Option<u64>,
-    )
+    fn replace_apart(&mut self, hash: u64, slot: u32, retired: Retired)
         requires apart { is_shared self.old ≡ false }
-        requires may { MaySucceed slot old_hash place oldest self.old }
+        requires may { MaySucceed slot retired.hash retired.place retired.oldest self.old }
         requires beside { HasRoomBeside self.old }
-        requires room { HasPlaceRoom (forgotten_if oldest place self.old) }
-        ensures renewed { (is_found : Bool) → self.new ≡ entered_from self.old is_found hash slot
-            (remembered_at old_hash slot place (forgotten_if oldest place self.old)) }
+        requires room { HasPlaceRoom (forgotten_if retired.oldest retired.place self.old) }
+        ensures replaced { (is_found : Bool) → self.new ≡ entered_from self.old is_found hash slot
+            (remembered_at retired.hash slot retired.place
+            (forgotten_if retired.oldest retired.place self.old)) }
     {
-        self.forget(oldest, place);
+        self.forget(retired.oldest, retired.place);
         charge(
             &self.shared,
             &self.own,
             &mut self.charged,
-            &(hash, old_hash),
+            &(hash, retired.hash),
         );
-        self.shared.exchange(None, hash, slot, old_hash, slot);
-        self.own.insert_at_gap(None, old_hash, place.number());
-    }
-
-    /// Does what `succeed` does if slots and places share a table.
-    #[inline(always)]
-    fn succeed_shared(
-        &mut self,
-        gap: Option<Gap>,
-        hash: u64,
-        slot: u32,
-        old_hash: u64,
-        place: Place,
-        oldest: Option<u64>,
-    )
-        requires shared { is_shared self.old ≡ true }
-        requires may { MaySucceed slot old_hash place oldest self.old }
-        requires room { HasSlotRoom self.old }
-        requires gap { IsGapFor gap hash self.old }
-        ensures renewed { self.new ≡ entered_from self.old (is_some gap) hash slot
-            (remembered_at old_hash slot place (forgotten_if oldest place self.old)) }
-    {
-        let seen = (hash, old_hash, place, oldest, gap.is_some());
-        charge(&self.shared, &self.own, &mut self.charged, &seen);
-        let handle = Handle::Remembered(place).pack();
-        match oldest {
-            Some(oldest) => {
-                self.shared.exchange(gap, hash, slot, oldest, handle);
-                self.shared.replace_handle(old_hash, slot, handle);
-            }
-            None => {
-                self.shared.insert_at_gap(gap, hash, slot);
-                self.shared.replace_handle(old_hash, slot, handle);
-            }
-        }
+        self.shared.exchange(None, hash, slot, retired.hash, slot);
+        self.own.insert_at_gap(None, retired.hash, retired.place);
     }
 }

@@ -18,7 +18,7 @@ pub struct Entry<K, V> {
 /// A key at each place, with its hash and a value. Places are numbered from 0, in the order in
 /// which they are first used.
 ///
-/// One function compares keys, and counts each comparison. Three functions write keys, and count each
+/// One function compares keys, and counts each comparison. Two functions write keys, and count each
 /// write.
 ///
 /// # Example
@@ -27,7 +27,7 @@ pub struct Entry<K, V> {
 /// let mut keys: Keys<u64, u64> = Keys::new(rt.alloc(), 2)?;
 /// keys.push(7, 70, 700);
 /// assert!(rt; keys.key_equals(0, &70));
-/// assert_eq!(rt; keys.replace(0, 9, 90), (7, 70));
+/// assert_eq!(rt; keys.replace(0, 9, 90, None), (7, 70));
 /// assert_eq!(rt; *keys.key(0), 90);
 /// assert_eq!(rt; *keys.value(0), 700);
 /// ```
@@ -133,24 +133,6 @@ impl<K, V, A: Allocator> Keys<K, V, A> {
         self.entries.push_reserved(Entry { hash, key, value });
     }
 
-    /// Replaces the key and the hash at a place, and returns the old ones. The value stays.
-    pub fn replace(&mut self, place: u32, hash: u64, key: K) -> (u64, K)
-        requires used { place < length self.old.entries }
-        ensures hash { hash_at self.old.entries place ≡ Some result.0 }
-        ensures key { key_at self.old.entries place ≡ Some result.1 }
-        ensures replaced { self.new ≡
-            record self.old {
-              entries = with_key place hash key self.old.entries;
-              writes = self.old.writes + 1;
-            } }
-    {
-        self.writes.tick();
-        let entry = &mut self.entries[place as usize];
-        let old_hash = mem::replace(&mut entry.hash, hash);
-        let old_key = mem::replace(&mut entry.key, key);
-        (old_hash, old_key)
-    }
-
     /// Drops every key and value. No place has a key afterwards.
     pub fn clear(&mut self)
     where
@@ -167,7 +149,7 @@ impl<K: Drop, V: Drop, A: Allocator> Keys<K, V, A> {
 
     /// Writes a key over the one at a place, and returns the old hash and key. Without a value, the
     /// place keeps the one that it has.
-    pub fn refill(&mut self, place: u32, hash: u64, key: K, value: Option<V>) -> (u64, K)
+    pub fn replace(&mut self, place: u32, hash: u64, key: K, value: Option<V>) -> (u64, K)
         requires used { place < length self.old.entries }
         ensures hash { hash_at self.old.entries place ≡ Some result.0 }
         ensures key { key_at self.old.entries place ≡ Some result.1 }
@@ -175,10 +157,13 @@ impl<K: Drop, V: Drop, A: Allocator> Keys<K, V, A> {
         ensures kept { self.new ≡
             record self.old { entries = self.new.entries; writes = self.old.writes + 1 } }
     {
-        let Some(value) = value else {
-            return self.replace(place, hash, key);
-        };
         self.writes.tick();
+        let Some(value) = value else {
+            let entry = &mut self.entries[place as usize];
+            let old_hash = mem::replace(&mut entry.hash, hash);
+            let old_key = mem::replace(&mut entry.key, key);
+            return (old_hash, old_key);
+        };
         let entry = Entry { hash, key, value };
         let old = mem::replace(&mut self.entries[place as usize], entry);
         (old.hash, old.key)

@@ -4,13 +4,13 @@
 //!
 //! - [`Keys`](keys::Keys): keys by number, each with its hash and a value;
 //! - [`Index`](index::Index): where each known key is, under its hash;
-//! - `Order` of the queues: the places of the remembered keys, in order.
+//! - [`Ghost`](history::Ghost): the remembered keys, each at a place, and the order of the places.
 //!
 //! Constructors take all the memory that will ever be needed, and no later call can fail.
 
 pub mod directory;
-pub mod found;
 pub mod handle;
+pub mod history;
 pub mod index;
 pub mod keys;
-pub mod place;
+pub mod newcomer;

@@ -28,8 +28,8 @@ lookup-requires g c =
       made = candidates_there (slots d.history.places.index) d.residents.entries _ (nobody % c.args.hashes) k.indexed;
     }
 
-pub remember-requires : goal.remember-requires
-remember-requires g c =
+pub replace_remembering-requires : goal.replace_remembering-requires
+replace_remembering-requires g c =
     let e = c.lookup-found.ensures in
     let f = c.lookup.ensures in
     let k = kept_resident (c.args.key % c.args.hashes) c.requires.resident e.kept e.residents in
@@ -45,6 +45,6 @@ pub returns : goal.returns
 returns g c =
     let e = c.lookup-found.ensures in
     let f = c.lookup.ensures in
-    let r = c.remember.ensures in
+    let r = c.replace_remembering.ensures in
     let k = kept_resident (c.args.key % c.args.hashes) c.requires.resident e.kept e.residents in
     record { resident = remembered-resident (kept_resident (nobody % c.args.hashes) k f.kept f.residents) r.index r.entries (ap (λ (z : KeyPlaces ℕ (Unit {0})). z.room) r.kept) }

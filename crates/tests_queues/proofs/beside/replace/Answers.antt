@@ -18,8 +18,8 @@ lookup-requires g c =
       made = candidates_there (slots d.history.places.index) d.residents.entries _ (nobody % c.args.hashes) k.indexed;
     }
 
-pub renew-requires : goal.renew-requires
-renew-requires g c =
+pub replace-requires : goal.replace-requires
+replace-requires g c =
     let f = c.lookup.ensures in
     let k = kept_resident (nobody % c.args.hashes) c.requires.resident f.kept f.residents in
     record {
@@ -31,6 +31,6 @@ renew-requires g c =
 pub returns : goal.returns
 returns g c =
     let f = c.lookup.ensures in
-    let r = c.renew.ensures in
+    let r = c.replace.ensures in
     let k = kept_resident (nobody % c.args.hashes) c.requires.resident f.kept f.residents in
     record { resident = renewed-resident _ k r.hash r.index r.entries (ap (λ (z : KeyPlaces ℕ (Unit {0})). z.room) r.kept) }

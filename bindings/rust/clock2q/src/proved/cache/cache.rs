@@ -1,7 +1,6 @@
 // Written by bindings/rust/erase from crates/clock2q_cache/src/cache.rt; change that, and run erase.
 //! The cache itself: lookups, hits and `put`.
 
-mod clearing;
 mod construction;
 mod debug;
 mod evicting;
@@ -9,16 +8,13 @@ mod fetching;
 mod filling;
 mod insertion;
 mod iteration;
-mod making_room;
 mod removal;
 mod slots;
-mod victim;
 
 use crate::proved::rattle::Vec;
-use crate::proved::cache::hashes::hash_of;
 use crate::proved::cache::shares::Shares;
 use crate::proved::directory::directory::Directory;
-use crate::proved::directory::found::Found;
+use crate::proved::directory::handle::Found;
 use crate::proved::queues::queues::Queues;
 pub use iteration::{Iter, Keys, Values};
 use crate::proved::rattle::{Allocator, Global};
@@ -196,14 +192,13 @@ impl<K: Hash + Eq, V, S: BuildHasher, A: Allocator> Cache<K, V, S, A> {
     /// Returns the hash of a key.
     #[inline]
     pub(crate) fn hash(&self, key: &K) -> u64 {
-        hash_of(&self.hasher, key)
+        self.hasher.hash_one(key)
     }
 
     /// Returns the slot of a resident key, and counts no comparison.
     #[inline]
     fn slot_of(&self, key: &K) -> Option<u32> {
-        let hash = hash_of(&self.hasher, key);
-        self.directory.slot_of(hash, key)
+        self.directory.slot_of(self.hash(key), key)
     }
 
     /// Returns the slot of a resident key.
@@ -281,12 +276,12 @@ impl<K: Hash + Eq, V, S: BuildHasher, A: Allocator> Cache<K, V, S, A> {
             return None;
         };
         self.record_hit(slot, &key);
-        Some(self.replace(slot, value))
+        Some(self.replace_value(slot, value))
     }
 
     /// Replaces the value of a slot, and returns the old one.
     #[inline]
-    fn replace(&mut self, slot: u32, value: V) -> V {
+    fn replace_value(&mut self, slot: u32, value: V) -> V {
         self.directory.replace_value(slot, value)
     }
 }

@@ -4,6 +4,7 @@
 mod changes;
 mod lookups;
 
+use crate::proved::directory::history::Ghost;
 use crate::proved::directory::index::Index;
 use crate::proved::directory::keys::Keys;
 use crate::proved::queues::order::Order;
@@ -22,11 +23,11 @@ use crate::proved::rattle::{AllocError, Allocator, Global};
 /// ```
 /// # #![allow(unused)]
 /// # use clock2q::proved::rattle::Global;
-/// # use clock2q::proved::directory::{directory::Directory, handle::Handle, index::Index, keys::Keys, place::Place};
+/// # use clock2q::proved::directory::{directory::Directory, handle::Handle, index::Index, keys::Keys, newcomer::Newcomer};
 /// # let hash_of = |key: u64| key;
 /// let mut directory: Directory<u64, u64> = Directory::new(Global, 1, 2)?;
-/// directory.enter(None, 0, hash_of(1), 1, Some(10));
-/// directory.remember(None, 0, hash_of(2), 2, Some(20));
+/// directory.enter(0, Newcomer { gap: None, hash: hash_of(1), key: 1, value: Some(10) });
+/// directory.replace_remembering(0, Newcomer { gap: None, hash: hash_of(2), key: 2, value: Some(20) });
 /// let found = directory.lookup(hash_of(1), &1);
 /// assert!(directory.forget(hash_of(1), &1, &found));
 /// assert_eq!(*directory.value(0), 20);
@@ -34,8 +35,7 @@ use crate::proved::rattle::{AllocError, Allocator, Global};
 /// ```
 pub struct Directory<K: Eq, V, A: Allocator = Global> {
     pub(crate) index: Index<A>,
-    order: Order<A>,
-    pub(crate) remembered: Keys<K, (), A>,
+    pub(crate) history: Ghost<K, A>,
     residents: Keys<K, V, A>,
 }
 
@@ -54,8 +54,10 @@ impl<K: Eq, V, A: Allocator + Copy> Directory<K, V, A> {
     pub fn new(alloc: A, slots: usize, limit: usize) -> Result<Self, AllocError> {
         Ok(Directory {
             index: Index::new(alloc, slots, limit)?,
-            order: Order::new(alloc, limit as u32)?,
-            remembered: Keys::new(alloc, limit)?,
+            history: Ghost {
+                order: Order::new(alloc, limit as u32)?,
+                keys: Keys::new(alloc, limit)?,
+            },
             residents: Keys::new(alloc, slots)?,
         })
     }
@@ -66,7 +68,7 @@ impl<K: Eq, V, A: Allocator> Directory<K, V, A> {
     #[inline]
     pub fn remembered_len(&self) -> usize {
         let _ = self.index.is_shared(); // whose contract says that the entries fit
-        self.order.len() as usize
+        self.history.order.len() as usize
     }
 
     /// Returns the number of slots that have a key and a value, with a resident or without.

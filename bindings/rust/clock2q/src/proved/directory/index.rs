@@ -4,7 +4,6 @@
 mod succession;
 
 use crate::proved::directory::handle::Handle;
-use crate::proved::directory::place::Place;
 use crate::proved::count::Count;
 use crate::proved::handles::{Candidates, Gap, Table};
 use crate::proved::rattle::{AllocError, Allocator, Global};
@@ -51,12 +50,12 @@ pub fn index_room(most: usize) -> usize {
 /// ```
 /// # #![allow(unused)]
 /// # use clock2q::proved::rattle::Global;
-/// # use clock2q::proved::directory::{directory::Directory, handle::Handle, index::Index, keys::Keys, place::Place};
+/// # use clock2q::proved::directory::{directory::Directory, handle::Handle, index::Index, keys::Keys, newcomer::Newcomer};
 /// let mut index = Index::new(Global, 2, 1)?;
 /// index.add_slot(None, 7, 0);
-/// index.remember(7, 0, Place::new(0));
+/// index.remember(7, 0, 0);
 /// index.add_slot(None, 9, 0);
-/// index.forget(Some(7), Place::new(0));
+/// index.forget(Some(7), 0);
 /// # Ok::<(), Box<dyn std::error::Error>>(())
 /// ```
 pub struct Index<A: Allocator = Global> {
@@ -134,7 +133,7 @@ impl<A: Allocator> Index<A> {
 
     /// Adds the slot of a key that becomes resident in place of another, which leaves.
     #[inline(always)]
-    pub fn renew(&mut self, gap: Option<Gap>, hash: u64, slot: u32, old_hash: u64) {
+    pub fn replace(&mut self, gap: Option<Gap>, hash: u64, slot: u32, old_hash: u64) {
         let is_found = gap.is_some();
         let gap = self.usable(gap);
         charge(
@@ -162,7 +161,7 @@ impl<A: Allocator> Index<A> {
 
     /// Replaces the slot of a resident that leaves with the place at which it is remembered.
     #[inline(always)]
-    pub fn remember(&mut self, hash: u64, slot: u32, place: Place) {
+    pub fn remember(&mut self, hash: u64, slot: u32, place: u32) {
         let is_shared = self.is_shared();
         charge(&self.shared, &self.own, &mut self.charged, &hash);
         if is_shared {
@@ -170,13 +169,13 @@ impl<A: Allocator> Index<A> {
             self.shared.replace_handle(hash, slot, handle);
         } else {
             self.shared.remove_existing(hash, slot);
-            self.own.insert_at_gap(None, hash, place.number());
+            self.own.insert_at_gap(None, hash, place);
         }
     }
 
     /// Removes the place of the key with this hash, which is forgotten. Without a hash nothing changes.
     #[inline(always)]
-    pub fn forget(&mut self, hash: Option<u64>, place: Place) {
+    pub fn forget(&mut self, hash: Option<u64>, place: u32) {
         let Some(hash) = hash else {
             return;
         };
@@ -186,7 +185,7 @@ impl<A: Allocator> Index<A> {
             let handle = Handle::Remembered(place).pack();
             self.shared.remove_existing(hash, handle);
         } else {
-            self.own.remove_existing(hash, place.number());
+            self.own.remove_existing(hash, place);
         }
     }
 

@@ -5,33 +5,20 @@ mod hashed;
 mod store;
 
 use crate::proved::directory::handle::Handle;
-use crate::proved::directory::place::Place;
 use crate::proved::count::Count;
 use crate::proved::handles::Candidates;
 use crate::proved::rattle::Allocator;
 pub use store::{Entry, Keys};
 
 impl<K, V, A: Allocator> Keys<K, V, A> {
-    /// Writes a key and a value to a place: to the next one, or to one that has them, whose old key
-    /// and value are dropped.
-    #[inline]
-    pub fn write(&mut self, place: u32, hash: u64, key: K, value: V) {
-        if place == self.len() as u32 {
-            self.push(hash, key, value);
-        } else {
-            self.refill(place, hash, key, Some(value));
-        }
-    }
-
-    /// Writes a key to a place as [`write`](Keys::write) does. Without a value, the place keeps the
-    /// one that it has.
+    /// Writes a key to a place: to the next one, which has to come with a value, or over the one that
+    /// is there, which is dropped. Without a value, the place keeps the one that it has.
     #[inline(always)]
     pub fn put(&mut self, place: u32, hash: u64, key: K, value: Option<V>) {
-        match value {
-            Some(value) => self.write(place, hash, key, value),
-            None => {
-                self.replace(place, hash, key);
-            }
+        if (place as usize) < self.len() {
+            self.replace(place, hash, key, value);
+        } else if let Some(value) = value {
+            self.push(hash, key, value);
         }
     }
 }
@@ -59,10 +46,10 @@ impl<K: Eq, V, A: Allocator> Keys<K, V, A> {
     /// Returns the first place among `handles` that has `key`, and counts each comparison. Slots
     /// are skipped.
     #[inline]
-    pub fn find_remembered(&mut self, mut handles: Candidates<'_, u32>, key: &K) -> Option<Place> {
+    pub fn find_remembered(&mut self, mut handles: Candidates<'_, u32>, key: &K) -> Option<u32> {
         while let Some(handle) = handles.next() {
             if let Handle::Remembered(place) = Handle::unpack(handle) {
-                if self.key_equals(place.number(), key) {
+                if self.key_equals(place, key) {
                     return Some(place);
                 }
             }

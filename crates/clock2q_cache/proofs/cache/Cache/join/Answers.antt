@@ -2,6 +2,7 @@
 use Rattle.std.proofs.Common.{refl, ap, vec_capacity, arith}
 use Rattle.clock2q_cache.proofs.Names.{is_some, slots, Remembered, slots-entered, into_main, into_small}
 use Rattle.clock2q_cache.proofs.CacheInvariant.{m, IsFree, IsDone, done-reindexed, reindexed, now-slots, free-to-join, made-to-join, main-done, small-done}
+use Rattle.clock2q_cache.specs.Insertions.{is_main}
 use Rattle.clock2q_cache.proofs.Insertions.{joined-spends}
 use Rattle.clock2q_cache.proofs.Places.{entered-vacant}
 use Rattle.clock2q_cache.proofs.cache.Cache.join.Given.{Over}
@@ -10,7 +11,7 @@ use Rattle.clock2q_cache.proofs.cache.Cache.join.Goals as goal
 
 -- the slot that was picked
 free : (g : Over) (c : After-take_vacancy-slot g) → IsFree g.met.K.Eq.laws c.self.invariant c.take_vacancy-slot.result
-free g c = free-to-join g.met.K.Eq.laws c.self.invariant c.args.main c.made.ensures.made c.take_vacancy-slot.ensures.slot (rw (← c.self.view_is) at c.requires.main) (rw (← c.self.view_is) at c.requires.small)
+free g c = free-to-join g.met.K.Eq.laws c.self.invariant (is_main c.args.admission) c.made.ensures.made c.take_vacancy-slot.ensures.slot (rw (← c.self.view_is) at c.requires.main) (rw (← c.self.view_is) at c.requires.small)
 
 pub enter-requires : goal.enter-requires
 enter-requires g c =
@@ -18,7 +19,7 @@ enter-requires g c =
     record {
       vacant = record {
         next = f.next;
-        had = made-to-join g.met.K.Eq.laws c.self.invariant c.args.main c.args.key c.args.value f.taken (rw (← c.self.view_is) at c.requires.main) (rw (← c.self.view_is) at c.requires.had);
+        had = made-to-join g.met.K.Eq.laws c.self.invariant (is_main c.args.admission) c.args.newcomer.key c.args.newcomer.value f.taken (rw (← c.self.view_is) at c.requires.main) (rw (← c.self.view_is) at c.requires.had);
         room = f.within;
         few = f.made;
         below = f.short;
@@ -31,27 +32,27 @@ pub append-requires : goal.append-requires
 append-requires g c = grind (arith, free, c.self.invariant.linked)
 
 pub admit-requires : goal.admit-requires
-admit-requires g c = grind (arith, free, c.self.invariant.linked, c.self.invariant.sized, c.self.view_is, c.requires.small c.if-main.false)
+admit-requires g c = grind (arith, free, c.self.invariant.linked, c.self.invariant.sized, c.self.view_is, c.requires.small (ap is_main c.in-Small.is))
 
 -- the key has it, in Main and in Small
 in-main : (g : Over) (c : After-append g) → IsFree g.met.K.Eq.laws c.self.invariant c.take_vacancy-slot.result
-    → IsDone g.met.K.Eq.laws c.self.invariant c.take_vacancy-slot.result c.args.value (into_main c.args.key (m g.met.K.Eq.laws c.self.invariant))
+    → IsDone g.met.K.Eq.laws c.self.invariant c.take_vacancy-slot.result c.args.newcomer.value (into_main c.args.newcomer.key (m g.met.K.Eq.laws c.self.invariant))
     c.append.new.self c.enter.new.self.history (slots c.enter.new.self.history.places.index) c.enter.new.self.residents c.take_vacancy-slot.new.free.items (vec_capacity c.take_vacancy-slot.new.free)
 in-main g c f =
     done-reindexed g.met.K.Eq.laws c.self.invariant (reindexed c.self.inside.directory.history c.enter.ensures.index refl)
     (main-done g.met.K.Eq.laws c.self.invariant f (rw (← c.self.view_is) at c.requires.unknown.hashed) (rw (← c.self.view_is) at c.requires.unknown.absent)
-    (now-slots c.self.inside.directory.history c.enter.ensures.index (slots-entered c.self.inside.directory.history.places.index c.args.hash c.take_vacancy-slot.result (omega (arith, f.short))))
-    c.enter.ensures.entries c.enter.ensures.kept (rw (← c.self.view_is) at (c.requires.main c.if-main.true))
+    (now-slots c.self.inside.directory.history c.enter.ensures.index (slots-entered c.self.inside.directory.history.places.index c.args.newcomer.hash c.take_vacancy-slot.result (omega (arith, f.short))))
+    c.enter.ensures.entries c.enter.ensures.kept (rw (← c.self.view_is) at (c.requires.main (ap is_main c.in-Main.is)))
     c.append.ensures.queues c.take_vacancy-slot.ensures.others c.take_vacancy-slot.ensures.capacity)
 
 in-small : (g : Over) (c : After-admit g) → IsFree g.met.K.Eq.laws c.self.invariant c.take_vacancy-slot.result
-    → IsDone g.met.K.Eq.laws c.self.invariant c.take_vacancy-slot.result c.args.value (into_small c.args.key (m g.met.K.Eq.laws c.self.invariant))
+    → IsDone g.met.K.Eq.laws c.self.invariant c.take_vacancy-slot.result c.args.newcomer.value (into_small c.args.newcomer.key (m g.met.K.Eq.laws c.self.invariant))
     c.admit.new.self c.enter.new.self.history (slots c.enter.new.self.history.places.index) c.enter.new.self.residents c.take_vacancy-slot.new.free.items (vec_capacity c.take_vacancy-slot.new.free)
 in-small g c f =
     done-reindexed g.met.K.Eq.laws c.self.invariant (reindexed c.self.inside.directory.history c.enter.ensures.index refl)
     (small-done g.met.K.Eq.laws c.self.invariant f (rw (← c.self.view_is) at c.requires.unknown.hashed) (rw (← c.self.view_is) at c.requires.unknown.absent)
-    (now-slots c.self.inside.directory.history c.enter.ensures.index (slots-entered c.self.inside.directory.history.places.index c.args.hash c.take_vacancy-slot.result (omega (arith, f.short))))
-    c.enter.ensures.entries c.enter.ensures.kept (rw (← c.self.view_is) at (c.requires.small c.if-main.false))
+    (now-slots c.self.inside.directory.history c.enter.ensures.index (slots-entered c.self.inside.directory.history.places.index c.args.newcomer.hash c.take_vacancy-slot.result (omega (arith, f.short))))
+    c.enter.ensures.entries c.enter.ensures.kept (rw (← c.self.view_is) at (c.requires.small (ap is_main c.in-Small.is)))
     c.admit.ensures.queues c.take_vacancy-slot.ensures.others c.take_vacancy-slot.ensures.capacity)
 
 pub invariant_of-self : goal.invariant_of-self
@@ -59,21 +60,21 @@ invariant_of-self g c =
     let at = goal.at.invariant_of-self g c in
     (in-main g at.After-append (free g at.After-take_vacancy-slot)).holds
 
-pub invariant_of-self-2 : goal.invariant_of-self-2
-invariant_of-self-2 g c =
-    let at = goal.at.invariant_of-self-2 g c in
+pub invariant_of-self-in-Small : goal.invariant_of-self-in-Small
+invariant_of-self-in-Small g c =
+    let at = goal.at.invariant_of-self-in-Small g c in
     (in-small g at.After-admit (free g at.After-take_vacancy-slot)).holds
 
-pub returns-then-main : goal.returns-then-main
-returns-then-main g c =
-    let at = goal.at.returns-then-main g c in
+pub returns-in-Main : goal.returns-in-Main
+returns-in-Main g c =
+    let at = goal.at.returns-in-Main g c in
     let f = free g at.After-take_vacancy-slot in
     let d = in-main g at.After-append f in
-    rw (c.if-main.true, ← c.self.view_is) (record {
+    rw (c.in-Main.is, ← c.self.view_is) (record {
       entered = record {
         slot = d.at;
         machine = d.fills;
-        indexes = entered-vacant g.met.K.Eq.laws c.self.invariant c.self.inside.directory.history.places c.args.key c.take_vacancy-slot.result (is_some c.args.gap)
+        indexes = entered-vacant g.met.K.Eq.laws c.self.invariant c.self.inside.directory.history.places c.args.newcomer.key c.take_vacancy-slot.result (is_some c.args.newcomer.gap)
             (rw (← c.self.view_is) at c.requires.unknown.hashed) f.absent (ap (λ (z : Remembered _). z.places) c.enter.ensures.index);
         hasher = refl;
         counts = joined-spends c.self.inside.queues c.self.inside.directory.history c.self.inside.directory.residents 1 6 c.append.ensures.queues c.append.ensures.accesses
@@ -81,16 +82,16 @@ returns-then-main g c =
       };
     })
 
-pub returns : goal.returns
-returns g c =
-    let at = goal.at.returns g c in
+pub returns-in-Small : goal.returns-in-Small
+returns-in-Small g c =
+    let at = goal.at.returns-in-Small g c in
     let f = free g at.After-take_vacancy-slot in
     let d = in-small g at.After-admit f in
-    rw (c.if-main.false, ← c.self.view_is) (record {
+    rw (c.in-Small.is, ← c.self.view_is) (record {
       entered = record {
         slot = d.at;
         machine = d.fills;
-        indexes = entered-vacant g.met.K.Eq.laws c.self.invariant c.self.inside.directory.history.places c.args.key c.take_vacancy-slot.result (is_some c.args.gap)
+        indexes = entered-vacant g.met.K.Eq.laws c.self.invariant c.self.inside.directory.history.places c.args.newcomer.key c.take_vacancy-slot.result (is_some c.args.newcomer.gap)
             (rw (← c.self.view_is) at c.requires.unknown.hashed) f.absent (ap (λ (z : Remembered _). z.places) c.enter.ensures.index);
         hasher = refl;
         counts = joined-spends c.self.inside.queues c.self.inside.directory.history c.self.inside.directory.residents 3 10 c.admit.ensures.queues c.admit.ensures.accesses

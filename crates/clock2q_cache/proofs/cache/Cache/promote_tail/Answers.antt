@@ -30,8 +30,8 @@ append-requires g c =
       made = omega (arith, b.0, c.self.invariant.linked);
     })
 
-pub renew-old-requires : goal.renew-old-requires
-renew-old-requires g c =
+pub replace-old-requires : goal.replace-old-requires
+replace-old-requires g c =
     let there = victim-in g.met.K.Eq.laws c.self.invariant c.take_victim-slot.result c.take_victim-slot.ensures.victim in
     record {
       resident = is-resident c.self.inside.directory g.met.K.Eq.laws c.self.invariant c.take_victim-slot.result there;
@@ -64,16 +64,16 @@ still g c tail =
 
 -- the key has the slot
 done : (g : Over) (c : After-admit g) → last_or None (slots_of c.self.inside.queues.small) ≡ Some c.in-Some.tail
-    → IsDone g.met.K.Eq.laws c.self.invariant c.take_victim-slot.result c.args.value (into_small c.args.key (m g.met.K.Eq.laws c.self.invariant))
-    c.admit.new.self c.renew-old.new.self.history (slots c.renew-old.new.self.history.places.index) c.renew-old.new.self.residents c.self.inside.free.items (vec_capacity c.self.inside.free)
+    → IsDone g.met.K.Eq.laws c.self.invariant c.take_victim-slot.result c.args.newcomer.value (into_small c.args.newcomer.key (m g.met.K.Eq.laws c.self.invariant))
+    c.admit.new.self c.replace-old.new.self.history (slots c.replace-old.new.self.history.places.index) c.replace-old.new.self.residents c.self.inside.free.items (vec_capacity c.self.inside.free)
 done g c tail =
     let victim = c.take_victim-slot.ensures.victim in
-    let r = c.renew-old.ensures in
+    let r = c.replace-old.ensures in
     let below = (slot-below g.met.K.Eq.laws c.self.invariant c.take_victim-slot.result (victim-in g.met.K.Eq.laws c.self.invariant c.take_victim-slot.result victim)).2 in
     done-reindexed g.met.K.Eq.laws c.self.invariant (reindexed c.self.inside.directory.history r.index refl)
     (promoted-done g.met.K.Eq.laws c.self.invariant (rw (← c.self.view_is) at c.requires.unknown.hashed) (rw (← c.self.view_is) at c.requires.unknown.absent)
     (victim-in g.met.K.Eq.laws c.self.invariant c.take_victim-slot.result victim) r.hash
-    (slots-renewed c.self.inside.directory.history c.renew-old.result.0 c.args.hash (is_some c.args.gap) r.index below) r.entries r.kept tail victim
+    (slots-renewed c.self.inside.directory.history c.replace-old.result.0 c.args.newcomer.hash (is_some c.args.newcomer.gap) r.index below) r.entries r.kept tail victim
     (rw (← c.self.view_is) at c.requires.full) (rw (← c.self.view_is) at c.requires.on)
     (rw (c.append.ensures.queues, c.in-Some.ensures.queues, c.take_victim-slot.ensures.queues, (still g c tail).0, (still g c tail).1) at c.admit.ensures.queues))
 
@@ -85,17 +85,17 @@ returns g c =
     let at = goal.at.returns g c in
     let d = done g at.After-admit (last g at.In-Some) in
     let still = still g at.After-admit (last g at.In-Some) in
-    let r = c.renew-old.ensures in
+    let r = c.replace-old.ensures in
     let taken = c.take_victim-slot.ensures.accesses in
     let appended = c.append.ensures.accesses in
     let admitted = c.admit.ensures.accesses in
     let moves = leaves-by g.met.K.Eq.laws c.self.invariant c.in-Some.tail (last g at.In-Some) (rw (← c.self.view_is) at c.requires.full) true (rw (← c.self.view_is) at c.requires.on) in
-    let leaver = victim-leaves g.met.K.Eq.laws c.self.invariant c.take_victim-slot.result c.take_victim-slot.ensures.victim c.renew-old.result.1 r.key in
+    let leaver = victim-leaves g.met.K.Eq.laws c.self.invariant c.take_victim-slot.result c.take_victim-slot.ensures.victim c.replace-old.result.1 r.key in
     rw (← c.self.view_is) (record {
       entered = record {
         slot = d.at;
         machine = d.fills;
-        indexes = entered-renewed g.met.K.Eq.laws c.self.invariant c.self.inside.directory.history.places c.args.key c.take_victim-slot.result (is_some c.args.gap) (rw (← c.self.view_is) at c.requires.unknown.hashed)
+        indexes = entered-renewed g.met.K.Eq.laws c.self.invariant c.self.inside.directory.history.places c.args.newcomer.key c.take_victim-slot.result (is_some c.args.newcomer.gap) (rw (← c.self.view_is) at c.requires.unknown.hashed)
             (victim-in g.met.K.Eq.laws c.self.invariant c.take_victim-slot.result c.take_victim-slot.ensures.victim) r.hash (ap (λ (z : Remembered _). z.places) r.index);
         hasher = refl;
         counts = victim-spends g.met.K.Eq.laws c.self.invariant 28 c.take_victim-slot.ensures.inspections

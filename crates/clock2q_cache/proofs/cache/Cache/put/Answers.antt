@@ -29,7 +29,7 @@ returns-in_default-clause-known g c =
     rw (← (none ∙ c.lookup-found.ensures.slot)) (rw (c.insert.ensures.slot, c.lookup-found.ensures.kept, gap) at c.insert.ensures.known)
 
 pub returns-clause-known : goal.returns-clause-known
-returns-clause-known g c = grind (arith, c.in-Resident.ensures.slot, c.replace.ensures.kept, c.record_hit.ensures.kept, c.lookup-found.ensures.kept)
+returns-clause-known g c = grind (arith, c.in-Resident.ensures.slot, c.replace_value.ensures.kept, c.record_hit.ensures.kept, c.lookup-found.ensures.kept)
 
 pub returns-in_default-clause-costs : goal.returns-in_default-clause-costs
 returns-in_default-clause-costs g c =
@@ -46,4 +46,4 @@ returns-clause-costs g c =
     (reaches-with (record { eq = g.K.PartialEq.eq; hash_input = g.K.Hash.hash_input }) g.S.BuildHasher g.S.Hasher.Hasher
     c.args.key g.met.K.Eq.laws g.met.K.Hash.respects_eq l.whole l.as_many l.within (returns-clause-known g c))
     (hit-spends (g.K.PartialEq.eq c.args.key) c.args.self.now.machine l.counts c.in-Resident.ensures.slot
-    (ap (λ (z : CacheState _ _ _). z.counts) c.replace.ensures.kept ∙ ap (λ (z : CacheState _ _ _). z.counts) c.record_hit.ensures.kept) (omega arith))
+    (ap (λ (z : CacheState _ _ _). z.counts) c.replace_value.ensures.kept ∙ ap (λ (z : CacheState _ _ _). z.counts) c.record_hit.ensures.kept) (omega arith))

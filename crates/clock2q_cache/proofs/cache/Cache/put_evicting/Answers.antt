@@ -20,7 +20,7 @@ returns-in_default-clause-replaced g c = grind (arith, none-had, no-slot, c.look
 
 pub returns-clause-replaced : goal.returns-clause-replaced
 returns-clause-replaced g c =
-    grind (arith, had-before, c.in-Resident.ensures.slot, c.record_hit.ensures.machine, c.lookup-found.ensures.machine, c.replace.ensures.value)
+    grind (arith, had-before, c.in-Resident.ensures.slot, c.record_hit.ensures.machine, c.lookup-found.ensures.machine, c.replace_value.ensures.value)
 
 pub returns-in_default-clause-evicted : goal.returns-in_default-clause-evicted
 returns-in_default-clause-evicted g c absent = grind (arith, c.lookup-found.ensures.machine, c.insert_evicting.ensures.evicted, victim-handed)
@@ -43,7 +43,7 @@ returns-in_default-clause-known g c =
     rw (← (none ∙ c.lookup-found.ensures.slot)) (rw (c.lookup-found.ensures.kept, gap) at c.insert_evicting.ensures.known)
 
 pub returns-clause-known : goal.returns-clause-known
-returns-clause-known g c = grind (arith, c.in-Resident.ensures.slot, c.replace.ensures.kept, c.record_hit.ensures.kept, c.lookup-found.ensures.kept)
+returns-clause-known g c = grind (arith, c.in-Resident.ensures.slot, c.replace_value.ensures.kept, c.record_hit.ensures.kept, c.lookup-found.ensures.kept)
 
 pub returns-in_default-clause-costs : goal.returns-in_default-clause-costs
 returns-in_default-clause-costs g c =
@@ -60,4 +60,4 @@ returns-clause-costs g c =
     (reaches-with (record { eq = g.K.PartialEq.eq; hash_input = g.K.Hash.hash_input }) g.S.BuildHasher g.S.Hasher.Hasher
     c.args.key g.met.K.Eq.laws g.met.K.Hash.respects_eq l.whole l.as_many l.within (returns-clause-known g c))
     (hit-spends (g.K.PartialEq.eq c.args.key) c.args.self.now.machine l.counts c.in-Resident.ensures.slot
-    (ap (λ (z : CacheState _ _ _). z.counts) c.replace.ensures.kept ∙ ap (λ (z : CacheState _ _ _). z.counts) c.record_hit.ensures.kept) (omega arith))
+    (ap (λ (z : CacheState _ _ _). z.counts) c.replace_value.ensures.kept ∙ ap (λ (z : CacheState _ _ _). z.counts) c.record_hit.ensures.kept) (omega arith))

@@ -9,7 +9,7 @@ use Rattle.clock2q_cache.proofs.Spent.{put-costs}
 use Rattle.clock2q_cache.proofs.cache.Cache.put_slot.Goals as goal
 
 pub returns-in-Some-clause-machine : goal.returns-in-Some-clause-machine
-returns-in-Some-clause-machine g c = grind (arith, c.replace.ensures.machine, c.record_hit.ensures.machine, c.find.ensures.machine, c.in-Some.ensures.slot)
+returns-in-Some-clause-machine g c = grind (arith, c.replace_value.ensures.machine, c.record_hit.ensures.machine, c.find.ensures.machine, c.in-Some.ensures.slot)
 
 pub returns-clause-machine : goal.returns-clause-machine
 returns-clause-machine g c = grind (arith, c.insert_at_slot-slot.ensures.machine, c.find.ensures.machine, c.in_default.ensures.slot)
@@ -17,7 +17,7 @@ returns-clause-machine g c = grind (arith, c.insert_at_slot-slot.ensures.machine
 pub returns-in-Some-clause-slot : goal.returns-in-Some-clause-slot
 returns-in-Some-clause-slot g c =
     let eq = g.K.PartialEq.eq in let is = eq c.args.key in let m = c.args.self.now.machine in
-    ap (slot_of is) (c.replace.ensures.machine ∙ ap (stored c.in-Some.slot c.args.value) (c.record_hit.ensures.machine ∙ ap (hit is) c.find.ensures.machine))
+    ap (slot_of is) (c.replace_value.ensures.machine ∙ ap (stored c.in-Some.slot c.args.value) (c.record_hit.ensures.machine ∙ ap (hit is) c.find.ensures.machine))
     ∙ same_slots eq (replaced_at is c.args.value (Some c.in-Some.slot) m) m c.len.ensures.whole (λ w. weight-replaced w is c.args.value (Some c.in-Some.slot) m) c.args.key
     ∙ sym c.in-Some.ensures.slot
 
@@ -45,7 +45,7 @@ returns-clause-within g c =
 
 pub returns-in-Some-clause-known : goal.returns-in-Some-clause-known
 returns-in-Some-clause-known g c =
-    rw (← c.in-Some.ensures.slot) (ap (λ (z : CacheState _ _ _). z.known) c.replace.ensures.kept ∙ ap (λ (z : CacheState _ _ _). z.known) c.record_hit.ensures.kept
+    rw (← c.in-Some.ensures.slot) (ap (λ (z : CacheState _ _ _). z.known) c.replace_value.ensures.kept ∙ ap (λ (z : CacheState _ _ _). z.known) c.record_hit.ensures.kept
     ∙ ap (λ (z : CacheState _ _ _). z.known) c.find.ensures.kept)
 
 pub returns-clause-known : goal.returns-clause-known
@@ -54,7 +54,7 @@ returns-clause-known g c = rw (← c.in_default.ensures.slot) (rw (c.insert_at_s
 pub returns-in-Some-clause-costs : goal.returns-in-Some-clause-costs
 returns-in-Some-clause-costs g c =
     let is = g.K.PartialEq.eq c.args.key in
-    let counts = ap (λ (z : CacheState _ _ _). z.counts) c.replace.ensures.kept ∙ ap (λ (z : CacheState _ _ _). z.counts) c.record_hit.ensures.kept in
+    let counts = ap (λ (z : CacheState _ _ _). z.counts) c.replace_value.ensures.kept ∙ ap (λ (z : CacheState _ _ _). z.counts) c.record_hit.ensures.kept in
     put-costs (returns-in-Some-clause-machine g c)
     (reaches-taken (record { eq = g.K.PartialEq.eq; hash_input = g.K.Hash.hash_input }) g.S.BuildHasher g.S.Hasher.Hasher
     c.args.key g.met.K.Eq.laws g.met.K.Hash.respects_eq c.len.ensures.whole c.len.ensures.indexed.as_many

@@ -7,11 +7,11 @@ use Rattle.clock2q_cache.proofs.Insertions.{victim-spends}
 use Rattle.clock2q_cache.proofs.Evicting.{full-leaver, noted}
 use Rattle.clock2q_cache.proofs.Places.{entered-renewed}
 use Rattle.clock2q_cache.proofs.cache.Cache.replace_victim.Given.{Over}
-use Rattle.clock2q_cache.proofs.cache.Cache.replace_victim.Goals.{After-renew-old}
+use Rattle.clock2q_cache.proofs.cache.Cache.replace_victim.Goals.{After-replace-old}
 use Rattle.clock2q_cache.proofs.cache.Cache.replace_victim.Goals as goal
 
-pub renew-old-requires : goal.renew-old-requires
-renew-old-requires g c =
+pub replace-old-requires : goal.replace-old-requires
+replace-old-requires g c =
     let there = victim-in g.met.K.Eq.laws c.self.invariant c.reuse_victim-victim.result c.reuse_victim-victim.ensures.victim in
     record {
       resident = is-resident c.self.inside.directory g.met.K.Eq.laws c.self.invariant c.reuse_victim-victim.result there;
@@ -20,39 +20,39 @@ renew-old-requires g c =
     }
 
 -- the key has the slot
-done : (g : Over) (c : After-renew-old g) → IsDone g.met.K.Eq.laws c.self.invariant c.reuse_victim-victim.result c.args.value (into_main c.args.key (m g.met.K.Eq.laws c.self.invariant))
-    c.reuse_victim-victim.new.self c.renew-old.new.self.history
-    (slots c.renew-old.new.self.history.places.index) c.renew-old.new.self.residents c.self.inside.free.items
+done : (g : Over) (c : After-replace-old g) → IsDone g.met.K.Eq.laws c.self.invariant c.reuse_victim-victim.result c.args.newcomer.value (into_main c.args.newcomer.key (m g.met.K.Eq.laws c.self.invariant))
+    c.reuse_victim-victim.new.self c.replace-old.new.self.history
+    (slots c.replace-old.new.self.history.places.index) c.replace-old.new.self.residents c.self.inside.free.items
     (vec_capacity c.self.inside.free)
 done g c =
     let victim = c.reuse_victim-victim.ensures.victim in
     let below = (slot-below g.met.K.Eq.laws c.self.invariant c.reuse_victim-victim.result (victim-in g.met.K.Eq.laws c.self.invariant c.reuse_victim-victim.result victim)).2 in
-    done-reindexed g.met.K.Eq.laws c.self.invariant (reindexed c.self.inside.directory.history c.renew-old.ensures.index refl)
+    done-reindexed g.met.K.Eq.laws c.self.invariant (reindexed c.self.inside.directory.history c.replace-old.ensures.index refl)
     (replaced-done g.met.K.Eq.laws c.self.invariant (rw (← c.self.view_is) at c.requires.unknown.hashed) (rw (← c.self.view_is) at c.requires.unknown.absent)
-    (victim-in g.met.K.Eq.laws c.self.invariant c.reuse_victim-victim.result victim) c.renew-old.ensures.hash
-    (slots-renewed c.self.inside.directory.history c.renew-old.result.0 c.args.hash (is_some c.args.gap) c.renew-old.ensures.index below)
-    c.renew-old.ensures.entries c.renew-old.ensures.kept victim
+    (victim-in g.met.K.Eq.laws c.self.invariant c.reuse_victim-victim.result victim) c.replace-old.ensures.hash
+    (slots-renewed c.self.inside.directory.history c.replace-old.result.0 c.args.newcomer.hash (is_some c.args.newcomer.gap) c.replace-old.ensures.index below)
+    c.replace-old.ensures.entries c.replace-old.ensures.kept victim
     (rw (← c.self.view_is) at c.requires.full) c.reuse_victim-victim.ensures.queues)
 
 pub invariant_of-self : goal.invariant_of-self
-invariant_of-self g c = (done g (goal.at.invariant_of-self g c).After-renew-old).holds
+invariant_of-self g c = (done g (goal.at.invariant_of-self g c).After-replace-old).holds
 
 pub returns : goal.returns
 returns g c =
-    let d = done g (goal.at.returns g c).After-renew-old in
+    let d = done g (goal.at.returns g c).After-replace-old in
     let there = victim-in g.met.K.Eq.laws c.self.invariant c.reuse_victim-victim.result c.reuse_victim-victim.ensures.victim in
     let looked = c.reuse_victim-victim.ensures.accesses in
     let machine = m g.met.K.Eq.laws c.self.invariant in
-    let leaver = victim-leaves g.met.K.Eq.laws c.self.invariant c.reuse_victim-victim.result c.reuse_victim-victim.ensures.victim c.renew-old.result.1 c.renew-old.ensures.key in
+    let leaver = victim-leaves g.met.K.Eq.laws c.self.invariant c.reuse_victim-victim.result c.reuse_victim-victim.ensures.victim c.replace-old.result.1 c.replace-old.ensures.key in
     rw (← c.self.view_is) (record {
       entered = record {
         slot = d.at;
         machine = d.fills;
-        indexes = entered-renewed g.met.K.Eq.laws c.self.invariant c.self.inside.directory.history.places c.args.key c.reuse_victim-victim.result (is_some c.args.gap)
-            (rw (← c.self.view_is) at c.requires.unknown.hashed) there c.renew-old.ensures.hash (ap (λ (z : Remembered _). z.places) c.renew-old.ensures.index);
+        indexes = entered-renewed g.met.K.Eq.laws c.self.invariant c.self.inside.directory.history.places c.args.newcomer.key c.reuse_victim-victim.result (is_some c.args.newcomer.gap)
+            (rw (← c.self.view_is) at c.requires.unknown.hashed) there c.replace-old.ensures.hash (ap (λ (z : Remembered _). z.places) c.replace-old.ensures.index);
         hasher = refl;
         counts = victim-spends g.met.K.Eq.laws c.self.invariant 28 c.reuse_victim-victim.ensures.inspections (omega (arith, looked), omega (arith, looked))
-            c.reuse_victim-victim.ensures.queues c.renew-old.ensures.index c.renew-old.ensures.kept;
+            c.reuse_victim-victim.ensures.queues c.replace-old.ensures.index c.replace-old.ensures.kept;
       };
       left = noted g.F.FnOnce (full-leaver machine (rw (← c.self.view_is) at c.requires.full) ∙ leaver) c.leaves.ensures;
     })

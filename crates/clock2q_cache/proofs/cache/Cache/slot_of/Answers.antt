@@ -11,7 +11,7 @@ pub returns-clause-slot : goal.returns-clause-slot
 returns-clause-slot g c =
     let k = c.self.invariant in
     c.slot_of.ensures.slot
-    ∙ found g.met.K.Eq.laws k c.args.key.now (λ x y e. ap (λ z. hash_of g.S.BuildHasher g.S.Hasher.Hasher c.self.inside.hasher z) (g.met.K.Hash.respects_eq x y e)) _ c.hash_of-hash.ensures
+    ∙ found g.met.K.Eq.laws k c.args.key.now (λ x y e. ap (λ z. hash_of g.S.BuildHasher g.S.Hasher.Hasher c.self.inside.hasher z) (g.met.K.Hash.respects_eq x y e)) _ (rw (← c.self.view_is) at c.hash.ensures)
     ∙ ap (λ (z : CacheState _ _ _). slot_of (g.K.PartialEq.eq c.args.key.now) z.machine) c.self.view_is
 
 pub returns-clause-made : goal.returns-clause-made

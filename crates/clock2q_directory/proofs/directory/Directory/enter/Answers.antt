@@ -7,7 +7,7 @@ pub invariant_of-self : goal.invariant_of-self
 invariant_of-self g c =
     let i = c.self.inside.index in
     rw c.add_slot.ensures.entered (IsHistory-index c.self.invariant
-    (places-entered i c.args.hash c.args.slot (omega (arith, c.requires.vacant.below))) (entered-like i c.args.hash c.args.slot).shared)
+    (places-entered i c.args.newcomer.hash c.args.slot (omega (arith, c.requires.vacant.below))) (entered-like i c.args.newcomer.hash c.args.slot).shared)
 
 pub returns-clause-index : goal.returns-clause-index
 returns-clause-index g c = rw (← c.self.view_is, c.add_slot.ensures.entered) refl

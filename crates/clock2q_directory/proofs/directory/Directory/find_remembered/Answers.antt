@@ -1,4 +1,4 @@
-use Rattle.std.proofs.Common.{◌≡◌, Some, refl, ap, sym, ◌∙◌}
+use Rattle.std.proofs.Common.{◌≡◌, refl, ap, sym, ◌∙◌}
 use Rattle.clock2q_directory.specs.Index.{is_shared, slots_among, places_among}
 use Rattle.clock2q_directory.specs.Keys.{KeyPlaces}
 use Rattle.clock2q_directory.proofs.Looking.{shared-places, own-places, own-there, searched}
@@ -14,13 +14,13 @@ shared g c = c.is_shared.ensures.shared ∙ ap is_shared c.charge_lookup.ensures
 pub find_remembered-requires : goal.find_remembered-requires
 find_remembered-requires g c =
     let is = sym (shared g (goal.at.find_remembered-requires g c).After-is_shared) ∙ c.if-is_shared.true in
-    record { used = rw (c.handles.ensures.handles, c.charge_lookup.ensures.looked) (shared-places c.self.invariant c.args.hash is) }
+    record { used = rw (c.handles-handles.ensures.handles, c.charge_lookup.ensures.looked) (shared-places c.self.invariant c.args.hash is) }
 
 pub returns-then-is_shared : goal.returns-then-is_shared
 returns-then-is_shared g c =
     let hashed = rw (← c.self.view_is) at c.requires.hash in
     let is = sym (shared g (goal.at.returns-then-is_shared g c).After-is_shared) ∙ c.if-is_shared.true in
-    let handles = rw c.charge_lookup.ensures.looked at c.handles.ensures.handles in
+    let handles = rw c.charge_lookup.ensures.looked at c.handles-handles.ensures.handles in
     let places = ap places_among handles ∙ sym (candidates-places c.self.inside.index c.args.hash is) in
     let compared = ap (λ (z : KeyPlaces _ _). z.comparisons) c.find_remembered.ensures.counted in
     let r = searched g.met.K.Eq.laws c.args.hash c.args.key.now c.self.invariant hashed places c.find_remembered.ensures.found compared in
@@ -31,21 +31,6 @@ find-requires g c =
     let is = sym (shared g (goal.at.find-requires g c).After-is_shared) ∙ c.if-is_shared.false in
     record { used = rw (c.own_places.ensures.places, c.charge_lookup.ensures.looked) (own-there c.self.invariant c.args.hash is) }
 
-pub returns-in_err-place : goal.returns-in_err-place
-returns-in_err-place g c =
-    let hashed = rw (← c.self.view_is) at c.requires.hash in
-    let is = sym (shared g (goal.at.returns-in_err-place g c).After-is_shared) ∙ c.if-is_shared.false in
-    let own = rw c.charge_lookup.ensures.looked at c.own_places.ensures.places in
-    let places = ap slots_among own ∙ own-places c.self.invariant c.args.hash is in
-    let compared = ap (λ (z : KeyPlaces _ _). z.comparisons) c.find.ensures.counted in
-    let r = searched g.met.K.Eq.laws c.args.hash c.args.key.now c.self.invariant hashed places c.find.ensures.found compared in
-    rw (← c.self.view_is) (record {
-      place = c.from_residual.ensures ∙ sym c.in_err-place.was ∙ r.0;
-      kept = rw (c.find.ensures.counted, c.charge_lookup.ensures.looked) refl;
-      residents = refl;
-      comparisons = r.1;
-    })
-
 pub returns : goal.returns
 returns g c =
     let hashed = rw (← c.self.view_is) at c.requires.hash in
@@ -55,7 +40,7 @@ returns g c =
     let compared = ap (λ (z : KeyPlaces _ _). z.comparisons) c.find.ensures.counted in
     let r = searched g.met.K.Eq.laws c.args.hash c.args.key.now c.self.invariant hashed places c.find.ensures.found compared in
     rw (← c.self.view_is) (record {
-      place = ap (λ p. Some p) c.new.ensures.place ∙ sym c.in_ok-place.was ∙ r.0;
+      place = r.0;
       kept = rw (c.find.ensures.counted, c.charge_lookup.ensures.looked) refl;
       residents = refl;
       comparisons = r.1;

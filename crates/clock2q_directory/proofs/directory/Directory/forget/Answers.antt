@@ -12,9 +12,9 @@ returns-in_default g c =
     let m = missed g.met.K.Eq.laws c.args.hash c.args.key.now c.self.invariant hashed none in
     rw (← c.self.view_is) (record {
       found = sym m.0;
-      forgotten = ap (λ es. record (remembered_from c.self.inside.index c.self.inside.order c.self.inside.remembered) { entries = es }) (sym m.1);
+      forgotten = ap (λ es. record (remembered_from c.self.inside.index c.self.inside.history.order c.self.inside.history.keys) { entries = es }) (sym m.1);
       kept = refl;
-      places = ap (λ z. freed_place c.args.hash z (places_from c.self.inside.index c.self.inside.order)) none;
+      places = ap (λ z. freed_place c.args.hash z (places_from c.self.inside.index c.self.inside.history.order)) none;
       accesses = (omega arith, omega arith);
     })
 
@@ -32,13 +32,13 @@ pub unlink-requires : goal.unlink-requires
 unlink-requires g c =
     let hashed = rw (← c.self.view_is) at c.requires.hash in
     let placed = rw (← c.self.view_is) at c.requires.place in
-    rw c.number.ensures.number (place_there g.met.K.Eq.laws c.args.hash c.args.key.now c.self.invariant hashed (sym (ap found_place c.in-Remembered.is) ∙ placed))
+    (place_there g.met.K.Eq.laws c.args.hash c.args.key.now c.self.invariant hashed (sym (ap found_place c.in-Remembered.is) ∙ placed))
 
 pub invariant_of-self : goal.invariant_of-self
 invariant_of-self g c =
     let hashed = rw (← c.self.view_is) at c.requires.hash in
     let placed = rw (← c.self.view_is) at c.requires.place in
-    let f = forgets g.met.K.Eq.laws c.args.hash c.args.key.now c.self.invariant hashed (sym (ap found_place c.in-Remembered.is) ∙ placed) c.unlink.ensures.whole (rw c.number.ensures.number at c.unlink.ensures.order) in
+    let f = forgets g.met.K.Eq.laws c.args.hash c.args.key.now c.self.invariant hashed (sym (ap found_place c.in-Remembered.is) ∙ placed) c.unlink.ensures.whole c.unlink.ensures.order in
     rw c.forget.ensures.forgotten f.whole
 
 pub returns : goal.returns
@@ -46,5 +46,5 @@ returns g c =
     let gone : c.forget.new.self ≡ forgotten_at c.args.hash c.in-Remembered.place c.self.inside.index = c.forget.ensures.forgotten in
     let hashed = rw (← c.self.view_is) at c.requires.hash in
     let placed = rw (← c.self.view_is) at c.requires.place in
-    let f = forgets g.met.K.Eq.laws c.args.hash c.args.key.now c.self.invariant hashed (sym (ap found_place c.in-Remembered.is) ∙ placed) c.unlink.ensures.whole (rw c.number.ensures.number at c.unlink.ensures.order) in
+    let f = forgets g.met.K.Eq.laws c.args.hash c.args.key.now c.self.invariant hashed (sym (ap found_place c.in-Remembered.is) ∙ placed) c.unlink.ensures.whole c.unlink.ensures.order in
     rw (← c.self.view_is, gone) (record { found = sym f.found; forgotten = f.forgotten; kept = refl; places = f.places; accesses = f.accesses })

@@ -5,7 +5,7 @@ use Rattle.std.proofs.lemmas.Bool.{cases_Bool}
 use Rattle.clock2q_handles.specs.Homes.{candidates}
 use Rattle.clock2q_handles.specs.Positions.{GapValue}
 use Rattle.clock2q_queues.specs.Cells.{Rises}
-use Rattle.clock2q_directory.specs.declared.found.Found.{Found}
+use Rattle.clock2q_directory.specs.declared.handle.Found.{Found}
 use Rattle.clock2q_directory.specs.Index.{IsGapFor, is_shared, slots, places, slots_among, places_among}
 use Rattle.clock2q_directory.specs.Keys.{is_key_at, entries_of}
 use Rattle.clock2q_directory.specs.History.{place_of, found_slot, found_place, found_gap}
@@ -24,7 +24,7 @@ module _ (g : Over) (c : After-look_among-found g) where
   resident = is_key_at g.K.PartialEq.eq c.args.key.now c.self.inside.residents.entries
 
   abbrev remembered : ℕ → Bool
-  remembered = is_key_at g.K.PartialEq.eq c.args.key.now c.self.inside.remembered.entries
+  remembered = is_key_at g.K.PartialEq.eq c.args.key.now c.self.inside.history.keys.entries
 
   first : IsFirst resident remembered c.handles.result.end c.handles.result.left found
   first = rw c.look_among-found.ensures.found (first-known _ _ _ c.handles.result.left)
@@ -41,7 +41,7 @@ module _ (g : Over) (c : After-look_among-found g) where
 
   -- the place of the key, among the remembered ones
   known-place : is_shared c.self.inside.index ≡ true → found_slot found ≡ None
-      → found_place found ≡ place_of (g.K.PartialEq.eq c.args.key.now) (map (λ e. e.1) (entries_of c.self.inside.remembered.entries c.self.inside.order.places)) c.self.inside.order.places
+      → found_place found ≡ place_of (g.K.PartialEq.eq c.args.key.now) (map (λ e. e.1) (entries_of c.self.inside.history.keys.entries c.self.inside.history.order.places)) c.self.inside.history.order.places
   known-place shared none =
       first.place none ∙ ap (λ z. find remembered z) (places-left shared)
       ∙ sym (placed g.met.K.Eq.laws c.args.hash c.args.key.now c.self.invariant (rw (← c.self.view_is) at c.requires.hash))
@@ -67,7 +67,7 @@ module _ (g : Over) (c : After-look_among-found g) where
   known-compared : Rises 0 (length (candidates (slots c.self.inside.index) c.args.hash)) c.self.inside.residents.comparisons c.look_among-found.new.residents.comparisons
   known-compared = (c.look_among-found.ensures.compared.0, omega (arith, c.look_among-found.ensures.compared.1, ap length slots-left))
 
-  known-comparisons : Rises 0 (length (candidates (places c.self.inside.index) c.args.hash)) c.self.inside.remembered.comparisons c.look_among-found.new.remembered.comparisons
+  known-comparisons : Rises 0 (length (candidates (places c.self.inside.index) c.args.hash)) c.self.inside.history.keys.comparisons c.look_among-found.new.remembered.comparisons
   known-comparisons = (c.look_among-found.ensures.comparisons.0, omega (arith, c.look_among-found.ensures.comparisons.1, places-most))
 
 pub look_among-found-requires-clause-slots : goal.look_among-found-requires-clause-slots

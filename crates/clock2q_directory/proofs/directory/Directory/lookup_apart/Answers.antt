@@ -1,4 +1,4 @@
-use Rattle.std.proofs.Common.{◌≡◌, false, Some, ap, sym, ◌∙◌}
+use Rattle.std.proofs.Common.{◌≡◌, false, ap, sym, ◌∙◌}
 use Rattle.clock2q_directory.specs.Index.{is_shared, slots_among}
 use Rattle.clock2q_directory.specs.Keys.{KeyPlaces}
 use Rattle.clock2q_directory.specs.Directory.{Known}
@@ -22,7 +22,7 @@ returns-clause-place g c =
     let counted = ap (λ (z : KeyPlaces _ _). z.comparisons) c.find.ensures.counted in
     let r = searched g.met.K.Eq.laws c.args.hash c.args.key.now c.self.invariant hashed places c.find.ensures.found counted in
     let found : found_place c.match-find.result ≡ c.find.result = elim c.match-find.branch [
-      | in-Some w ↦ ap found_place w.result-is ∙ ap (λ p. Some p) w.new.ensures.place ∙ sym w.in-Some.is
+      | in-Some w ↦ ap found_place w.result-is ∙ sym w.in-Some.is
       | in-None w ↦ ap found_place w.result-is ∙ sym w.in-None.is
     ] in
     rw (← c.self.view_is) (found ∙ r.0)

@@ -15,16 +15,16 @@ invariant_of-self g c =
 
 pub invariant_of-self-2 : goal.invariant_of-self-2
 invariant_of-self-2 g c =
-    let put = c.put_key-place.ensures in
+    let put = c.push-retired.ensures in
     let may = may-retire (rw (← c.self.view_is) at c.requires.resident) c.hash-hash.ensures.hash ((rw (← c.self.view_is) at c.requires.absent) _ c.key-key.ensures.key) in
-    let r = remembers c.self.invariant put.made put.written put.whole may in
+    let r = remembers c.self.invariant (put.made c.self.inside.index c.self.invariant.indexed) put.written put.whole may in
     rw (c.remember.ensures.remembered, c.forget.ensures.forgotten) r.whole
 
 pub returns-clause-retired : goal.returns-clause-retired
 returns-clause-retired g c =
-    let put = c.put_key-place.ensures in
+    let put = c.push-retired.ensures in
     let may = may-retire (rw (← c.self.view_is) at c.requires.resident) c.hash-hash.ensures.hash ((rw (← c.self.view_is) at c.requires.absent) _ c.key-key.ensures.key) in
-    let r = remembers c.self.invariant put.made put.written put.whole may in
+    let r = remembers c.self.invariant (put.made c.self.inside.index c.self.invariant.indexed) put.written put.whole may in
     rw (← c.self.view_is, c.remember.ensures.remembered, c.forget.ensures.forgotten) (record {
       hash = c.hash-hash.result;
       had_hash = c.hash-hash.ensures.hash;

@@ -1,6 +1,6 @@
 use Rattle.std.proofs.Common.{ap, sym, ◌∙◌, subst, arith}
 use Rattle.std.specs.Prelude.{IsSome}
-use Rattle.clock2q_directory.specs.declared.found.Found.{Found}
+use Rattle.clock2q_directory.specs.declared.handle.Found.{Found}
 use Rattle.clock2q_directory.specs.History.{first_known}
 use Rattle.clock2q_directory.specs.Keys.{is_key_at}
 use Rattle.clock2q_directory.proofs.Looking.{looks-next, resident-there, resident-found, place-there, place-found}
@@ -24,18 +24,18 @@ returns-then-key_equals-clause-compared g c =
 
 pub key_equals-requires-in-Remembered : goal.key_equals-requires-in-Remembered
 key_equals-requires-in-Remembered g c =
-    record { used = rw (c.number.ensures.number, ap (λ r. r.entries) c.loop-handle.invariant.remembered) (place-there _ _ _ (looks-next _ _ _ c.loop-handle.invariant.looks (sym c.in-Ok.ensures.candidate)) c.in-Remembered.ensures.unpacked) }
+    record { used = rw (ap (λ r. r.entries) c.loop-handle.invariant.remembered) (place-there _ _ _ (looks-next _ _ _ c.loop-handle.invariant.looks (sym c.in-Ok.ensures.candidate)) c.in-Remembered.ensures.unpacked) }
 
 pub returns-then-key_equals-2-clause-found : goal.returns-then-key_equals-2-clause-found
 returns-then-key_equals-2-clause-found g c =
     let is = c.key_equals-in-Remembered.ensures in
-    let it = sym c.if-key_equals-2.true ∙ (rw c.number.ensures.number at is.value) ∙ ap (λ r. is_key_at g.K.PartialEq.eq c.args.key.now r.entries c.in-Remembered.place) c.loop-handle.invariant.remembered in
+    let it = sym c.if-key_equals-2.true ∙ is.value ∙ ap (λ r. is_key_at g.K.PartialEq.eq c.args.key.now r.entries c.in-Remembered.place) c.loop-handle.invariant.remembered in
     (place-found _ _ _ (looks-next _ _ _ c.loop-handle.invariant.looks (sym c.in-Ok.ensures.candidate)) c.in-Remembered.ensures.unpacked it).0
 
 pub returns-then-key_equals-2-clause-comparisons : goal.returns-then-key_equals-2-clause-comparisons
 returns-then-key_equals-2-clause-comparisons g c =
     let is = c.key_equals-in-Remembered.ensures in
-    let it = sym c.if-key_equals-2.true ∙ (rw c.number.ensures.number at is.value) ∙ ap (λ r. is_key_at g.K.PartialEq.eq c.args.key.now r.entries c.in-Remembered.place) c.loop-handle.invariant.remembered in
+    let it = sym c.if-key_equals-2.true ∙ is.value ∙ ap (λ r. is_key_at g.K.PartialEq.eq c.args.key.now r.entries c.in-Remembered.place) c.loop-handle.invariant.remembered in
     let on = looks-next _ _ _ c.loop-handle.invariant.looks (sym c.in-Ok.ensures.candidate) in
     let counted = ap (λ r. r.comparisons) is.counted in
     (omega (arith, on.comparisons_from, counted), omega (arith, (place-found _ _ _ on c.in-Remembered.ensures.unpacked it).2, counted))

@@ -29,4 +29,4 @@ remove_existing-requires-else-is_shared g c =
     let v = index_of c.self.inside.shared c.self.inside.own c.self.inside.charged.total in
     let own = ap is_shared c.self.view_is ∙ sym c.is_shared-is_shared.ensures.shared ∙ c.if-is_shared.false in
     let held = rw (← c.self.view_is, c.in-Some.is) at c.requires.held in
-    rw c.number.ensures.number (record { held = held_own v c.in-Some.hash c.args.place own held })
+    record { held = held_own v c.in-Some.hash c.args.place own held }

@@ -1,8 +1,9 @@
-use Rattle.std.proofs.Common.{◌≡◌, true, false, rules, ap, sym, ◌∙◌, arith}
+use Rattle.std.proofs.Common.{◌≡◌, true, false, ap, sym, ◌∙◌, arith}
 use Rattle.clock2q_handles.specs.Layout.{run}
+use Rattle.clock2q_handles.proofs.Changes.{length-with_list}
 use Rattle.clock2q_directory.specs.Index.{index_of, index_state, is_shared}
 use Rattle.clock2q_directory.proofs.Views.{held_entry}
-use Rattle.clock2q_directory.proofs.Sorted.{sorted-remembered}
+use Rattle.clock2q_directory.proofs.Sorted.{sorted-remembered, sorted-shared}
 use Rattle.clock2q_directory.proofs.index.Index.remember.Goals as goal
 
 pub replace_handle-requires : goal.replace_handle-requires
@@ -17,7 +18,7 @@ invariant_of-self g c =
     let shared : is_shared (index_state c.self.inside.shared.homes c.self.inside.own.homes) ≡ true =
     ap is_shared c.self.view_is ∙ sym c.is_shared-is_shared.ensures.shared ∙ c.if-is_shared.true in
     record {
-      sorted = search rules;
+      sorted = grind (arith, length-with_list, sorted-shared, e.handle_replaced, shared, i.sorted);
       shared_laid = e.laid.laid;
       own_laid = i.own_laid;
       counted = omega (arith, i.counted, rw shared at c.charge.ensures.charged, e.reads.1, e.writes);
@@ -36,7 +37,7 @@ invariant_of-self-else-is_shared g c =
     let own : is_shared (index_state c.self.inside.shared.homes c.self.inside.own.homes) ≡ false =
     ap is_shared c.self.view_is ∙ sym c.is_shared-is_shared.ensures.shared ∙ c.if-is_shared.false in
     record {
-      sorted = rw (s.removed, o.put, c.number.ensures.number) (sorted-remembered c.args.hash c.args.slot c.args.place c.requires.held.below i.sorted);
+      sorted = rw (s.removed, o.put) (sorted-remembered c.args.hash c.args.slot c.args.place c.requires.held.below i.sorted);
       shared_laid = s.laid.laid;
       own_laid = o.laid.laid;
       counted = omega (

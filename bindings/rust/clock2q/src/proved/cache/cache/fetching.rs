@@ -3,7 +3,7 @@
 use crate::proved::cache::cache::Cache;
 use crate::proved::cache::entered::Entered;
 use crate::proved::count::GhostValue;
-use crate::proved::directory::found::Found;
+use crate::proved::directory::handle::Found;
 use crate::proved::rattle::Allocator;
 use core::hash::{BuildHasher, Hash};
 

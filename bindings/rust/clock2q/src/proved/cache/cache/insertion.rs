@@ -1,19 +1,46 @@
 // Written by bindings/rust/erase from crates/clock2q_cache/src/cache/insertion.rt; change that, and run erase.
 //! Insertion of a key that is not resident.
+
+use crate::proved::rattle::Vec;
 use crate::proved::cache::cache::Cache;
-use crate::proved::cache::vacancies::take_vacancy;
-use crate::proved::directory::found::Found;
-use crate::proved::handles::Gap;
+use crate::proved::directory::handle::Found;
+use crate::proved::directory::newcomer::Newcomer;
 use crate::proved::rattle::Allocator;
 use core::hash::{BuildHasher, Hash};
+
+/// The queue that a new resident goes into.
+#[derive(Clone, Copy)]
+pub(super) enum Admission {
+    /// Small, as its newest slot.
+    Small,
+    /// Main, just before the hand.
+    Main,
+}
+
+impl Admission {
+    /// Returns Main if a key goes there, and Small otherwise.
+    #[inline]
+    fn main_if(goes: bool) -> Self {
+        if goes {
+            Admission::Main
+        } else {
+            Admission::Small
+        }
+    }
+}
 
 impl<K: Hash + Eq, V, S: BuildHasher, A: Allocator> Cache<K, V, S, A> {
     /// Inserts a key that is not resident, for which a lookup found `found`.
     #[inline]
     pub(crate) fn insert(&mut self, hash: u64, key: K, value: V, found: Found) -> u32 {
-        let main = self.choose_queue(hash, &key, &found);
-        self.insert_unknown(found.gap(), hash, key, Some(value), main, |_| ())
-            .0
+        let admission = self.choose_queue(hash, &key, &found);
+        let newcomer = Newcomer {
+            gap: found.gap(),
+            hash,
+            key,
+            value: Some(value),
+        };
+        self.insert_unknown(newcomer, admission, |_| ()).0
     }
 
     /// Inserts a key that is not resident, whether or not the history has it. A slot that was made
@@ -28,44 +55,54 @@ impl<K: Hash + Eq, V, S: BuildHasher, A: Allocator> Cache<K, V, S, A> {
         make: F,
     ) -> (u32, bool) {
         let found = self.find_place(hash, &key);
-        let main = self.choose_queue(hash, &key, &found);
-        let value = self.makes_slot(main).then(make);
-        let (slot, left) = self.insert_unknown(found.gap(), hash, key, value, main, |_| ());
+        let admission = self.choose_queue(hash, &key, &found);
+        let value = self.makes_slot(admission).then(make);
+        let newcomer = Newcomer {
+            gap: found.gap(),
+            hash,
+            key,
+            value,
+        };
+        let (slot, left) = self.insert_unknown(newcomer, admission, |_| ());
         (slot, left.is_some())
     }
 
-    /// Inserts a key that is not known into Main or into Small. A lookup may have found the gap for
-    /// its hash. If a resident leaves, `leaves` is called with its key, and what it returns comes back
-    /// beside the slot.
+    /// Inserts a key that is not known into the queue that was chosen. If a resident leaves, `leaves`
+    /// is called with its key, and what it returns comes back beside the slot.
     #[inline]
     pub(super) fn insert_unknown<R, F: FnOnce(&K) -> R>(
         &mut self,
-        gap: Option<Gap>,
-        hash: u64,
-        key: K,
-        value: Option<V>,
-        main: bool,
+        newcomer: Newcomer<K, V>,
+        admission: Admission,
         leaves: F,
     ) -> (u32, Option<R>) {
-        if main {
-            if self.main_is_full() {
-                self.replace_victim(gap, hash, key, value, leaves)
-            } else {
-                (self.join(gap, hash, key, value, true), None)
+        match admission {
+            Admission::Main => {
+                if self.main_is_full() {
+                    self.replace_victim(newcomer, leaves)
+                } else {
+                    (self.join(newcomer, Admission::Main), None)
+                }
             }
-        } else if self.has_vacancy() {
-            (self.join(gap, hash, key, value, false), None)
-        } else if self.tail_is_promoted() {
-            self.promote_tail(gap, hash, key, value, leaves)
-        } else {
-            self.evict_tail(gap, hash, key, value, leaves)
+            Admission::Small => {
+                if self.has_vacancy() {
+                    (self.join(newcomer, Admission::Small), None)
+                } else if self.tail_is_promoted() {
+                    self.promote_tail(newcomer, leaves)
+                } else {
+                    self.replace_tail(newcomer, leaves)
+                }
+            }
         }
     }
 
-    /// Returns true if a slot is made for a key that goes into Main or into Small.
+    /// Returns true if a slot is made for a key that goes into this queue.
     #[inline]
-    pub(super) fn makes_slot(&self, main: bool) -> bool {
-        self.next_is_vacant() && !(main && self.main_is_full())
+    pub(super) fn makes_slot(&self, admission: Admission) -> bool {
+        match admission {
+            Admission::Main => self.next_is_vacant() && !self.main_is_full(),
+            Admission::Small => self.next_is_vacant(),
+        }
     }
 
     /// Returns true if no slot is free and one was never made.
@@ -87,45 +124,46 @@ impl<K: Hash + Eq, V, S: BuildHasher, A: Allocator> Cache<K, V, S, A> {
     }
 
     /// Chooses the queue for a key that is not resident, for which a lookup found `found`, and erases
-    /// the key from the history. Returns true for Main.
+    /// the key from the history.
     #[inline]
-    pub(super) fn choose_queue(&mut self, hash: u64, key: &K, found: &Found) -> bool {
+    pub(super) fn choose_queue(&mut self, hash: u64, key: &K, found: &Found) -> Admission {
         if self.forget(hash, key, found) {
-            return true;
+            return Admission::Main;
         }
         let share = self.shares.small();
         if self.has_vacancy() {
-            return share <= self.queues.small_len();
+            return Admission::main_if(share <= self.queues.small_len());
         }
-        share == 0
+        Admission::main_if(share == 0)
     }
 
     /// Inserts a key into a full Main, in place of its victim.
     #[inline]
     fn replace_victim<R, F: FnOnce(&K) -> R>(
         &mut self,
-        gap: Option<Gap>,
-        hash: u64,
-        key: K,
-        value: Option<V>,
+        newcomer: Newcomer<K, V>,
         leaves: F,
     ) -> (u32, Option<R>) {
         let victim = self.queues.reuse_victim();
-        let old = self.directory.renew(gap, victim, hash, key, value);
+        let old = self.directory.replace(victim, newcomer);
         (victim, Some(leaves(&old.1)))
     }
 
-    /// Inserts a key into Main or into Small, which has room, at a vacancy.
+    /// Inserts a key into a queue that has room, at a vacancy.
     #[inline(always)]
-    fn join(&mut self, gap: Option<Gap>, hash: u64, key: K, value: Option<V>, main: bool) -> u32 {
+    fn join(&mut self, newcomer: Newcomer<K, V>, admission: Admission) -> u32 {
         let slot = take_vacancy(&mut self.free, self.directory.made());
-        self.directory.enter(gap, slot, hash, key, value);
-        if main {
-            self.queues.append(slot);
-            return slot;
+        self.directory.enter(slot, newcomer);
+        match admission {
+            Admission::Main => {
+                self.queues.append(slot);
+                slot
+            }
+            Admission::Small => {
+                self.queues.admit(slot);
+                slot
+            }
         }
-        self.queues.admit(slot);
-        slot
     }
 
     /// Returns true if Small's tail moves on to Main.
@@ -136,17 +174,14 @@ impl<K: Hash + Eq, V, S: BuildHasher, A: Allocator> Cache<K, V, S, A> {
 
     /// Inserts a key into Small in the slot of its tail, which is evicted and remembered.
     #[inline]
-    fn evict_tail<R, F: FnOnce(&K) -> R>(
+    fn replace_tail<R, F: FnOnce(&K) -> R>(
         &mut self,
-        gap: Option<Gap>,
-        hash: u64,
-        key: K,
-        value: Option<V>,
+        newcomer: Newcomer<K, V>,
         leaves: F,
     ) -> (u32, Option<R>) {
         let tail = self.queues.reuse_tail();
         let left = leaves(self.directory.key(tail));
-        self.directory.remember(gap, tail, hash, key, value);
+        self.directory.replace_remembering(tail, newcomer);
         (tail, Some(left))
     }
 
@@ -154,10 +189,7 @@ impl<K: Hash + Eq, V, S: BuildHasher, A: Allocator> Cache<K, V, S, A> {
     #[inline]
     fn promote_tail<R, F: FnOnce(&K) -> R>(
         &mut self,
-        gap: Option<Gap>,
-        hash: u64,
-        key: K,
-        value: Option<V>,
+        newcomer: Newcomer<K, V>,
         leaves: F,
     ) -> (u32, Option<R>) {
         let slot = self.queues.take_victim();
@@ -166,8 +198,18 @@ impl<K: Hash + Eq, V, S: BuildHasher, A: Allocator> Cache<K, V, S, A> {
             unreachable!()
         };
         self.queues.append(tail);
-        let old = self.directory.renew(gap, slot, hash, key, value);
+        let old = self.directory.replace(slot, newcomer);
         self.queues.admit(slot);
         (slot, Some(leaves(&old.1)))
+    }
+}
+
+/// Returns the slot for a new resident: the one that was freed last, otherwise the lowest that has
+/// no value yet.
+#[inline]
+fn take_vacancy<A: Allocator>(free: &mut Vec<u32, A>, made: usize) -> u32 {
+    match free.pop() {
+        Some(slot) => slot,
+        None => made as u32,
     }
 }

@@ -1,8 +1,9 @@
 // Written by bindings/rust/erase from crates/clock2q_cache/src/cache/removal.rt; change that, and run erase.
-//! Removal of residents: one by its key, or all that a closure rejects.
+//! Removal of one key, of those that a closure picks, and of all.
+
+use crate::proved::rattle::Vec;
 use crate::proved::cache::cache::Cache;
-use crate::proved::cache::vacancies::free_slot;
-use crate::proved::directory::found::Found;
+use crate::proved::directory::handle::Found;
 use crate::proved::rattle::Allocator;
 use core::hash::{BuildHasher, Hash};
 
@@ -77,4 +78,25 @@ impl<K: Hash + Eq, V, S: BuildHasher, A: Allocator> Cache<K, V, S, A> {
         self.queues.leave(slot);
         free_slot(&mut self.free, slot);
     }
+}
+
+impl<K: Hash + Eq, V, S: BuildHasher, A: Allocator> Cache<K, V, S, A> {
+    /// Removes every key with its value, and the history. The cache is then as new, but keeps its
+    /// memory.
+    ///
+    /// # Cost
+    ///
+    /// Time in proportion to the capacity: one access to each slot of the index. No key is hashed.
+    #[inline]
+    pub fn clear(&mut self) {
+        self.directory.clear();
+        self.queues.clear();
+        self.free.clear();
+    }
+}
+
+/// Adds a slot to the free ones. It is the next to be taken.
+#[inline]
+pub(super) fn free_slot<A: Allocator>(free: &mut Vec<u32, A>, slot: u32) {
+    free.push_reserved(slot);
 }

@@ -1,13 +1,8 @@
 // Written by bindings/rust/erase from crates/clock2q_directory/src/directory/changes.rt; change that, and run erase.
 //! What happens to a key: it enters, leaves, is remembered or forgotten.
-
 use crate::proved::directory::directory::Directory;
-use crate::proved::directory::found::Found;
-use crate::proved::directory::index::Index;
-use crate::proved::directory::keys::Keys;
-use crate::proved::directory::place::Place;
-use crate::proved::handles::Gap;
-use crate::proved::queues::order::Order;
+use crate::proved::directory::handle::Found;
+use crate::proved::directory::newcomer::Newcomer;
 use crate::proved::rattle::Allocator;
 
 impl<K: Eq, V, A: Allocator> Directory<K, V, A> {
@@ -35,19 +30,13 @@ impl<K: Eq, V, A: Allocator> Directory<K, V, A> {
     {
         let key = *self.residents.key(slot);
         let hash = self.residents.hash(slot);
-        if self.order.limit() == 0 {
+        if self.history.order.limit() == 0 {
             self.index.remove_slot(hash, slot);
             return key;
         }
-        let (place, oldest) = put_key(
-            &self.index,
-            &mut self.order,
-            &mut self.remembered,
-            hash,
-            key,
-        );
-        self.index.forget(oldest, place);
-        self.index.remember(hash, slot, place);
+        let retired = self.history.push(hash, key);
+        self.index.forget(retired.oldest, retired.place);
+        self.index.remember(hash, slot, retired.place);
         key
     }
 
@@ -56,12 +45,12 @@ impl<K: Eq, V, A: Allocator> Directory<K, V, A> {
     #[inline]
     pub fn forget(&mut self, hash: u64, key: &K, found: &Found) -> bool {
         let _ = key;
-        let _ = self.order.len();
+        let _ = self.history.order.len();
         let Found::Remembered(place) = *found else {
             return false;
         };
         self.index.forget(Some(hash), place);
-        self.order.unlink(place.number());
+        self.history.order.unlink(place);
         true
     }
 
@@ -74,73 +63,57 @@ impl<K: Eq, V, A: Allocator> Directory<K, V, A> {
     pub fn clear(&mut self) {
         self.residents.clear();
         self.index.clear();
-        self.order.clear();
-        self.remembered.clear();
+        self.history.order.clear();
+        self.history.keys.clear();
     }
 }
 
 impl<K: Eq, V, A: Allocator> Directory<K, V, A> {
     /// Makes a key the resident of a slot that has none, with a new value, or with the one that the
-    /// slot had. A lookup may have found the gap for its hash.
+    /// slot had.
     #[inline(always)]
-    pub fn enter(&mut self, gap: Option<Gap>, slot: u32, hash: u64, key: K, value: Option<V>) {
+    pub fn enter(&mut self, slot: u32, newcomer: Newcomer<K, V>) {
+        let Newcomer {
+            gap,
+            hash,
+            key,
+            value,
+        } = newcomer;
         self.residents.put(slot, hash, key, value);
         self.index.add_slot(gap, hash, slot);
     }
 
     /// Makes a key the resident of a slot in place of another, which is no longer known, with a new
     /// value, or with the one that the slot had. Returns the other's hash and key.
-    #[inline]
-    pub fn renew(
-        &mut self,
-        gap: Option<Gap>,
-        slot: u32,
-        hash: u64,
-        key: K,
-        value: Option<V>,
-    ) -> (u64, K) {
-        let old = self.residents.refill(slot, hash, key, value);
-        self.index.renew(gap, hash, slot, old.0);
+    #[inline(always)]
+    pub fn replace(&mut self, slot: u32, newcomer: Newcomer<K, V>) -> (u64, K) {
+        let Newcomer {
+            gap,
+            hash,
+            key,
+            value,
+        } = newcomer;
+        let old = self.residents.replace(slot, hash, key, value);
+        self.index.replace(gap, hash, slot, old.0);
         old
     }
 
     /// Makes a key the resident of a slot in place of another, which is remembered as the newest.
     /// If the history is full, the oldest remembered key is forgotten.
-    #[inline]
-    pub fn remember(&mut self, gap: Option<Gap>, slot: u32, hash: u64, key: K, value: Option<V>) {
-        let (old_hash, old_key) = self.residents.refill(slot, hash, key, value);
-        if self.order.limit() == 0 {
-            self.index.renew(gap, hash, slot, old_hash);
+    #[inline(always)]
+    pub fn replace_remembering(&mut self, slot: u32, newcomer: Newcomer<K, V>) {
+        let Newcomer {
+            gap,
+            hash,
+            key,
+            value,
+        } = newcomer;
+        let (old_hash, old_key) = self.residents.replace(slot, hash, key, value);
+        if self.history.order.limit() == 0 {
+            self.index.replace(gap, hash, slot, old_hash);
             return;
         }
-        let (place, oldest) = put_key(
-            &self.index,
-            &mut self.order,
-            &mut self.remembered,
-            old_hash,
-            old_key,
-        );
-        self.index.succeed(gap, hash, slot, old_hash, place, oldest);
+        let retired = self.history.push(old_hash, old_key);
+        self.index.replace_remembering(gap, hash, slot, retired);
     }
-}
-
-/// Writes a key to a place at the front: to a free one, or, if every place has a key, to the oldest
-/// key's. Then it also returns the hash of that key, which the index still has.
-#[inline(always)]
-fn put_key<K, A: Allocator>(
-    index: &Index<A>,
-    order: &mut Order<A>,
-    keys: &mut Keys<K, (), A>,
-    hash: u64,
-    key: K,
-) -> (Place, Option<u64>) {
-    let _ = index;
-    if order.len() < order.limit() {
-        let place = Place::new(order.push());
-        keys.write(place.number(), hash, key, ());
-        return (place, None);
-    }
-    let place = Place::new(order.reuse_oldest());
-    let (oldest_hash, _) = keys.refill(place.number(), hash, key, Some(()));
-    (place, Some(oldest_hash))
 }

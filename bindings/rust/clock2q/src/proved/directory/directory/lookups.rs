@@ -2,10 +2,8 @@
 //! Where a key is: lookups of residents and of remembered keys.
 
 use crate::proved::directory::directory::Directory;
-use crate::proved::directory::found::Found;
-use crate::proved::directory::handle::Handle;
+use crate::proved::directory::handle::{Found, Handle};
 use crate::proved::directory::keys::Keys;
-use crate::proved::directory::place::Place;
 use crate::proved::count::Count;
 use crate::proved::handles::{Candidates, Gap};
 use crate::proved::rattle::Allocator;
@@ -19,7 +17,7 @@ impl<K: Eq, V, A: Allocator> Directory<K, V, A> {
             self.index.handles(hash),
             key,
             &mut self.residents,
-            &mut self.remembered,
+            &mut self.history.keys,
         );
         match found {
             // checked late, since most keys are found in the table of the slots
@@ -32,8 +30,8 @@ impl<K: Eq, V, A: Allocator> Directory<K, V, A> {
     /// their own. The lookup of the residents found the gap, and was charged for both.
     #[inline]
     fn lookup_apart(&mut self, gap: Option<Gap>, hash: u64, key: &K) -> Found {
-        match self.remembered.find(self.index.own_places(hash), key) {
-            Some(place) => Found::Remembered(Place::new(place)),
+        match self.history.keys.find(self.index.own_places(hash), key) {
+            Some(place) => Found::Remembered(place),
             None => Found::Absent(gap),
         }
     }
@@ -50,15 +48,13 @@ impl<K: Eq, V, A: Allocator> Directory<K, V, A> {
     /// Returns the place of a remembered key, and counts each comparison. Slots are skipped. The
     /// index is charged one lookup.
     #[inline]
-    pub fn find_remembered(&mut self, hash: u64, key: &K) -> Option<Place> {
+    pub fn find_remembered(&mut self, hash: u64, key: &K) -> Option<u32> {
         self.index.charge_lookup(hash);
         if self.index.is_shared() {
-            return self
-                .remembered
-                .find_remembered(self.index.handles(hash), key);
+            let handles = self.index.handles(hash);
+            return self.history.keys.find_remembered(handles, key);
         }
-        let place = self.remembered.find(self.index.own_places(hash), key)?;
-        Some(Place::new(place))
+        self.history.keys.find(self.index.own_places(hash), key)
     }
 
     /// Returns the slot of a resident key. It counts no comparison, and charges the index nothing.
@@ -99,7 +95,7 @@ fn look_among<K: Eq, V, A: Allocator>(
                 }
             }
             Handle::Remembered(place) => {
-                if remembered.key_equals(place.number(), key) {
+                if remembered.key_equals(place, key) {
                     return Found::Remembered(place);
                 }
             }

@@ -16,7 +16,7 @@ pub struct Entry<K, V> {
 /// A key at each place, with its hash and a value. Places are numbered from 0, in the order in
 /// which they are first used.
 ///
-/// One function compares keys, and counts each comparison. Three functions write keys, and count each
+/// One function compares keys, and counts each comparison. Two functions write keys, and count each
 /// write.
 ///
 /// # Example
@@ -24,11 +24,11 @@ pub struct Entry<K, V> {
 /// ```
 /// # #![allow(unused)]
 /// # use clock2q::proved::rattle::Global;
-/// # use clock2q::proved::directory::{directory::Directory, handle::Handle, index::Index, keys::Keys, place::Place};
+/// # use clock2q::proved::directory::{directory::Directory, handle::Handle, index::Index, keys::Keys, newcomer::Newcomer};
 /// let mut keys: Keys<u64, u64> = Keys::new(Global, 2)?;
 /// keys.push(7, 70, 700);
 /// assert!(keys.key_equals(0, &70));
-/// assert_eq!(keys.replace(0, 9, 90), (7, 70));
+/// assert_eq!(keys.replace(0, 9, 90, None), (7, 70));
 /// assert_eq!(*keys.key(0), 90);
 /// assert_eq!(*keys.value(0), 700);
 /// # Ok::<(), Box<dyn std::error::Error>>(())
@@ -98,16 +98,6 @@ impl<K, V, A: Allocator> Keys<K, V, A> {
         self.entries.push_reserved(Entry { hash, key, value });
     }
 
-    /// Replaces the key and the hash at a place, and returns the old ones. The value stays.
-    #[inline]
-    pub fn replace(&mut self, place: u32, hash: u64, key: K) -> (u64, K) {
-        self.writes.tick();
-        let entry = &mut self.entries[place as usize];
-        let old_hash = mem::replace(&mut entry.hash, hash);
-        let old_key = mem::replace(&mut entry.key, key);
-        (old_hash, old_key)
-    }
-
     /// Drops every key and value. No place has a key afterwards.
     #[inline]
     pub fn clear(&mut self) {
@@ -119,11 +109,14 @@ impl<K, V, A: Allocator> Keys<K, V, A> {
     /// Writes a key over the one at a place, and returns the old hash and key. Without a value, the
     /// place keeps the one that it has.
     #[inline]
-    pub fn refill(&mut self, place: u32, hash: u64, key: K, value: Option<V>) -> (u64, K) {
-        let Some(value) = value else {
-            return self.replace(place, hash, key);
-        };
+    pub fn replace(&mut self, place: u32, hash: u64, key: K, value: Option<V>) -> (u64, K) {
         self.writes.tick();
+        let Some(value) = value else {
+            let entry = &mut self.entries[place as usize];
+            let old_hash = mem::replace(&mut entry.hash, hash);
+            let old_key = mem::replace(&mut entry.key, key);
+            return (old_hash, old_key);
+        };
         let entry = Entry { hash, key, value };
         let old = mem::replace(&mut self.entries[place as usize], entry);
         (old.hash, old.key)

@@ -1,7 +1,0 @@
-use Rattle.std.proofs.Common.{rules}
-use Rattle.clock2q_cache.specs.Hashes.{hash_of}
-use Rattle.clock2q_cache.proofs.hashes.hash_of.Goals as goal
-
-pub returns : goal.returns
-unfolding hash_of
-returns g c = search rules

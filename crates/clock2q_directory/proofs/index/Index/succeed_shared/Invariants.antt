@@ -1,9 +1,0 @@
-use Rattle.std.specs.Prelude.{◌-◌}
-use Rattle.clock2q_directory.specs.Index.{index_of, entered_from, forgotten_if, remembered_at}
-use Rattle.clock2q_directory.proofs.index.Index.succeed_shared.Given as goal
-
-abbrev pub ghost-charge : goal.ghost-charge
-ghost-charge g a =
-    let (hash, old_hash, place, oldest, is_found) = a._seen.now in
-    let index = index_of a._shared.now a._own.now a.charged.now.total in
-    (entered_from index is_found hash 0 (remembered_at old_hash 0 place (forgotten_if oldest place index))).accesses - a.charged.now.total
