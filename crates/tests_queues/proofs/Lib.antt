@@ -2,3 +2,4 @@ mod Either
 mod Filling
 mod Gaps
 mod Residents
+mod Replacing
