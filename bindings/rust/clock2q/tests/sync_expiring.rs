@@ -28,6 +28,15 @@ fn threads_see_nothing_past_its_time() {
     let work = |thread: u64| {
         let mut draws = Draws(thread + 1);
         let mut inserted = 0;
+        // The moment at which a value's time is over, for the thread that turns the clock: for any other it may be
+        // turned before the value is inserted.
+        let over = || {
+            if thread == 0 {
+                clock.now() + time
+            } else {
+                Duration::MAX
+            }
+        };
         for _ in 0..(calls() / 50).max(2000) {
             let key = draws.below(200);
             let before = clock.now();
@@ -44,15 +53,13 @@ fn threads_see_nothing_past_its_time() {
                 13..=15 => {
                     let end = cache.get_or_insert_with(key, || {
                         inserted += 1;
-                        clock.now() + time
+                        over()
                     });
                     assert!(end > before);
                 }
                 _ => {
                     inserted += 1;
-                    assert!(cache
-                        .insert(key, clock.now() + time)
-                        .map_or(true, |end| end > before));
+                    assert!(cache.insert(key, over()).map_or(true, |end| end > before));
                 }
             }
         }
