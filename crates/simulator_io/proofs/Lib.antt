@@ -1,4 +1,5 @@
 mod Amounts
+mod AskedOptions
 pub mod Bytes
 mod FieldByField
 mod KeyBytes

@@ -1,4 +1,5 @@
 pub mod Amounts
+pub mod AskedOptions
 pub mod ByteAmounts
 pub mod Bytes
 pub mod ChosenShares
