@@ -6,6 +6,7 @@ mod KeyBytes
 mod KnownKeys
 mod LineByLine
 mod Numbering
+mod OncePerKey
 mod PolicyNames
 pub mod RecordByRecord
 mod Sampling

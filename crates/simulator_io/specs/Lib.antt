@@ -14,4 +14,5 @@ pub mod Reading
 pub mod Sample
 pub mod SimulationError
 pub mod Trace
+pub mod Uses
 pub mod Written
