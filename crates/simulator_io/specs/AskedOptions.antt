@@ -1,5 +1,5 @@
 -- What the options among the arguments choose.
-use Rattle.std.specs.Prelude.{◌≡◌, ℕ, zero, suc, ◌+◌, Bool, true, false, ◌==◌, ◌&&◌, ◌||◌, not, nat_lt, nat_le, if◌then◌else◌, List, [], ◌∷◌, ◌++◌, length, get_or, Option, None, Some, is_none, is_some, unwrap_or, codes}
+use Rattle.std.specs.Prelude.{◌≡◌, ℕ, zero, suc, ◌+◌, Bool, true, false, ◌==◌, ◌&&◌, not, nat_lt, nat_le, if◌then◌else◌, List, [], ◌∷◌, ◌++◌, length, get_or, Option, None, Some, is_none, is_some, unwrap_or, codes}
 use Rattle.std.specs.List.{before_first, after_first, fold, position_or_len, slice_split}
 use Rattle.std.specs.NonZero.{non_zero_usize_get}
 use Rattle.std.specs.Option.{option_and_then, option_map, option_or, option_to_list}

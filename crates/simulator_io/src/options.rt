@@ -2,9 +2,9 @@
 ghost use Rattle.std.specs.List.{All, fold};
 ghost use Rattle.std.specs.Option.{option_to_list};
 ghost use Rattle.std.specs.NonZero.{non_zero_usize_get};
-ghost use Rattle.std.specs.Prelude.{◌≡◌, ◌<◌, ◌+◌, [], ◌∷◌, ◌++◌, ℕ, false, if◌then◌else◌, is_some, None, Some, MatchOption, IfOk, IfSome, OnOk, List, length, map, string_bytes, unwrap_or};
+ghost use Rattle.std.specs.Prelude.{◌≡◌, ◌<◌, ◌+◌, [], ◌∷◌, ◌++◌, ℕ, false, if◌then◌else◌, is_some, None, Some, MatchOption, IfOk, OnOk, List, length, map, string_bytes};
 ghost use Rattle.simulator_io.specs.ChosenShares.{Fits};
-ghost use Rattle.simulator_io.specs.Amounts.{IsCapacity, asked_from, asked_by, is_capacity, is_in_bytes, is_option, joined, takes_value};
+ghost use Rattle.simulator_io.specs.Amounts.{IsCapacity, asked_from, is_capacity, is_in_bytes, is_option, joined, takes_value};
 ghost use Rattle.simulator_io.specs.AskedOptions.{AreChosen, Value, awaited_after, choices_so_far, chosen_by, is_name, names_from, nothing, option_named, option_setting, set, setting_in};
 ghost use Rattle.simulator_io.specs.ByteAmounts.{bytes_from, bytes_in, joined_bytes};
 

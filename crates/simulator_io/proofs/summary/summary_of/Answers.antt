@@ -1,4 +1,4 @@
-use Rattle.std.proofs.Common.{◌≡◌, ◌∙◌, ◌+◌, ◌<◌, ◌≤◌, ℕ, List, length, take, replicate, min, get_or, set, ap, sym, subst, arith}
+use Rattle.std.proofs.Common.{◌≡◌, ◌∙◌, ◌+◌, ◌<◌, ℕ, List, length, take, replicate, min, get_or, ap, sym, subst, arith}
 use Rattle.std.proofs.lemmas.List.{get_or_read, length-set, length-replicate, take_all}
 use Rattle.simulator_io.specs.Uses.{keys_once, ones}
 use Rattle.simulator_io.proofs.OncePerKey.{IsCounted, counted_access, none_counted, ones_are}
