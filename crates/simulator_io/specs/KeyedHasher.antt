@@ -1,7 +1,18 @@
 -- What a `KeyedHasher` computes.
-use Rattle.std.specs.Prelude.{ℕ, zero, suc, ◌+◌, ◌-◌, ◌*◌, ◌/◌, ◌%◌, ◌^◌, List, length, if◌then◌else◌, nat_le, bit_xor}
+use Rattle.std.specs.Prelude.{ℕ, zero, suc, ◌+◌, ◌-◌, ◌*◌, ◌/◌, ◌%◌, ◌^◌, List, [], ◌∷◌, length, if◌then◌else◌, nat_le, bit_or, bit_xor}
+use Rattle.std.specs.Hash.DefaultHasher as sip
 use Rattle.std.specs.Hash.FoldHasher.{folded_multiply, read_short, read_u64}
+use Rattle.std.specs.RandomState.{initial_hasher}
+use Rattle.std.specs.declared.hash.RandomState.{RandomState}
 use Rattle.simulator_io.specs.declared.keyed_hasher.KeyedHasher.{KeyedHasher}
+
+-- the hash of a byte under a random state
+abbrev pub byte_hash : RandomState → ℕ → ℕ
+byte_hash random byte = sip.finish (sip.write (initial_hasher random) (byte ∷ []))
+
+-- a hasher with two such keys: the second is the factor, made odd
+abbrev pub keyed : RandomState → KeyedHasher
+keyed random = record { state = byte_hash random 0; factor = bit_or (byte_hash random 1) 1 }
 
 -- the state after the first n words of 8 bytes
 unfoldable pub after_words : List ℕ → ℕ → ℕ → ℕ → ℕ

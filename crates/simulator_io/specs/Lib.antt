@@ -1,4 +1,5 @@
 pub mod Amounts
+pub mod AskedOptions
 pub mod ByteAmounts
 pub mod Bytes
 pub mod ChosenShares
@@ -13,4 +14,5 @@ pub mod Reading
 pub mod Sample
 pub mod SimulationError
 pub mod Trace
+pub mod Uses
 pub mod Written

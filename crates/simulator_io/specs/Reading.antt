@@ -1,14 +1,15 @@
 -- A trace read from a source.
-use Rattle.std.specs.Prelude.{◌≡◌, ℕ, ◌<◌, Bool, true, false, ◌==◌, List, [], ◌∷◌, ◌++◌, length, Option, Some, None, Result, Ok, Err}
+use Rattle.std.specs.Prelude.{◌≡◌, ℕ, ◌+◌, ◌-◌, ◌^◌, ◌<◌, min, is_some, Bool, true, false, ◌==◌, List, [], ◌∷◌, ◌++◌, length, Option, Some, None, Result, Ok, Err}
 use Rattle.std.specs.List.{All}
-use Rattle.std.specs.Option.{option_map}
+use Rattle.std.specs.Option.{option_map, option_and_then}
 use Rattle.std.specs.Io.KnownBytes.{Consumes, IsAtEnd}
 use Rattle.clock2q_ports.specs.Ports.{Traffic, traffic_after}
 use Rattle.simulator_io.specs.declared.error.SimulationError.{SimulationError}
 use Rattle.simulator_io.specs.declared.error.SimulationError.TheVariants.{Argument, NotText, NoCapacity, UnusedShares, Shares, SampledShares, Capacity, Memory, Open, Read, Line, Size, Record, LargeSizes, Write}
 use Rattle.simulator_io.specs.declared.format.TraceFormat.{TraceFormat}
 use Rattle.simulator_io.specs.declared.format.TraceFormat.TheVariants.{Lines, Csv, OracleGeneral}
-use Rattle.simulator_io.specs.Formats.{Access, accesses_after, accesses_in}
+use Rattle.simulator_io.specs.Amounts.{number_in}
+use Rattle.simulator_io.specs.Formats.{Access, accesses_after, accesses_in, field}
 
 -- no byte of the line is a line end
 abbrev pub HasNoEnd : List ℕ → Type 0
@@ -65,6 +66,16 @@ IsBad UnusedShares bad = ⊥
 IsBad (Shares _) bad = ⊥
 IsBad (SampledShares _) bad = ⊥
 IsBad LargeSizes bad = ⊥
+
+-- what a refusal of a line says: the number of the line, and a column that it lacks, or whose field isn't a size
+abbrev pub IsOfLine : ℕ → ℕ → List ℕ → SimulationError → Type 0
+IsOfLine separator number line (Line n column) = (n ≡ number) × (field separator column line ≡ None)
+IsOfLine separator number line (Size n column) = (n ≡ number) × (is_some (field separator column line) ≡ true) × (option_and_then number_in (field separator column line) ≡ None)
+IsOfLine separator number line _ = Unit {0}
+
+-- the number of the next line, or of the record after some, in 64 bits
+abbrev pub next_number : ℕ → ℕ
+next_number count = min (count + 1) (2 ^ 64 - 1)
 
 module _ (old new : Traffic) (left remain : Option (List ℕ)) (format : TraceFormat) where
   -- the whole input was read, once up to its end, and the accesses are those of its records

@@ -1,8 +1,12 @@
 //! A number of keys, or a part of a number of keys.
 ghost use Rattle.std.specs.Prelude.{◌≡◌, ◌≤◌, ◌^◌};
+ghost use Rattle.std.specs.NonZero.{non_zero_usize_get};
+ghost use Rattle.std.specs.Option.{option_map};
+ghost use Rattle.simulator_io.specs.AskedOptions as asked;
 ghost use Rattle.simulator_io.specs.Amounts.{amount_in, count_in, decimals_in, keys_of, millionths_in, number_in};
 
 use std::fmt;
+use std::num::NonZeroUsize;
 
 /// What the number of an [`Amount`] counts.
 ///
@@ -56,7 +60,9 @@ impl Amount {
     }
 
     /// Returns the number, unless it is a percentage.
-    pub(crate) fn count(self) -> Option<usize> {
+    pub(crate) fn count(self) -> Option<usize>
+        ensures count { result ≡ asked.count_of self }
+    {
         match self.unit {
             Unit::Keys => Some(self.number),
             Unit::Millionths => None,
@@ -99,6 +105,20 @@ fn write_percentage<W: fmt::Write>(f: &mut fmt::Formatter<W>, number: usize) -> 
     } else {
         write!(f, "{whole}.{rest:04}%")
     }
+}
+
+/// Returns the number that a word spells, unless it is a percentage.
+pub(crate) fn plain_of(word: &str) -> Option<usize>
+    ensures plain { result ≡ asked.plain_in word.now }
+{
+    Amount::written(word)?.count()
+}
+
+/// Returns the number that a word spells, unless it is 0 or a percentage.
+pub(crate) fn positive_of(word: &str) -> Option<NonZeroUsize>
+    ensures positive { option_map non_zero_usize_get result ≡ asked.positive_in word.now }
+{
+    NonZeroUsize::new(plain_of(word)?)
 }
 
 /// Returns the number that a word spells: digits, then perhaps a `k` for thousands or an `M` for

@@ -1,8 +1,11 @@
 //! What the options among the arguments choose.
-ghost use Rattle.std.specs.Prelude.{◌≡◌, is_some};
+ghost use Rattle.std.specs.NonZero.{non_zero_usize_get};
+ghost use Rattle.std.specs.Prelude.{◌≡◌, IfOk, OnOk, Some, is_some, true};
 ghost use Rattle.simulator_io.specs.Amounts.{takes_value};
+ghost use Rattle.simulator_io.specs.AskedOptions.{Flag, Value, choices_so_far, form_named, nothing, option_named, plain_in, policies_in, positive_in, set, shares_in};
+ghost use Rattle.simulator_io.specs.Sample.{sample_in};
 
-use crate::amount::Amount;
+use crate::amount::{plain_of, positive_of};
 use crate::capacities::MAX_CAPACITY;
 use crate::error::{ArgumentError, SimulationError};
 use crate::format::{AskedFormat, TraceFormat};
@@ -10,7 +13,7 @@ use crate::options::Format;
 use crate::policy::Policy;
 use crate::sample::Sample;
 use crate::shares::ChosenShares;
-use std::alloc::{AllocError, Allocator};
+use std::alloc::Allocator;
 use std::num::NonZeroUsize;
 
 /// An option that takes a value.
@@ -31,6 +34,7 @@ impl Valued {
     /// Returns the option with a name. The shares also have their former name.
     pub(crate) fn named(name: &str) -> Option<Valued>
         ensures named { is_some result ≡ takes_value name.now }
+        ensures option { result ≡ option_named name.now }
     {
         if name == "--policies" {
             Some(Valued::Policies)
@@ -72,7 +76,9 @@ pub(crate) struct Chosen<A: Allocator> {
 
 impl<A: Allocator> Chosen<A> {
     /// Nothing is chosen.
-    pub(crate) fn none() -> Chosen<A> {
+    pub(crate) fn none() -> Chosen<A>
+        ensures nothing { choices_so_far result ≡ nothing }
+    {
         Chosen {
             format: None,
             policies: None,
@@ -117,7 +123,9 @@ impl<A: Allocator + Copy> Chosen<A> {
         option: Valued,
         value: &str,
         index: usize,
-    ) -> Result<(), SimulationError> {
+    ) -> Result<(), SimulationError>
+        ensures taken { OnOk result (choices_so_far self.new ≡ set (choices_so_far self.old) (Value option value.now)) }
+    {
         match option {
             Valued::Policies => self.policies = Some(policies_of(alloc, value, index)?),
             Valued::Shares => self.shares = Some(shares_of(value, index)?),
@@ -133,7 +141,9 @@ impl<A: Allocator + Copy> Chosen<A> {
     }
 
     /// Takes an option that has no value.
-    pub(crate) fn take_flag(&mut self, option: &str, index: usize) -> Result<(), SimulationError> {
+    pub(crate) fn take_flag(&mut self, option: &str, index: usize) -> Result<(), SimulationError>
+        ensures taken { OnOk result (choices_so_far self.new ≡ set (choices_so_far self.old) (Flag option.now)) }
+    {
         if option == "--best-shares" {
             return self.take_best_shares(index);
         }
@@ -153,7 +163,9 @@ impl<A: Allocator + Copy> Chosen<A> {
     }
 
     /// Takes the option that asks for the best shares.
-    fn take_best_shares(&mut self, index: usize) -> Result<(), SimulationError> {
+    fn take_best_shares(&mut self, index: usize) -> Result<(), SimulationError>
+        ensures taken { choices_so_far self.new ≡ record (choices_so_far self.old) { best_shares = true } }
+    {
         match self.best_shares.replace(index) {
             None => Ok(()),
             Some(_) => Err(SimulationError::Argument(ArgumentError::RepeatedOption, index)),
@@ -217,24 +229,29 @@ impl<A: Allocator> Chosen<A> {
 }
 
 /// Returns the number of accesses that a value spells.
-fn count_of(value: &str, index: usize) -> Result<usize, SimulationError> {
-    match Amount::written(value).and_then(Amount::count) {
+fn count_of(value: &str, index: usize) -> Result<usize, SimulationError>
+    ensures count { IfOk result (λ count. plain_in value.now ≡ Some count) }
+{
+    match plain_of(value) {
         Some(count) => Ok(count),
         None => Err(SimulationError::Argument(ArgumentError::NotCount, index)),
     }
 }
 
 /// Returns the number of accesses, at least one, that a value spells.
-fn length_of(value: &str, index: usize) -> Result<NonZeroUsize, SimulationError> {
-    let count = Amount::written(value).and_then(Amount::count);
-    match count.and_then(NonZeroUsize::new) {
+fn length_of(value: &str, index: usize) -> Result<NonZeroUsize, SimulationError>
+    ensures length { IfOk result (λ length. positive_in value.now ≡ Some (non_zero_usize_get length)) }
+{
+    match positive_of(value) {
         Some(length) => Ok(length),
         None => Err(SimulationError::Argument(ArgumentError::NotLength, index)),
     }
 }
 
 /// Returns the sample that a value spells.
-fn sample_of(value: &str, index: usize) -> Result<Sample, SimulationError> {
+fn sample_of(value: &str, index: usize) -> Result<Sample, SimulationError>
+    ensures sample { IfOk result (λ sample. sample_in value.now ≡ Some sample) }
+{
     match Sample::written(value) {
         Some(sample) => Ok(sample),
         None => Err(SimulationError::Argument(ArgumentError::NotSample, index)),
@@ -242,7 +259,9 @@ fn sample_of(value: &str, index: usize) -> Result<Sample, SimulationError> {
 }
 
 /// Returns the shares that a value spells.
-fn shares_of(value: &str, index: usize) -> Result<ChosenShares, SimulationError> {
+fn shares_of(value: &str, index: usize) -> Result<ChosenShares, SimulationError>
+    ensures shares { IfOk result (λ shares. shares_in value.now ≡ Some shares) }
+{
     let Some(shares) = ChosenShares::written(value) else {
         return Err(SimulationError::Argument(ArgumentError::NotShares, index));
     };
@@ -253,26 +272,34 @@ fn shares_of(value: &str, index: usize) -> Result<ChosenShares, SimulationError>
 }
 
 /// Returns the policies that a comma-separated list names.
-fn policies_of<A: Allocator>(
+fn policies_of<A: Allocator + Copy>(
     alloc: A,
     names: &str,
     index: usize,
-) -> Result<Vec<Policy, A>, SimulationError> {
+) -> Result<Vec<Policy, A>, SimulationError>
+    ensures policies { IfOk result (λ policies. policies_in names.now ≡ Some policies.items) }
+{
+    let parts: Vec<&str, A> = names.split(',').collect(alloc)?;
     let mut policies = Vec::new(alloc);
-    for name in names.split(',') {
+    for name in parts.iter() {
         let Some(policy) = Policy::named(name) else {
             return Err(SimulationError::Argument(ArgumentError::UnknownPolicy, index));
         };
         if policies.contains(&policy) {
             return Err(SimulationError::Argument(ArgumentError::RepeatedPolicy, index));
         }
-        policies.push(policy).map_err(AllocError::from)?;
+        match policies.push(policy) {
+            Ok(()) => {}
+            Err(_) => return Err(SimulationError::Memory),
+        }
     }
     Ok(policies)
 }
 
 /// Returns the form that an option asks for.
-fn format_of(option: &str) -> Option<Format> {
+fn format_of(option: &str) -> Option<Format>
+    ensures form { result ≡ form_named option.now }
+{
     match option {
         "--csv" => Some(Format::Csv),
         "--svg" => Some(Format::Svg),

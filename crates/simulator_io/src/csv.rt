@@ -4,7 +4,7 @@ ghost use Rattle.std.specs.NonZero.{non_zero_usize_get};
 ghost use Rattle.std.specs.Option.{option_map};
 ghost use Rattle.simulator_io.specs.Formats.{field, fields_from, is_blank, size_in, without_return};
 ghost use Rattle.simulator_io.specs.Fields.{IsEarly, after_step, found_in};
-ghost use Rattle.simulator_io.specs.Reading.{IsBad};
+ghost use Rattle.simulator_io.specs.Reading.{IsBad, IsOfLine};
 
 use crate::amount::number_of;
 use crate::error::SimulationError;
@@ -145,6 +145,7 @@ impl<A: Allocator> ColumnReader<A> {
         number: usize,
     ) -> Result<usize, SimulationError>
         ensures size { IfOk result (λ size. size_in separator (option_map non_zero_usize_get column) line.now ≡ Some size) }
+        ensures named { IfErr result (IsOfLine separator number line.now) }
         ensures bad { IfErr result (λ refusal. IsBad refusal (size_in separator (option_map non_zero_usize_get column) line.now ≡ None)) }
     {
         let Some(column) = column else {

@@ -4,7 +4,7 @@ use crate::best_shares::BestShares;
 use crate::options::Options;
 use crate::outcome::Outcome;
 use crate::policy::Policy;
-use crate::row::{Hits, Row};
+use crate::row::{Counted, Figure, Hits, Row};
 use crate::window::Windows;
 use std::alloc::{AllocError, Allocator};
 use std::fmt::Write;
@@ -180,13 +180,15 @@ fn write_hits<A: Allocator>(
     hits: &Hits,
     is_sized: bool,
 ) -> Result<(), AllocError> {
-    let ratio = row.ratio(hits.hits);
-    write!(text, ",{},{ratio:.4}", hits.hits)?;
+    write_figure(text, row.figure(hits, Counted::Hits))?;
     if is_sized {
-        let ratio = row.byte_ratio(hits.bytes);
-        write!(text, ",{},{ratio:.4}", hits.bytes)?;
+        write_figure(text, row.figure(hits, Counted::Bytes))?;
     }
     Ok(())
+}
+
+fn write_figure<A: Allocator>(text: &mut String<A>, figure: Figure) -> Result<(), AllocError> {
+    write!(text, ",{},{:.4}", figure.number, figure.ratio)
 }
 
 /// Writes a comma and a name in quotes, with each quote in it doubled.

@@ -1,8 +1,10 @@
 //! The formats of traces, and the arguments that ask for one.
-ghost use Rattle.std.specs.Prelude.{◌≡◌};
+ghost use Rattle.std.specs.NonZero.{non_zero_usize_get};
+ghost use Rattle.std.specs.Prelude.{◌≡◌, IfOk, OnOk, Some, false};
+ghost use Rattle.simulator_io.specs.AskedOptions.{AreColumns, IsFormat, format_named, format_so_far, positive_in, separator_in};
 ghost use Rattle.simulator_io.specs.Formats.{has_sizes, headers};
 
-use crate::amount::Amount;
+use crate::amount::positive_of;
 use crate::error::{ArgumentError, SimulationError};
 use std::num::NonZeroUsize;
 
@@ -127,7 +129,9 @@ impl AskedFormat {
     }
 
     /// Takes the name of a format.
-    pub(crate) fn take_name(&mut self, name: &str, index: usize) -> Result<(), SimulationError> {
+    pub(crate) fn take_name(&mut self, name: &str, index: usize) -> Result<(), SimulationError>
+        ensures taken { OnOk result (format_so_far self.new ≡ record (format_so_far self.old) { name = format_named name.now }) }
+    {
         let value = match name {
             "lines" => FormatName::Lines,
             "csv" => FormatName::Csv,
@@ -141,7 +145,9 @@ impl AskedFormat {
     }
 
     /// Takes the number of the key's column.
-    pub(crate) fn take_column(&mut self, word: &str, index: usize) -> Result<(), SimulationError> {
+    pub(crate) fn take_column(&mut self, word: &str, index: usize) -> Result<(), SimulationError>
+        ensures taken { OnOk result (format_so_far self.new ≡ record (format_so_far self.old) { column = positive_in word.now }) }
+    {
         self.column = Some(column_of(word, index)?);
         Ok(())
     }
@@ -151,17 +157,17 @@ impl AskedFormat {
         &mut self,
         word: &str,
         index: usize,
-    ) -> Result<(), SimulationError> {
+    ) -> Result<(), SimulationError>
+        ensures taken { OnOk result (format_so_far self.new ≡ record (format_so_far self.old) { size_column = positive_in word.now }) }
+    {
         self.size_column = Some(column_of(word, index)?);
         Ok(())
     }
 
     /// Takes the byte between two values.
-    pub(crate) fn take_separator(
-        &mut self,
-        word: &str,
-        index: usize,
-    ) -> Result<(), SimulationError> {
+    pub(crate) fn take_separator(&mut self, word: &str, index: usize) -> Result<(), SimulationError>
+        ensures taken { OnOk result (format_so_far self.new ≡ record (format_so_far self.old) { separator = separator_in word.now }) }
+    {
         let Some(value) = separator_of(word) else {
             return Err(SimulationError::Argument(ArgumentError::NotSeparator, index));
         };
@@ -170,7 +176,9 @@ impl AskedFormat {
     }
 
     /// Takes the option that says that there is no header.
-    pub(crate) fn take_no_header(&mut self, index: usize) -> Result<(), SimulationError> {
+    pub(crate) fn take_no_header(&mut self, index: usize) -> Result<(), SimulationError>
+        ensures taken { format_so_far self.new ≡ record (format_so_far self.old) { has_header = false } }
+    {
         match self.no_header.replace(index) {
             None => Ok(()),
             Some(_) => Err(SimulationError::Argument(ArgumentError::RepeatedOption, index)),
@@ -178,28 +186,39 @@ impl AskedFormat {
     }
 
     /// Returns the format that all arguments ask for.
-    pub(crate) fn finish(self) -> Result<TraceFormat, SimulationError> {
-        match self.name {
-            Some(name) if name.value == FormatName::Csv => {
-                let Some(column) = self.column else {
-                    return Err(SimulationError::Argument(ArgumentError::NoColumn, name.index));
-                };
-                Ok(TraceFormat::Csv(Columns {
-                    key: column.value,
-                    size: self.size_column.map(|column| column.value),
-                    separator: self.separator.map_or(b',', |separator| separator.value),
-                    has_header: self.no_header.is_none(),
-                }))
-            }
-            Some(name) if name.value == FormatName::OracleGeneral => {
-                self.refuse_columns()?;
-                Ok(TraceFormat::OracleGeneral)
-            }
-            _ => {
+    pub(crate) fn finish(self) -> Result<TraceFormat, SimulationError>
+        ensures format { IfOk result (IsFormat (format_so_far self).name (format_so_far self)) }
+    {
+        let Some(name) = self.name else {
+            self.refuse_columns()?;
+            return Ok(TraceFormat::Lines);
+        };
+        match name.value {
+            FormatName::Csv => Ok(TraceFormat::Csv(self.columns(name.index)?)),
+            FormatName::Lines => {
                 self.refuse_columns()?;
                 Ok(TraceFormat::Lines)
             }
+            FormatName::OracleGeneral => {
+                self.refuse_columns()?;
+                Ok(TraceFormat::OracleGeneral)
+            }
         }
+    }
+
+    /// Returns the columns that are asked for, of a format that the argument at an index names.
+    fn columns(self, index: usize) -> Result<Columns, SimulationError>
+        ensures columns { IfOk result (AreColumns (format_so_far self)) }
+    {
+        let Some(column) = self.column else {
+            return Err(SimulationError::Argument(ArgumentError::NoColumn, index));
+        };
+        Ok(Columns {
+            key: column.value,
+            size: self.size_column.map(|column| column.value),
+            separator: self.separator.map_or(b',', |separator| separator.value),
+            has_header: self.no_header.is_none(),
+        })
     }
 
     /// Refuses columns and what is said of their lines.
@@ -221,7 +240,9 @@ impl AskedFormat {
 }
 
 /// Returns the byte that a word spells: its only one, or that of a tab.
-fn separator_of(word: &str) -> Option<u8> {
+fn separator_of(word: &str) -> Option<u8>
+    ensures separator { result ≡ separator_in word.now }
+{
     if word == "tab" {
         return Some(b'\t');
     }
@@ -234,9 +255,10 @@ fn separator_of(word: &str) -> Option<u8> {
 }
 
 /// Returns the column that a word spells.
-fn column_of(word: &str, index: usize) -> Result<Placed<NonZeroUsize>, SimulationError> {
-    let count = Amount::written(word).and_then(Amount::count);
-    match count.and_then(NonZeroUsize::new) {
+fn column_of(word: &str, index: usize) -> Result<Placed<NonZeroUsize>, SimulationError>
+    ensures column { IfOk result (λ column. positive_in word.now ≡ Some (non_zero_usize_get column.value)) }
+{
+    match positive_of(word) {
         Some(value) => Ok(Placed { value, index }),
         None => Err(SimulationError::Argument(ArgumentError::NotColumn, index)),
     }

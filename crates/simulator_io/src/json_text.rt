@@ -1,9 +1,10 @@
 //! The results of traces as JSON.
+ghost use Rattle.std.specs.Prelude.{◌≡◌, ◌==◌, ◌||◌};
 
 use crate::best_shares::BestShares;
 use crate::options::Options;
 use crate::outcome::Outcome;
-use crate::row::{Hits, Row};
+use crate::row::{Counted, Figure, Hits, Row};
 use crate::window::{Window, Windows};
 use std::alloc::{AllocError, Allocator};
 use std::fmt::Write;
@@ -155,18 +156,16 @@ fn write_hits<A: Allocator>(
     is_sized: bool,
 ) -> Result<(), AllocError> {
     let name = hits.policy.name();
-    let ratio = row.ratio(hits.hits);
+    let Figure { number, ratio } = row.figure(&hits, Counted::Hits);
     write!(
         text,
-        "\"{name}\": {{\"hits\": {}, \"ratio\": {ratio:.4}",
-        hits.hits
+        "\"{name}\": {{\"hits\": {number}, \"ratio\": {ratio:.4}"
     )?;
     if is_sized {
-        let ratio = row.byte_ratio(hits.bytes);
+        let Figure { number, ratio } = row.figure(&hits, Counted::Bytes);
         write!(
             text,
-            ", \"hit_bytes\": {}, \"byte_ratio\": {ratio:.4}",
-            hits.bytes
+            ", \"hit_bytes\": {number}, \"byte_ratio\": {ratio:.4}"
         )?;
     }
     text.push('}')
@@ -181,9 +180,16 @@ fn write_string<A: Allocator>(text: &mut String<A>, string: &str) -> Result<(), 
     text.push('"')
 }
 
+/// Returns true if a character of a string has a backslash before it: a quote, or a backslash.
+fn has_backslash(letter: char) -> bool
+    ensures backslash { result ≡ (letter == 34 || letter == 92) }
+{
+    letter == '"' || letter == '\\'
+}
+
 /// Writes a character of a string, as an escape if it needs one.
 fn write_letter<A: Allocator>(text: &mut String<A>, letter: char) -> Result<(), AllocError> {
-    if letter == '"' || letter == '\\' {
+    if has_backslash(letter) {
         text.push('\\')?;
     }
     if letter < ' ' {

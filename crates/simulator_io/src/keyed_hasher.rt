@@ -22,7 +22,9 @@ pub struct KeyedHashBuilder {
 
 impl KeyedHashBuilder {
     /// Takes two keys from a random state.
-    pub fn new(random: &RandomState) -> KeyedHashBuilder {
+    pub fn new(random: &RandomState) -> KeyedHashBuilder
+        ensures keyed { result.keyed ≡ keyed.keyed random.now }
+    {
         KeyedHashBuilder {
             keyed: KeyedHasher {
                 state: random.hash_one(&0u8),

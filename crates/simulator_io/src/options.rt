@@ -1,9 +1,11 @@
 //! The arguments of the program.
-ghost use Rattle.std.specs.List.{All};
+ghost use Rattle.std.specs.List.{All, fold};
+ghost use Rattle.std.specs.Option.{option_to_list};
 ghost use Rattle.std.specs.NonZero.{non_zero_usize_get};
-ghost use Rattle.std.specs.Prelude.{◌≡◌, ◌<◌, ◌+◌, [], ◌∷◌, ◌++◌, ℕ, false, is_some, Some, MatchOption, IfOk, IfSome, OnOk, List, length, map, string_bytes, unwrap_or};
+ghost use Rattle.std.specs.Prelude.{◌≡◌, ◌<◌, ◌+◌, [], ◌∷◌, ◌++◌, ℕ, false, if◌then◌else◌, is_some, None, Some, MatchOption, IfOk, OnOk, List, length, map, string_bytes};
 ghost use Rattle.simulator_io.specs.ChosenShares.{Fits};
-ghost use Rattle.simulator_io.specs.Amounts.{IsCapacity, asked_from, asked_by, is_capacity, is_in_bytes, is_option, joined, takes_value};
+ghost use Rattle.simulator_io.specs.Amounts.{IsCapacity, asked_from, is_capacity, is_in_bytes, is_option, joined, takes_value};
+ghost use Rattle.simulator_io.specs.AskedOptions.{AreChosen, Value, awaited_after, choices_so_far, chosen_by, is_name, names_from, nothing, option_named, option_setting, set, setting_in};
 ghost use Rattle.simulator_io.specs.ByteAmounts.{bytes_from, bytes_in, joined_bytes};
 
 use crate::amount::Amount;
@@ -100,6 +102,8 @@ pub fn parse_options<A: Allocator + Copy>(
     ensures asked { IfOk result (λ options. asked_from false (map string_bytes arguments.now) ≡ Some options.capacities.items) }
     ensures bytes { IfOk result (λ options. bytes_from false (map string_bytes arguments.now)
         ≡ Some (map non_zero_usize_get options.byte_capacities.items)) }
+    ensures chosen { IfOk result (AreChosen (chosen_by (map string_bytes arguments.now))) }
+    ensures names { IfOk result (λ options. options.traces.items ≡ names_from 0 None (map string_bytes arguments.now)) }
 {
     let mut asked = Asked::new(alloc);
     for (index, argument) in arguments.iter().enumerate() {
@@ -152,7 +156,9 @@ impl<A: Allocator + Copy> Asked<A> {
     fn new(alloc: A) -> Asked<A>
         ensures capacities { result.capacities.items ≡ [] }
         ensures bytes { result.byte_capacities.items ≡ [] }
-        ensures awaited { is_some result.awaited ≡ false }
+        ensures awaited { result.awaited ≡ None }
+        ensures traces { result.traces.items ≡ [] }
+        ensures nothing { choices_so_far result.chosen ≡ nothing }
     {
         Asked {
             capacities: Vec::new(alloc),
@@ -176,6 +182,9 @@ impl<A: Allocator + Copy> Asked<A> {
             (map non_zero_usize_get self.new.byte_capacities.items) (bytes_from (is_some self.new.awaited) rest)
             ≡ joined_bytes (map non_zero_usize_get self.old.byte_capacities.items)
             (bytes_from (is_some self.old.awaited) (argument.now ∷ rest))) }
+        ensures awaited { OnOk result (self.new.awaited ≡ awaited_after self.old.awaited argument.now) }
+        ensures names { OnOk result (self.new.traces.items ≡ self.old.traces.items ++ (if is_name self.old.awaited argument.now then index ∷ [] else [])) }
+        ensures chosen { OnOk result (choices_so_far self.new.chosen ≡ fold set (choices_so_far self.old.chosen) (option_to_list (setting_in self.old.awaited argument.now))) }
     {
         if let Some(option) = self.awaited {
             return self.take_value(alloc, option, argument, index);
@@ -197,6 +206,8 @@ impl<A: Allocator + Copy> Asked<A> {
     /// Takes a capacity in bytes.
     fn take_bytes(&mut self, argument: &str, index: usize) -> Result<(), SimulationError>
         ensures capacities { self.new.capacities ≡ self.old.capacities }
+        ensures traces { self.new.traces ≡ self.old.traces }
+        ensures chosen { self.new.chosen ≡ self.old.chosen }
         ensures awaited { self.new.awaited ≡ self.old.awaited }
         ensures bytes { OnOk result ((bytes : ℕ) × (bytes_in argument.now ≡ Some bytes)
             × (map non_zero_usize_get self.new.byte_capacities.items
@@ -214,6 +225,8 @@ impl<A: Allocator + Copy> Asked<A> {
 
     /// Takes the argument that names a trace.
     fn take_name(&mut self, index: usize) -> Result<(), SimulationError>
+        ensures traces { OnOk result (self.new.traces.items ≡ self.old.traces.items ++ index ∷ []) }
+        ensures chosen { self.new.chosen ≡ self.old.chosen }
         ensures capacities { self.new.capacities ≡ self.old.capacities }
         ensures bytes { self.new.byte_capacities ≡ self.old.byte_capacities }
         ensures awaited { self.new.awaited ≡ self.old.awaited }
@@ -234,7 +247,9 @@ impl<A: Allocator + Copy> Asked<A> {
     ) -> Result<(), SimulationError>
         ensures capacities { self.new.capacities ≡ self.old.capacities }
         ensures bytes { self.new.byte_capacities ≡ self.old.byte_capacities }
-        ensures awaited { is_some self.new.awaited ≡ false }
+        ensures traces { self.new.traces ≡ self.old.traces }
+        ensures awaited { self.new.awaited ≡ None }
+        ensures taken { OnOk result (choices_so_far self.new.chosen ≡ set (choices_so_far self.old.chosen) (Value option value.now)) }
     {
         self.awaited = None;
         self.chosen.take_value(alloc, option, value, index)
@@ -244,7 +259,10 @@ impl<A: Allocator + Copy> Asked<A> {
     fn take_option(&mut self, alloc: A, option: &str, index: usize) -> Result<(), SimulationError>
         ensures capacities { self.new.capacities ≡ self.old.capacities }
         ensures bytes { self.new.byte_capacities ≡ self.old.byte_capacities }
+        ensures traces { self.new.traces ≡ self.old.traces }
         ensures awaited { OnOk result (is_some self.new.awaited ≡ takes_value option.now) }
+        ensures option { OnOk result (self.new.awaited ≡ option_named option.now) }
+        ensures taken { OnOk result (choices_so_far self.new.chosen ≡ fold set (choices_so_far self.old.chosen) (option_to_list (option_setting option.now))) }
     {
         self.awaited = Valued::named(option);
         if let Some(valued) = self.awaited {
@@ -270,13 +288,7 @@ impl<A: Allocator + Copy> Asked<A> {
         ensures asked { IfOk result (λ options. options.capacities ≡ self.capacities) }
         ensures bytes { IfOk result (λ options. options.byte_capacities ≡ self.byte_capacities) }
         ensures traces { IfOk result (λ options. options.traces ≡ self.traces) }
-        ensures form { IfOk result (λ options. options.format ≡ unwrap_or self.chosen.format Format.Table) }
-        ensures policies { IfOk result (λ options. IfSome self.chosen.policies (λ policies. options.policies ≡ policies)) }
-        ensures shares { IfOk result (λ options. options.shares ≡ self.chosen.shares) }
-        ensures skipped { IfOk result (λ options. options.skipped ≡ unwrap_or self.chosen.skipped 0) }
-        ensures window { IfOk result (λ options. options.window ≡ self.chosen.window) }
-        ensures sample { IfOk result (λ options. options.sample ≡ self.chosen.sample) }
-        ensures best { IfOk result (λ options. options.best_shares ≡ is_some self.chosen.best_shares) }
+        ensures chosen { IfOk result (AreChosen (choices_so_far self.chosen)) }
     {
         self.chosen.check_best_shares()?;
         self.chosen.check_traces(&self.traces)?;

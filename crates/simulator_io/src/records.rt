@@ -1,7 +1,7 @@
 //! The records of a trace, put together from blocks of bytes.
 ghost use Rattle.std.specs.Prelude.{◌≡◌, ◌<◌, ◌∷◌, ◌++◌, ℕ, List, [], IfErr, IfOk, OnOk, None, Some, length};
 ghost use Rattle.simulator_io.specs.Formats.{Access, access_by, accesses_after, has_sizes, record_of};
-ghost use Rattle.simulator_io.specs.Reading.{HasNoEnd, IsBad, IsBegun, IsOfLines, IsWholeRecord, TakesBytes, between, joined};
+ghost use Rattle.simulator_io.specs.Reading.{HasNoEnd, IsBad, IsBegun, IsOfLines, IsOfLine, IsWholeRecord, TakesBytes, between, joined, next_number};
 
 use crate::csv::{ColumnReader, is_blank};
 use crate::error::SimulationError;
@@ -172,6 +172,7 @@ impl<S: BuildHasher + Drop, A: Allocator + Copy> Records<S, A> {
         ensures sample { self.new.trace.sample ≡ self.old.trace.sample }
         ensures sized { self.new.trace.is_sized ≡ self.old.trace.is_sized }
         ensures begun { OnOk result (self.new.begun.items ≡ []) }
+        ensures counted { OnOk result (self.new.count ≡ next_number self.old.count) }
         ensures ended { OnOk result ((next : List ℕ)
             → joined self.old.trace.accesses
             (accesses_after self.old.format self.old.count
@@ -255,6 +256,7 @@ impl<S: BuildHasher + Drop, A: Allocator + Copy> Records<S, A> {
         ensures format { self.new.format ≡ self.old.format }
         ensures sample { self.new.trace.sample ≡ self.old.trace.sample }
         ensures sized { self.new.trace.is_sized ≡ self.old.trace.is_sized }
+        ensures named { IfErr result (IsOfLine columns.separator (next_number self.old.count) self.old.begun.items) }
         ensures bad { IfErr result (λ refusal. IsBad refusal (access_by columns self.old.begun.items ≡ None)) }
     {
         let line = self.count.saturating_add(1);

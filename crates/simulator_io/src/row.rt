@@ -1,6 +1,6 @@
 //! The result at one capacity.
 ghost use Rattle.std.specs.Prelude.{◌≡◌};
-ghost use Rattle.simulator_io.specs.Ratios.{ratio_of};
+ghost use Rattle.simulator_io.specs.Ratios.{number_of, ratio_of, whole_of};
 
 use crate::policy::Policy;
 use std::alloc::Allocator;
@@ -22,6 +22,36 @@ pub struct Hits {
     pub hits: usize,
     /// The sum of their sizes, or 0 if the trace has no sizes.
     pub bytes: usize,
+}
+
+/// What is counted of the accesses that hit.
+#[derive(Clone, Copy)]
+pub(crate) enum Counted {
+    /// Their number.
+    Hits,
+    /// The sum of their sizes.
+    Bytes,
+}
+
+impl Counted {
+    /// Returns the number of what is counted.
+    pub(crate) fn of(self, hits: &Hits) -> usize
+        ensures number { result ≡ number_of self hits.now }
+    {
+        match self {
+            Counted::Hits => hits.hits,
+            Counted::Bytes => hits.bytes,
+        }
+    }
+}
+
+/// A number of hits, or of their bytes, as each text shows it.
+#[derive(Clone, Copy)]
+pub(crate) struct Figure {
+    /// The number.
+    pub(crate) number: usize,
+    /// Its part of all.
+    pub(crate) ratio: f64,
 }
 
 /// The hits of a trace in a cache of each policy.
@@ -48,6 +78,19 @@ pub struct Row<A: Allocator> {
 }
 
 impl<A: Allocator> Row<A> {
+    /// Returns what the texts show of the hits with a policy.
+    pub(crate) fn figure(&self, hits: &Hits, counted: Counted) -> Figure
+        ensures number { result.number ≡ number_of counted hits.now }
+        ensures ratio { result.ratio ≡ ratio_of (number_of counted hits.now) (whole_of counted self.now) }
+    {
+        let number = counted.of(hits);
+        let ratio = match counted {
+            Counted::Hits => self.ratio(number),
+            Counted::Bytes => self.byte_ratio(number),
+        };
+        Figure { number, ratio }
+    }
+
     /// Returns the hit ratio: `hits` divided by the number of accesses, or 0 for an empty trace.
     pub fn ratio(&self, hits: usize) -> f64
         ensures ratio { result ≡ ratio_of hits self.now.accesses }

@@ -3,6 +3,7 @@ ghost use Rattle.std.specs.List.{All};
 ghost use Rattle.std.specs.Prelude.{◌≡◌, ◌≤◌, ◌^◌, ◌↔◌, IsTrue, OnOk, Some};
 ghost use Rattle.clock2q_machine.specs.Policies.{IsPolicy};
 ghost use Rattle.simulator_io.specs.Amounts.{IsCapacity};
+ghost use Rattle.simulator_io.specs.AskedOptions.{both_in, is_share, share_in, shares_in};
 ghost use Rattle.simulator_io.specs.ChosenShares.{Fits, shares_for, small_of, window_of};
 
 use crate::amount::{Amount, Unit};
@@ -28,15 +29,11 @@ pub struct ChosenShares {
 
 impl ChosenShares {
     /// Returns the shares that a word spells, such as `small=20%,window=10`, in either order.
-    pub fn written(word: &str) -> Option<ChosenShares> {
+    pub fn written(word: &str) -> Option<ChosenShares>
+        ensures shares { result ≡ shares_in word.now }
+    {
         let (first, second) = word.split_once(',')?;
-        match (share_named(first, "small="), share_named(second, "window=")) {
-            (Some(small), Some(window)) => Some(ChosenShares { small, window }),
-            _ => Some(ChosenShares {
-                small: share_named(second, "small=")?,
-                window: share_named(first, "window=")?,
-            }),
-        }
+        both_named(first, second).or(both_named(second, first))
     }
 
     /// Returns the number of slots of Small in a cache of a capacity.
@@ -98,11 +95,35 @@ impl fmt::Display for ChosenShares {
     }
 }
 
-/// Returns the amount that a word spells after a name. A percentage is above 0 and at most 100.
-fn share_named(word: &str, name: &str) -> Option<Amount> {
-    let share = Amount::written(word.strip_prefix(name)?)?;
+/// Returns the shares that two words spell, Small's first.
+fn both_named(small: &str, window: &str) -> Option<ChosenShares>
+    ensures both { result ≡ both_in small.now window.now }
+{
+    Some(ChosenShares {
+        small: share_named(small, "small")?,
+        window: share_named(window, "window")?,
+    })
+}
+
+/// Returns the amount that a word spells after a name and an equals sign. A percentage is above 0 and
+/// at most 100.
+fn share_named(word: &str, name: &str) -> Option<Amount>
+    ensures share { result ≡ share_in name.now word.now }
+{
+    let (named, value) = word.split_once('=')?;
+    if named != name {
+        return None;
+    }
+    let share = Amount::written(value)?;
+    is_share(share).then_some(share)
+}
+
+/// Returns true if an amount can be a share.
+fn is_share(share: Amount) -> bool
+    ensures share { result ≡ is_share share.unit share.number }
+{
     match share.unit {
-        Unit::Millionths if share.number == 0 || share.number > 1_000_000 => None,
-        _ => Some(share),
+        Unit::Keys => true,
+        Unit::Millionths => 0 < share.number && share.number <= 1_000_000,
     }
 }

@@ -1,6 +1,7 @@
 //! The numbers of accesses and keys of a trace.
 ghost use Rattle.std.specs.Prelude.{◌≡◌, ◌&&◌, ◌*◌, IfOk, leb, length, ltb};
 ghost use Rattle.simulator_io.specs.Bytes.{asked_between};
+ghost use Rattle.simulator_io.specs.Uses.{keys_once, ones};
 ghost use Rattle.simulator_io.specs.Trace.{sizes_of};
 
 use crate::sums::asked_bytes;
@@ -53,18 +54,32 @@ impl Summary {
 pub fn summary_of<A: Allocator + Copy>(alloc: A, trace: &Trace<A>) -> Result<Summary, AllocError>
     ensures accesses { IfOk result (λ summary. summary.accesses ≡ length trace.now.numbers) }
     ensures keys { IfOk result (λ summary. summary.keys ≡ trace.now.different) }
+    ensures once { IfOk result (λ summary. summary.keys_once ≡ keys_once trace.now.different trace.now.numbers) }
     ensures bytes { IfOk result (λ summary. summary.bytes ≡ asked_between 0 (length trace.now.numbers) (sizes_of trace.now)) }
 {
     let mut uses = vec![in alloc; 0u8; trace.key_count()]?;
-    for number in trace.numbers() {
-        if let Some(uses) = uses.get_mut(*number as usize) {
-            *uses = uses.saturating_add(1);
-        }
+    let numbers = trace.numbers();
+    for index in 0..numbers.len() {
+        let number = numbers[index] as usize;
+        uses[number] = uses[number].saturating_add(1);
     }
     Ok(Summary {
         accesses: trace.numbers().len(),
         keys: trace.key_count(),
-        keys_once: uses.iter().filter(|uses| **uses == 1).count(),
+        keys_once: ones_in(&uses),
         bytes: asked_bytes(trace.sizes(), 0, trace.numbers().len()),
     })
+}
+
+/// Counts the ones.
+fn ones_in(uses: &[u8]) -> usize
+    ensures ones { result ≡ ones uses.now }
+{
+    let mut count = 0;
+    for index in 0..uses.len() {
+        if uses[index] == 1 {
+            count += 1;
+        }
+    }
+    count
 }

@@ -6,7 +6,7 @@ use crate::options::Options;
 use crate::outcome::Outcome;
 use crate::policy::Policy;
 use crate::progress::plural_of;
-use crate::row::{Hits, Row};
+use crate::row::{Counted, Hits, Row};
 use crate::summary::Summary;
 use crate::window::Windows;
 use std::alloc::{AllocError, Allocator};
@@ -268,13 +268,22 @@ fn write_percents<A: Allocator>(
     hits: Hits,
     is_sized: bool,
 ) -> Result<(), AllocError> {
-    let is_best = is_real(&hits) && best_of(row, Counted::Hits) == Some(hits.hits);
-    write_percent(text, row.ratio(hits.hits) * 100.0, is_best)?;
+    write_figure(text, row, &hits, Counted::Hits)?;
     if is_sized {
-        let is_best = is_real(&hits) && best_of(row, Counted::Bytes) == Some(hits.bytes);
-        write_percent(text, row.byte_ratio(hits.bytes) * 100.0, is_best)?;
+        write_figure(text, row, &hits, Counted::Bytes)?;
     }
     Ok(())
+}
+
+fn write_figure<A: Allocator>(
+    text: &mut String<A>,
+    row: &Row<A>,
+    hits: &Hits,
+    counted: Counted,
+) -> Result<(), AllocError> {
+    let figure = row.figure(hits, counted);
+    let is_best = is_real(hits) && best_of(row, counted) == Some(figure.number);
+    write_percent(text, figure.ratio * 100.0, is_best)
 }
 
 /// Writes a percentage in a column of nine, with a mark before it if it is the best.
@@ -312,22 +321,6 @@ fn write_best_shares<A: Allocator>(
         text.push(' ')?;
     }
     Ok(())
-}
-
-/// What is counted.
-#[derive(Clone, Copy)]
-enum Counted {
-    Hits,
-    Bytes,
-}
-
-impl Counted {
-    fn of(self, hits: &Hits) -> usize {
-        match self {
-            Counted::Hits => hits.hits,
-            Counted::Bytes => hits.bytes,
-        }
-    }
 }
 
 /// Returns the most hits, or bytes, of the policies other than the optimum, if there are several of
