@@ -17,7 +17,6 @@ pub(crate) struct Counts {
     hashed: Cell<u64>,
     hashers: Cell<u64>,
     dropped: Cell<u64>,
-    evaluated: Cell<u64>,
 }
 
 impl Counts {
@@ -29,7 +28,6 @@ impl Counts {
             hashed: Cell::new(0),
             hashers: Cell::new(0),
             dropped: Cell::new(0),
-            evaluated: Cell::new(0),
         }
     }
 
@@ -41,11 +39,6 @@ impl Counts {
             tag: self.made.get(),
             counts: Some(self),
         }
-    }
-
-    /// Counts a call of a memo's function.
-    pub(crate) fn note_evaluation(&self) {
-        add_one(&self.evaluated);
     }
 
     /// Returns how often keys were compared, and how often one was hashed, since the last such
@@ -63,11 +56,6 @@ impl Counts {
     pub(crate) fn dropped(&self) -> (u64, u64) {
         let dropped = self.dropped.get();
         (dropped, self.made.get().wrapping_sub(dropped))
-    }
-
-    /// Returns how often a memo's function was called.
-    pub(crate) fn evaluated(&self) -> u64 {
-        self.evaluated.get()
     }
 }
 

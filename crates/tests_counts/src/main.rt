@@ -1,4 +1,4 @@
-//! What calls of caches and memos compare, hash, drop and request, and how often they call closures.
+//! What calls of a cache compare, hash, drop and request, and how often they call closures.
 //!
 //! The program plays the cases of the file `cases`, and prints those whose replies are others. They are
 //! runs and refusals of caches, closures and memos. What becomes of keys and values: which of two equal

@@ -1,4 +1,4 @@
-//! Cases of calls to a cache or a memo, a line each.
+//! Cases of calls to a cache, a line each.
 
 use crate::cached::Cached;
 use crate::counted::Counts;

@@ -82,7 +82,6 @@ impl<'a> Watch<'a> {
             "hashed" => Reply::Number(self.counts.asked().1),
             "hashers" => Reply::Number(self.counts.hashers()),
             "dropped" => Reply::Pair(self.counts.dropped()),
-            "evaluated" => Reply::Number(self.counts.evaluated()),
             "refuse" => self.refuse(),
             "requests" => self.requests(),
             _ => return None,

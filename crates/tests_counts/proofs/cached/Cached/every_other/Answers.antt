@@ -4,4 +4,4 @@ use Rattle.clock2q_cache.proofs.Retained.{asked_always}
 use Rattle.tests_counts.proofs.cached.Cached.every_other.Goals as goal
 
 pub retain-requires : goal.retain-requires
-retain-requires c = record { callable = asked_always _ _ _ (mut_total _ _ (λ f a. search rules)) }
+retain-requires c later = record { callable = asked_always _ _ _ (mut_total _ _ (λ f a. search rules)) }
