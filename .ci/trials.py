@@ -9,7 +9,7 @@ import sys
 
 TOP = pathlib.Path(__file__).resolve().parent.parent
 # The folders of a crate that hold edits: what the gate tries, and what is tried before a release.
-FOLDERS = ("must-fail", "must-fail-more")
+FOLDERS = ("must-fail-gate", "must-fail-more")
 PARTS = ("src", "specs", "proofs")
 # What antt says of a name that the edit took away, which shows nothing of a contract.
 GONE = re.compile(r"has no field|is not in scope|has no `|was not admitted")
@@ -121,18 +121,28 @@ def copy_of(crate, room):
 class Checks:
     """The runs of rt that are under way, so that all of them can be ended."""
 
+    are_over_built = False
+
     def __init__(self):
         if not shutil.which("rt"):
             stop("rt isn't there, the command of the Rattle kit: README.md, Install")
         self.running = set()
         self.is_ended = False
 
+    def command(self, folder):
+        """Returns the words of a check of the crate in the folder."""
+        return ["rt", "check"]
+
+    def limits(self, edits):
+        """Returns the flags that keep a check to what refuses the edits."""
+        return []
+
     def check(self, folder, *flags):
-        """Checks the crate in the folder, and returns the lines that rt printed."""
+        """Checks the crate in the folder, and returns the lines that were printed."""
         how = {"cwd": folder, "stdin": subprocess.DEVNULL, "stdout": subprocess.PIPE, "stderr": subprocess.STDOUT}
         if self.is_ended:
             return []
-        with subprocess.Popen(["rt", "check", *flags], errors="replace", **how) as run:
+        with subprocess.Popen([*self.command(folder), *flags], errors="replace", **how) as run:
             self.running.add(run)
             said = run.communicate()[0]
             self.running.discard(run)
@@ -143,6 +153,28 @@ class Checks:
         self.is_ended = True
         for run in list(self.running):
             run.terminate()
+
+
+class ChecksOverBuilt(Checks):
+    """Checks over the libraries that `rt ci` or `rt check` built in the repository, which keep nothing."""
+
+    are_over_built = True
+
+    def __init__(self):
+        super().__init__()
+        said = subprocess.run(["rt", "doc"], stdout=subprocess.PIPE, check=True, text=True).stdout
+        self.kit = pathlib.Path(said.strip()).parent
+
+    def command(self, folder):
+        listed = crates()
+        built = [TOP / "crates" / it / "out" / "rlib" / f"{it}.rlib" for it in below(folder.name, listed)[:-1]]
+        used = [*built, *(self.kit / "rlibs" / f"{it}.rlib" for it in ["std", *listed[folder.name][1]] if it not in listed)]
+        given = [f"--extern={it.stem}={it}" for it in used] + ["-L", f"dependency={self.kit / 'rlibs'}"]
+        logic = [f"--antt-project={self.kit / 'rattle/logic/antt-project.json'}", f"--logic-built={self.kit / 'logic_built'}"]
+        return [str(self.kit / "bin" / "rattle"), "check", "--crate-name", folder.name, "src/lib.rt", *given, *logic, f"--links={folder.name}="]
+
+    def limits(self, edits):
+        return [f"--only={it.function}" for it in edits]
 
 
 def field_at_end(text):
@@ -231,11 +263,11 @@ def is_unread(line, changed):
 def judge(edit, log, crate, changed):
     """Returns whether the edit was refused as its first line says, and what to say of it. `changed` are the files that the check had from edits."""
     # rt may have proved libraries below the crate first: the crate's own verdict is the last one
-    verdicts = [it for it in log if it.startswith("logic=")]
+    verdicts = [it for it in log if it.startswith(("logic=", "only="))]
     if not verdicts:
         errors = [it for it in log if re.search(r"\berror[\[:]", it)]
         return False, "it doesn't compile: " + (errors or log or ["nothing was said"])[0][:300]
-    if verdicts[-1].startswith("logic=proved"):
+    if re.match(r"logic=proved|only=(\d+) proved=\1$", verdicts[-1]):
         return False, "it is proved, and so not refused"
     if unread := [it for it in log if it.startswith("src/") and "error[" in it or is_unread(it, changed)]:
         return False, f"its text can't be read, so no contract was tried: {unread[0][:300]}"

@@ -23,7 +23,7 @@ setup() {
         start_ci 2 edit $words
         [[ $stderr == *edit:* ]]
     done
-    edit_to x | sed 's/^old: good/old: other/' >"$copy/crates/low/must-fail/unfit.edit"
+    edit_to x | sed 's/^old: good/old: other/' >"$copy/crates/low/must-fail-gate/unfit.edit"
     start_ci 2 edit low unfit
     lacks_path "$state/tmp/*"
 }
@@ -33,7 +33,7 @@ setup() {
     for name in elsewhere gone missed unread good2; do
         [[ $output == *"low/must-fail-more/$name:"* ]]
     done
-    [[ $output != *low/must-fail/* ]] # those of the gate
+    [[ $output != *low/must-fail-gate/* ]] # those of the gate
     [[ ${lines[-1]} == "0 refused as they say, 5 wrong" ]]
     lacks_path "$state/tmp/*"
 }
@@ -46,8 +46,21 @@ setup() {
     lacks_path "$state/tmp/*"
 }
 
+@test "the edits of the gate share a check of what they name, over what was built" {
+    make_kit
+    rm "$copy"/crates/low/must-fail-gate/{together,resting,noted}.edit
+    start_ci 0 edits --gate
+    [[ ${lines[-1]} == "2 refused as they say, 0 wrong" ]]
+    grep -q -- "--extern=low=$copy/crates/low/out/rlib/low.rlib .* --only=put" "$state/rattle"
+    calls check 2
+    edit_to missed >"$copy/crates/low/must-fail-gate/bad.edit"
+    start_ci 1 edits --gate
+    [[ $output == *'low/must-fail-gate/bad:'* && ${lines[-1]} == "1 refused as they say, 1 wrong" ]]
+    lacks_path "$state/tmp/*"
+}
+
 @test "edits refuses wrong arguments" {
-    for words in '--jobs' '--jobs 0' '--jobs x' 'nothing' '--nothing'; do
+    for words in '--all --gate' '--jobs' '--jobs 0' '--jobs x' 'nothing' '--nothing'; do
         # shellcheck disable=SC2086 # a word for each argument
         start_ci 2 edits $words
     done
@@ -134,17 +147,17 @@ checks() {
 @test "the gate has at most 24 edits" {
     start_ci 0 budget
     for number in $(seq 19); do
-        edit_to "$number" >"$copy/crates/low/must-fail/e$number.edit"
+        edit_to "$number" >"$copy/crates/low/must-fail-gate/e$number.edit"
     done
     start_ci 0 budget
-    edit_to one >"$copy/crates/low/must-fail/e_one.edit"
+    edit_to one >"$copy/crates/low/must-fail-gate/e_one.edit"
     start_ci 1 budget
 }
 
 @test "an edit fits its file once, and says what refuses it" {
-    edit_to x | sed 's/^old: good/old: o/' >"$copy/crates/low/must-fail/twice.edit"
+    edit_to x | sed 's/^old: good/old: o/' >"$copy/crates/low/must-fail-gate/twice.edit"
     start_ci 1 budget
-    [[ $output == *low/must-fail/twice* ]]
-    edit_to x | sed 1d >"$copy/crates/low/must-fail/twice.edit"
+    [[ $output == *low/must-fail-gate/twice* ]]
+    edit_to x | sed 1d >"$copy/crates/low/must-fail-gate/twice.edit"
     start_ci 1 budget
 }

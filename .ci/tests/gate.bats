@@ -3,18 +3,31 @@ load helper
 
 PARTS='names versions budget formats written scripts'
 
-# The gate's parts print their names alone.
+# The gate's parts print their names alone, and three edits are refused.
 make_parts() {
     make_edits
     for part in $PARTS; do
         print_instead .ci/$part
     done
+    edits_end '3 refused as they say, 0 wrong' 0
+}
+edits_end() {
+    printf '#!/bin/sh\necho "%s"\nexit %s\n' "$1" "$2" >"$copy/.ci/edits"
 }
 
-@test "the gate ends with rt's line" {
+@test "the gate ends with the counts of rt and of the edits" {
     make_parts
     start_ci 0 run
-    [ "${lines[-1]}" = '7 passed, 0 failed' ]
+    [ "${lines[-1]}" = '10 passed, 0 failed' ]
+    edits_end '2 refused as they say, 1 wrong' 1
+    start_ci 1 run
+    [ "${lines[-1]}" = '9 passed, 1 failed' ]
+    edits_end 'edits: broken' 2
+    start_ci 1 run
+    [ "${lines[-1]}" = 'the gate ends here: .ci/edits failed' ]
+    touch "$state/fail_ci"
+    start_ci 1 run
+    [ "${lines[-1]}" = '6 passed, 1 failed' ]
 }
 
 @test "the gate ends where a part fails" {
@@ -41,7 +54,7 @@ make_parts() {
     make_parts
     mkdir -p "$state/else/.ci"
     cdpath=$state/else start_ci 0 run
-    [[ $output == *'7 passed'* ]]
+    [[ $output == *'10 passed'* ]]
 }
 
 @test "formats names files of more than 350 lines, and links" {
@@ -103,13 +116,6 @@ function_of() {
     done
 }
 
-# A substitute for rattle, which would change a file with the word ragged.
-make_kit() {
-    make_edits
-    mkdir -p "$state/kit/bin"
-    printf '#!/bin/sh\n[ "$1 $2" = "fmt --check" ] || exit 2\nshift 2\n! grep -l ragged "$@"\n' >"$state/kit/bin/rattle"
-    chmod +x "$state/kit/bin/rattle"
-}
 
 # What is written in more than one place, and a number or a licence that differs in one of them.
 @test "versions names each file with another version or none" {

@@ -88,7 +88,7 @@ print_instead() {
 # A crate with a proof, over one that is a static library by its line, and with an edit for each word that
 # the substitute reads.
 make_edits() {
-    mkdir -p "$copy"/crates/{low,static}/{src,must-fail} "$copy"/crates/low/{proofs/put,must-fail-more} "$copy/.ci"
+    mkdir -p "$copy"/crates/{low,static}/{src,must-fail-gate} "$copy"/crates/low/{proofs/put,must-fail-more} "$copy/.ci"
     find "$top/.ci" -maxdepth 1 -type f -exec cp {} "$copy/.ci" \;
     cp "$top/HANDLES" "$copy"
     printf 'static staticlib: low\nlow:\n' >"$copy/crates.txt"
@@ -96,12 +96,26 @@ make_edits() {
     echo good >"$copy/crates/static/src/lib.rt"
     printf 'returns-clause-value g c = here\n' >"$copy/crates/low/proofs/put/Answers.antt"
     for word in bad together resting noted; do
-        edit_to "$word" >"$copy/crates/low/must-fail/$word.edit"
+        edit_to "$word" >"$copy/crates/low/must-fail-gate/$word.edit"
     done
     for word in elsewhere gone missed unread good2; do
         edit_to "$word" >"$copy/crates/low/must-fail-more/$word.edit"
     done
-    edit_to bad >"$copy/crates/static/must-fail/static_bad.edit"
+    edit_to bad >"$copy/crates/static/must-fail-gate/static_bad.edit"
     cp -r "$copy/crates/low/proofs" "$copy/crates/static"
 }
 edit_to() { printf 'refused by: put, value\nfile: src/lib.rt\nold: good\nnew: %s\n' "$1"; }
+
+# Edits, and a substitute for rattle, which would change a file with the word ragged, and checks as that for rt does.
+make_kit() {
+    make_edits
+    mkdir -p "$state/kit/bin"
+    cat >"$state/kit/bin/rattle" <<'END'
+#!/bin/sh
+case $1 in
+fmt) shift 2 && ! grep -l ragged "$@" ;;
+check) echo "$*" >>"$RT_STATE/rattle" && exec rt check ;;
+esac
+END
+    chmod +x "$state/kit/bin/rattle"
+}
