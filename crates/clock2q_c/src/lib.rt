@@ -9,15 +9,11 @@
 
 mod asking;
 mod calls;
-#[cfg(test)]
-mod counted;
 mod evicting;
 mod handle;
 mod held;
 mod making;
 mod status;
-#[cfg(test)]
-mod tested;
 mod tokens;
 mod unboxed;
 mod version;

@@ -8,8 +8,6 @@ mod given;
 mod handle;
 mod held;
 mod making;
-#[cfg(test)]
-mod tested;
 mod token;
 
 pub use asking::{
