@@ -1,0 +1,266 @@
+//! A cache of counted keys, whose calls are given as small values.
+
+use crate::counted::{Counted, CountedHashes};
+use crate::replies::{Reply, Watch};
+use crate::verb::Verb;
+use clock2q_cache::{Cache, CacheError};
+use std::alloc::Global;
+use std::hash::BuildHasher;
+use std::num::NonZeroUsize;
+use testing::Refusing;
+
+/// A cache whose keys, hashers and requests for memory are counted.
+pub(crate) type Counting<'a, S> = Cache<
+    Counted<'a>,
+    u64,
+    CountedHashes<'a, S>,
+    &'a Refusing<Global>,
+>;
+
+/// A cache, and what its run counts.
+#[derive(Drop)]
+pub(crate) struct Cached<'a, S: BuildHasher> {
+    cache: Counting<'a, S>,
+    watch: Watch<'a>,
+}
+
+impl<'a, S: BuildHasher + Drop> Cached<'a, S> {
+    /// Makes a cache for this many keys, with the usual shares or with these of Small and the window.
+    pub(crate) fn new(
+        watch: Watch<'a>,
+        hasher: S,
+        capacity: u64,
+        shares: Option<(u64, u64)>,
+    ) -> Result<Cached<'a, S>, CacheError> {
+        let most = NonZeroUsize::new(capacity as usize).unwrap_or(NonZeroUsize::MAX);
+        let hasher = CountedHashes {
+            hasher,
+            counts: watch.counts,
+        };
+        let cache = match shares {
+            None => Cache::with_hasher(watch.memory, most, hasher)?,
+            Some((small, window)) => Cache::with_policy(
+                watch.memory,
+                most,
+                small as usize,
+                window as usize,
+                hasher,
+            )?,
+        };
+        Ok(Cached { cache, watch })
+    }
+}
+
+impl<'a, S: BuildHasher> Cached<'a, S> {
+    /// Makes a call, or answers a question about the run.
+    pub(crate) fn reply(&mut self, verb: Verb, (first, second): (u64, u64)) -> Reply {
+        match verb {
+            Verb::Get => Reply::Value(self.get(first)),
+            Verb::GetMut => Reply::Value(self.get_mut(first)),
+            Verb::Slot => Reply::Value(self.slot(first)),
+            Verb::Peek => Reply::Value(self.peek(first)),
+            Verb::Contains => Reply::Flag(self.contains(first)),
+            Verb::GetAt => Reply::Value(self.get_at(first as usize, second)),
+            Verb::Put => Reply::Value(self.put(first, second)),
+            Verb::With => Reply::Pair(self.with(first, second)),
+            Verb::Try => Reply::Value(self.fetch(first, Ok(second))),
+            Verb::TryFail => Reply::Value(self.fetch(first, Err(()))),
+            Verb::TryMut => Reply::Value(self.fetch_mut(first, Ok(second))),
+            Verb::TryMutFail => Reply::Value(self.fetch_mut(first, Err(()))),
+            Verb::SlotFor => self.slot_for(first, second),
+            Verb::Enter => self.enter(first, second),
+            Verb::Remove => Reply::Flag(self.remove(first)),
+            Verb::Puts => Reply::Number(self.puts(first, second)),
+            Verb::Stores => Reply::Number(self.stores(first, second)),
+            Verb::Prefill => Reply::Number(self.prefill()),
+            Verb::Retain => self.retain(first, second),
+            Verb::EveryOther => Reply::Number(self.every_other()),
+            Verb::Tags => Reply::Number(self.tags()),
+            Verb::Clear => self.clear(),
+            Verb::Len => Reply::Number(self.len()),
+            Verb::Capacity => Reply::Number(self.capacity()),
+            Verb::IsEmpty => Reply::Flag(self.is_empty()),
+            Verb::Ask(question) => self.watch.reply(question),
+        }
+    }
+}
+
+impl<'a, S: BuildHasher> Cached<'a, S> {
+    /// Makes a key.
+    fn key(&self, id: u64) -> Counted<'a> {
+        self.watch.counts.key(id)
+    }
+
+    fn get(&mut self, id: u64) -> Option<u64> {
+        let key = self.key(id);
+        self.cache.get(&key).copied()
+    }
+
+    fn get_mut(&mut self, id: u64) -> Option<u64> {
+        let key = self.key(id);
+        match self.cache.get_mut(&key) {
+            Some(value) => Some(*value),
+            None => None,
+        }
+    }
+
+    fn slot(&mut self, id: u64) -> Option<u64> {
+        let key = self.key(id);
+        self.cache.slot(&key).map(|slot| slot as u64)
+    }
+
+    fn peek(&self, id: u64) -> Option<u64> {
+        let key = self.key(id);
+        self.cache.peek(&key).copied()
+    }
+
+    fn contains(&self, id: u64) -> bool {
+        let key = self.key(id);
+        self.cache.contains(&key)
+    }
+
+    fn get_at(&mut self, slot: usize, id: u64) -> Option<u64> {
+        let key = self.key(id);
+        self.cache.get_at(slot, &key).copied()
+    }
+
+    fn put(&mut self, id: u64, value: u64) -> Option<u64> {
+        let key = self.key(id);
+        self.cache.put(key, value)
+    }
+
+    /// Fetches a value, and returns it with the number of calls of the closure.
+    fn with(&mut self, id: u64, value: u64) -> (u64, u64) {
+        let key = self.key(id);
+        let mut calls = 0u64;
+        let value = *self.cache.get_or_insert_with(key, || {
+            calls = calls.saturating_add(1);
+            value
+        });
+        (value, calls)
+    }
+
+    /// Fetches a value, unless the closure fails.
+    fn fetch(&mut self, id: u64, fetched: Result<u64, ()>) -> Option<u64> {
+        let key = self.key(id);
+        match self.cache.try_get_or_insert_with(key, || fetched) {
+            Ok(value) => Some(*value),
+            Err(()) => None,
+        }
+    }
+
+    /// Fetches a value to be written to, unless the closure fails.
+    fn fetch_mut(&mut self, id: u64, fetched: Result<u64, ()>) -> Option<u64> {
+        let key = self.key(id);
+        match self.cache.try_get_or_insert_with_mut(key, || fetched) {
+            Ok(value) => Some(*value),
+            Err(()) => None,
+        }
+    }
+
+    fn slot_for(&mut self, id: u64, value: u64) -> Reply {
+        let key = self.key(id);
+        let mut calls = 0u64;
+        let (slot, value) = self.cache.get_or_insert_mut(key, || {
+            calls = calls.saturating_add(1);
+            value
+        });
+        let value = *value;
+        Reply::Slot(slot as u64, value, calls)
+    }
+
+    fn enter(&mut self, id: u64, value: u64) -> Reply {
+        let key = self.key(id);
+        let mut calls = 0u64;
+        let (slot, value, _) = self.cache.enter(key, || {
+            calls = calls.saturating_add(1);
+            value
+        });
+        let value = *value;
+        Reply::Slot(slot as u64, value, calls)
+    }
+
+    fn remove(&mut self, id: u64) -> bool {
+        let key = self.key(id);
+        self.cache.remove(&key)
+    }
+}
+
+impl<'a, S: BuildHasher> Cached<'a, S> {
+    /// Puts keys, each as its own value, and returns how many replaced no value.
+    fn puts(&mut self, first: u64, end: u64) -> u64 {
+        let mut new = 0u64;
+        for id in first..end {
+            new = new.saturating_add(self.put(id, id).is_none() as u64);
+        }
+        new
+    }
+
+    /// Does the same, looks each key up at once, and returns how many are found with their value.
+    fn stores(&mut self, first: u64, end: u64) -> u64 {
+        let mut found = 0u64;
+        for id in first..end {
+            let is_new = self.put(id, id).is_none();
+            found = found.saturating_add((is_new && self.get(id) == Some(id)) as u64);
+        }
+        found
+    }
+
+    /// Makes the slots that were never made, with the values 1, 2 and so on, and returns their number.
+    fn prefill(&mut self) -> u64 {
+        let mut made = 0u64;
+        self.cache.prefill(|| {
+            made = made.wrapping_add(1);
+            made
+        });
+        made
+    }
+
+    /// Keeps the residents whose values are from the first up to the end.
+    fn retain(&mut self, first: u64, end: u64) -> Reply {
+        self.cache
+            .retain(|_, value| first <= *value && *value < end);
+        Reply::Done
+    }
+
+    /// Keeps every other resident, and returns the keys that the closure was called for, as digits of
+    /// a number.
+    fn every_other(&mut self) -> u64 {
+        let mut asked = 0u64;
+        let mut keep = false;
+        self.cache.retain(|key, _| {
+            asked = asked.wrapping_mul(10).wrapping_add(key.id);
+            keep = !keep;
+            keep
+        });
+        asked
+    }
+
+    /// Returns the id and the tag of each resident's key, by ascending slot, as digits of a number.
+    fn tags(&mut self) -> u64 {
+        let mut tags = 0u64;
+        self.cache.retain(|key, _| {
+            tags = tags.wrapping_mul(10).wrapping_add(key.id);
+            tags = tags.wrapping_mul(10).wrapping_add(key.tag);
+            true
+        });
+        tags
+    }
+
+    fn clear(&mut self) -> Reply {
+        self.cache.clear();
+        Reply::Done
+    }
+
+    fn len(&self) -> u64 {
+        self.cache.len() as u64
+    }
+
+    fn capacity(&self) -> u64 {
+        self.cache.capacity() as u64
+    }
+
+    fn is_empty(&self) -> bool {
+        self.cache.is_empty()
+    }
+}

@@ -1,0 +1,104 @@
+//! Cases of calls to a cache, a line each.
+
+use crate::cached::Cached;
+use crate::counted::Counts;
+use crate::drops::play_drops;
+use crate::replies::{Reply, Watch, number_of, two_numbers, two_words};
+use crate::verb::{Kind, Verb};
+use clock2q_cache::DefaultHashBuilder;
+use std::alloc::{AllocError, Global};
+use std::hash::BuildHasher;
+use testing::{LinearHashBuilder, Refusing, SpellingError, spelled};
+
+/// A hash of its own for each key, and one hash for all keys.
+const APART: LinearHashBuilder = LinearHashBuilder { times: 1, more: 0 };
+
+const ALIKE: LinearHashBuilder = LinearHashBuilder { times: 0, more: 0 };
+
+/// Returns what a line gives in place of what it should, if it does.
+pub(crate) fn other_replies(alloc: Global, line: &str) -> Result<Option<Vec<u8>>, SpellingError> {
+    let (calls, wanted) = line.split_once('|').unwrap_or((line, "no bar"));
+    let wanted = spelled(alloc, wanted)?;
+    let replies = replies_to(alloc, calls)?.into_bytes();
+    Ok(if replies == wanted {
+        None
+    } else {
+        Some(replies)
+    })
+}
+
+/// Returns the replies to calls, each with a line end. What is kept after them is said too.
+fn replies_to(alloc: Global, calls: &str) -> Result<String, AllocError> {
+    let counts = Counts::new();
+    let memory = Refusing::new(alloc);
+    let mut replies = String::new(alloc);
+    play(&counts, &memory, calls, &mut replies)?;
+    if counts.dropped().1 != 0 {
+        replies.push_str("keys kept\n")?;
+    }
+    if memory.held() != 0 {
+        replies.push_str("memory kept\n")?;
+    }
+    Ok(replies)
+}
+
+/// Makes what the first words of a line say, and plays the calls that follow.
+fn play(
+    counts: &Counts,
+    memory: &Refusing<Global>,
+    line: &str,
+    replies: &mut String,
+) -> Result<(), AllocError> {
+    let (first, calls) = line.split_once(';').unwrap_or((line, ""));
+    let (kind, made) = two_words(first);
+    let watch = Watch::new(counts, memory);
+    match Kind::named(kind) {
+        Some(Kind::Usual) => play_cache(watch, DefaultHashBuilder::new(), made, calls, replies),
+        Some(Kind::Apart) => play_cache(watch, APART, made, calls, replies),
+        Some(Kind::Alike) => play_cache(watch, ALIKE, made, calls, replies),
+        Some(Kind::Drops) => play_drops(memory, number_of(made), calls, replies),
+        None => Reply::Unknown.write(replies),
+    }
+}
+
+/// Makes a cache, makes calls of it, and writes their replies.
+fn play_cache<'a, S: BuildHasher + Drop>(
+    watch: Watch<'a>,
+    hasher: S,
+    made: &str,
+    calls: &str,
+    replies: &mut String,
+) -> Result<(), AllocError> {
+    let (capacity, shares) = two_words(made);
+    let shares = if shares.is_empty() {
+        None
+    } else {
+        Some(two_numbers(shares))
+    };
+    match Cached::new(watch, hasher, number_of(capacity), shares) {
+        Ok(mut cached) => make_calls(&mut cached, calls, replies),
+        Err(refusal) => Reply::Refused(refusal).write(replies),
+    }
+}
+
+/// Makes calls, and writes their replies.
+fn make_calls<'a, S: BuildHasher>(
+    cached: &mut Cached<'a, S>,
+    calls: &str,
+    replies: &mut String,
+) -> Result<(), AllocError> {
+    for call in calls.split_terminator(';') {
+        reply_to(cached, call).write(replies)?;
+    }
+    Ok(())
+}
+
+/// Makes the call that a text spells.
+fn reply_to<'a, S: BuildHasher>(cached: &mut Cached<'a, S>, call: &str) -> Reply {
+    let (name, words) = two_words(call);
+    let numbers = two_numbers(words);
+    match Verb::named(name) {
+        Some(verb) => cached.reply(verb, numbers),
+        None => Reply::Unknown,
+    }
+}

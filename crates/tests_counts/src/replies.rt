@@ -1,0 +1,108 @@
+//! The words that calls are spelled by, the replies, and what a run is asked beside its calls.
+
+use crate::counted::Counts;
+use crate::verb::Question;
+use clock2q_cache::CacheError;
+use std::alloc::{AllocError, Global};
+use std::cell::Cell;
+use testing::Refusing;
+
+/// Returns the two parts of a text, of which the second begins after its first blank.
+pub(crate) fn two_words(text: &str) -> (&str, &str) {
+    text.split_once(' ').unwrap_or((text, ""))
+}
+
+/// Returns the number that a word spells, or 0.
+pub(crate) fn number_of(word: &str) -> u64 {
+    word.parse().unwrap_or(0)
+}
+
+/// Returns the two numbers that a text spells, each 0 if it isn't there.
+pub(crate) fn two_numbers(text: &str) -> (u64, u64) {
+    let (first, second) = two_words(text);
+    (number_of(first), number_of(second))
+}
+
+/// The reply of a call.
+#[derive(Clone, Copy)]
+pub(crate) enum Reply {
+    /// A value or a slot, if there is one.
+    Value(Option<u64>),
+    Flag(bool),
+    Number(u64),
+    Pair((u64, u64)),
+    /// A slot, the value there, and how often the closure was called.
+    Slot(u64, u64, u64),
+    Done,
+    Refused(CacheError),
+    /// There is no such call.
+    Unknown,
+}
+
+impl Reply {
+    /// Writes the reply, with a line end.
+    pub(crate) fn write(self, replies: &mut String) -> Result<(), AllocError> {
+        match self {
+            Reply::Value(None) => replies.push_str("none\n"),
+            Reply::Value(Some(value)) => write!(replies, "some {value}\n"),
+            Reply::Flag(flag) => write!(replies, "{flag}\n"),
+            Reply::Number(number) => write!(replies, "{number}\n"),
+            Reply::Pair((first, second)) => write!(replies, "{first} {second}\n"),
+            Reply::Slot(slot, value, calls) => write!(replies, "{slot} {value} {calls}\n"),
+            Reply::Done => replies.push_str("ok\n"),
+            Reply::Refused(refusal) => write!(replies, "{refusal}\n"),
+            Reply::Unknown => replies.push_str("no call\n"),
+        }
+    }
+}
+
+/// What a run counts, and the memory that it takes.
+#[derive(Drop)]
+pub(crate) struct Watch<'a> {
+    pub(crate) counts: &'a Counts,
+    pub(crate) memory: &'a Refusing<Global>,
+    /// How often memory was requested before all requests were refused.
+    granted: Cell<u64>,
+}
+
+impl<'a> Watch<'a> {
+    /// Watches a run.
+    pub(crate) fn new(counts: &'a Counts, memory: &'a Refusing<Global>) -> Watch<'a> {
+        Watch {
+            counts,
+            memory,
+            granted: Cell::new(0),
+        }
+    }
+
+    /// Returns the reply to a question about the run.
+    pub(crate) fn reply(&self, question: Question) -> Reply {
+        match question {
+            Question::Reset => self.reset(),
+            Question::Asked => Reply::Pair(self.counts.asked()),
+            Question::Hashed => Reply::Number(self.counts.asked().1),
+            Question::Hashers => Reply::Number(self.counts.hashers()),
+            Question::Dropped => Reply::Pair(self.counts.dropped()),
+            Question::Refuse => self.refuse(),
+            Question::Requests => self.requests(),
+        }
+    }
+
+    /// Counts anew what is compared and hashed.
+    fn reset(&self) -> Reply {
+        let _ = (self.counts.asked(), self.counts.hashers());
+        Reply::Done
+    }
+
+    /// Refuses every later request for memory.
+    fn refuse(&self) -> Reply {
+        self.memory.refuse_after(0);
+        self.granted.set(self.memory.requests());
+        Reply::Done
+    }
+
+    /// Replies with how often memory was requested since all requests are refused.
+    fn requests(&self) -> Reply {
+        Reply::Number(self.memory.requests().wrapping_sub(self.granted.get()))
+    }
+}

@@ -1,6 +1,0 @@
--- No command here makes slots.
-use Rattle.std.proofs.Common.{rules}
-use Rattle.tests_library.proofs.caches.replies_of.Goals as goal
-
-pub run-requires : goal.run-requires
-run-requires c = record { prefills = search rules }
