@@ -932,12 +932,13 @@ class cache {
             return found.is_found ? nodes.at(found.slot) : nullptr;
         }
 
-        // Has as many nodes at most from now on, and returns those above, of which each leads to the next, or null.
+        // Has as many nodes at most from now on, and returns those above in their order, of which each leads to the next,
+        // or null.
         node *resize(std::size_t most) noexcept {
-            node *gone = nullptr;
+            node *gone = nullptr, **end = &gone;
             while (nodes.size() > most) {
-                node *last = evict();
-                last->next = std::exchange(gone, last);
+                *end = evict();
+                end = &(*end)->next;
             }
             limit = most < slots.capacity() ? most : no_limit;
             return gone;

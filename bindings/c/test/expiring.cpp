@@ -92,14 +92,18 @@ static void reasons() {
     words.put("e", 8);
     words.resize(1);
     must(left.size() == 6 && left.back().why == reason::evicted, "what leaves a smaller cache is");
+    words.resize(3);
+    for (const char *key : {"x", "y"}) words.put(key, 1);
+    words.resize(1);
+    must(left.size() == 8 && left[6].key == "e" && left[7].key == "x", "in the order in which it leaves");
     words.erase(words.begin());
-    must(left.size() == 7 && left.back().why == reason::removed, "what leaves by its position is");
+    must(left.size() == 9 && left.back().why == reason::removed, "what leaves by its position is");
     words.put("f", 9);
     words.clear();
     must(left.back() == heard{"f", 9, reason::cleared}, "what is cleared is");
     words.put("g", 10);
     { listening_cache<std::string, int> taken(std::move(words)); }
-    must(left.size() == 8, "a cache that is destroyed says nothing");
+    must(left.size() == 10, "a cache that is destroyed says nothing");
 }
 
 // The reasons of one whose entries have weights. The weight is right whenever the listener is called.
