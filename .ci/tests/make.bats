@@ -42,7 +42,7 @@ of_page() { sed -n 's/^    \(clock2q[a-z_]*:\)/\1/p' "$top/docs/CALLING.md"; }
 
 @test "make vendor copies the library and what is proved of it" {
     start 0 clock2q
-    mkdir -p "$copy"/crates/clock2q_cache/{must-fail,must-fail-more,out/incremental} "$state/mine/crates/clock2q_cache"
+    mkdir -p "$copy"/crates/clock2q_cache/{must-fail-gate,must-fail-more,out/incremental} "$state/mine/crates/clock2q_cache"
     touch "$state/mine/crates/clock2q_cache/older"
     printf '%s\n' '# mine' 'my_crate: clock2q' 'clock2q_cache: other' >"$state/mine/crates.txt"
     printf 'build/' >"$state/mine/.gitignore"
@@ -55,7 +55,7 @@ of_page() { sed -n 's/^    \(clock2q[a-z_]*:\)/\1/p' "$top/docs/CALLING.md"; }
     [ "$(sed 2q "$state/mine/crates.txt")" = $'# mine\nmy_crate: clock2q' ]
     [ "$(cat "$state/mine/.gitignore")" = $'build/\nout/' ]
     [ -e "$state/mine/crates/clock2q_cache/out/rlib/stamp" ]
-    for left in older must-fail must-fail-more out/incremental; do
+    for left in older must-fail-gate must-fail-more out/incremental; do
         [ ! -e "$state/mine/crates/clock2q_cache/$left" ]
     done
 }

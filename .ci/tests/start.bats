@@ -41,6 +41,29 @@ install_scripts() {
     done
 }
 
+@test "an installed script prints where the proof comes from" {
+    path=${tools}_without_rt
+    install_scripts
+    printf '%s\n' 'clock2q 0.0.0, revision none' 'NOT CHECKED: the library' >"$copy/PROVENANCE"
+    mkdir "$copy/bin" && ln -s ../clock2q "$copy/bin"
+    for script in clock2q bin/clock2q; do
+        start 0 $script --proof
+        [ "$output" = "$(cat "$copy/PROVENANCE")" ]
+        [ ! "$stderr" ]
+    done
+    run -4 sh -c '"$@" >/dev/full' sh "$copy/clock2q" --proof
+}
+
+@test "where there is no PROVENANCE a line says so" {
+    path=${tools}_without_rt
+    start 2 clock2q --proof
+    [[ ! $output && $stderr == "$copy/PROVENANCE isn't there"* && $stderr == *bindings/provenance* && $stderr != *$'\n'* ]]
+    [ ! -s "$state/calls" ]
+    install_scripts
+    start 2 clock2q --proof
+    [[ ! $output && $stderr == "$copy/PROVENANCE isn't there"* && $stderr != *$'\n'* ]]
+}
+
 @test "an installed script runs the program beside it" {
     path=${tools}_without_rt
     install_scripts
@@ -89,7 +112,7 @@ PROGRAM
 }
 
 @test "clock2q takes no argument" {
-    for words in commands.txt -x '--try more' '--help more' '-- x'; do
+    for words in commands.txt -x '--try more' '--help more' '--proof more' '-- x'; do
         # shellcheck disable=SC2086 # a word for each argument
         start 2 clock2q $words
         [ "$stderr" = 'Usage: ./clock2q [--try] < COMMANDS' ]

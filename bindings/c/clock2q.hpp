@@ -742,7 +742,7 @@ class cache {
     void resize(size_type capacity) {
         if (capacity == 0 || state_ == nullptr) detail::check(CLOCK2Q_BAD_CAPACITY);
         leaving left = state_->none_left();
-        if (capacity > state_->slots.capacity()) state_->grow(capacity, left);
+        if (capacity > state_->slots.capacity()) state_->grow(capacity, left, [](std::size_t, std::size_t) {});
         else left.add(state_->resize(capacity));
     }
 
@@ -932,19 +932,21 @@ class cache {
             return found.is_found ? nodes.at(found.slot) : nullptr;
         }
 
-        // Has as many nodes at most from now on, and returns those above, of which each leads to the next, or null.
+        // Has as many nodes at most from now on, and returns those above in their order, of which each leads to the next,
+        // or null.
         node *resize(std::size_t most) noexcept {
-            node *gone = nullptr;
+            node *gone = nullptr, **end = &gone;
             while (nodes.size() > most) {
-                node *last = evict();
-                last->next = std::exchange(gone, last);
+                *end = evict();
+                end = &(*end)->next;
             }
             limit = most < slots.capacity() ? most : no_limit;
             return gone;
         }
 
-        // Has more slots than there are. It calls no code of users, and has changed nothing if it throws.
-        void grow(std::size_t capacity, leaving &left) {
+        // Has more slots than there are, and calls `moved` with the slot that each node had and the one that it has. It
+        // calls no code of users, and has changed nothing if it throws.
+        template <class Moved> void grow(std::size_t capacity, leaving &left, Moved moved) {
             token_cache more = made(capacity, shares);
             detail::nodes<node> all(capacity);
             node *first = nullptr, **end = &first;
@@ -955,7 +957,12 @@ class cache {
             slots = std::move(more);
             nodes = std::move(all);
             limit = no_limit;
-            while (first != nullptr) left.add(link(std::exchange(first, first->next)));
+            while (first != nullptr) {
+                node *next = std::exchange(first, first->next);
+                std::size_t before = next->slot;
+                left.add(link(next));
+                moved(before, std::size_t{next->slot});
+            }
         }
 
         void clear() noexcept {
@@ -1218,7 +1225,7 @@ class weighted_cache {
     // Takes all entries out, and forgets all keys. Takes time in proportion to the capacity.
     void clear() noexcept {
         if (limit_ == nullptr) return;
-        std::fill_n(limit_->by_slot.get(), entries_.capacity(), 0);
+        std::fill_n(limit_->by_slot.get(), entries_.state_->slots.capacity(), 0);
         limit_->weight = 0;
         entries_.clear();
     }
@@ -1231,9 +1238,21 @@ class weighted_cache {
         limit_->max_weight = max_weight;
     }
 
+    // Has the cache hold `capacity` entries at most, whatever their weights, as `cache::resize` does, and throws what that
+    // throws. The limit of the weights stays as it is.
+    void resize(size_type capacity) {
+        if (capacity == 0 || capacity > CLOCK2Q_MAX_CAPACITY || limit_ == nullptr) detail::check(CLOCK2Q_BAD_CAPACITY);
+        typename entries::state &state = *entries_.state_;
+        if (capacity > state.slots.capacity()) return grow(capacity);
+        leaving left(*this);
+        while (size() > capacity) left.add(state.evict());
+        state.resize(capacity);
+    }
+
     size_type size() const noexcept { return entries_.size(); }
     bool empty() const noexcept { return entries_.empty(); }
-    // Returns how many entries there can be, whatever their weights.
+    // Returns how many entries there can be, whatever their weights: as many as the cache was made for, or resized to
+    // since.
     size_type capacity() const noexcept { return entries_.capacity(); }
     // Return the sum of the weights of all entries, and the most that it may be.
     std::uint64_t weight() const noexcept { return limit_ == nullptr ? 0 : limit_->weight; }
@@ -1318,6 +1337,16 @@ class weighted_cache {
         link(fresh, weight, found, gone);
         gone.hand_over(left);
         return true;
+    }
+
+    // Has more slots than there are, with each weight at the slot that its entry has then. No entry leaves.
+    void grow(size_type capacity) {
+        std::unique_ptr<std::uint64_t[]> weights(new std::uint64_t[capacity]());
+        typename entries::leaving none = entries_.state_->none_left();
+        entries_.state_->grow(capacity, none, [&](std::size_t before, std::size_t now) {
+            weights[now] = limit_->by_slot[before];
+        });
+        limit_->by_slot = std::move(weights);
     }
 
     static void note_replaced(node *left) noexcept { entries::state::template note_left<reason::replaced>(left); }

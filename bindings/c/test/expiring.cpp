@@ -92,14 +92,18 @@ static void reasons() {
     words.put("e", 8);
     words.resize(1);
     must(left.size() == 6 && left.back().why == reason::evicted, "what leaves a smaller cache is");
+    words.resize(3);
+    for (const char *key : {"x", "y"}) words.put(key, 1);
+    words.resize(1);
+    must(left.size() == 8 && left[6].key == "e" && left[7].key == "x", "in the order in which it leaves");
     words.erase(words.begin());
-    must(left.size() == 7 && left.back().why == reason::removed, "what leaves by its position is");
+    must(left.size() == 9 && left.back().why == reason::removed, "what leaves by its position is");
     words.put("f", 9);
     words.clear();
     must(left.back() == heard{"f", 9, reason::cleared}, "what is cleared is");
     words.put("g", 10);
     { listening_cache<std::string, int> taken(std::move(words)); }
-    must(left.size() == 8, "a cache that is destroyed says nothing");
+    must(left.size() == 10, "a cache that is destroyed says nothing");
 }
 
 // The reasons of one whose entries have weights. The weight is right whenever the listener is called.
@@ -133,6 +137,14 @@ static void reasons_with_weights() {
     made.put("f", 4);
     made.set_max_weight(3);
     must(left.back() == heard{"f", 4, reason::evicted}, "what leaves a smaller limit is");
+    for (const char *key : {"i", "j", "k"}) made.put(key, 1);
+    before = left.size();
+    made.resize(1);
+    must(left.size() == before + 2 && left.back().why == reason::evicted && made.size() == 1, "what leaves a smaller cache is");
+    must(left[before].key == "i" && left[before + 1].key == "j", "in the order in which it leaves");
+    made.resize(30);
+    must(left.size() == before + 2 && made.weight() == 1, "none leaves a larger one");
+    made.erase("k");
     made.put("g", 2);
     made.clear();
     must(left.back() == heard{"g", 2, reason::cleared}, "what is cleared is");
@@ -151,7 +163,7 @@ static void a_listener_that_weighs() {
         calls++;
         std::uint64_t sum = 0;
         for (const auto &entry : *words) sum += entry.second % 8;
-        must(sum == words->weight() && sum <= 60 && words->size() <= 20, "the cache is whole");
+        must(sum == words->weight() && sum <= 60 && words->size() <= words->capacity(), "the cache is whole");
         if (value % 3 == 0) words->put(key + 1, value + 1);
         if (value % 11 == 0) words->erase(key + 2);
         if (value % 101 == 0) words->clear();
@@ -161,6 +173,7 @@ static void a_listener_that_weighs() {
         std::uint64_t key = drawn(state) % 50;
         if (i % 7 == 0) made.erase(key);
         else if (i % 13 == 0) made.evict();
+        else if (i % 17 == 0) made.resize(10 + drawn(state) % 30);
         else made.put(key, drawn(state) % 1000);
     }
     must(calls > 2000, "it was called");

@@ -155,6 +155,16 @@ template <class Hash> static bool is_same(const weighed<Hash> &tried, const std:
     return sum == tried.weight() && sum <= tried.max_weight() && stored.size() == tried.size() && tried.size() <= tried.capacity();
 }
 
+// As many stay as there may be, and all if that is enough; the limit of the weights stays.
+template <class Hash> static void resize_at_random(weighed<Hash> &tried, std::size_t capacity, std::uint64_t draw) {
+    std::size_t before = tried.size(), next = 1 + (draw >> 8) % (draw % 4 == 0 ? 2 * capacity : capacity);
+    std::uint64_t weight = tried.weight(), most = tried.max_weight();
+    tried.resize(next);
+    must(tried.capacity() == next && tried.size() == std::min(before, next), "its capacity is the new one");
+    must(before > next || tried.weight() == weight, "if it is enough, all stay");
+    must(tried.max_weight() == most && tried.weight() <= most, "the limit of the weights stays");
+}
+
 template <class Hash> static void weights(std::size_t capacity, std::uint64_t most, long calls) {
     weighed<Hash> tried(capacity, most);
     std::unordered_map<std::uint64_t, std::uint64_t> stored;
@@ -166,8 +176,9 @@ template <class Hash> static void weights(std::size_t capacity, std::uint64_t mo
         else if (draw % 16 == 1) take(tried.extract(key));
         else if (draw % 16 < 5) tried.get(key);
         else if (draw % 997 == 0) tried.clear(), stored.clear();
-        else if (draw % 101 == 0) {
-            tried.set_max_weight(most / (1 + draw % 2));
+        else if (draw % 101 == 0 || draw % 103 == 0) {
+            if (draw % 101 == 0) tried.set_max_weight(most / (1 + draw % 2));
+            else resize_at_random(tried, capacity, draw >> 20);
             for (auto it = stored.begin(); it != stored.end();) it = tried.contains(it->first) ? std::next(it) : stored.erase(it);
         } else if (tried.push(key, value, take)) {
             must(stored.emplace(key, value).second && *tried.peek(key) == value, "it is stored");
@@ -177,6 +188,32 @@ template <class Hash> static void weights(std::size_t capacity, std::uint64_t mo
         if (call % 61 == 0) must(is_same(tried, stored), "the map and its sum");
     }
     must(is_same(tried, stored), "the map and its sum");
+    for (std::size_t refused : {std::size_t{0}, std::size_t{CLOCK2Q_MAX_CAPACITY} + 1, SIZE_MAX}) {
+        must(is_refused([&] { tried.resize(refused); }) && is_same(tried, stored), "a capacity that is refused changes nothing");
+    }
+    auto moved = std::move(tried);
+    must(is_refused([&] { tried.resize(1); }) && is_same(moved, stored), "a cache that was moved from");
+}
+
+// Each entry stays where it is and keeps its weight in a larger cache, and the next to leave leave a smaller one.
+static void weights_are_kept_by_a_resize() {
+    weighted_cache<int, std::uint64_t> tried(4, 100, [](int, std::uint64_t weight) { return weight; });
+    for (int key = 0; key < 4; key++) tried.put(key, 10u + static_cast<unsigned>(key));
+    const std::uint64_t *third = tried.peek(2);
+    tried.resize(9);
+    must(tried.peek(2) == third && tried.size() == 4 && tried.weight() == 46, "a larger cache");
+    for (int key = 4; key < 9; key++) must(tried.put(key, 1u), "it has room");
+    must(tried.size() == 9 && tried.weight() == 51, "for more entries");
+    for (int key = 0; key < 4; key++) tried.erase(key);
+    must(tried.weight() == 5, "each had its own weight");
+    tried.resize(2);
+    must(tried.size() == 2 && tried.weight() == 2 && tried.max_weight() == 100, "a smaller cache");
+    tried.put(9, 50u);
+    must(tried.size() == 2 && tried.weight() == 51 && tried.contains(9), "in which another leaves for a new entry");
+    tried.clear();
+    tried.resize(9);
+    for (int key = 0; key < 9; key++) tried.put(key, 11u);
+    must(tried.size() == 9 && tried.weight() == 99, "and as large again");
 }
 
 static void few_leave() {
@@ -206,6 +243,7 @@ static void weighers() {
     auto weigh = [&called](const std::string &, int value) -> std::uint64_t {
         if (value == 13) throw std::runtime_error("thirteen");
         if (value == 14) called->put("from a weigher", 3), called->set_max_weight(10);
+        if (value == 9 || value == 8) called->resize(value == 9 ? 1000 : 1);
         return static_cast<std::uint64_t>(value);
     };
     weighted_cache<std::string, int> tried(10, 100, weigh);
@@ -220,6 +258,9 @@ static void weighers() {
         must(tried.size() == 1 && tried.weight() == 60 && *tried.peek("one") == 60, "nothing has changed");
     }
     must(!tried.put("two", 14) && tried.weight() == 3 && tried.contains("from a weigher"), "a weigher that lowers the limit");
+    must(tried.put("three", 9) && tried.capacity() == 1000 && tried.weight() == 9, "a weigher that has the cache grow");
+    tried.put("one", 1);
+    must(tried.put("two", 8) && tried.size() == 1 && tried.weight() == 8, "and one that has it shrink");
     weighted_cache<int, std::unique_ptr<int>> owners(2, 10, [](int, const auto &value) { return static_cast<std::uint64_t>(*value); });
     must(owners.put(1, std::make_unique<int>(5)) && owners.put(2, std::make_unique<int>(6)) && owners.size() == 1, "values that are only moved");
 }
@@ -239,6 +280,7 @@ int main(int, char **arguments) {
     smaller_is_useful();
     larger_is_useful();
     longer_history_admits_a_longer_loop();
+    weights_are_kept_by_a_resize();
     few_leave();
     weighers();
     return failed;

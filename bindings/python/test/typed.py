@@ -2,10 +2,12 @@
 
 import copy
 import time
-from collections.abc import Coroutine
-from typing import Any, assert_type
+from collections.abc import Callable, Coroutine
+from typing import Any, Self, TypeVar, assert_type
 
 from clock2q import Cache, CacheInfo, PageCache, Place, Reason, cached
+
+T = TypeVar("T")
 
 
 def listen(key: str, value: int, reason: Reason) -> None:
@@ -41,9 +43,41 @@ class Shape:
     def known(name: str) -> bool:
         return True
 
+    @staticmethod
+    @cached
+    def same(other: object) -> bool:
+        return False
+
+    @staticmethod
+    @cached
+    def none() -> bool:
+        return False
+
+    @classmethod
+    @cached
+    def made(cls, name: str) -> bool:
+        return True
+
     @cached
     async def name(self, number: int) -> str:
         return ""
+
+    @cached
+    def settled(self, number: int, how: dict[str, Any]) -> list[Any]:
+        return []
+
+    @cached(100)
+    def first(self, rows: list[T]) -> T:
+        return rows[0]
+
+    @cached
+    def scaled(self, by: int = 1, /, *more: int, unit: str, **others: bytes) -> Self:
+        return self
+
+
+class Square(Shape):
+    def double(self) -> float:
+        return 2 * super().area("m")
 
 
 @cached(1000, key=lambda rows: len(rows), listener=lambda size, total, reason: print(size, total, reason), history=900)
@@ -73,6 +107,38 @@ async def functions(shape: Shape) -> None:
     Shape.area()  # type: ignore[call-arg]
     cached(10, lock=True, ttl="5")  # type: ignore[call-overload]
     cached(10, history="5")  # type: ignore[call-overload]
+
+
+def methods(shape: Shape, square: Square, either: Shape | Square) -> None:
+    assert_type(shape.area(), float)
+    assert_type(square.area(unit="km"), float)
+    assert_type(either.area("km"), float)
+    shape.area(1)  # type: ignore[call-overload]
+    square.area(unit=1)  # type: ignore[call-overload]
+    either.area(1)  # type: ignore[call-overload]
+    shape.area("km", "m")  # type: ignore[call-overload]
+    shape.area(name="km")  # type: ignore[call-overload]
+    shape.name("1")  # type: ignore[call-overload]
+    assert_type(shape.first([1]), int)
+    assert_type(square.scaled(1, 2, unit="m", other=b""), Square)
+    shape.scaled(1)  # type: ignore[call-overload]
+    shape.scaled("1", unit="m")  # type: ignore[call-overload]
+    shape.scaled(1, unit="m", other=1)  # type: ignore[call-overload]
+    assert_type(shape.settled(1, {}), list[Any])
+    shape.settled("1", {})  # type: ignore[call-overload]
+    assert_type(shape.made("square"), bool)
+    shape.known(1)  # type: ignore[call-overload]
+    assert_type(shape.same(1), bool)
+    assert_type(shape.none(), bool)
+    area = shape.area
+    area(1)  # type: ignore[call-overload]
+    assert_type(area.__self__, Shape)
+    assert_type(area.__func__(square, "km"), float)
+    assert_type(area.__wrapped__(square, "km"), float)
+    called: Callable[[str], float] = area
+    assert_type(list(map(area, ["km"])), list[float])
+    named: Callable[[str], str] = area  # type: ignore[assignment]
+    print(called, named)
 
 
 def pages() -> None:

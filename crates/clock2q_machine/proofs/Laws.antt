@@ -211,7 +211,7 @@ module _ {K V : Type 0} (eq : K → K → Bool) where
     slot_stays IsEmpty k s t had_slot found = stays k s t m had_slot found (inr (refl, refl))
     slot_stays Capacity k s t had_slot found = stays k s t m had_slot found (inr (refl, refl))
 
-    -- Only a full cache or a full Main loses a resident to a call that removes none.
+    -- Only while Main is full does a call that removes none lose a resident.
 
     has_vacancy : resident_count m < m.shares.capacity → (slot : ℕ) × (vacancy m ≡ Some slot)
     has_vacancy room = by_vacancy (vacancy m) refl where
@@ -257,10 +257,10 @@ module _ {K V : Type 0} (eq : K → K → Bool) where
       weight_kept IsEmpty keeps w = omega arith
       weight_kept Capacity keeps w = omega arith
 
-    pub room_keeps_all : (call : Call K V) → makes_room call ≡ false → resident_count m < m.shares.capacity → length m.main < main_share m.shares
+    pub room_keeps_all : (call : Call K V) → makes_room call ≡ false → length m.main < main_share m.shares
         → (k : K) (s : ℕ) → slot_of (eq k) m ≡ Some s → slot_of (eq k) (after eq call m) ≡ Some s
-    room_keeps_all call keeps not_full room k s found =
-        let v = has_vacancy not_full in
+    room_keeps_all call keeps room k s found =
+        let v = has_vacancy (omega (arith, room, h.small_within)) in
         narrow eq m (after eq call m) (lasting-after eq laws call m h) k (λ t. weight_kept v.0 v.1 room call keeps (λ x at. one_if (eq k x && at == t))) s found
 
     -- `get_at` hits exactly if the key is at that slot, and otherwise changes nothing.

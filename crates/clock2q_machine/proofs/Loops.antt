@@ -87,7 +87,7 @@ module _ {K V : Type 0} (eq : K → K → Bool) (laws : IsEquivalence eq) (m : M
 
     -- and evicts no more residents than a scan
     pub loop_left_all : left_all eq m (after_all eq (scan looped) m) ≤ m.shares.small
-    loop_left_all = new_left_all eq laws m h looped loop_new full
+    loop_left_all = new_left_all eq laws m h looped loop_new full.small_share
 
     pub loop_left : left_main eq m (after_all eq (scan looped) m) ≤ set_in_small m
     loop_left = new_left eq laws m h looped loop_new full.small_share

@@ -1,15 +1,15 @@
 -- Main's turnover in any calls that remove nothing: a key leaves it only for one that was hit in Small, or that belongs
 -- in Main.
-use Rattle.std.proofs.Common.{◌≡◌, ℕ, ◌+◌, ◌-◌, ◌<◌, ◌≤◌, ◌==◌, Bool, true, false, not, ◌||◌, ◌&&◌, List, [], ◌∷◌, length, take, inl, inr, Option, Some, None, refl, sym, ap, ◌∙◌, arith, eqb-true}
+use Rattle.std.proofs.Common.{◌≡◌, ℕ, ◌+◌, ◌-◌, ◌≤◌, ◌==◌, Bool, true, false, not, ◌||◌, ◌&&◌, List, [], ◌∷◌, length, take, Option, Some, None, refl, ap, arith, eqb-true}
 use Rattle.std.specs.Prelude.{if◌then◌else◌, is_some, nat_lt, nat_le}
 use Rattle.std.specs.Cmp.{IsEquivalence}
 use Rattle.std.specs.List.{list_any, last_or, AllByRecursion}
-use Rattle.std.proofs.lemmas.Bool.{le-ltb, cases_lt, and_parts, leb-true}
+use Rattle.std.proofs.lemmas.Bool.{and_parts}
 use Rattle.clock2q_machine.specs.Shares.{main_share}
 use Rattle.clock2q_machine.specs.Ages.{is_promoted}
 use Rattle.clock2q_machine.specs.Entries.{SmallEntry, MainEntry, from_victim}
 use Rattle.clock2q_machine.specs.Calls.{Call, Put, Get, Peek, Contains, GetAt, Set, With, Try, SlotFor, Remove, Retain, Clear, Evict, Prefill, Len, IsEmpty, Capacity}
-use Rattle.clock2q_machine.specs.Machine.{Machine, hit, reused, replacing_victim, joining_main, forgotten, stored, placement, inserted, goes_to_main, into_main, into_small, into_small_at, evicting_tail, promoting_tail, keeps_tail, slot_of, vacancy, vacant_slot, victim_leaves, victim_evicted, tail_evicted}
+use Rattle.clock2q_machine.specs.Machine.{Machine, hit, reused, replacing_victim, joining_main, forgotten, stored, placement, inserted, goes_to_main, into_main, into_small, into_small_at, evicting_tail, promoting_tail, keeps_tail, slot_of, vacancy, victim_leaves, victim_evicted, tail_evicted}
 use Rattle.clock2q_machine.specs.Steps.{is_at, replaced_at, after, after_all}
 use Rattle.clock2q_machine.specs.Bounds.{takes_out, summed}
 use Rattle.clock2q_machine.specs.Whole.{IsWhole}
@@ -17,22 +17,9 @@ use Rattle.clock2q_machine.specs.Scans.{set_in_small, left_main}
 use Rattle.clock2q_machine.specs.Turnover.{settings_in_small, belongs_in_main, earned}
 use Rattle.clock2q_machine.proofs.Whole.{one_if, tail_some}
 use Rattle.clock2q_machine.proofs.MachineInvariant.{lasting-after, lasting-run}
+use Rattle.clock2q_machine.proofs.Changes.{belongs_there}
 use Rattle.clock2q_machine.proofs.LeftKeys.{shared, AreApart, shared_hit, shared_behind, lost_victim, lost_one, main_apart, left_or_shared}
 use Rattle.clock2q_machine.proofs.PromotedKeys.{admitted_count, promoted_hit, promoted_without}
-
-one_le : (b : Bool) → one_if b ≤ 1
-one_le true = omega arith
-one_le false = omega arith
-
--- if no slot is free and there is a vacancy, a slot was never made
-vacant_room : (free : List ℕ) (made capacity : ℕ) → is_some (vacant_slot free made capacity) ≡ true → length free ≡ 0 → made < capacity
-vacant_room (s ∷ free) made capacity vacant none = absurd (omega (arith, none))
-vacant_room [] made capacity vacant none = elim (cases_lt made capacity) [
-  | inl less ↦ less
-  | inr more ↦ absurd (false_true (sym (ap (λ b. is_some (if b then Some made else None)) (le-ltb made capacity more)) ∙ vacant))
-] where
-  false_true : false ≡ true → ⊥
-  false_true e = cc
 
 module _ {K V : Type 0} (eq : K → K → Bool) (entries : List (MainEntry K)) (apart : AreApart eq entries) where
   -- Main keeps these keys but for as many as the call earned, or Small had earned before and no longer has
@@ -91,16 +78,10 @@ module _ {K V : Type 0} (eq : K → K → Bool) (entries : List (MainEntry K)) (
         | false ↦ λ _. omega (arith, turns_small key rest (vacancy m) (last_or None m.small) refl)
       ]) refl where
         paid : (b : Bool) → (b || (is_some (vacancy m) && nat_le m.shares.small (length m.small))) ≡ true → one_if (length m.main == main_share m.shares) ≤ one_if b
-        paid true goes = one_le (length m.main == main_share m.shares)
-        paid false goes = by_full (length m.main == main_share m.shares) refl where
-          by_full : (full : Bool) → (length m.main == main_share m.shares) ≡ full → one_if full ≤ 0
+        paid b goes = by_full (length m.main == main_share m.shares) refl where
+          by_full : (full : Bool) → (length m.main == main_share m.shares) ≡ full → one_if full ≤ one_if b
           by_full false room = omega arith
-          by_full true filling =
-              let parts = and_parts (is_some (vacancy m)) (nat_le m.shares.small (length m.small)) goes in
-              let many = leb-true m.shares.small (length m.small) parts.1 in
-              let filled = eqb-true (length m.main) (main_share m.shares) filling in
-              let none : length m.free ≡ 0 = omega (arith, many, filled, h.slots_counted, h.made_within, h.small_below) in
-              absurd (omega (arith, vacant_room m.free (length m.values) m.shares.capacity parts.0 none, many, filled, h.slots_counted, h.small_below))
+          by_full true filling = omega (arith, ap one_if (belongs_there eq m h (eqb-true (length m.main) (main_share m.shares) filling) b goes))
 
   turns_wanted : (is : K → Bool) (o : Option ℕ) (m hits inserts : Machine K V) → Turns (settings_in_small is m) m hits → Turns (belongs_in_main is m) m inserts
       → Turns (if is_some o then settings_in_small is m else belongs_in_main is m) m (if is_some o then hits else inserts)

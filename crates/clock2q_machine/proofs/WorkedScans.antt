@@ -24,6 +24,10 @@ two_of_all_leave : let m = state 20 (puts 1 20 ++ Get 1 ∷ Get 2 ∷ []) in
     (m.shares.small ≡ 2) × ((left_all eqb m (after_all eqb (scan (numbers 21 1)) m) ≡ 1) × (left_all eqb m (after_all eqb (scan (numbers 21 60)) m) ≡ 2))
 two_of_all_leave = (refl, (refl, refl))
 
+-- nor do more leave a cache with room
+two_of_twelve_leave : let m = state 20 (puts 1 12) in (length m.main ≡ 10) × (left_all eqb m (after_all eqb (scan (numbers 21 60)) m) ≡ 2)
+two_of_twelve_leave = (refl, refl)
+
 -- if no old key of Small was hit, Main is unchanged, including its bits and hand
 none_leaves : let m = state 20 (puts 1 20 ++ gets 5 3) in
     let later = after_all eqb (scan (numbers 21 60)) m in

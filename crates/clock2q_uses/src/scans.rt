@@ -8,13 +8,13 @@ use clock2q::Cache;
 
 /// Puts each key in the cache with itself as the value.
 ///
-/// If the cache is full and the keys are distinct and not known to it, then, however many there
-/// are, no more residents leave than Small's share. No more keys leave Main than Small had old keys
-/// that were hit; and if Small had none, Main is unchanged. A resident that stays keeps its slot
-/// and its value.
+/// If Small has a share and the keys are distinct and not known to the cache, then, however many
+/// there are, no more residents leave than that share. No more keys leave Main than Small had old
+/// keys that were hit; and if Small had none and the cache is full, Main is unchanged. A resident
+/// that stays keeps its slot and its value.
 pub fn put_all(cache: &mut Cache<u64, u64>, keys: &[u64])
     ensures machine { cache.new.machine ≡ after_all eqb (calls_of keys.now) cache.old.machine }
-    ensures all { IsFullCache cache.old.machine → IsScan eqb (puts_of keys.now) cache.old.machine
+    ensures all { 0 < cache.old.machine.shares.small → IsScan eqb (puts_of keys.now) cache.old.machine
         → left_all eqb cache.old.machine cache.new.machine ≤ cache.old.machine.shares.small }
     ensures left { 0 < cache.old.machine.shares.small → IsScan eqb (puts_of keys.now) cache.old.machine
         → left_main eqb cache.old.machine cache.new.machine ≤ set_in_small cache.old.machine }

@@ -1,6 +1,7 @@
 from collections.abc import Callable, Iterator, MutableMapping
 from typing import (
     Any,
+    Concatenate,
     Final,
     Generic,
     Literal,
@@ -20,7 +21,11 @@ _V = TypeVar("_V")
 _T = TypeVar("_T")
 _S = TypeVar("_S")
 _P = ParamSpec("_P")
+_Q = ParamSpec("_Q")
 _R = TypeVar("_R")
+_Own = TypeVar("_Own") # of `self`, since mypy 1.0 takes the first variable of __get__ for that of a generic function
+_S_co = TypeVar("_S_co", covariant=True)
+_F_co = TypeVar("_F_co", covariant=True)
 
 __all__ = ["MAX_CAPACITY", "Cache", "CacheInfo", "PageCache", "Place", "Reason", "cached"]
 
@@ -112,26 +117,49 @@ class _Cached(Generic[_P, _R]):
     @overload
     def __get__(self, instance: None, owner: type, /) -> _Cached[_P, _R]: ...
     @overload
-    def __get__(self, instance: _S, owner: type | None = None, /) -> _Bound[_S, _R]: ...
+    def __get__(self: _Own, instance: _S, owner: type | None = None, /) -> _Bound[_S, _P, _R, Callable[_P, _R]]: ...
     def cache_info(self) -> CacheInfo: ...
     def cache_clear(self) -> None: ...
     def cache_parameters(self) -> _Parameters: ...
 
-# Without the types of arguments: mypy 1.0 takes what is left of a ParamSpec for nothing here, and refuses every call.
 @final
-class _Bound(Generic[_S, _R]):
+class _Bound(Generic[_S_co, _P, _R, _F_co]):
     __name__: str
     __qualname__: str
+    __call__: _Call[_P, _R]
     @property
-    def __self__(self) -> _S: ...
+    def __self__(self) -> _S_co: ...
     @property
-    def __func__(self) -> _Cached[..., _R]: ...
+    def __func__(self) -> _Cached[_P, _R]: ...
     @property
-    def __wrapped__(self) -> Callable[..., _R]: ...
-    def __call__(self, *args: Any, **kwargs: Any) -> _R: ...
+    def __wrapped__(self) -> _F_co: ...
     def cache_info(self) -> CacheInfo: ...
     def cache_clear(self) -> None: ...
     def cache_parameters(self) -> _Parameters: ...
+
+# What a _Bound is called by. As a descriptor it has the _Bound as an argument: mypy infers the parameters after the first
+# one from arguments, but not from the type of `self`. Where a _Bound is taken for a Callable, any arguments will do.
+@final
+class _Call(Generic[_P, _R]):
+    @overload
+    def __get__(
+        self: _Own, instance: _Bound[_S, ..., Any, Callable[Concatenate[_S, _Q], _T]], owner: type | None = None, /
+    ) -> _Either[_Q, _P, _T]: ...
+    @overload
+    def __get__(
+        self: _Own, instance: _Bound[Any, ..., Any, Callable[Concatenate[Any, _Q], _T]], owner: type | None = None, /
+    ) -> _Either[_Q, _P, _T]: ...
+    @overload
+    def __get__(self, instance: _Bound[Any, ..., Any, Callable[[], Any]], owner: type | None = None, /) -> Callable[_P, _R]: ...
+    def __call__(self, *args: Any, **kwargs: Any) -> _R: ...
+
+# The call of a method, or of a static method, for which mypy asks __get__ too: so it isn't refused if the instance comes first.
+@final
+class _Either(Generic[_Q, _P, _R]):
+    @overload
+    def __call__(self, *args: _Q.args, **kwargs: _Q.kwargs) -> _R: ...
+    @overload
+    def __call__(self, *args: _P.args, **kwargs: _P.kwargs) -> _R: ...
 
 @overload
 def cached(

@@ -8,11 +8,11 @@ use Rattle.clock2q_uses.specs.Scanning.{LeavesOrStays, calls_of, puts_of}
 use Rattle.clock2q_uses.proofs.scans.put_all.Goals as goal
 
 pub returns-clause-all : goal.returns-clause-all
-returns-clause-all c full scans =
+returns-clause-all c some scans =
     let after : c.loop-key.cache.machine ≡ after_all eqb (calls_of c.args.keys.now) c.args.cache.now.machine =
     sym (at_drop_all (λ keys. after_all eqb (calls_of keys) c.loop-key.cache.machine) c.args.keys.now c.loop-key.key-index (omega (arith, c.loop-key-test.false))) ∙ c.loop-key.invariant in
     subst (λ m. left_all eqb c.args.cache.now.machine m ≤ c.args.cache.now.machine.shares.small) (sym after)
-    (scan_left_all eqb nat_eq_equiv c.args.cache.now.machine c.len.ensures.whole (puts_of c.args.keys.now) scans full)
+    (scan_left_all eqb nat_eq_equiv c.args.cache.now.machine c.len.ensures.whole (puts_of c.args.keys.now) scans some)
 
 pub returns-clause-left : goal.returns-clause-left
 returns-clause-left c some scans =
