@@ -1,6 +1,6 @@
 //! Calls by slot and by hash, beside the same calls by key.
 
-use clock2q_cache::Cache;
+use clock2q_cache::{Cache, CacheError};
 use std::alloc::Global;
 use std::num::NonZeroUsize;
 use std::process::Abort;
@@ -18,9 +18,13 @@ const FOUR_HASHES: LinearHashBuilder = LinearHashBuilder {
     more: 5,
 };
 
-fn cache_of(alloc: Global, capacity: usize, spread: LinearHashBuilder) -> Result<Numbers, Fail> {
-    let capacity = NonZeroUsize::new(capacity).ok_or("not zero")?;
-    Ok(Cache::with_hasher(alloc, capacity, spread)?)
+fn cache_of(
+    alloc: Global,
+    capacity: usize,
+    spread: LinearHashBuilder,
+) -> Result<Numbers, CacheError> {
+    let capacity = NonZeroUsize::new(capacity).unwrap_or(NonZeroUsize::MIN);
+    Cache::with_hasher(alloc, capacity, spread)
 }
 
 fn hash_of(spread: LinearHashBuilder, key: u64) -> u64 {

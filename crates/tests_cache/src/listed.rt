@@ -11,30 +11,29 @@ type Numbers = Cache<u64, u64>;
 
 /// Returns the residents in order, each with its slot and its value.
 fn listed(alloc: Global, cache: &Numbers) -> Result<Vec<(u64, usize, u64)>, AllocError> {
-    let mut residents = Vec::with_capacity(alloc, cache.iter().len())?;
+    let mut residents = Vec::new(alloc);
     for (key, slot, value) in cache {
         residents.push((*key, slot, *value))?;
     }
     Ok(residents)
 }
 
-/// Puts a key with ten times itself as its value.
-fn put(cache: &mut Numbers, key: u64) {
-    cache.put(key, key.wrapping_mul(10));
+fn put(cache: &mut Numbers, key: u64, value: u64) {
+    cache.put(key, value);
 }
 
 fn remove(cache: &mut Numbers, key: u64) {
     cache.remove(&key);
 }
 
-/// Puts the keys 1 to 4, removes two, and puts one more.
+/// Puts the keys 1 to 4 with ten times themselves, removes two, and puts one more.
 fn put_and_removed(cache: &mut Numbers) {
-    for key in 1..5u64 {
-        put(cache, key);
+    for (key, value) in [(1, 10), (2, 20), (3, 30), (4, 40)] {
+        put(cache, key, value);
     }
     remove(cache, 2);
     remove(cache, 4);
-    put(cache, 5);
+    put(cache, 5, 50);
 }
 
 /// A key takes the slot that was freed last, and a free slot yields nothing.
@@ -75,7 +74,6 @@ fn by_slot(rt: HostRuntime) -> Result<(), Fail> {
 #[test]
 fn none(rt: HostRuntime) -> Result<(), Fail> {
     let capacity = NonZeroUsize::new(5).ok_or("not zero")?;
-    let cache = Numbers::new(rt.alloc(), capacity)?;
-    assert!(rt; cache.iter().next().is_none());
-    Ok(())
+    let residents = listed(rt.alloc(), &Numbers::new(rt.alloc(), capacity)?)?;
+    same(residents.len(), 0)
 }

@@ -31,11 +31,23 @@ pub(crate) fn play_drops(
     replies: &mut String,
 ) -> Result<(), AllocError> {
     let drops = Cell::new(0u64);
-    let most = NonZeroUsize::new(capacity as usize).unwrap_or(NonZeroUsize::MAX);
-    if let Ok(mut cache) = Cache::new(memory, most) {
-        make_calls(&mut cache, &drops, calls, replies)?;
-    }
+    play_calls(memory, capacity, &drops, calls, replies)?;
     write!(replies, "{}\n", drops.get())
+}
+
+/// Makes the cache, makes calls of it, and drops it.
+fn play_calls<'a>(
+    memory: &'a Refusing<Global>,
+    capacity: u64,
+    drops: &'a Cell<u64>,
+    calls: &str,
+    replies: &mut String,
+) -> Result<(), AllocError> {
+    let most = NonZeroUsize::new(capacity as usize).unwrap_or(NonZeroUsize::MAX);
+    match Cache::new(memory, most) {
+        Ok(mut cache) => make_calls(&mut cache, drops, calls, replies),
+        Err(_) => Ok(()),
+    }
 }
 
 /// Makes calls, and writes after each how many values were dropped.
