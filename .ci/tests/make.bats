@@ -10,7 +10,7 @@ load helper
         start_make 0 $words
         [[ $output == *"$said"* ]]
     done <<'TARGETS'
-check|rt all check
+check|logic=proved
 test|.ci/run
 edits|.ci/edits
 edits CRATES=low|.ci/edits <low>
