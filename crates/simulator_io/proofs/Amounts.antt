@@ -1,5 +1,5 @@
 -- Which words are amounts.
-use Rattle.std.proofs.Common.{◌≡◌, ℕ, zero, suc, ◌+◌, ◌-◌, ◌<◌, ◌≤◌, Bool, true, false, cond, ◌&&◌, List, [], ◌∷◌, ◌++◌, length, length-append, take, drop, get_or, Option, None, Some, min}
+use Rattle.std.proofs.Common.{◌≡◌, ℕ, zero, suc, ◌+◌, ◌-◌, ◌<◌, ◌≤◌, Bool, true, false, cond, ◌&&◌, List, [], ◌∷◌, ◌++◌, length, length-append, map, take, drop, get_or, Option, None, Some, min}
 use Rattle.std.proofs.Common.{ltb, eqb, refl, sym, ap, ◌∙◌, append_assoc, arith}
 use Rattle.std.specs.Option.{MatchOption, option_map}
 use Rattle.std.specs.Str.Pattern.{FindsText}
@@ -7,12 +7,13 @@ use denote.Ref.{Bor}
 use Rattle.std.specs.Str.{all_ascii_digits}
 use Rattle.std.specs.Str.Parse.{digits_value}
 use Rattle.std.proofs.lemmas.Bool.{lt-ltb, le-leb, ltb-true, eqb-true, eq-eqb}
-use Rattle.std.proofs.lemmas.List.{take-append-drop, drop_more, drop_all}
+use Rattle.std.proofs.lemmas.List.{take-append-drop, drop_more, drop_all, map-append}
+use Rattle.std.proofs.lemmas.List.Elements.{filter_more}
 use Rattle.std.proofs.Math.Seq.{get_or-append_seam, take-append_seam}
 use Rattle.simulator_io.specs.declared.amount.Amount.{Amount}
 use Rattle.simulator_io.specs.declared.amount.Unit.{Unit as Counted}
 use Rattle.simulator_io.specs.declared.amount.Unit.TheVariants.{Keys, Millionths}
-use Rattle.simulator_io.specs.Amounts.{amount, amount_in, asked_by, count_in, ends_in, ends_of, front, is_dot, is_same, joined, number_in, range, range_between, round_numbers}
+use Rattle.simulator_io.specs.Amounts.{amount, amount_in, asked_by, between, count_in, ends_in, ends_of, front, is_dot, is_same, joined, number_in, range, range_between, round_numbers}
 use Rattle.simulator_io.specs.ByteAmounts.{bytes_in, joined_bytes, one_more}
 
 -- a word that ends with a byte
@@ -109,9 +110,9 @@ split-ends word (Some x) h = ends-at word h.0 (drop h.1 word) h.2.0 h.2.1.split 
 -- a word with two dots between two amounts of one unit asks for a range, if they are the right way round
 pub asked-range : (word : List ℕ) (ends : List ℕ × List ℕ) (first to : Amount) → ends_of word ≡ Some ends → amount_in ends.0 ≡ Some first → amount_in ends.1 ≡ Some to
     → to.unit ≡ first.unit → first.number ≤ to.number → asked_by word ≡ Some (range round_numbers first to.number)
-asked-range word ends first to e f t same order = rw (e, f, t) (between first to same order) where
-  between : (first to : Amount) → to.unit ≡ first.unit → first.number ≤ to.number → range_between (Some first) (Some to) ≡ Some (range round_numbers first to.number)
-  between first to same order = rw (same, same-unit first.unit, le-leb first.number to.number order) refl
+asked-range word ends first to e f t same order = rw (e, f, t) (in_range first to same order) where
+  in_range : (first to : Amount) → to.unit ≡ first.unit → first.number ≤ to.number → range_between (Some first) (Some to) ≡ Some (range round_numbers first to.number)
+  in_range first to same order = rw (same, same-unit first.unit, le-leb first.number to.number order) refl
 
 -- capacities after others, and more after them
 pub joined_more : (some more : List Amount) (rest : Option (List Amount)) → joined (Some (some ++ more)) rest ≡ joined (Some some) (joined (Some more) rest)
@@ -129,3 +130,14 @@ pub one_more_after : (word old new : List ℕ) (bytes : ℕ) (more : Option (Lis
     → joined_bytes new more ≡ joined_bytes old (one_more (bytes_in word) more)
 one_more_after word old new bytes more spelled items =
     ap (λ all. joined_bytes all more) items ∙ joined_bytes_more old bytes more ∙ sym (ap (λ found. joined_bytes old (one_more found more)) spelled)
+
+-- one number more may be between the ends of a range
+pub between_more : (some : List Amount) (unit : Counted) (others : List ℕ) (i first to : ℕ) → i < length others
+    → (some ++ map (amount unit) (between (take i others) first to)) ++ map (amount unit) (between (get_or others i 0 ∷ []) first to)
+    ≡ some ++ map (amount unit) (between (take (i + 1) others) first to)
+between_more some unit others i first to within =
+    let before = between (take i others) first to in
+    let here = between (get_or others i 0 ∷ []) first to in
+    append_assoc some (map (amount unit) before) (map (amount unit) here)
+    ∙ ap (λ more. some ++ more) (sym (map-append (amount unit) before here))
+    ∙ ap (λ numbers. some ++ map (amount unit) numbers) (sym (filter_more (λ n. ltb first n && ltb n to) others i 0 within))

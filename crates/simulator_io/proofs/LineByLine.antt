@@ -1,13 +1,14 @@
 -- Lines taken out of a block of bytes.
-use Rattle.std.proofs.Common.{◌≡◌, ℕ, ◌+◌, ◌-◌, ◌<◌, ◌≤◌, false, List, [], ◌∷◌, ◌++◌, None, length, drop, get_or, eqb, sym, ap, subst, ◌∙◌, arith, append_assoc, take-append-drop}
+use Rattle.std.proofs.Common.{◌≡◌, ℕ, ◌+◌, ◌-◌, ◌<◌, ◌≤◌, false, List, [], ◌∷◌, ◌++◌, Err, length, drop, get_or, eqb, sym, ap, subst, ◌∙◌, arith, append_assoc, take-append-drop}
 use Rattle.std.specs.List.{between as part_of}
 use Rattle.std.proofs.lemmas.List.{drop-drop, drop_more}
 use Rattle.std.proofs.lemmas.List.Edits.{between_more}
 use Rattle.std.proofs.lemmas.Slice.{between_to_end}
+use Rattle.simulator_io.specs.declared.error.SimulationError.{SimulationError}
 use Rattle.simulator_io.specs.declared.format.TraceFormat.{TraceFormat}
 use Rattle.simulator_io.specs.Formats.{Access, accesses_after}
 use Rattle.simulator_io.specs.Reading.{HasNoEnd, IsOfLines, between, joined}
-use Rattle.simulator_io.proofs.RecordByRecord.{Ends, after-line, joined-none, longer-line}
+use Rattle.simulator_io.proofs.RecordByRecord.{Ends, after-line, joined-refused, longer-line}
 
 module _ (part bytes : List ℕ) (start i : ℕ) (from : start ≤ i) where
   -- the line so far, with the next byte
@@ -43,13 +44,13 @@ module _ (part bytes : List ℕ) (start i : ℕ) (from : start ≤ i) where
     -- a line that is bad
     pub line-bad : (now : TraceFormat) (first : List Access) (starting : ℕ) (begun : List ℕ) → now ≡ format
         → ((next : List ℕ) → joined first (accesses_after format starting (begun ++ (bytes ++ next))) ≡ joined keys (accesses_after format count (part ++ (drop start bytes ++ next))))
-        → ((next : List ℕ) → accesses_after now count ((part ++ part_of start i bytes) ++ (between now ++ next)) ≡ None)
-        → (next : List ℕ) → accesses_after format starting (begun ++ (bytes ++ next)) ≡ None
-    line-bad now first starting begun e same none next =
+        → (refusal : SimulationError) → ((next : List ℕ) → accesses_after now count ((part ++ part_of start i bytes) ++ (between now ++ next)) ≡ Err refusal)
+        → (next : List ℕ) → accesses_after format starting (begun ++ (bytes ++ next)) ≡ Err refusal
+    line-bad now first starting begun e same refusal none next =
         let after = drop (i + 1) bytes ++ next in
         let line = part ++ part_of start i bytes in
-        let bad : accesses_after format count (line ++ (between format ++ after)) ≡ None = ap (λ f. accesses_after f count (line ++ (between f ++ after))) (sym e) ∙ none after in
-        joined-none first (accesses_after format starting (begun ++ (bytes ++ next)))
+        let bad : accesses_after format count (line ++ (between format ++ after)) ≡ Err refusal = ap (λ f. accesses_after f count (line ++ (between f ++ after))) (sym e) ∙ none after in
+        joined-refused first (accesses_after format starting (begun ++ (bytes ++ next))) refusal
         (same next ∙ ap (λ xs. joined keys (accesses_after format count xs)) (line-split format lined l ten next) ∙ ap (joined keys) bad)
 
 -- what is left after the last line end

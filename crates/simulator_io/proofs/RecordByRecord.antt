@@ -1,5 +1,5 @@
 -- Records put together byte by byte, and read from a source.
-use Rattle.std.proofs.Common.{◌≡◌, ℕ, suc, ◌+◌, ◌-◌, ◌/◌, ◌%◌, ◌<◌, ◌≤◌, Bool, true, false, cond, List, [], ◌∷◌, ◌++◌, length, length-append, map, take, drop, get_or, eqb, refl, sym, ap}
+use Rattle.std.proofs.Common.{◌≡◌, ℕ, suc, ◌+◌, ◌-◌, ◌/◌, ◌%◌, ◌<◌, ◌≤◌, max, Bool, true, false, cond, List, [], ◌∷◌, ◌++◌, length, length-append, map, take, drop, get_or, eqb, refl, sym, ap}
 use Rattle.std.proofs.Common.{subst, ◌∙◌, arith, rules, append_assoc, append-nil, Option, None, Some, Result, Ok, Err}
 use Rattle.std.proofs.lemmas.Bool.{eqb-true, ne_eqb}
 use Rattle.std.proofs.lemmas.List.{drop_more, drop_all}
@@ -17,7 +17,7 @@ use Rattle.simulator_io.specs.declared.error.SimulationError.TheVariants.{Argume
 use Rattle.simulator_io.specs.declared.format.Columns.{Columns}
 use Rattle.simulator_io.specs.declared.format.TraceFormat.{TraceFormat}
 use Rattle.simulator_io.specs.declared.format.TraceFormat.TheVariants.{Lines, Csv, OracleGeneral}
-use Rattle.simulator_io.specs.Formats.{Access, access_by, accesses_after, accesses_by, accesses_in, consed, headers, is_blank, record_of, unsized}
+use Rattle.simulator_io.specs.Formats.{Access, access_by, accesses_after, accesses_by, accesses_in, consed, headers, is_blank, next_number, offset_of, record_of, unsized}
 use Rattle.simulator_io.specs.Reading.{AreRead, HasNoEnd, IsBad, IsBegun, IsGivenUp, IsNoTrace, IsOfLines, IsWholeRecord, ReadsTrace, TakesBytes, between, joined}
 
 -- a line and its end come first of the lines
@@ -38,21 +38,21 @@ pub no-line : HasNoEnd []
 no-line = λ k d l. absurd (omega (arith, l))
 
 -- keys, and one more before those of the rest
-pub joined-more : (keys : List Access) (key : Access) (rest : Option (List Access)) → joined keys (consed (Some key) rest) ≡ joined (keys ++ key ∷ []) rest
-joined-more keys key None = refl
-joined-more keys key (Some rest) = ap Some (sym (append_assoc keys (key ∷ []) rest))
+pub joined-more : (keys : List Access) (key : Access) (rest : Result (List Access) SimulationError) → joined keys (consed (Ok key) rest) ≡ joined (keys ++ key ∷ []) rest
+joined-more keys key (Err refusal) = refl
+joined-more keys key (Ok rest) = ap Ok (sym (append_assoc keys (key ∷ []) rest))
 
-pub joined-none : (keys : List Access) (rest : Option (List Access)) → joined keys rest ≡ None → rest ≡ None
-joined-none keys None e = refl
-joined-none keys (Some rest) e = absurd (cc)
+pub joined-refused : (keys : List Access) (rest : Result (List Access) SimulationError) (refusal : SimulationError) → joined keys rest ≡ Err refusal → rest ≡ Err refusal
+joined-refused keys (Err refusal) other e = e
+joined-refused keys (Ok rest) refusal e = absurd (cc)
 
-pub joined-nothing : (rest : Option (List Access)) → joined [] rest ≡ rest
-joined-nothing None = refl
-joined-nothing (Some rest) = refl
+pub joined-nothing : (rest : Result (List Access) SimulationError) → joined [] rest ≡ rest
+joined-nothing (Err refusal) = refl
+joined-nothing (Ok rest) = refl
 
-pub joined-twice : (keys more : List Access) (rest : Option (List Access)) → joined keys (joined more rest) ≡ joined (keys ++ more) rest
-joined-twice keys more None = refl
-joined-twice keys more (Some rest) = ap Some (sym (append_assoc keys more rest))
+pub joined-twice : (keys more : List Access) (rest : Result (List Access) SimulationError) → joined keys (joined more rest) ≡ joined (keys ++ more) rest
+joined-twice keys more (Err refusal) = refl
+joined-twice keys more (Ok rest) = ap Ok (sym (append_assoc keys more rest))
 
 -- what a refusal of records says, from something that implies it
 pub bad-by : (refusal : SimulationError) {P Q : Type 0} → (P → Q) → IsBad refusal P → IsBad refusal Q
@@ -73,9 +73,10 @@ bad-by (SampledShares _) f b = b
 bad-by LargeSizes f b = b
 
 -- the same of a result, and what a result without one says
-pub bad-result : {X : Type 0} (result : Result X SimulationError) {P Q : Type 0} → (P → Q) → IfErr result (λ refusal. IsBad refusal P) → IfErr result (λ refusal. IsBad refusal Q)
-bad-result (Ok x) f b = b
-bad-result (Err refusal) f b = bad-by refusal f b
+pub bad-result : {X : Type 0} (result : Result X SimulationError) (P Q : SimulationError → Type 0) → ((refusal : SimulationError) → P refusal → Q refusal)
+    → IfErr result (λ refusal. IsBad refusal (P refusal)) → IfErr result (λ refusal. IsBad refusal (Q refusal))
+bad-result (Ok x) P Q f b = b
+bad-result (Err refusal) P Q f b = bad-by refusal (f refusal) b
 
 pub ok-result : {X E : Type 0} (result : Result X E) {P Q : Type 0} → (P → Q) → OnOk result P → OnOk result Q
 ok-result (Ok x) f p = f p
@@ -89,21 +90,26 @@ module _ (part next : List ℕ) (h : length part ≡ 24) where
       let rest : drop 24 (part ++ next) ≡ next = ap (λ k. drop k (part ++ next)) (sym h) ∙ drop-append_seam part next in
       rw (first, rest) refl
 
-  pub piece-first : (keys : List Access) (count counted : ℕ)
+  pub piece-first : (keys : List Access) (count : ℕ)
       → joined keys (accesses_after OracleGeneral count (part ++ next))
-      ≡ joined (keys ++ record_of part ∷ []) (accesses_after OracleGeneral counted next)
-  piece-first keys count counted =
+      ≡ joined (keys ++ record_of part ∷ []) (accesses_after OracleGeneral (next_number count) next)
+  piece-first keys count =
       let long : length (part ++ next) ≡ 24 + length next = length-append part next ∙ ap (λ n. n + length next) h in
       let left : length (part ++ next) % 24 ≡ length next % 24 = omega (arith, long) in
       let many : length (part ++ next) / 24 ≡ suc (length next / 24) = omega (arith, long) in
-      ap (λ n. joined keys (cond (eqb n 0) (Some (map record_of (first_chunks 24 (length (part ++ next) / 24) (part ++ next)))) None)) left
-      ∙ ap (λ n. joined keys (cond (eqb (length next % 24) 0) (Some (map record_of (first_chunks 24 n (part ++ next)))) None)) many
-      ∙ ap (λ rs. joined keys (cond (eqb (length next % 24) 0) (Some (map record_of rs)) None)) (whole-first (length next / 24))
-      ∙ cases (eqb (length next % 24) 0) (map record_of (first_chunks 24 (length next / 24) next))
+      let offset : offset_of (count + suc (length next / 24)) ≡ offset_of (next_number count + length next / 24) = omega arith in
+      ap (λ n. joined keys (whole-or n (length (part ++ next) / 24) (part ++ next))) left
+      ∙ ap (λ n. joined keys (whole-or (length next % 24) n (part ++ next))) many
+      ∙ ap (λ rs. joined keys (cond (eqb (length next % 24) 0) (Ok (map record_of rs)) (Err (Record (offset_of (count + suc (length next / 24))))))) (whole-first (length next / 24))
+      ∙ ap (λ n. joined keys (cond (eqb (length next % 24) 0) (Ok (map record_of (part ∷ first_chunks 24 (length next / 24) next))) (Err (Record n)))) offset
+      ∙ cases (eqb (length next % 24) 0) (map record_of (first_chunks 24 (length next / 24) next)) (Record (offset_of (next_number count + length next / 24)))
     where
-      cases : (b : Bool) (ids : List Access) → joined keys (cond b (Some (record_of part ∷ ids)) None) ≡ joined (keys ++ record_of part ∷ []) (cond b (Some ids) None)
-      cases false ids = refl
-      cases true ids = ap Some (sym (append_assoc keys (record_of part ∷ []) ids))
+      whole-or : ℕ → ℕ → List ℕ → Result (List Access) SimulationError
+      whole-or left many text = cond (eqb left 0) (Ok (map record_of (first_chunks 24 many text))) (Err (Record (offset_of (count + many))))
+
+      cases : (b : Bool) (ids : List Access) (refusal : SimulationError) → joined keys (cond b (Ok (record_of part ∷ ids)) (Err refusal)) ≡ joined (keys ++ record_of part ∷ []) (cond b (Ok ids) (Err refusal))
+      cases false ids refusal = refl
+      cases true ids refusal = ap Ok (sym (append_assoc keys (record_of part ∷ []) ids))
 
 -- at most the first line is a header
 few-headers : (columns : Columns) → headers columns ≤ 1
@@ -119,79 +125,84 @@ module _ (keys more : List Access) (count counted : ℕ) (part : List ℕ) where
 
   pub line-ends : (format : TraceFormat) → format ≡ Lines → IsWholeRecord format part → more ≡ keys ++ unsized part ∷ [] → Ends format
   line-ends Lines e whole m next =
-      ap (λ ls. joined keys (Some (map unsized ls))) (ended-lines part next whole) ∙ joined-more keys (unsized part) (Some (map unsized (lines_of next)))
-      ∙ ap (λ ks. joined ks (Some (map unsized (lines_of next)))) (sym m)
+      ap (λ ls. joined keys (Ok (map unsized ls))) (ended-lines part next whole) ∙ joined-more keys (unsized part) (Ok (map unsized (lines_of next)))
+      ∙ ap (λ ks. joined ks (Ok (map unsized (lines_of next)))) (sym m)
   line-ends (Csv columns) e whole m next = absurd (cc)
   line-ends OracleGeneral e whole m next = absurd (cc)
-
-  -- a line of values, by its columns
-  module _ (columns : Columns) (whole : HasNoEnd part) where
-    -- the lines after one that is no header
-    later : headers columns ≤ count → 0 < counted → (next : List ℕ)
-        → (accesses_after (Csv columns) count (part ++ 10 ∷ next) ≡ accesses_by columns (part ∷ lines_of next))
-        × (accesses_after (Csv columns) counted next ≡ accesses_by columns (lines_of next))
-    later so some next =
-        let before : headers columns - count ≡ 0 = omega (arith, so) in
-        let after : headers columns - counted ≡ 0 = omega (arith, some, few-headers columns) in (
-          ap (λ n. accesses_by columns (drop n (lines_of (part ++ 10 ∷ next)))) before ∙ ap (accesses_by columns) (ended-lines part next whole),
-          ap (λ n. accesses_by columns (drop n (lines_of next))) after,
-        )
-
-    pub header-ends : count < headers columns → 0 < counted → more ≡ keys → (next : List ℕ)
-        → joined keys (accesses_after (Csv columns) count (part ++ 10 ∷ next)) ≡ joined more (accesses_after (Csv columns) counted next)
-    header-ends is some m next =
-        let before : headers columns - count ≡ 1 = omega (arith, is, few-headers columns) in
-        let after : headers columns - counted ≡ 0 = omega (arith, some, few-headers columns) in
-        ap (λ n. joined keys (accesses_by columns (drop n (lines_of (part ++ 10 ∷ next))))) before
-        ∙ ap (λ ls. joined keys (accesses_by columns (drop 1 ls))) (ended-lines part next whole)
-        ∙ ap (λ n. joined keys (accesses_by columns (drop n (lines_of next)))) (sym after)
-        ∙ ap (λ ks. joined ks (accesses_after (Csv columns) counted next)) (sym m)
-
-    pub blank-ends : headers columns ≤ count → 0 < counted → is_blank part ≡ true → more ≡ keys → (next : List ℕ)
-        → joined keys (accesses_after (Csv columns) count (part ++ 10 ∷ next)) ≡ joined more (accesses_after (Csv columns) counted next)
-    blank-ends so some blank m next =
-        let is = later so some next in
-        ap (joined keys) is.0
-        ∙ ap (λ b. joined keys (cond b (accesses_by columns (lines_of next)) (consed (access_by columns part) (accesses_by columns (lines_of next))))) blank
-        ∙ ap (joined keys) (sym is.1)
-        ∙ ap (λ ks. joined ks (accesses_after (Csv columns) counted next)) (sym m)
-
-    pub fields-end : (key : Access) → headers columns ≤ count → 0 < counted → is_blank part ≡ false → access_by columns part ≡ Some key → more ≡ keys ++ key ∷ [] → (next : List ℕ)
-        → joined keys (accesses_after (Csv columns) count (part ++ 10 ∷ next)) ≡ joined more (accesses_after (Csv columns) counted next)
-    fields-end key so some blank f m next =
-        let is = later so some next in
-        let rest = accesses_by columns (lines_of next) in
-        ap (joined keys) is.0
-        ∙ ap (λ b. joined keys (cond b rest (consed (access_by columns part) rest))) blank
-        ∙ ap (λ k. joined keys (consed k rest)) f
-        ∙ joined-more keys key rest
-        ∙ ap (joined (keys ++ key ∷ [])) (sym is.1)
-        ∙ ap (λ ks. joined ks (accesses_after (Csv columns) counted next)) (sym m)
-
-    pub no-field-ends : headers columns ≤ count → is_blank part ≡ false → access_by columns part ≡ None
-        → (next : List ℕ) → accesses_after (Csv columns) count (part ++ 10 ∷ next) ≡ None
-    no-field-ends so blank f next =
-        let before : headers columns - count ≡ 0 = omega (arith, so) in
-        let rest = accesses_by columns (lines_of next) in
-        ap (λ n. accesses_by columns (drop n (lines_of (part ++ 10 ∷ next)))) before
-        ∙ ap (accesses_by columns) (ended-lines part next whole)
-        ∙ ap (λ b. cond b rest (consed (access_by columns part) rest)) blank
-        ∙ ap (λ k. consed k rest) f
 
   -- a record of csv ends as its line does
   pub line-of-csv : (format : TraceFormat) (columns : Columns) → format ≡ Csv columns
       → ((next : List ℕ) → joined keys (accesses_after (Csv columns) count (part ++ 10 ∷ next)) ≡ joined more (accesses_after (Csv columns) counted next)) → Ends format
   line-of-csv format columns e ends next = rw e (ends next)
 
-  pub piece-ends : (format : TraceFormat) → format ≡ OracleGeneral → IsWholeRecord format part → more ≡ keys ++ record_of part ∷ [] → Ends format
-  piece-ends Lines e whole m next = absurd (cc)
-  piece-ends (Csv columns) e whole m next = absurd (cc)
-  piece-ends OracleGeneral e whole m next = piece-first part next whole keys count counted ∙ ap (λ ks. joined ks (accesses_after OracleGeneral counted next)) (sym m)
+  pub piece-ends : (format : TraceFormat) → format ≡ OracleGeneral → IsWholeRecord format part → more ≡ keys ++ record_of part ∷ [] → counted ≡ next_number count → Ends format
+  piece-ends Lines e whole m n next = absurd (cc)
+  piece-ends (Csv columns) e whole m n next = absurd (cc)
+  piece-ends OracleGeneral e whole m n next =
+      piece-first part next whole keys count ∙ ap (λ ks. joined ks (accesses_after OracleGeneral (next_number count) next)) (sym m)
+      ∙ ap (λ n. joined more (accesses_after OracleGeneral n next)) (sym n)
+
+-- a line of values after some others, by its columns
+module _ (keys more : List Access) (count : ℕ) (part : List ℕ) (columns : Columns) (whole : HasNoEnd part) where
+  -- the line, if it is no header, and those after it
+  first-is : headers columns ≤ count → (next : List ℕ) → accesses_after (Csv columns) count (part ++ 10 ∷ next) ≡ accesses_by columns count (part ∷ lines_of next)
+  first-is so next =
+      let before : headers columns - count ≡ 0 = omega (arith, so) in
+      let start : max count (headers columns) ≡ count = omega (arith, so) in
+      ap (λ n. accesses_by columns (max count (headers columns)) (drop n (lines_of (part ++ 10 ∷ next)))) before
+      ∙ ap (λ n. accesses_by columns n (lines_of (part ++ 10 ∷ next))) start
+      ∙ ap (accesses_by columns count) (ended-lines part next whole)
+
+  later : (next : List ℕ) → accesses_after (Csv columns) (next_number count) next ≡ accesses_by columns (next_number count) (lines_of next)
+  later next =
+      let after : headers columns - next_number count ≡ 0 = omega (arith, few-headers columns) in
+      let start : max (next_number count) (headers columns) ≡ next_number count = omega (arith, few-headers columns) in
+      ap (λ n. accesses_by columns (max (next_number count) (headers columns)) (drop n (lines_of next))) after
+      ∙ ap (λ n. accesses_by columns n (lines_of next)) start
+
+  pub header-ends : count < headers columns → more ≡ keys → (next : List ℕ)
+      → joined keys (accesses_after (Csv columns) count (part ++ 10 ∷ next)) ≡ joined more (accesses_after (Csv columns) (next_number count) next)
+  header-ends is m next =
+      let before : headers columns - count ≡ 1 = omega (arith, is, few-headers columns) in
+      let start : max count (headers columns) ≡ next_number count = omega (arith, is, few-headers columns) in
+      ap (λ n. joined keys (accesses_by columns (max count (headers columns)) (drop n (lines_of (part ++ 10 ∷ next))))) before
+      ∙ ap (λ n. joined keys (accesses_by columns n (drop 1 (lines_of (part ++ 10 ∷ next))))) start
+      ∙ ap (λ ls. joined keys (accesses_by columns (next_number count) (drop 1 ls))) (ended-lines part next whole)
+      ∙ ap (joined keys) (sym (later next))
+      ∙ ap (λ ks. joined ks (accesses_after (Csv columns) (next_number count) next)) (sym m)
+
+  pub blank-ends : headers columns ≤ count → is_blank part ≡ true → more ≡ keys → (next : List ℕ)
+      → joined keys (accesses_after (Csv columns) count (part ++ 10 ∷ next)) ≡ joined more (accesses_after (Csv columns) (next_number count) next)
+  blank-ends so blank m next =
+      let rest = accesses_by columns (next_number count) (lines_of next) in
+      ap (joined keys) (first-is so next)
+      ∙ ap (λ b. joined keys (cond b rest (consed (access_by columns (next_number count) part) rest))) blank
+      ∙ ap (joined keys) (sym (later next))
+      ∙ ap (λ ks. joined ks (accesses_after (Csv columns) (next_number count) next)) (sym m)
+
+  pub fields-end : (key : Access) → headers columns ≤ count → is_blank part ≡ false → access_by columns (next_number count) part ≡ Ok key → more ≡ keys ++ key ∷ [] → (next : List ℕ)
+      → joined keys (accesses_after (Csv columns) count (part ++ 10 ∷ next)) ≡ joined more (accesses_after (Csv columns) (next_number count) next)
+  fields-end key so blank f m next =
+      let rest = accesses_by columns (next_number count) (lines_of next) in
+      ap (joined keys) (first-is so next)
+      ∙ ap (λ b. joined keys (cond b rest (consed (access_by columns (next_number count) part) rest))) blank
+      ∙ ap (λ k. joined keys (consed k rest)) f
+      ∙ joined-more keys key rest
+      ∙ ap (joined (keys ++ key ∷ [])) (sym (later next))
+      ∙ ap (λ ks. joined ks (accesses_after (Csv columns) (next_number count) next)) (sym m)
+
+  pub no-field-ends : (refusal : SimulationError) → headers columns ≤ count → is_blank part ≡ false → access_by columns (next_number count) part ≡ Err refusal
+      → (next : List ℕ) → accesses_after (Csv columns) count (part ++ 10 ∷ next) ≡ Err refusal
+  no-field-ends refusal so blank f next =
+      let rest = accesses_by columns (next_number count) (lines_of next) in
+      first-is so next
+      ∙ ap (λ b. cond b rest (consed (access_by columns (next_number count) part) rest)) blank
+      ∙ ap (λ k. consed k rest) f
 
 -- and a line of csv that is bad is a bad record
-pub bad-of-csv : (count : ℕ) (part : List ℕ) (format : TraceFormat) (columns : Columns) → format ≡ Csv columns
-    → ((next : List ℕ) → accesses_after (Csv columns) count (part ++ 10 ∷ next) ≡ None) → (next : List ℕ) → accesses_after format count (part ++ (between format ++ next)) ≡ None
-bad-of-csv count part format columns e none next = rw e (none next)
+pub bad-of-csv : (count : ℕ) (part : List ℕ) (format : TraceFormat) (columns : Columns) (refusal : SimulationError) → format ≡ Csv columns
+    → ((next : List ℕ) → accesses_after (Csv columns) count (part ++ 10 ∷ next) ≡ Err refusal) → (next : List ℕ) → accesses_after format count (part ++ (between format ++ next)) ≡ Err refusal
+bad-of-csv count part format columns refusal e bad next = rw e (bad next)
 
 -- a whole record is begun, and one of 24 bytes isn't of lines
 pub whole-line : (format : TraceFormat) (part : List ℕ) → IsOfLines format → IsBegun format part → IsWholeRecord format part
@@ -230,25 +241,27 @@ last-ends format part count l h some = cases format l h where
   same h = last-line part h some ∙ sym (ended-lines part [] h ∙ ap (λ ls. part ∷ ls) (lines_of-empty [] refl))
 
   cases : (format : TraceFormat) → IsOfLines format → IsBegun format part → accesses_after format count part ≡ accesses_after format count (part ++ (between format ++ []))
-  cases Lines l h = ap (λ ls. Some (map unsized ls)) (same h)
-  cases (Csv columns) l h = ap (λ ls. accesses_by columns (drop (headers columns - count) ls)) (same h)
+  cases Lines l h = ap (λ ls. Ok (map unsized ls)) (same h)
+  cases (Csv columns) l h = ap (λ ls. accesses_by columns (max count (headers columns)) (drop (headers columns - count) ls)) (same h)
   cases OracleGeneral l h = absurd l
 
 -- nothing is left
-pub none-left : (format : TraceFormat) (count : ℕ) → accesses_after format count [] ≡ Some []
-none-left Lines count = ap (λ ls. Some (map unsized ls)) (lines_of-empty [] refl)
+pub none-left : (format : TraceFormat) (count : ℕ) → accesses_after format count [] ≡ Ok []
+none-left Lines count = ap (λ ls. Ok (map unsized ls)) (lines_of-empty [] refl)
 none-left (Csv columns) count =
-    ap (λ ls. accesses_by columns (drop (headers columns - count) ls)) (lines_of-empty [] refl) ∙ ap (accesses_by columns) (drop_all (headers columns - count) [] (omega arith))
+    let start = max count (headers columns) in
+    ap (λ ls. accesses_by columns start (drop (headers columns - count) ls)) (lines_of-empty [] refl) ∙ ap (accesses_by columns start) (drop_all (headers columns - count) [] (omega arith))
 none-left OracleGeneral count = refl
 
 -- part of a record is left
-pub part-left : (format : TraceFormat) (part : List ℕ) (count : ℕ) → format ≡ OracleGeneral → IsBegun format part → 0 < length part → accesses_after format count part ≡ None
+pub part-left : (format : TraceFormat) (part : List ℕ) (count : ℕ) → format ≡ OracleGeneral → IsBegun format part → 0 < length part → accesses_after format count part ≡ Err (Record (offset_of count))
 part-left Lines part count e h some = absurd (cc)
 part-left (Csv columns) part count e h some = absurd (cc)
 part-left OracleGeneral part count e h some =
     let below : length part < 24 = h in
     let left : (length part % 24 ≡ 0) → ⊥ = λ z. omega (arith, below, some, z) in
-    rw (ne_eqb (length part % 24) 0 left) refl
+    let whole : count + length part / 24 ≡ count = omega (arith, below) in
+    rw (ne_eqb (length part % 24) 0 left) (ap (λ n. Err (Record (offset_of n))) whole)
 
 -- bytes that went through a source, and those that came after them
 pub went-on : (old : Traffic) (xs ys : List ℕ) (stopped failed : Bool) → traffic_after (traffic_after old xs false false) ys stopped failed ≡ traffic_after old (xs ++ ys) stopped failed
@@ -310,8 +323,9 @@ module _ (old mid new : Traffic) (left some remain : Option (List ℕ)) (format 
   read-given stopped failed given = given ∙ ap (λ t. traffic_after t bytes stopped failed) is.given ∙ went-on old is.input bytes stopped failed
 
   -- a read of bytes that end no trace
-  pub read-bad : new ≡ traffic_after mid bytes false false → ((next : List ℕ) → accesses_after format count (line ++ (bytes ++ next)) ≡ None) → IsNoTrace old new left remain format
-  read-bad given bad = record {
+  pub read-bad : (refusal : SimulationError) → new ≡ traffic_after mid bytes false false → ((next : List ℕ) → accesses_after format count (line ++ (bytes ++ next)) ≡ Err refusal)
+      → IsNoTrace old new left remain format refusal
+  read-bad refusal given bad = record {
     bytes = is.input ++ bytes;
     ended = false;
     given = read-given false false given;
@@ -326,7 +340,7 @@ module _ (old mid new : Traffic) (left some remain : Option (List ℕ)) (format 
   ended-given given =
       given ∙ ap (λ t. traffic_after t [] true false) is.given ∙ went-on old is.input [] true false ∙ ap (λ bs. traffic_after old bs true false) (append-nil is.input)
 
-  pub read-whole : (all : List Access) → new ≡ traffic_after mid [] true false → Consumes some remain [] → IsAtEnd remain → joined keys (accesses_after format count line) ≡ Some all
+  pub read-whole : (all : List Access) → new ≡ traffic_after mid [] true false → Consumes some remain [] → IsAtEnd remain → joined keys (accesses_after format count line) ≡ Ok all
       → AreRead old new left remain format all
   read-whole all given consumed at_end e = record {
     input = is.input;
@@ -336,8 +350,8 @@ module _ (old mid new : Traffic) (left some remain : Option (List ℕ)) (format 
     accesses = ap (accesses_in format) (sym (append-nil is.input)) ∙ is.same [] ∙ ap (λ l. joined keys (accesses_after format count l)) (append-nil line) ∙ e;
   }
 
-  pub read-badly : new ≡ traffic_after mid [] true false → accesses_after format count line ≡ None → IsNoTrace old new left remain format
-  read-badly given bad = record {
+  pub read-badly : (refusal : SimulationError) → new ≡ traffic_after mid [] true false → accesses_after format count line ≡ Err refusal → IsNoTrace old new left remain format refusal
+  read-badly refusal given bad = record {
     bytes = is.input;
     ended = true;
     given = ended-given given;
@@ -348,7 +362,7 @@ module _ (old mid new : Traffic) (left some remain : Option (List ℕ)) (format 
 pub given-up : (old new : Traffic) (left remain : Option (List ℕ)) (format : TraceFormat)
     (refusal : SimulationError) {P : Type 0}
     → ((bytes : List ℕ) × (stopped : Bool) × (new ≡ traffic_after old bytes stopped false))
-    → (P → IsNoTrace old new left remain format) → IsBad refusal P → IsGivenUp old new left remain format refusal
+    → (P → IsNoTrace old new left remain format refusal) → IsBad refusal P → IsGivenUp old new left remain format refusal
 given-up old new left remain format (Line _ _) m f b = f b
 given-up old new left remain format (Size _ _) m f b = f b
 given-up old new left remain format (Record _) m f b = f b
@@ -394,14 +408,14 @@ pub piece-bad : (format now : TraceFormat) (first keys : List Access) (start cou
     → format ≡ OracleGeneral → counted ≡ count
     → longer ≡ part ++ get_or bytes i 0 ∷ []
     → ((next : List ℕ) → joined first (accesses_after format start (begun ++ (bytes ++ next))) ≡ joined keys (accesses_after format count (part ++ (drop i bytes ++ next))))
-    → ((next : List ℕ) → accesses_after now counted (longer ++ (between now ++ next)) ≡ None)
-    → (next : List ℕ) → accesses_after format start (begun ++ (bytes ++ next)) ≡ None
-piece-bad format now first keys start count counted begun part longer bytes i h e pieces c l same none next =
+    → (refusal : SimulationError) → ((next : List ℕ) → accesses_after now counted (longer ++ (between now ++ next)) ≡ Err refusal)
+    → (next : List ℕ) → accesses_after format start (begun ++ (bytes ++ next)) ≡ Err refusal
+piece-bad format now first keys start count counted begun part longer bytes i h e pieces c l same refusal none next =
     let after = drop (i + 1) bytes ++ next in
-    let bad : accesses_after format count (longer ++ after) ≡ None =
+    let bad : accesses_after format count (longer ++ after) ≡ Err refusal =
     ap (λ n. accesses_after format n (longer ++ after)) (sym c) ∙ ap (λ xs. accesses_after format counted (longer ++ (xs ++ after))) (sym (after-piece format pieces))
     ∙ ap (λ f. accesses_after f counted (longer ++ (between f ++ after))) (sym e) ∙ none after in
-    joined-none first (accesses_after format start (begun ++ (bytes ++ next))) (same next ∙ byte-more format keys count part longer bytes i h l next ∙ ap (joined keys) bad)
+    joined-refused first (accesses_after format start (begun ++ (bytes ++ next))) refusal (same next ∙ byte-more format keys count part longer bytes i h l next ∙ ap (joined keys) bad)
 
 -- a list without elements
 pub no-elements : (bytes : List ℕ) → eqb (length bytes) 0 ≡ true → bytes ≡ []
@@ -419,11 +433,11 @@ module _ (old mid new : Traffic) (left some remain : Option (List ℕ)) (format 
     (keys : List Access) (count : ℕ) (line : List ℕ)
     (is : IsReadUpTo old mid left some format keys count line) where
   pub finished : {X : Type 0} (view : X → List Access) (result : Result X SimulationError) → now ≡ format → new ≡ traffic_after mid [] true false → Consumes some remain [] → IsAtEnd remain
-      → IfOk result (λ trace. joined keys (accesses_after now count line) ≡ Some (view trace))
-      → IfErr result (λ refusal. IsBad refusal (accesses_after now count line ≡ None))
+      → IfOk result (λ trace. joined keys (accesses_after now count line) ≡ Ok (view trace))
+      → IfErr result (λ refusal. IsBad refusal (accesses_after now count line ≡ Err refusal))
       → ReadsTrace old new left remain format view result
   finished view (Ok trace) e given consumed at_end ok bad =
       read-whole old mid new left some remain format keys count line is (view trace) given consumed at_end (ap (λ f. joined keys (accesses_after f count line)) (sym e) ∙ ok)
   finished view (Err refusal) e given consumed at_end ok bad =
       given-up old new left remain format refusal (is.input, true, ended-given old mid new left some remain format keys count line is given)
-      (λ (none : accesses_after now count line ≡ None). read-badly old mid new left some remain format keys count line is given (ap (λ f. accesses_after f count line) (sym e) ∙ none)) bad
+      (λ (none : accesses_after now count line ≡ Err refusal). read-badly old mid new left some remain format keys count line is refusal given (ap (λ f. accesses_after f count line) (sym e) ∙ none)) bad

@@ -1,37 +1,38 @@
 -- The accesses of small texts, computed.
-use Rattle.std.specs.Prelude.{◌≡◌, [], ◌∷◌, drop, map, Some, None, codes, refl}
-use Rattle.std.specs.Option.{option_map}
+use Rattle.std.specs.Prelude.{◌≡◌, [], ◌∷◌, drop, map, Some, None, Ok, Err, codes, refl}
+use Rattle.std.specs.Result.{result_map_both}
 use Rattle.clock2q_ports.specs.Lines.{lines_of}
+use Rattle.simulator_io.specs.declared.error.SimulationError.TheVariants.{Line, Record, Size}
 use Rattle.simulator_io.specs.declared.format.TraceFormat.TheVariants.{Lines, OracleGeneral}
 use Rattle.simulator_io.specs.Formats.{Access, access, accesses_in, accesses_of, field, fields_of, unsized}
 
-lines : accesses_in Lines (codes "b\na\n\nb") ≡ Some (map unsized (codes "b" ∷ codes "a" ∷ [] ∷ codes "b" ∷ []))
+lines : accesses_in Lines (codes "b\na\n\nb") ≡ Ok (map unsized (codes "b" ∷ codes "a" ∷ [] ∷ codes "b" ∷ []))
 unfolding lines_of
 lines = refl
 
 -- the first line is a header
-keys_of_lines : accesses_of 44 2 None (drop 1 (lines_of (codes "time,key\n1,a\n2,\"b\"\n"))) ≡ Some (unsized (codes "a") ∷ unsized (codes "b") ∷ [])
+keys_of_lines : accesses_of 44 2 None 1 (drop 1 (lines_of (codes "time,key\n1,a\n2,\"b\"\n"))) ≡ Ok (unsized (codes "a") ∷ unsized (codes "b") ∷ [])
 unfolding lines_of
 keys_of_lines = refl
 
-keys_and_sizes_of_lines : accesses_of 44 2 (Some 1) (drop 1 (lines_of (codes "size,key\n7,a\n20,b\n"))) ≡ Some (access (codes "a") 7 ∷ access (codes "b") 20 ∷ [])
+keys_and_sizes_of_lines : accesses_of 44 2 (Some 1) 1 (drop 1 (lines_of (codes "size,key\n7,a\n20,b\n"))) ≡ Ok (access (codes "a") 7 ∷ access (codes "b") 20 ∷ [])
 unfolding lines_of
 keys_and_sizes_of_lines = refl
 
-size_without_a_number : accesses_of 44 2 (Some 1) (drop 1 (lines_of (codes "size,key\n7,a\nx,b\n"))) ≡ None
+size_without_a_number : accesses_of 44 2 (Some 1) 1 (drop 1 (lines_of (codes "size,key\n7,a\nx,b\n"))) ≡ Err (Size 3 1)
 unfolding lines_of
 size_without_a_number = refl
 
 -- blank lines are left out
-blank_lines : accesses_of 44 1 None (lines_of (codes "\na\n\r\n\nb\n\n")) ≡ Some (unsized (codes "a") ∷ unsized (codes "b") ∷ [])
+blank_lines : accesses_of 44 1 None 0 (lines_of (codes "\na\n\r\n\nb\n\n")) ≡ Ok (unsized (codes "a") ∷ unsized (codes "b") ∷ [])
 unfolding lines_of
 blank_lines = refl
 
-other_separator : accesses_of 59 2 None (lines_of (codes "1;a,b\n2;\"c;d\"\n")) ≡ Some (unsized (codes "a,b") ∷ unsized (codes "c;d") ∷ [])
+other_separator : accesses_of 59 2 None 0 (lines_of (codes "1;a,b\n2;\"c;d\"\n")) ≡ Ok (unsized (codes "a,b") ∷ unsized (codes "c;d") ∷ [])
 unfolding lines_of
 other_separator = refl
 
-no_second_value : accesses_of 44 2 None (drop 1 (lines_of (codes "time,key\n1,a\n2\n"))) ≡ None
+no_second_value : accesses_of 44 2 None 1 (drop 1 (lines_of (codes "time,key\n1,a\n2\n"))) ≡ Err (Line 3 2)
 unfolding lines_of
 no_second_value = refl
 
@@ -64,8 +65,8 @@ quote_without_its_end : field 44 1 (codes "1,\"a") ≡ None
 quote_without_its_end = refl
 
 -- a record of oracleGeneral has its key in its fifth to twelfth byte
-two_records : option_map (map (λ (a : Access). a.key)) (accesses_in OracleGeneral (codes "timeidentifysizenextaccstime8bytes!!sizenextaccs")) ≡ Some (codes "identify" ∷ codes "8bytes!!" ∷ [])
+two_records : result_map_both (map (λ (a : Access). a.key)) (λ refusal. refusal) (accesses_in OracleGeneral (codes "timeidentifysizenextaccstime8bytes!!sizenextaccs")) ≡ Ok (codes "identify" ∷ codes "8bytes!!" ∷ [])
 two_records = refl
 
-part_of_a_record : accesses_in OracleGeneral (codes "timeidentifysizenextaccstime") ≡ None
+part_of_a_record : accesses_in OracleGeneral (codes "timeidentifysizenextaccstime") ≡ Err (Record 24)
 part_of_a_record = refl

@@ -91,8 +91,14 @@ round_numbers =
     ∷ 200000 ∷ 500000 ∷ 1000000 ∷ 2000000 ∷ 5000000 ∷ 10000000 ∷ []
 
 -- the ends of a range and those of the other numbers that are between them, each once
+abbrev pub between : List ℕ → ℕ → ℕ → List ℕ
+between others first last = filter (λ n. nat_lt first n && nat_lt n last) others
+
+abbrev pub rest_of : List ℕ → ℕ → ℕ → List ℕ
+rest_of others first last = between others first last ++ (if nat_lt first last then last ∷ [] else [])
+
 abbrev pub numbers_between : List ℕ → ℕ → ℕ → List ℕ
-numbers_between others first last = first ∷ (filter (λ n. nat_lt first n && nat_lt n last) others ++ (if nat_lt first last then last ∷ [] else []))
+numbers_between others first last = first ∷ rest_of others first last
 
 abbrev pub range : List ℕ → Amount → ℕ → List Amount
 range others first last = map (amount first.unit) (numbers_between others first.number last)
@@ -122,11 +128,17 @@ asked_between word (Some ends) = range_between (amount_in ends.0) (amount_in end
 abbrev pub asked_by : List ℕ → Option (List Amount)
 asked_by word = asked_between word (ends_of word)
 
--- whether an option takes the word after it
-abbrev pub takes_value : List ℕ → Bool
-takes_value word = bytes_eq word (codes "--policies") || bytes_eq word (codes "--shares") || bytes_eq word (codes "--policy") || bytes_eq word (codes "--skip")
-    || bytes_eq word (codes "--window") || bytes_eq word (codes "--format") || bytes_eq word (codes "--column") || bytes_eq word (codes "--size-column")
+-- whether an option takes the word after it: one that says what is replayed, or how the traces are read
+abbrev pub says_replay : List ℕ → Bool
+says_replay word = bytes_eq word (codes "--policies") || bytes_eq word (codes "--shares") || bytes_eq word (codes "--policy") || bytes_eq word (codes "--skip")
+    || bytes_eq word (codes "--window")
+
+abbrev pub says_reading : List ℕ → Bool
+says_reading word = bytes_eq word (codes "--format") || bytes_eq word (codes "--column") || bytes_eq word (codes "--size-column")
     || bytes_eq word (codes "--separator") || bytes_eq word (codes "--sample")
+
+abbrev pub takes_value : List ℕ → Bool
+takes_value word = says_replay word || says_reading word
 
 -- whether a word is an option: a dash followed by another byte
 abbrev pub is_option : List ℕ → Bool

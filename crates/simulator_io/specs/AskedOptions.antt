@@ -31,13 +31,21 @@ use Rattle.simulator_io.specs.Sample.{sample_in}
 abbrev pub if_word : {X : Type 0} → List ℕ → List ℕ → X → Option X → Option X
 if_word word name named others = if bytes_eq word name then Some named else others
 
--- the option of a name that takes a value; the shares also have their former name
-abbrev pub option_named : List ℕ → Option Valued
-option_named word =
+-- the option of a name that takes a value, if it says what is replayed; the shares also have their former name
+abbrev pub replay_named : List ℕ → Option Valued
+replay_named word =
     if_word word (codes "--policies") option.Policies (if_word word (codes "--shares") option.Shares (if_word word (codes "--policy") option.Shares
-    (if_word word (codes "--skip") option.Skip (if_word word (codes "--window") option.Window (if_word word (codes "--format") option.Format
-    (if_word word (codes "--column") option.Column (if_word word (codes "--size-column") option.SizeColumn
-    (if_word word (codes "--separator") option.Separator (if_word word (codes "--sample") option.Sample None)))))))))
+    (if_word word (codes "--skip") option.Skip (if_word word (codes "--window") option.Window None))))
+
+-- and if it says how the traces are read
+abbrev pub traces_named : List ℕ → Option Valued
+traces_named word =
+    if_word word (codes "--format") option.Format (if_word word (codes "--column") option.Column (if_word word (codes "--size-column") option.SizeColumn
+    (if_word word (codes "--separator") option.Separator (if_word word (codes "--sample") option.Sample None))))
+
+-- the option of a name that takes a value
+abbrev pub option_named : List ℕ → Option Valued
+option_named word = option_or (replay_named word) (traces_named word)
 
 -- a word that has an equals sign, or a comma
 abbrev pub is_equals : ℕ → Bool

@@ -1,5 +1,6 @@
 -- The keys and sizes of a trace's text, in each format.
-use Rattle.std.specs.Prelude.{ℕ, ◌-◌, ◌/◌, ◌%◌, Bool, true, false, ◌==◌, if◌then◌else◌, List, [], ◌∷◌, length, take, drop, map, get_or, slice_get, Option, Some, None, is_some}
+use Rattle.std.specs.Prelude.{ℕ, ◌+◌, ◌-◌, ◌/◌, ◌%◌, ◌^◌, min, max, Bool, true, false, ◌==◌, if◌then◌else◌, List, [], ◌∷◌, length, take, drop, map, get_or, slice_get}
+use Rattle.std.specs.Prelude.{Option, Some, None, is_some, ok_or, Result, Ok, Err}
 use Rattle.std.specs.Int.{w32, from_le_bytes}
 use Rattle.std.specs.NonZero.{non_zero_usize_get}
 use Rattle.std.specs.Option.{option_map, option_and_then}
@@ -7,10 +8,12 @@ use Rattle.std.specs.Simd.{first_chunks}
 use Rattle.clock2q_ports.specs.Lines.{lines_of}
 use Rattle.simulator_io.specs.declared.csv.Place.{Place}
 use Rattle.simulator_io.specs.declared.csv.Place.TheVariants.{Start, Plain, Quoted, Closed}
+use Rattle.simulator_io.specs.declared.error.SimulationError.{SimulationError}
+use Rattle.simulator_io.specs.declared.error.SimulationError.TheVariants.{Line, Size, Record}
 use Rattle.simulator_io.specs.declared.format.Columns.{Columns}
 use Rattle.simulator_io.specs.declared.format.TraceFormat.{TraceFormat}
 use Rattle.simulator_io.specs.declared.format.TraceFormat.TheVariants.{Lines, Csv, OracleGeneral}
-use Rattle.simulator_io.specs.Amounts.{ends_in, front, number_in}
+use Rattle.simulator_io.specs.Amounts.{ends_in, front, number_in, times}
 
 -- an access: the key and the size of its record
 pub record Access : Type 0 where
@@ -62,35 +65,51 @@ fields_of separator line = fields_from separator Start (without_return line)
 abbrev pub field : ℕ → ℕ → List ℕ → Option (List ℕ)
 field separator column line = option_and_then (λ fields. slice_get fields (column - 1)) (fields_of separator line)
 
--- the size in a column of a line, as digits, if its lines have one
-abbrev pub size_in : ℕ → Option ℕ → List ℕ → Option ℕ
-size_in separator None line = Some 1
-size_in separator (Some column) line = option_and_then number_in (field separator column line)
+-- the number of the next line, or of the record after some, in 64 bits
+abbrev pub next_number : ℕ → ℕ
+next_number count = min (count + 1) (2 ^ 64 - 1)
 
--- the access of a line, by the columns of its key and of its size, if the line has both
-abbrev pub access_with : Option (List ℕ) → Option ℕ → Option Access
-access_with (Some key) (Some size) = Some (access key size)
-access_with _ _ = None
+-- the field in a column of the line with a number, or what refuses a line without it
+abbrev pub field_named : ℕ → ℕ → ℕ → List ℕ → Result (List ℕ) SimulationError
+field_named separator column number line = ok_or (field separator column line) (Line number column)
 
-abbrev pub access_in : ℕ → ℕ → Option ℕ → List ℕ → Option Access
-access_in separator column sizes line = access_with (field separator column line) (size_in separator sizes line)
+-- the size that the field is, as digits, or what refuses another field
+abbrev pub size_named : ℕ → ℕ → Result (List ℕ) SimulationError → Result ℕ SimulationError
+size_named column number (Ok digits) = ok_or (number_in digits) (Size number column)
+size_named column number (Err refusal) = Err refusal
 
--- the accesses of lines, if each that isn't blank has one
-abbrev pub consed : Option Access → Option (List Access) → Option (List Access)
-consed (Some first) (Some accesses) = Some (first ∷ accesses)
-consed _ _ = None
+-- the size in a column of the line with a number, if its lines have one
+abbrev pub size_in : ℕ → Option ℕ → ℕ → List ℕ → Result ℕ SimulationError
+size_in separator None number line = Ok 1
+size_in separator (Some column) number line = size_named column number (field_named separator column number line)
 
-abbrev pub accesses_of : ℕ → ℕ → Option ℕ → List (List ℕ) → Option (List Access)
-accesses_of separator column sizes [] = Some []
-accesses_of separator column sizes (line ∷ lines) =
-    if is_blank line then accesses_of separator column sizes lines else consed (access_in separator column sizes line) (accesses_of separator column sizes lines)
+-- the access of the line with a number, by the columns of its key and of its size, or what refuses the line first
+abbrev pub access_with : Result (List ℕ) SimulationError → Result ℕ SimulationError → Result Access SimulationError
+access_with (Ok key) (Ok size) = Ok (access key size)
+access_with (Ok key) (Err refusal) = Err refusal
+access_with (Err refusal) _ = Err refusal
+
+abbrev pub access_in : ℕ → ℕ → Option ℕ → ℕ → List ℕ → Result Access SimulationError
+access_in separator column sizes number line = access_with (field_named separator column number line) (size_in separator sizes number line)
+
+-- the accesses of lines after some others, if each that isn't blank has one, or what refuses the first of those without
+abbrev pub consed : Result Access SimulationError → Result (List Access) SimulationError → Result (List Access) SimulationError
+consed (Ok first) (Ok accesses) = Ok (first ∷ accesses)
+consed (Ok first) (Err refusal) = Err refusal
+consed (Err refusal) _ = Err refusal
+
+abbrev pub accesses_of : ℕ → ℕ → Option ℕ → ℕ → List (List ℕ) → Result (List Access) SimulationError
+accesses_of separator column sizes count [] = Ok []
+accesses_of separator column sizes count (line ∷ lines) =
+    if is_blank line then accesses_of separator column sizes (next_number count) lines
+    else consed (access_in separator column sizes (next_number count) line) (accesses_of separator column sizes (next_number count) lines)
 
 -- the same by columns
-abbrev pub access_by : Columns → List ℕ → Option Access
-access_by columns line = access_in columns.separator (non_zero_usize_get columns.key) (option_map non_zero_usize_get columns.size) line
+abbrev pub access_by : Columns → ℕ → List ℕ → Result Access SimulationError
+access_by columns number line = access_in columns.separator (non_zero_usize_get columns.key) (option_map non_zero_usize_get columns.size) number line
 
-abbrev pub accesses_by : Columns → List (List ℕ) → Option (List Access)
-accesses_by columns lines = accesses_of columns.separator (non_zero_usize_get columns.key) (option_map non_zero_usize_get columns.size) lines
+abbrev pub accesses_by : Columns → ℕ → List (List ℕ) → Result (List Access) SimulationError
+accesses_by columns count lines = accesses_of columns.separator (non_zero_usize_get columns.key) (option_map non_zero_usize_get columns.size) count lines
 
 -- how many of the first lines are headers
 abbrev pub headers : Columns → ℕ
@@ -106,14 +125,20 @@ size_of part = from_le_bytes w32 (get_or part 12 0 ∷ get_or part 13 0 ∷ get_
 abbrev pub record_of : List ℕ → Access
 record_of part = access (id_of part) (size_of part)
 
--- the accesses of what is left of a text of which some records were read
-abbrev pub accesses_after : TraceFormat → ℕ → List ℕ → Option (List Access)
-accesses_after Lines count text = Some (map unsized (lines_of text))
-accesses_after (Csv columns) count text = accesses_by columns (drop (headers columns - count) (lines_of text))
-accesses_after OracleGeneral count text = if length text % 24 == 0 then Some (map record_of (first_chunks 24 (length text / 24) text)) else None
+-- the offset of the record after some
+abbrev pub offset_of : ℕ → ℕ
+offset_of count = times 24 count
 
--- the accesses of a text
-abbrev pub accesses_in : TraceFormat → List ℕ → Option (List Access)
+-- the accesses of what is left of a text of which some records were read, or what refuses the first bad record
+abbrev pub accesses_after : TraceFormat → ℕ → List ℕ → Result (List Access) SimulationError
+accesses_after Lines count text = Ok (map unsized (lines_of text))
+accesses_after (Csv columns) count text = accesses_by columns (max count (headers columns)) (drop (headers columns - count) (lines_of text))
+accesses_after OracleGeneral count text =
+    if length text % 24 == 0 then Ok (map record_of (first_chunks 24 (length text / 24) text))
+    else Err (Record (offset_of (count + length text / 24)))
+
+-- the accesses of a text, or what refuses its first bad record
+abbrev pub accesses_in : TraceFormat → List ℕ → Result (List Access) SimulationError
 accesses_in format text = accesses_after format 0 text
 
 -- whether the records of a format have sizes

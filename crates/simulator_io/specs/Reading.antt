@@ -1,7 +1,7 @@
 -- A trace read from a source.
-use Rattle.std.specs.Prelude.{◌≡◌, ℕ, ◌+◌, ◌-◌, ◌^◌, ◌<◌, min, is_some, Bool, true, false, ◌==◌, List, [], ◌∷◌, ◌++◌, length, Option, Some, None, Result, Ok, Err}
+use Rattle.std.specs.Prelude.{◌≡◌, ℕ, ◌<◌, is_some, Bool, true, false, ◌==◌, List, [], ◌∷◌, ◌++◌, length, Option, None, Result, Ok, Err}
 use Rattle.std.specs.List.{All}
-use Rattle.std.specs.Option.{option_map, option_and_then}
+use Rattle.std.specs.Option.{option_and_then}
 use Rattle.std.specs.Io.KnownBytes.{Consumes, IsAtEnd}
 use Rattle.clock2q_ports.specs.Ports.{Traffic, traffic_after}
 use Rattle.simulator_io.specs.declared.error.SimulationError.{SimulationError}
@@ -40,8 +40,9 @@ IsOfLines (Csv _) = Unit {0}
 IsOfLines OracleGeneral = ⊥
 
 -- accesses with those of the rest after them
-abbrev pub joined : List Access → Option (List Access) → Option (List Access)
-joined accesses more = option_map (λ rest. accesses ++ rest) more
+abbrev pub joined : List Access → Result (List Access) SimulationError → Result (List Access) SimulationError
+joined accesses (Ok rest) = Ok (accesses ++ rest)
+joined accesses (Err refusal) = Err refusal
 
 -- after some bytes, the accesses so far, with those of what has come of the next record and of whatever follows, are those
 -- from before with the bytes
@@ -73,10 +74,6 @@ IsOfLine separator number line (Line n column) = (n ≡ number) × (field separa
 IsOfLine separator number line (Size n column) = (n ≡ number) × (is_some (field separator column line) ≡ true) × (option_and_then number_in (field separator column line) ≡ None)
 IsOfLine separator number line _ = Unit {0}
 
--- the number of the next line, or of the record after some, in 64 bits
-abbrev pub next_number : ℕ → ℕ
-next_number count = min (count + 1) (2 ^ 64 - 1)
-
 module _ (old new : Traffic) (left remain : Option (List ℕ)) (format : TraceFormat) where
   -- the whole input was read, once up to its end, and the accesses are those of its records
   pub record AreRead (known : List Access) : Type 0 where
@@ -84,22 +81,23 @@ module _ (old new : Traffic) (left remain : Option (List ℕ)) (format : TraceFo
     pub given : new ≡ traffic_after old input true false
     pub consumed : Consumes left remain input
     pub at_end : IsAtEnd remain
-    pub accesses : accesses_in format input ≡ Some known
+    pub accesses : accesses_in format input ≡ Ok known
 
-  -- the bytes that were read are no trace of the format, and nothing that may follow them makes one of them
-  pub record IsNoTrace : Type 0 where
+  -- the bytes that were read are no trace of the format, and nothing that may follow them makes one of them: the refusal
+  -- is that of the first bad record
+  pub record IsNoTrace (refusal : SimulationError) : Type 0 where
     pub bytes : List ℕ
     pub ended : Bool
     pub given : new ≡ traffic_after old bytes ended false
-    pub bad : (next : List ℕ) → (ended ≡ true → next ≡ []) → accesses_in format (bytes ++ next) ≡ None
+    pub bad : (next : List ℕ) → (ended ≡ true → next ≡ []) → accesses_in format (bytes ++ next) ≡ Err refusal
 
   -- reading was given up: memory ran out, the source failed, or a record is bad
   abbrev pub IsGivenUp : SimulationError → Type 0
   IsGivenUp Memory = (bytes : List ℕ) × (stopped : Bool) × (new ≡ traffic_after old bytes stopped false)
   IsGivenUp Read = (bytes : List ℕ) × (new ≡ traffic_after old bytes false true)
-  IsGivenUp (Line _ _) = IsNoTrace
-  IsGivenUp (Size _ _) = IsNoTrace
-  IsGivenUp (Record _) = IsNoTrace
+  IsGivenUp (Line number column) = IsNoTrace (Line number column)
+  IsGivenUp (Size number column) = IsNoTrace (Size number column)
+  IsGivenUp (Record offset) = IsNoTrace (Record offset)
   IsGivenUp Open = ⊥
   IsGivenUp Write = ⊥
   IsGivenUp (Capacity _) = ⊥

@@ -1,8 +1,8 @@
 //! The shares of Clock2Q+ that hit most of a trace.
 
+use crate::page::Page;
 use crate::shares::ChosenShares;
-use std::alloc::{AllocError, Allocator};
-use std::fmt::Write;
+use std::alloc::Allocator;
 use std::num::NonZeroUsize;
 
 /// The shares that hit most, and the hits with them and with the usual ones.
@@ -27,10 +27,10 @@ pub struct BestShares {
 
 impl BestShares {
     /// Writes the best shares as an argument gives them, or that they are the usual ones.
-    pub(crate) fn write<A: Allocator>(&self, text: &mut String<A>) -> Result<(), AllocError> {
+    pub(crate) fn write<A: Allocator>(&self, page: &mut Page<A>) {
         match self.shares {
-            Some(shares) => write!(text, "{shares}"),
-            None => text.push_str("usual"),
+            Some(shares) => page.add_shown(&shares),
+            None => page.add("usual"),
         }
     }
 }

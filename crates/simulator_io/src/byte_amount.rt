@@ -5,8 +5,8 @@ ghost use Rattle.simulator_io.specs.Amounts.{ends_in, front};
 ghost use Rattle.simulator_io.specs.ByteAmounts.{binary_in, bytes_in, decimal_in, unit_in};
 
 use crate::amount::number_of;
-use std::alloc::{AllocError, Allocator};
-use std::fmt::Write;
+use crate::page::Page;
+use std::alloc::Allocator;
 use std::num::NonZeroUsize;
 
 /// Returns the number of bytes that a word spells, as `512B`, `64kB` or `1GiB`: kB, MB, GB and TB
@@ -110,15 +110,19 @@ const UNITS: [(&str, usize); 8] = [
     ("kB", 1_000),
 ];
 
-/// Returns the text of a number of bytes, in the largest unit of which it is a multiple.
-pub(crate) fn bytes_text<A: Allocator>(alloc: A, bytes: usize) -> Result<String<A>, AllocError> {
-    let mut text = String::new(alloc);
+/// Writes a number of bytes in a column of eight, in the largest unit of which it is a multiple.
+pub(crate) fn write_bytes<A: Allocator>(page: &mut Page<A>, bytes: usize) {
+    let (number, unit) = in_largest_unit(bytes);
+    page.add_right(number, 8usize.saturating_sub(unit.len()));
+    page.add(unit);
+}
+
+/// Returns a number of bytes in the largest unit of which it is a multiple, and the unit.
+fn in_largest_unit(bytes: usize) -> (usize, &'static str) {
     for (unit, worth) in UNITS {
         if bytes >= worth && bytes % worth == 0 {
-            write!(text, "{}{unit}", bytes / worth)?;
-            return Ok(text);
+            return (bytes / worth, unit);
         }
     }
-    write!(text, "{bytes}B")?;
-    Ok(text)
+    (bytes, "B")
 }

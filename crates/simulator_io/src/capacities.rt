@@ -1,7 +1,7 @@
 //! The capacities that an argument asks for.
 ghost use Rattle.std.specs.List.{All};
-ghost use Rattle.std.specs.Prelude.{◌≡◌, ◌≤◌, Some, IfOk};
-ghost use Rattle.simulator_io.specs.Amounts.{IsCapacity, amount, amount_in, asked_by, range};
+ghost use Rattle.std.specs.Prelude.{◌≡◌, ◌≤◌, [], ◌∷◌, ◌++◌, Some, IfOk, OnOk, map};
+ghost use Rattle.simulator_io.specs.Amounts.{IsCapacity, amount, amount_in, asked_by, between, range, rest_of};
 
 use crate::amount::{Amount, Unit};
 use crate::error::{ArgumentError, SimulationError};
@@ -58,18 +58,71 @@ fn range_of<A: Allocator>(
     ensures range { IfOk result (λ capacities. capacities.items ≡ range round_numbers.now first last) }
     ensures within { IfOk result (λ capacities. All IsCapacity capacities.items) }
 {
-    let unit = first.unit;
     let mut capacities = Vec::from_slice(alloc, &[first])?;
-    for number in round_numbers {
-        let number = *number;
-        if first.number < number && number < last {
-            capacities.push(Amount { number, unit })?;
-        }
+    match add_rest(&mut capacities, first, last, round_numbers) {
+        Ok(()) => Ok(capacities),
+        Err(refused) => Err(refused),
     }
+}
+
+/// Adds what comes after the first end of a range.
+fn add_rest<A: Allocator>(
+    capacities: &mut Vec<Amount, A>,
+    first: Amount,
+    last: usize,
+    round_numbers: &[usize],
+) -> Result<(), AllocError>
+    requires first { IsCapacity first }
+    requires last { IsCapacity (amount first.unit last) }
+    requires within { All IsCapacity capacities.old.items }
+    ensures range { OnOk result (capacities.new.items ≡ capacities.old.items ++ map (amount first.unit) (rest_of round_numbers.now first.number last)) }
+    ensures within { OnOk result (All IsCapacity capacities.new.items) }
+{
+    add_between(capacities, first, last, round_numbers)?;
     if first.number < last {
+        let unit = first.unit;
         capacities.push(Amount { number: last, unit })?;
     }
-    Ok(capacities)
+    Ok(())
+}
+
+/// Adds the round numbers between the ends of a range.
+fn add_between<A: Allocator>(
+    capacities: &mut Vec<Amount, A>,
+    first: Amount,
+    last: usize,
+    round_numbers: &[usize],
+) -> Result<(), AllocError>
+    requires first { IsCapacity first }
+    requires last { IsCapacity (amount first.unit last) }
+    requires within { All IsCapacity capacities.old.items }
+    ensures between { OnOk result (capacities.new.items ≡ capacities.old.items ++ map (amount first.unit) (between round_numbers.now first.number last)) }
+    ensures within { OnOk result (All IsCapacity capacities.new.items) }
+{
+    for number in round_numbers {
+        add_if_between(capacities, first, *number, last)?;
+    }
+    Ok(())
+}
+
+/// Adds a number if it is between the ends of a range.
+fn add_if_between<A: Allocator>(
+    capacities: &mut Vec<Amount, A>,
+    first: Amount,
+    number: usize,
+    last: usize,
+) -> Result<(), AllocError>
+    requires first { IsCapacity first }
+    requires last { IsCapacity (amount first.unit last) }
+    requires within { All IsCapacity capacities.old.items }
+    ensures between { OnOk result (capacities.new.items ≡ capacities.old.items ++ map (amount first.unit) (between (number ∷ []) first.number last)) }
+    ensures within { OnOk result (All IsCapacity capacities.new.items) }
+{
+    if first.number < number && number < last {
+        let unit = first.unit;
+        capacities.push(Amount { number, unit })?;
+    }
+    Ok(())
 }
 
 /// Returns the capacity that a word spells. `fault` is what is wrong if it spells none.

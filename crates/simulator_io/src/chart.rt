@@ -3,10 +3,12 @@ ghost use Rattle.std.specs.Prelude.{◌<◌};
 
 use crate::amount::{Amount, Unit};
 use crate::axis::Axis;
+use crate::page::Page;
 use crate::pen::Pen;
 use crate::policy::Policy;
+use crate::scale::Scale;
+use crate::title::Title;
 use std::alloc::{AllocError, Allocator};
-use std::fmt::Write;
 use std::num::nearest_usize_to_f64;
 
 /// The width of a chart, in the units of the picture.
@@ -44,65 +46,62 @@ pub(crate) struct Curve<A: Allocator> {
 /// Curves, with what is written around them.
 #[derive(Drop)]
 pub(crate) struct Chart<A: Allocator> {
-    pub(crate) title: String<A>,
-    pub(crate) scale: String<A>,
-    // What the numbers of the horizontal axis count: keys or accesses, or millionths.
-    pub(crate) unit: Unit,
+    pub(crate) title: Title,
+    pub(crate) scale: Scale,
     pub(crate) axis: Axis,
     pub(crate) curves: Vec<Curve<A>, A>,
 }
 
 impl<A: Allocator + Copy> Chart<A> {
     /// Writes the chart.
-    pub(crate) fn write(&self, alloc: A, text: &mut String<A>) -> Result<(), AllocError> {
+    ///
+    /// # Errors
+    ///
+    /// `AllocError` if there is no memory for the numbers to label.
+    pub(crate) fn write(&self, alloc: A, page: &mut Page<A>) -> Result<(), AllocError> {
+        let ticks = self.axis.ticks(alloc)?;
+        self.write_with(&ticks, page);
+        Ok(())
+    }
+}
+
+impl<A: Allocator> Chart<A> {
+    /// Writes the chart with the numbers to label.
+    fn write_with(&self, ticks: &[usize], page: &mut Page<A>) {
         let top = top_of(&self.curves);
         let frame = Frame {
             axis: self.axis,
             floor: floor_of(&self.curves, top),
             top,
         };
-        writeln!(
-            text,
-            "<text x=\"80\" y=\"32\" font-size=\"17\">{}</text>",
-            self.title
-        )?;
-        write_ratios(text, &frame)?;
-        self.write_places(alloc, text, &frame)?;
+        page.add("<text x=\"80\" y=\"32\" font-size=\"17\">");
+        self.title.write(page);
+        page.add("</text>\n");
+        write_ratios(page, &frame);
+        self.write_places(ticks, page, &frame);
         for (index, curve) in self.curves.iter().enumerate() {
-            curve.write(text, &frame)?;
-            curve.write_name(text, index)?;
+            curve.write(page, &frame);
+            curve.write_name(page, index);
         }
-        Ok(())
     }
 
     /// Writes the horizontal axis, with a mark at each labelled number.
-    fn write_places(
-        &self,
-        alloc: A,
-        text: &mut String<A>,
-        frame: &Frame,
-    ) -> Result<(), AllocError> {
-        writeln!(
-            text,
-            "<path d=\"M {LEFT:.0} {TOP:.0} V {BOTTOM:.0} H {RIGHT:.0}\" fill=\"none\" stroke=\"black\"/>"
-        )?;
-        for tick in frame.axis.ticks(alloc)? {
-            let place = Amount {
-                number: tick,
-                unit: self.unit,
-            };
-            write_place(text, frame.x(tick), place)?;
+    fn write_places(&self, ticks: &[usize], page: &mut Page<A>, frame: &Frame) {
+        page.add_decimals("<path d=\"M ", LEFT, 0);
+        page.add_decimals(" ", TOP, 0);
+        page.add_decimals(" V ", BOTTOM, 0);
+        page.add_decimals(" H ", RIGHT, 0);
+        page.add("\" fill=\"none\" stroke=\"black\"/>\n");
+        for tick in ticks {
+            write_place(page, frame.x(*tick), self.scale.place(*tick));
         }
-        let kind = if frame.axis.is_logarithmic {
-            " (logarithmic)"
+        page.add("<text x=\"350\" y=\"452\" text-anchor=\"middle\">");
+        self.scale.write(page);
+        page.add(if frame.axis.is_logarithmic {
+            " (logarithmic)</text>\n"
         } else {
-            ""
-        };
-        writeln!(
-            text,
-            "<text x=\"350\" y=\"452\" text-anchor=\"middle\">{}{kind}</text>",
-            self.scale
-        )
+            "</text>\n"
+        });
     }
 }
 
@@ -136,46 +135,52 @@ impl<A: Allocator> Curve<A> {
     }
 
     /// Writes the line and the points.
-    fn write(&self, text: &mut String<A>, frame: &Frame) -> Result<(), AllocError> {
+    fn write(&self, page: &mut Page<A>, frame: &Frame) {
         let pen = Pen::of(self.policy);
         if self.has_line() {
-            self.write_line(text, frame, &pen)?;
+            self.write_line(page, frame, &pen);
         }
-        if !self.has_marks() {
-            return Ok(());
+        if self.has_marks() {
+            self.write_points(page, frame, &pen);
         }
-        for point in self.points.iter() {
-            pen.write_point(text, frame.x(point.place), frame.y(point.percent))?;
-        }
-        Ok(())
     }
 
     /// Writes a line through the points.
-    fn write_line(&self, text: &mut String<A>, frame: &Frame, pen: &Pen) -> Result<(), AllocError> {
-        write!(text, "<polyline ")?;
-        pen.write_line(text)?;
-        write!(text, " points=\"")?;
+    fn write_line(&self, page: &mut Page<A>, frame: &Frame, pen: &Pen) {
+        page.add("<polyline ");
+        pen.write_line(page);
+        page.add(" points=\"");
         for point in self.points.iter() {
-            let (x, y) = (frame.x(point.place), frame.y(point.percent));
-            write!(text, " {x:.1},{y:.1}")?;
+            page.add_decimals(" ", frame.x(point.place), 1);
+            page.add_decimals(",", frame.y(point.percent), 1);
         }
-        writeln!(text, "\"/>")
+        page.add("\"/>\n");
+    }
+
+    /// Writes the points.
+    fn write_points(&self, page: &mut Page<A>, frame: &Frame, pen: &Pen) {
+        for point in self.points.iter() {
+            pen.write_point(page, frame.x(point.place), frame.y(point.percent));
+        }
     }
 
     /// Writes the policy's name on the right, beside a piece of its line with a point.
-    fn write_name(&self, text: &mut String<A>, index: usize) -> Result<(), AllocError> {
-        let (pen, name) = (Pen::of(self.policy), self.policy.heading());
+    fn write_name(&self, page: &mut Page<A>, index: usize) {
+        let pen = Pen::of(self.policy);
         let middle = TOP + 8.0 + nearest_usize_to_f64(index) * 26.0;
         if self.has_line() {
-            write!(text, "<path d=\"M 640 {middle:.0} h 44\" ")?;
-            pen.write_line(text)?;
-            writeln!(text, "/>")?;
+            page.add_decimals("<path d=\"M 640 ", middle, 0);
+            page.add(" h 44\" ");
+            pen.write_line(page);
+            page.add("/>\n");
         }
         if self.has_marks() {
-            pen.write_point(text, 662.0, middle)?;
+            pen.write_point(page, 662.0, middle);
         }
-        let baseline = middle + 4.5;
-        writeln!(text, "<text x=\"694\" y=\"{baseline:.1}\">{name}</text>")
+        page.add_decimals("<text x=\"694\" y=\"", middle + 4.5, 1);
+        page.add("\">");
+        page.add(self.policy.heading());
+        page.add("</text>\n");
     }
 }
 
@@ -239,52 +244,47 @@ fn floor_of<A: Allocator>(curves: &[Curve<A>], top: u8) -> u8 {
 }
 
 /// Writes the vertical axis, with lines across the picture.
-fn write_ratios<A: Allocator>(text: &mut String<A>, frame: &Frame) -> Result<(), AllocError> {
+fn write_ratios<A: Allocator>(page: &mut Page<A>, frame: &Frame) {
     let step = step_between(frame.floor, frame.top);
     for percent in (frame.floor..=frame.top).step_by(usize::from(step)) {
-        write_ratio(text, frame.y(f64::from(percent)), percent)?;
+        write_ratio(page, frame.y(f64::from(percent)), percent);
     }
-    let mark = if frame.floor > 0 {
-        " (the axis doesn't begin at 0%)"
+    page.add("<text transform=\"translate(24 230) rotate(-90)\" text-anchor=\"middle\">hit ratio");
+    page.add(if frame.floor > 0 {
+        " (the axis doesn't begin at 0%)</text>\n"
     } else {
-        ""
-    };
-    writeln!(
-        text,
-        "<text transform=\"translate(24 230) rotate(-90)\" text-anchor=\"middle\">hit ratio{mark}</text>"
-    )
+        "</text>\n"
+    });
 }
 
 /// Writes a label of the vertical axis, and its line.
-fn write_ratio<A: Allocator>(text: &mut String<A>, y: f64, percent: u8) -> Result<(), AllocError> {
-    let baseline = y + 4.5;
-    writeln!(
-        text,
-        "<path d=\"M {LEFT:.0} {y:.1} H {RIGHT:.0}\" stroke=\"#d0d0d0\"/>"
-    )?;
-    writeln!(
-        text,
-        "<text x=\"72\" y=\"{baseline:.1}\" text-anchor=\"end\">{percent}%</text>"
-    )
+fn write_ratio<A: Allocator>(page: &mut Page<A>, y: f64, percent: u8) {
+    page.add_decimals("<path d=\"M ", LEFT, 0);
+    page.add_decimals(" ", y, 1);
+    page.add_decimals(" H ", RIGHT, 0);
+    page.add_decimals("\" stroke=\"#d0d0d0\"/>\n<text x=\"72\" y=\"", y + 4.5, 1);
+    page.add_number("\" text-anchor=\"end\">", usize::from(percent));
+    page.add("%</text>\n");
 }
 
 /// Writes a number below the horizontal axis, as a percentage if it is one of millionths.
-fn write_place<A: Allocator>(
-    text: &mut String<A>,
-    x: f64,
-    place: Amount,
-) -> Result<(), AllocError> {
-    writeln!(
-        text,
-        "<path d=\"M {x:.1} {BOTTOM:.0} v 6\" stroke=\"black\"/>"
-    )?;
-    write!(text, "<text x=\"{x:.1}\" y=\"422\" text-anchor=\"middle\">")?;
-    let (count, thousands) = short(place.number);
+fn write_place<A: Allocator>(page: &mut Page<A>, x: f64, place: Amount) {
+    page.add_decimals("<path d=\"M ", x, 1);
+    page.add_decimals(" ", BOTTOM, 0);
+    page.add_decimals(" v 6\" stroke=\"black\"/>\n<text x=\"", x, 1);
+    page.add("\" y=\"422\" text-anchor=\"middle\">");
     match place.unit {
-        Unit::Keys => write!(text, "{count}{thousands}")?,
-        Unit::Millionths => write!(text, "{place}")?,
+        Unit::Keys => write_short(page, place.number),
+        Unit::Millionths => page.add_shown(&place),
     }
-    writeln!(text, "</text>")
+    page.add("</text>\n");
+}
+
+/// Writes a number, in thousands or millions if it is a multiple of them.
+fn write_short<A: Allocator>(page: &mut Page<A>, number: usize) {
+    let (count, thousands) = short(number);
+    page.add_number("", count);
+    page.add(thousands);
 }
 
 /// Returns a number in thousands or millions, if it is a multiple of them, and their letter.

@@ -1,8 +1,8 @@
 //! What the options among the arguments choose.
 ghost use Rattle.std.specs.NonZero.{non_zero_usize_get};
-ghost use Rattle.std.specs.Prelude.{◌≡◌, IfOk, OnOk, Some, is_some, true};
+ghost use Rattle.std.specs.Prelude.{◌≡◌, ◌++◌, IfOk, OnOk, Some, is_some, map, option_map, true};
 ghost use Rattle.simulator_io.specs.Amounts.{takes_value};
-ghost use Rattle.simulator_io.specs.AskedOptions.{Flag, Value, choices_so_far, form_named, nothing, option_named, plain_in, policies_in, positive_in, set, shares_in};
+ghost use Rattle.simulator_io.specs.AskedOptions.{Flag, Value, choices_so_far, form_named, nothing, option_named, plain_in, policies_in, policies_named, positive_in, replay_named, set, shares_in, traces_named};
 ghost use Rattle.simulator_io.specs.Sample.{sample_in};
 
 use crate::amount::{plain_of, positive_of};
@@ -36,27 +36,35 @@ impl Valued {
         ensures named { is_some result ≡ takes_value name.now }
         ensures option { result ≡ option_named name.now }
     {
-        if name == "--policies" {
-            Some(Valued::Policies)
-        } else if name == "--shares" || name == "--policy" {
-            Some(Valued::Shares)
-        } else if name == "--skip" {
-            Some(Valued::Skip)
-        } else if name == "--window" {
-            Some(Valued::Window)
-        } else if name == "--format" {
-            Some(Valued::Format)
-        } else if name == "--column" {
-            Some(Valued::Column)
-        } else if name == "--size-column" {
-            Some(Valued::SizeColumn)
-        } else if name == "--separator" {
-            Some(Valued::Separator)
-        } else if name == "--sample" {
-            Some(Valued::Sample)
-        } else {
-            None
-        }
+        replay_named(name).or(traces_named(name))
+    }
+}
+
+/// Returns the option with a name, if it says what is replayed.
+fn replay_named(name: &str) -> Option<Valued>
+    ensures option { result ≡ replay_named name.now }
+{
+    match name {
+        "--policies" => Some(Valued::Policies),
+        "--shares" => Some(Valued::Shares),
+        "--policy" => Some(Valued::Shares),
+        "--skip" => Some(Valued::Skip),
+        "--window" => Some(Valued::Window),
+        _ => None,
+    }
+}
+
+/// Returns the option with a name, if it says how the traces are read.
+fn traces_named(name: &str) -> Option<Valued>
+    ensures option { result ≡ traces_named name.now }
+{
+    match name {
+        "--format" => Some(Valued::Format),
+        "--column" => Some(Valued::Column),
+        "--size-column" => Some(Valued::SizeColumn),
+        "--separator" => Some(Valued::Separator),
+        "--sample" => Some(Valued::Sample),
+        _ => None,
     }
 }
 
@@ -172,6 +180,14 @@ impl<A: Allocator + Copy> Chosen<A> {
         }
     }
 
+    /// Returns true if Clock2Q+ is among the policies, as it is if none are chosen.
+    pub(crate) fn compares_clock2q(&self) -> bool {
+        match &self.policies {
+            Some(policies) => policies.contains(&Policy::Clock2Q),
+            None => true,
+        }
+    }
+
     /// Refuses the best shares beside an option that leaves them no room.
     pub(crate) fn check_best_shares(&self) -> Result<(), SimulationError> {
         let Some(index) = self.best_shares else {
@@ -181,12 +197,10 @@ impl<A: Allocator + Copy> Chosen<A> {
         if is_svg || self.shares.is_some() || self.window.is_some() {
             return Err(SimulationError::Argument(ArgumentError::CrowdedShares, index));
         }
-        match &self.policies {
-            Some(policies) if !policies.contains(&Policy::Clock2Q) => {
-                Err(SimulationError::Argument(ArgumentError::BestOfNone, index))
-            }
-            _ => Ok(()),
+        if !self.compares_clock2q() {
+            return Err(SimulationError::Argument(ArgumentError::BestOfNone, index));
         }
+        Ok(())
     }
 }
 
@@ -281,7 +295,21 @@ fn policies_of<A: Allocator + Copy>(
 {
     let parts: Vec<&str, A> = names.split(',').collect(alloc)?;
     let mut policies = Vec::new(alloc);
-    for name in parts.iter() {
+    match add_policies(&mut policies, &parts, index) {
+        Ok(()) => Ok(policies),
+        Err(refusal) => Err(refusal),
+    }
+}
+
+/// Adds the policies of names.
+fn add_policies<A: Allocator>(
+    policies: &mut Vec<Policy, A>,
+    names: &[&str],
+    index: usize,
+) -> Result<(), SimulationError>
+    ensures policies { OnOk result (option_map (λ more. policies.old.items ++ more) (policies_named (map (λ name. name.now) names.now)) ≡ Some policies.new.items) }
+{
+    for name in names {
         let Some(policy) = Policy::named(name) else {
             return Err(SimulationError::Argument(ArgumentError::UnknownPolicy, index));
         };
@@ -293,7 +321,7 @@ fn policies_of<A: Allocator + Copy>(
             Err(_) => return Err(SimulationError::Memory),
         }
     }
-    Ok(policies)
+    Ok(())
 }
 
 /// Returns the form that an option asks for.

@@ -1,5 +1,5 @@
 //! A line of values with a separator between them.
-ghost use Rattle.std.specs.Prelude.{◌≡◌, ◌∷◌, ℕ, List, [], IfErr, IfOk, OnOk, MatchBool, Some, None};
+ghost use Rattle.std.specs.Prelude.{◌≡◌, ◌∷◌, ℕ, List, [], Err, IfErr, IfOk, Ok, OnOk, MatchBool, Some, None};
 ghost use Rattle.std.specs.NonZero.{non_zero_usize_get};
 ghost use Rattle.std.specs.Option.{option_map};
 ghost use Rattle.simulator_io.specs.Formats.{field, fields_from, is_blank, size_in, without_return};
@@ -144,9 +144,9 @@ impl<A: Allocator> ColumnReader<A> {
         column: Option<NonZeroUsize>,
         number: usize,
     ) -> Result<usize, SimulationError>
-        ensures size { IfOk result (λ size. size_in separator (option_map non_zero_usize_get column) line.now ≡ Some size) }
+        ensures size { IfOk result (λ size. size_in separator (option_map non_zero_usize_get column) number line.now ≡ Ok size) }
         ensures named { IfErr result (IsOfLine separator number line.now) }
-        ensures bad { IfErr result (λ refusal. IsBad refusal (size_in separator (option_map non_zero_usize_get column) line.now ≡ None)) }
+        ensures bad { IfErr result (λ refusal. IsBad refusal (size_in separator (option_map non_zero_usize_get column) number line.now ≡ Err refusal)) }
     {
         let Some(column) = column else {
             return Ok(1);

@@ -3,11 +3,11 @@
 use crate::best_shares::BestShares;
 use crate::options::Options;
 use crate::outcome::Outcome;
+use crate::page::Page;
 use crate::policy::Policy;
 use crate::row::{Counted, Figure, Hits, Row};
 use crate::window::Windows;
 use std::alloc::{AllocError, Allocator};
-use std::fmt::Write;
 
 /// Returns the rows as CSV, below a header line: a row for each capacity, or for each window. If
 /// there are several traces, each row ends with the name of its trace, in quotes.
@@ -16,189 +16,181 @@ pub(crate) fn csv_text<A: Allocator>(
     options: &Options<A>,
     outcomes: &[Outcome<'_, A>],
 ) -> Result<String<A>, AllocError> {
-    let mut text = String::new(alloc);
+    let mut page = Page::new(alloc);
     let has_names = outcomes.len() > 1;
-    write_names(&mut text, options, has_names)?;
+    write_names(&mut page, options, has_names);
     for outcome in outcomes {
-        write_rows(&mut text, &options.policies, outcome, has_names)?;
+        write_rows(&mut page, &options.policies, outcome, has_names);
     }
-    Ok(text)
+    page.finish()
 }
 
-fn write_names<A: Allocator>(
-    text: &mut String<A>,
-    options: &Options<A>,
-    has_names: bool,
-) -> Result<(), AllocError> {
-    text.push_str("capacity")?;
+fn write_names<A: Allocator>(page: &mut Page<A>, options: &Options<A>, has_names: bool) {
+    page.add("capacity");
     if options.window.is_some() {
-        text.push_str(",first")?;
+        page.add(",first");
     }
     let is_sized = options.trace_format.has_sizes();
-    text.push_str(if is_sized {
+    page.add(if is_sized {
         ",accesses,bytes"
     } else {
         ",accesses"
-    })?;
+    });
     for policy in options.policies.iter() {
-        let name = policy.name();
-        write!(text, ",{name}_hits,{name}_ratio")?;
-        if is_sized {
-            write!(text, ",{name}_hit_bytes,{name}_byte_ratio")?;
-        }
+        write_policy(page, policy.name(), is_sized);
     }
     if options.best_shares {
-        text.push_str(",best_hits,best_ratio,best_shares")?;
+        page.add(",best_hits,best_ratio,best_shares");
     }
     if has_names {
-        text.push_str(",trace")?;
+        page.add(",trace");
     }
-    text.push('\n')
+    page.add("\n");
+}
+
+/// Writes the names of the columns of a policy, and of its bytes if there are sizes.
+fn write_policy<A: Allocator>(page: &mut Page<A>, name: &str, is_sized: bool) {
+    write_column(page, name, "_hits");
+    write_column(page, name, "_ratio");
+    if is_sized {
+        write_column(page, name, "_hit_bytes");
+        write_column(page, name, "_byte_ratio");
+    }
+}
+
+fn write_column<A: Allocator>(page: &mut Page<A>, name: &str, figure: &str) {
+    page.add(",");
+    page.add(name);
+    page.add(figure);
 }
 
 /// Writes the rows of a trace, or its windows, with or without its name at the end of each.
 fn write_rows<A: Allocator>(
-    text: &mut String<A>,
+    page: &mut Page<A>,
     policies: &[Policy],
     outcome: &Outcome<'_, A>,
     has_names: bool,
-) -> Result<(), AllocError> {
+) {
     let name = has_names.then_some(outcome.name);
     if !outcome.windows.is_empty() {
-        return write_all_windows(text, outcome, name);
+        return write_all_windows(page, outcome, name);
     }
-    for (index, row) in outcome.rows.iter().enumerate() {
-        let capacity = outcome.capacity_at(index);
-        let best = outcome.best_shares.get(index);
-        write_row(text, capacity, row, outcome.is_sized, None, best, name)?;
-    }
+    write_plain_rows(page, outcome, name);
     for row in outcome.byte_rows.iter() {
-        write_byte_row(text, policies, row, name)?;
+        write_byte_row(page, policies, row, name);
     }
-    Ok(())
+}
+
+/// Writes the rows of capacities in keys.
+fn write_plain_rows<A: Allocator>(
+    page: &mut Page<A>,
+    outcome: &Outcome<'_, A>,
+    name: Option<&str>,
+) {
+    for (index, row) in outcome.rows.iter().enumerate() {
+        page.add_number("", outcome.capacity_at(index));
+        write_ratios(page, row, outcome.is_sized);
+        if let Some(best) = outcome.best_shares.get(index) {
+            write_best_shares(page, row, best);
+        }
+        end_row(page, name);
+    }
+}
+
+/// Writes the best shares of a row, with their hits and hit ratio.
+fn write_best_shares<A: Allocator>(page: &mut Page<A>, row: &Row<A>, best: &BestShares) {
+    page.add_number(",", best.hits);
+    page.add_decimals(",", row.ratio(best.hits), 4);
+    page.add(",\"");
+    best.write(page);
+    page.add("\"");
 }
 
 /// Writes a row of a capacity in bytes, with nothing for each policy that isn't defined there.
 fn write_byte_row<A: Allocator>(
-    text: &mut String<A>,
+    page: &mut Page<A>,
     policies: &[Policy],
     row: &Row<A>,
     name: Option<&str>,
-) -> Result<(), AllocError> {
-    write!(
-        text,
-        "{}B,{},{}",
-        row.capacity.get(),
-        row.accesses,
-        row.bytes
-    )?;
+) {
+    page.add_number("", row.capacity.get());
+    page.add_number("B,", row.accesses);
+    page.add_number(",", row.bytes);
     for policy in policies {
         match row.hits.iter().find(|hits| hits.policy == *policy) {
-            Some(hits) => write_hits(text, row, hits, true)?,
-            None => text.push_str(",,,,")?,
+            Some(hits) => write_hits(page, row, hits, true),
+            None => page.add(",,,,"),
         }
     }
-    if let Some(name) = name {
-        write_quoted(text, name)?;
-    }
-    text.push('\n')
+    end_row(page, name);
 }
 
 fn write_all_windows<A: Allocator>(
-    text: &mut String<A>,
+    page: &mut Page<A>,
     outcome: &Outcome<'_, A>,
     name: Option<&str>,
-) -> Result<(), AllocError> {
+) {
     for (index, windows) in outcome.windows.iter().enumerate() {
         let capacity = outcome.capacity_at(index);
-        write_windows(text, capacity, windows, outcome.is_sized, name)?;
+        write_windows(page, capacity, windows, outcome.is_sized, name);
     }
-    Ok(())
 }
 
+/// Writes a row for each window, with its first access after the capacity.
 fn write_windows<A: Allocator>(
-    text: &mut String<A>,
+    page: &mut Page<A>,
     capacity: usize,
     windows: &Windows<A>,
     is_sized: bool,
     name: Option<&str>,
-) -> Result<(), AllocError> {
+) {
     for window in windows.windows.iter() {
-        let first = Some(window.first);
-        write_row(text, capacity, &window.row, is_sized, first, None, name)?;
+        page.add_number("", capacity);
+        page.add_number(",", window.first);
+        write_ratios(page, &window.row, is_sized);
+        end_row(page, name);
     }
-    Ok(())
 }
 
-/// Writes a row, with or without bytes, and with the first access of its window, the best shares and the name of its trace if
-/// they are given.
-fn write_row<A: Allocator>(
-    text: &mut String<A>,
-    capacity: usize,
-    row: &Row<A>,
-    is_sized: bool,
-    first: Option<usize>,
-    best: Option<&BestShares>,
-    name: Option<&str>,
-) -> Result<(), AllocError> {
-    write!(text, "{capacity}")?;
-    if let Some(first) = first {
-        write!(text, ",{first}")?;
-    }
-    write_ratios(text, row, is_sized)?;
-    if let Some(best) = best {
-        let ratio = row.ratio(best.hits);
-        write!(text, ",{},{ratio:.4},\"", best.hits)?;
-        best.write(text)?;
-        text.push('"')?;
-    }
+/// Ends a row, with the name of its trace if it is given.
+fn end_row<A: Allocator>(page: &mut Page<A>, name: Option<&str>) {
     if let Some(name) = name {
-        write_quoted(text, name)?;
+        write_quoted(page, name);
     }
-    text.push('\n')
+    page.add("\n");
 }
 
-fn write_ratios<A: Allocator>(
-    text: &mut String<A>,
-    row: &Row<A>,
-    is_sized: bool,
-) -> Result<(), AllocError> {
-    write!(text, ",{}", row.accesses)?;
+fn write_ratios<A: Allocator>(page: &mut Page<A>, row: &Row<A>, is_sized: bool) {
+    page.add_number(",", row.accesses);
     if is_sized {
-        write!(text, ",{}", row.bytes)?;
+        page.add_number(",", row.bytes);
     }
     for hits in row.hits.iter() {
-        write_hits(text, row, hits, is_sized)?;
+        write_hits(page, row, hits, is_sized);
     }
-    Ok(())
 }
 
 /// Writes the hits and the hit ratio of a policy, and those of bytes if there are sizes.
-fn write_hits<A: Allocator>(
-    text: &mut String<A>,
-    row: &Row<A>,
-    hits: &Hits,
-    is_sized: bool,
-) -> Result<(), AllocError> {
-    write_figure(text, row.figure(hits, Counted::Hits))?;
+fn write_hits<A: Allocator>(page: &mut Page<A>, row: &Row<A>, hits: &Hits, is_sized: bool) {
+    write_figure(page, row.figure(hits, Counted::Hits));
     if is_sized {
-        write_figure(text, row.figure(hits, Counted::Bytes))?;
+        write_figure(page, row.figure(hits, Counted::Bytes));
     }
-    Ok(())
 }
 
-fn write_figure<A: Allocator>(text: &mut String<A>, figure: Figure) -> Result<(), AllocError> {
-    write!(text, ",{},{:.4}", figure.number, figure.ratio)
+fn write_figure<A: Allocator>(page: &mut Page<A>, figure: Figure) {
+    page.add_number(",", figure.number);
+    page.add_decimals(",", figure.ratio, 4);
 }
 
 /// Writes a comma and a name in quotes, with each quote in it doubled.
-fn write_quoted<A: Allocator>(text: &mut String<A>, name: &str) -> Result<(), AllocError> {
-    text.push_str(",\"")?;
+fn write_quoted<A: Allocator>(page: &mut Page<A>, name: &str) {
+    page.add(",\"");
     for letter in name.chars() {
         if letter == '"' {
-            text.push('"')?;
+            page.add("\"");
         }
-        text.push(letter)?;
+        page.add_char(letter);
     }
-    text.push('"')
+    page.add("\"");
 }

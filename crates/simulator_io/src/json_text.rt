@@ -4,10 +4,10 @@ ghost use Rattle.std.specs.Prelude.{◌≡◌, ◌==◌, ◌||◌};
 use crate::best_shares::BestShares;
 use crate::options::Options;
 use crate::outcome::Outcome;
+use crate::page::Page;
 use crate::row::{Counted, Figure, Hits, Row};
 use crate::window::{Window, Windows};
 use std::alloc::{AllocError, Allocator};
-use std::fmt::Write;
 
 /// Returns an object with the traces in order, each with its name, its figures and its rows. A row
 /// has the hits and the hit ratio of each policy, and the windows if they are asked for.
@@ -16,168 +16,134 @@ pub(crate) fn json_text<A: Allocator + Copy>(
     options: &Options<A>,
     outcomes: &[Outcome<'_, A>],
 ) -> Result<String<A>, AllocError> {
-    let mut text = String::new(alloc);
-    text.push_str("{\"traces\": [")?;
+    let mut page = Page::new(alloc);
+    page.add("{\"traces\": [");
     for (index, outcome) in outcomes.iter().enumerate() {
-        text.push_str(if index > 0 { ",\n" } else { "\n" })?;
-        write_outcome(&mut text, outcome, options.skipped)?;
+        page.add(if index > 0 { ",\n" } else { "\n" });
+        write_outcome(&mut page, outcome, options.skipped);
     }
-    text.push_str("\n]}\n")?;
-    Ok(text)
+    page.add("\n]}\n");
+    page.finish()
 }
 
-fn write_outcome<A: Allocator>(
-    text: &mut String<A>,
-    outcome: &Outcome<'_, A>,
-    skipped: usize,
-) -> Result<(), AllocError> {
-    text.push_str("  {\"trace\": ")?;
-    write_string(text, outcome.name)?;
-    write_figures(text, outcome, skipped)?;
-    text.push_str(", \"rows\": [")?;
+fn write_outcome<A: Allocator>(page: &mut Page<A>, outcome: &Outcome<'_, A>, skipped: usize) {
+    page.add("  {\"trace\": ");
+    write_string(page, outcome.name);
+    write_figures(page, outcome, skipped);
+    page.add(", \"rows\": [");
+    write_rows(page, outcome);
+    write_byte_rows(page, outcome);
+    page.add("\n  ]}");
+}
+
+fn write_rows<A: Allocator>(page: &mut Page<A>, outcome: &Outcome<'_, A>) {
     for (index, row) in outcome.rows.iter().enumerate() {
-        text.push_str(if index > 0 { ",\n" } else { "\n" })?;
-        let capacity = outcome.capacity_at(index);
-        write!(text, "    {{\"capacity\": {capacity}, ")?;
-        write_policies(text, row, outcome.is_sized)?;
+        page.add(if index > 0 { ",\n" } else { "\n" });
+        page.add_number("    {\"capacity\": ", outcome.capacity_at(index));
+        page.add(", ");
+        write_policies(page, row, outcome.is_sized);
         if let Some(best) = outcome.best_shares.get(index) {
-            write_best_shares(text, row, best)?;
+            write_best_shares(page, row, best);
         }
         if let Some(windows) = outcome.windows.get(index) {
-            write_windows(text, windows, outcome.is_sized)?;
+            write_windows(page, windows, outcome.is_sized);
         }
-        text.push('}')?;
+        page.add("}");
     }
-    write_byte_rows(text, outcome)?;
-    text.push_str("\n  ]}")
 }
 
 /// Writes the rows of capacities in bytes, after the others.
-fn write_byte_rows<A: Allocator>(
-    text: &mut String<A>,
-    outcome: &Outcome<'_, A>,
-) -> Result<(), AllocError> {
+fn write_byte_rows<A: Allocator>(page: &mut Page<A>, outcome: &Outcome<'_, A>) {
     let mut is_first = outcome.rows.is_empty();
     for row in outcome.byte_rows.iter() {
-        text.push_str(if is_first { "\n" } else { ",\n" })?;
+        page.add(if is_first { "\n" } else { ",\n" });
         is_first = false;
-        let capacity = row.capacity.get();
-        write!(text, "    {{\"capacity_bytes\": {capacity}, ")?;
-        write_policies(text, row, true)?;
-        text.push('}')?;
+        page.add_number("    {\"capacity_bytes\": ", row.capacity.get());
+        page.add(", ");
+        write_policies(page, row, true);
+        page.add("}");
     }
-    Ok(())
 }
 
 /// Writes the figures of a trace, or of the sample that was replayed.
-fn write_figures<A: Allocator>(
-    text: &mut String<A>,
-    outcome: &Outcome<'_, A>,
-    skipped: usize,
-) -> Result<(), AllocError> {
+fn write_figures<A: Allocator>(page: &mut Page<A>, outcome: &Outcome<'_, A>, skipped: usize) {
     let summary = outcome.summary;
     if let Some(sample) = outcome.sample {
-        write!(text, ", \"sample\": \"{}\"", sample.part())?;
+        page.add(", \"sample\": \"");
+        page.add_shown(&sample.part());
+        page.add("\"");
     }
-    write!(text, ", \"accesses\": {}", summary.accesses)?;
+    page.add_number(", \"accesses\": ", summary.accesses);
     if outcome.is_sized {
-        write!(text, ", \"bytes\": {}", summary.bytes)?;
+        page.add_number(", \"bytes\": ", summary.bytes);
     }
-    write!(
-        text,
-        ", \"keys\": {}, \"keys_once\": {}, \"skipped\": {}",
-        summary.keys,
-        summary.keys_once,
-        skipped.min(summary.accesses)
-    )
+    page.add_number(", \"keys\": ", summary.keys);
+    page.add_number(", \"keys_once\": ", summary.keys_once);
+    page.add_number(", \"skipped\": ", skipped.min(summary.accesses));
 }
 
 /// Writes the hits and the hit ratio of each policy, and those of bytes if there are sizes.
-fn write_policies<A: Allocator>(
-    text: &mut String<A>,
-    row: &Row<A>,
-    is_sized: bool,
-) -> Result<(), AllocError> {
+fn write_policies<A: Allocator>(page: &mut Page<A>, row: &Row<A>, is_sized: bool) {
     if is_sized {
-        write!(text, "\"bytes\": {}, ", row.bytes)?;
+        page.add_number("\"bytes\": ", row.bytes);
+        page.add(", ");
     }
-    text.push_str("\"policies\": {")?;
+    page.add("\"policies\": {");
     for (index, hits) in row.hits.iter().enumerate() {
-        text.push_str(if index > 0 { ", " } else { "" })?;
-        write_hits(text, row, *hits, is_sized)?;
+        page.add(if index > 0 { ", " } else { "" });
+        write_hits(page, row, hits, is_sized);
     }
-    text.push('}')
+    page.add("}");
 }
 
 /// Writes the best shares of a row, with their hits and hit ratio.
-fn write_best_shares<A: Allocator>(
-    text: &mut String<A>,
-    row: &Row<A>,
-    best: &BestShares,
-) -> Result<(), AllocError> {
-    text.push_str(", \"best_shares\": {\"shares\": \"")?;
-    best.write(text)?;
-    let ratio = row.ratio(best.hits);
-    write!(text, "\", \"hits\": {}, \"ratio\": {ratio:.4}}}", best.hits)
+fn write_best_shares<A: Allocator>(page: &mut Page<A>, row: &Row<A>, best: &BestShares) {
+    page.add(", \"best_shares\": {\"shares\": \"");
+    best.write(page);
+    page.add_number("\", \"hits\": ", best.hits);
+    page.add_decimals(", \"ratio\": ", row.ratio(best.hits), 4);
+    page.add("}");
 }
 
 /// Writes the windows of a row.
-fn write_windows<A: Allocator>(
-    text: &mut String<A>,
-    windows: &Windows<A>,
-    is_sized: bool,
-) -> Result<(), AllocError> {
-    text.push_str(", \"windows\": [")?;
+fn write_windows<A: Allocator>(page: &mut Page<A>, windows: &Windows<A>, is_sized: bool) {
+    page.add(", \"windows\": [");
     for (index, window) in windows.windows.iter().enumerate() {
-        text.push_str(if index > 0 { ",\n" } else { "\n" })?;
-        write_window(text, window, is_sized)?;
+        page.add(if index > 0 { ",\n" } else { "\n" });
+        write_window(page, window, is_sized);
     }
-    text.push_str("\n    ]")
+    page.add("\n    ]");
 }
 
-fn write_window<A: Allocator>(
-    text: &mut String<A>,
-    window: &Window<A>,
-    is_sized: bool,
-) -> Result<(), AllocError> {
-    let (first, accesses) = (window.first, window.row.accesses);
-    write!(
-        text,
-        "      {{\"first\": {first}, \"accesses\": {accesses}, "
-    )?;
-    write_policies(text, &window.row, is_sized)?;
-    text.push('}')
+fn write_window<A: Allocator>(page: &mut Page<A>, window: &Window<A>, is_sized: bool) {
+    page.add_number("      {\"first\": ", window.first);
+    page.add_number(", \"accesses\": ", window.row.accesses);
+    page.add(", ");
+    write_policies(page, &window.row, is_sized);
+    page.add("}");
 }
 
-fn write_hits<A: Allocator>(
-    text: &mut String<A>,
-    row: &Row<A>,
-    hits: Hits,
-    is_sized: bool,
-) -> Result<(), AllocError> {
-    let name = hits.policy.name();
-    let Figure { number, ratio } = row.figure(&hits, Counted::Hits);
-    write!(
-        text,
-        "\"{name}\": {{\"hits\": {number}, \"ratio\": {ratio:.4}"
-    )?;
+fn write_hits<A: Allocator>(page: &mut Page<A>, row: &Row<A>, hits: &Hits, is_sized: bool) {
+    page.add("\"");
+    page.add(hits.policy.name());
+    let Figure { number, ratio } = row.figure(hits, Counted::Hits);
+    page.add_number("\": {\"hits\": ", number);
+    page.add_decimals(", \"ratio\": ", ratio, 4);
     if is_sized {
-        let Figure { number, ratio } = row.figure(&hits, Counted::Bytes);
-        write!(
-            text,
-            ", \"hit_bytes\": {number}, \"byte_ratio\": {ratio:.4}"
-        )?;
+        let Figure { number, ratio } = row.figure(hits, Counted::Bytes);
+        page.add_number(", \"hit_bytes\": ", number);
+        page.add_decimals(", \"byte_ratio\": ", ratio, 4);
     }
-    text.push('}')
+    page.add("}");
 }
 
 /// Writes a string between quotes.
-fn write_string<A: Allocator>(text: &mut String<A>, string: &str) -> Result<(), AllocError> {
-    text.push('"')?;
+fn write_string<A: Allocator>(page: &mut Page<A>, string: &str) {
+    page.add("\"");
     for letter in string.chars() {
-        write_letter(text, letter)?;
+        write_letter(page, letter);
     }
-    text.push('"')
+    page.add("\"");
 }
 
 /// Returns true if a character of a string has a backslash before it: a quote, or a backslash.
@@ -188,12 +154,21 @@ fn has_backslash(letter: char) -> bool
 }
 
 /// Writes a character of a string, as an escape if it needs one.
-fn write_letter<A: Allocator>(text: &mut String<A>, letter: char) -> Result<(), AllocError> {
+fn write_letter<A: Allocator>(page: &mut Page<A>, letter: char) {
     if has_backslash(letter) {
-        text.push('\\')?;
+        page.add("\\");
     }
     if letter < ' ' {
-        return write!(text, "\\u{:04x}", u32::from(letter));
+        write_control(page, u32::from(letter));
+    } else {
+        page.add_char(letter);
     }
-    text.push(letter)
+}
+
+/// Writes a control character, which has a number below 32, as an escape.
+fn write_control<A: Allocator>(page: &mut Page<A>, number: u32) {
+    page.add(if number < 16 { "\\u000" } else { "\\u001" });
+    if let Some(digit) = char::from_digit(number % 16, 16) {
+        page.add_char(digit);
+    }
 }

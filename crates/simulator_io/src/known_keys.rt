@@ -1,5 +1,5 @@
 //! Different keys, each with a number.
-ghost use Rattle.std.specs.Prelude.{◌≡◌, ◌<◌, ◌≤◌, ◌^◌, ℕ, List, [], Some, IfOk, OnErr, length, slice_get};
+ghost use Rattle.std.specs.Prelude.{◌≡◌, ◌<◌, ◌≤◌, ◌+◌, ◌^◌, ℕ, List, [], Some, IfOk, OnErr, OnOk, length, slice_get, vec_capacity, vec_len};
 ghost use Rattle.simulator_io.specs.KnownKeys.{AreApart, AreKept, HasNumbers, IsNumbered, hash_of, keys_in};
 
 use crate::key_bytes::{add_key, hash_at, hash_of, is_key_at};
@@ -58,11 +58,7 @@ impl<S: BuildHasher, A: Allocator + Copy> KnownKeys<S, A> {
         ensures apart { AreApart self.new }
         ensures refused { OnErr result (self.new ≡ self.old) }
     {
-        let Ok(next) = u32::try_from(self.records.len()) else {
-            return Err(AllocError);
-        };
-        self.records.reserve(1)?;
-        self.others.reserve(key.len())?;
+        let next = room_for(&mut self.others, &mut self.records, key.len())?;
         let (others, records) = (self.others.as_slice(), self.records.as_slice());
         let (numbers, hasher) = (&mut self.numbers, &self.hasher);
         let Ok((number, is_new)) = find_or_number(numbers, others, records, key, next, hasher)
@@ -83,6 +79,26 @@ impl<S: BuildHasher, A: Allocator> KnownKeys<S, A> {
     {
         self.records.len()
     }
+}
+
+/// Reserves memory for one key more, of a number of bytes, and returns its number.
+fn room_for<A: Allocator>(
+    others: &mut Vec<u8, A>,
+    records: &mut Vec<KeyRecord, A>,
+    bytes: usize,
+) -> Result<u32, AllocError>
+    ensures next { IfOk result (λ next. next ≡ length records.new.items) }
+    ensures room { OnOk result (vec_len records.new < vec_capacity records.new) }
+    ensures bytes { OnOk result (vec_len others.new + bytes ≤ vec_capacity others.new) }
+    ensures others { others.new.items ≡ others.old.items }
+    ensures records { records.new.items ≡ records.old.items }
+{
+    let Ok(next) = u32::try_from(records.len()) else {
+        return Err(AllocError);
+    };
+    records.reserve(1)?;
+    others.reserve(bytes)?;
+    Ok(next)
 }
 
 /// Returns the number of a key, and false. A new key gets the next number in the table, and true is

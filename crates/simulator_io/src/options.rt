@@ -5,7 +5,7 @@ ghost use Rattle.std.specs.NonZero.{non_zero_usize_get};
 ghost use Rattle.std.specs.Prelude.{◌≡◌, ◌<◌, ◌+◌, [], ◌∷◌, ◌++◌, ℕ, false, if◌then◌else◌, is_some, None, Some, MatchOption, IfOk, OnOk, List, length, map, string_bytes};
 ghost use Rattle.simulator_io.specs.ChosenShares.{Fits};
 ghost use Rattle.simulator_io.specs.Amounts.{IsCapacity, asked_from, is_capacity, is_in_bytes, is_option, joined, takes_value};
-ghost use Rattle.simulator_io.specs.AskedOptions.{AreChosen, Value, awaited_after, choices_so_far, chosen_by, is_name, names_from, nothing, option_named, option_setting, set, setting_in};
+ghost use Rattle.simulator_io.specs.AskedOptions.{AreChosen, IsFormat, Value, awaited_after, choices_so_far, chosen_by, format_so_far, is_name, names_from, nothing, option_named, option_setting, set, setting_in};
 ghost use Rattle.simulator_io.specs.ByteAmounts.{bytes_from, bytes_in, joined_bytes};
 
 use crate::amount::Amount;
@@ -290,6 +290,20 @@ impl<A: Allocator + Copy> Asked<A> {
         ensures traces { IfOk result (λ options. options.traces ≡ self.traces) }
         ensures chosen { IfOk result (AreChosen (choices_so_far self.chosen)) }
     {
+        match self.checked() {
+            Ok(trace_format) => self.with_format(alloc, trace_format),
+            Err(refusal) => Err(refusal),
+        }
+    }
+
+    /// Refuses what doesn't go together, and returns the format of the traces.
+    fn checked(&self) -> Result<TraceFormat, SimulationError>
+        requires within { All IsCapacity self.now.capacities.items }
+        ensures some { OnOk result (0 < length self.now.capacities.items
+            + length self.now.byte_capacities.items) }
+        ensures fit { OnOk result (MatchOption self.now.chosen.shares (Unit {0}) (λ shares. All (Fits (Some shares)) self.now.capacities.items)) }
+        ensures format { IfOk result (IsFormat (format_so_far self.now.chosen.trace_format).name (format_so_far self.now.chosen.trace_format)) }
+    {
         self.chosen.check_best_shares()?;
         self.chosen.check_traces(&self.traces)?;
         let trace_format = self.chosen.trace_format.finish()?;
@@ -297,17 +311,29 @@ impl<A: Allocator + Copy> Asked<A> {
         if self.capacities.is_empty() && self.byte_capacities.is_empty() {
             return Err(SimulationError::NoCapacity);
         }
+        if let Some(shares) = self.chosen.shares {
+            if !self.chosen.compares_clock2q() {
+                return Err(SimulationError::UnusedShares);
+            }
+            shares.check(&self.capacities)?;
+        }
+        Ok(trace_format)
+    }
+
+    /// Returns what all arguments ask for, with the format of the traces.
+    fn with_format(self, alloc: A, trace_format: TraceFormat) -> Result<Options<A>, SimulationError>
+        requires format { IsFormat (format_so_far self.chosen.trace_format).name (format_so_far self.chosen.trace_format) trace_format }
+        ensures capacities { IfOk result (λ options. options.capacities ≡ self.capacities) }
+        ensures bytes { IfOk result (λ options. options.byte_capacities ≡ self.byte_capacities) }
+        ensures traces { IfOk result (λ options. options.traces ≡ self.traces) }
+        ensures shares { IfOk result (λ options. options.shares ≡ self.chosen.shares) }
+        ensures chosen { IfOk result (AreChosen (choices_so_far self.chosen)) }
+    {
         let mut chosen = self.chosen;
         let policies = match chosen.policies.take() {
             Some(policies) => policies,
             None => Vec::from_slice(alloc, &Policy::SHOWN)?,
         };
-        if let Some(shares) = chosen.shares {
-            if !policies.contains(&Policy::Clock2Q) {
-                return Err(SimulationError::UnusedShares);
-            }
-            shares.check(&self.capacities)?;
-        }
         Ok(Options {
             format: chosen.format.unwrap_or(Format::Table),
             capacities: self.capacities,

@@ -1,8 +1,8 @@
 //! How a picture draws each policy.
 
+use crate::page::Page;
 use crate::policy::Policy;
-use std::alloc::{AllocError, Allocator};
-use std::fmt::Write;
+use std::alloc::Allocator;
 
 /// The line and the points of a policy's curve. People with colour blindness can distinguish the
 /// colours, and each policy has points of its own shape.
@@ -40,27 +40,29 @@ impl Pen {
     }
 
     /// Writes how a line is drawn.
-    pub(crate) fn write_line<A: Allocator>(&self, text: &mut String<A>) -> Result<(), AllocError> {
-        let (colour, dashes) = (self.colour, self.dashes);
-        write!(
-            text,
-            "fill=\"none\" stroke=\"{colour}\" stroke-width=\"1.6\" stroke-dasharray=\"{dashes}\""
-        )
+    pub(crate) fn write_line<A: Allocator>(&self, page: &mut Page<A>) {
+        page.add("fill=\"none\" stroke=\"");
+        page.add(self.colour);
+        page.add("\" stroke-width=\"1.6\" stroke-dasharray=\"");
+        page.add(self.dashes);
+        page.add("\"");
     }
 
     /// Writes a point. That of Clock2Q+ is filled.
-    pub(crate) fn write_point<A: Allocator>(
-        &self,
-        text: &mut String<A>,
-        x: f64,
-        y: f64,
-    ) -> Result<(), AllocError> {
-        let (colour, shape) = (self.colour, self.shape);
-        let fill = if shape == DISC { colour } else { "none" };
-        writeln!(
-            text,
-            "<path d=\"M {x:.1} {y:.1} {shape}\" fill=\"{fill}\" stroke=\"{colour}\" stroke-width=\"1.6\"/>"
-        )
+    pub(crate) fn write_point<A: Allocator>(&self, page: &mut Page<A>, x: f64, y: f64) {
+        page.add_decimals("<path d=\"M ", x, 1);
+        page.add_decimals(" ", y, 1);
+        page.add(" ");
+        page.add(self.shape);
+        page.add("\" fill=\"");
+        page.add(if self.shape == DISC {
+            self.colour
+        } else {
+            "none"
+        });
+        page.add("\" stroke=\"");
+        page.add(self.colour);
+        page.add("\" stroke-width=\"1.6\"/>\n");
     }
 }
 

@@ -5,12 +5,13 @@ use crate::axis::Axis;
 use crate::chart::{Chart, Curve, HEIGHT, Point, WIDTH};
 use crate::options::Options;
 use crate::outcome::Outcome;
+use crate::page::Page;
 use crate::policy::Policy;
-use crate::progress::plural_of;
 use crate::row::{Hits, Row};
+use crate::scale::Scale;
+use crate::title::Title;
 use crate::window::Windows;
 use std::alloc::{AllocError, Allocator};
-use std::fmt::Write;
 
 /// Returns the hit ratio of each policy over the capacities, or over the windows at each capacity
 /// if they are asked for, as an SVG text.
@@ -19,6 +20,18 @@ pub(crate) fn picture<A: Allocator + Copy>(
     options: &Options<A>,
     outcome: &Outcome<'_, A>,
 ) -> Result<String<A>, AllocError> {
+    let charts = charts_of(alloc, options, outcome)?;
+    let mut page = Page::new(alloc);
+    write_charts(alloc, &charts, &mut page)?;
+    page.finish()
+}
+
+/// Returns the chart of the capacities, or one for each capacity if windows are asked for.
+fn charts_of<A: Allocator + Copy>(
+    alloc: A,
+    options: &Options<A>,
+    outcome: &Outcome<'_, A>,
+) -> Result<Vec<Chart<A>, A>, AllocError> {
     let mut charts = Vec::new(alloc);
     for (index, windows) in outcome.windows.iter().enumerate() {
         let capacity = outcome.capacity_at(index);
@@ -27,29 +40,43 @@ pub(crate) fn picture<A: Allocator + Copy>(
     if charts.is_empty() {
         charts.push(chart_of_capacities(alloc, options, outcome)?)?;
     }
-    let mut text = String::new(alloc);
-    write_head(&mut text, charts.len())?;
+    Ok(charts)
+}
+
+/// Writes charts, one below another.
+fn write_charts<A: Allocator + Copy>(
+    alloc: A,
+    charts: &[Chart<A>],
+    page: &mut Page<A>,
+) -> Result<(), AllocError> {
+    write_head(page, charts.len());
     for (index, chart) in charts.iter().enumerate() {
-        let top = index.saturating_mul(HEIGHT);
-        writeln!(text, "<g transform=\"translate(0 {top})\">")?;
-        chart.write(alloc, &mut text)?;
-        text.push_str("</g>\n")?;
+        page.add_number("<g transform=\"translate(0 ", index.saturating_mul(HEIGHT));
+        page.add(")\">\n");
+        chart.write(alloc, page)?;
+        page.add("</g>\n");
     }
-    text.push_str("</svg>\n")?;
-    Ok(text)
+    page.add("</svg>\n");
+    Ok(())
 }
 
 /// Writes the beginning of a picture of some charts, one below another.
-fn write_head<A: Allocator>(text: &mut String<A>, charts: usize) -> Result<(), AllocError> {
+fn write_head<A: Allocator>(page: &mut Page<A>, charts: usize) {
     let height = charts.saturating_mul(HEIGHT);
-    writeln!(
-        text,
-        "<svg xmlns=\"http://www.w3.org/2000/svg\" width=\"{WIDTH}\" height=\"{height}\" viewBox=\"0 0 {WIDTH} {height}\" font-family=\"sans-serif\" font-size=\"13\">"
-    )?;
-    writeln!(
-        text,
-        "<rect width=\"{WIDTH}\" height=\"{height}\" fill=\"white\"/>"
-    )
+    page.add("<svg xmlns=\"http://www.w3.org/2000/svg\"");
+    write_size(page, height);
+    page.add_number(" viewBox=\"0 0 ", WIDTH);
+    page.add_number(" ", height);
+    page.add("\" font-family=\"sans-serif\" font-size=\"13\">\n<rect");
+    write_size(page, height);
+    page.add(" fill=\"white\"/>\n");
+}
+
+/// Writes the width and the height of a picture.
+fn write_size<A: Allocator>(page: &mut Page<A>, height: usize) {
+    page.add_number(" width=\"", WIDTH);
+    page.add_number("\" height=\"", height);
+    page.add("\"");
 }
 
 /// A row, and its place on the horizontal axis.
@@ -65,40 +92,55 @@ fn chart_of_capacities<A: Allocator + Copy>(
     options: &Options<A>,
     outcome: &Outcome<'_, A>,
 ) -> Result<Chart<A>, AllocError> {
-    let capacities = options.capacities.as_slice();
-    let is_percent = capacities.iter().all(|capacity| is_percentage(capacity));
+    let is_percent = options
+        .capacities
+        .iter()
+        .all(|capacity| is_percentage(capacity));
+    let accesses = outcome.rows.first().map_or(0, |row| row.accesses);
+    let title = Title::OfCapacities(accesses, outcome.sample.is_some());
+    let scale = if is_percent {
+        Scale::Millionths(outcome.summary.keys)
+    } else {
+        Scale::Keys
+    };
+    let placed = placed_rows(alloc, &options.capacities, outcome, is_percent)?;
+    let axis = axis_of(alloc, &placed)?;
+    chart_of(alloc, title, scale, axis, &placed)
+}
+
+/// Returns the rows with their places, the lowest first.
+fn placed_rows<'a, A: Allocator + Copy>(
+    alloc: A,
+    capacities: &[Amount],
+    outcome: &'a Outcome<'_, A>,
+    is_percent: bool,
+) -> Result<Vec<Placed<'a, A>, A>, AllocError> {
     let mut placed = Vec::new(alloc);
     for (index, row) in outcome.rows.iter().enumerate() {
-        let shown = outcome.capacity_at(index);
         let place = match capacities.get(index) {
             Some(capacity) if is_percent => capacity.number,
-            _ => shown,
+            _ => outcome.capacity_at(index),
         };
         placed.push(Placed { place, row })?;
     }
     placed.sort_by_key(|placed| placed.place)?;
-    let accesses = outcome.rows.first().map_or(0, |row| row.accesses);
-    let plural = plural_of(accesses);
-    let sampled = if outcome.sample.is_some() {
-        " of a sample"
-    } else {
-        ""
-    };
-    let keys = outcome.summary.keys;
-    let (unit, scale) = if is_percent {
-        (
-            Unit::Millionths,
-            format!(in alloc; "capacity in percent of {keys} keys")?,
-        )
-    } else {
-        (Unit::Keys, String::from_str(alloc, "capacity")?)
-    };
+    Ok(placed)
+}
+
+/// Returns a chart of rows by their places.
+fn chart_of<A: Allocator + Copy>(
+    alloc: A,
+    title: Title,
+    scale: Scale,
+    axis: Axis,
+    placed: &[Placed<'_, A>],
+) -> Result<Chart<A>, AllocError> {
+    let curves = curves_of(alloc, placed)?;
     Ok(Chart {
-        title: format!(in alloc; "Hit ratio by capacity ({accesses} access{plural}{sampled})")?,
+        title,
         scale,
-        unit,
-        axis: axis_of(alloc, &placed)?,
-        curves: curves_of(alloc, &placed)?,
+        axis,
+        curves,
     })
 }
 
@@ -122,27 +164,35 @@ fn chart_of_windows<A: Allocator + Copy>(
     windows: &Windows<A>,
     options: &Options<A>,
 ) -> Result<Chart<A>, AllocError> {
-    let mut placed = Vec::new(alloc);
-    for window in windows.windows.iter() {
-        let place = window.first.saturating_add(window.row.accesses / 2);
-        placed.push(Placed {
-            place,
-            row: &window.row,
-        })?;
-    }
     let first = windows.windows.first().map_or(0, |window| window.first);
     let end = windows.windows.last().map_or(0, |window| {
         window.first.saturating_add(window.row.accesses)
     });
     let size = options.window.map_or(0, |size| size.get());
-    let plural = plural_of(size);
-    Ok(Chart {
-        title: format!(in alloc; "Hit ratio of each {size} access{plural} at capacity {capacity}")?,
-        scale: String::from_str(alloc, "accesses")?,
-        unit: Unit::Keys,
-        axis: Axis::linear(first, end),
-        curves: curves_of(alloc, &placed)?,
-    })
+    let title = Title::OfWindows(size, capacity);
+    let placed = placed_windows(alloc, windows)?;
+    chart_of(
+        alloc,
+        title,
+        Scale::Accesses,
+        Axis::linear(first, end),
+        &placed,
+    )
+}
+
+/// Returns the rows of windows, each at its middle.
+fn placed_windows<A: Allocator>(
+    alloc: A,
+    windows: &Windows<A>,
+) -> Result<Vec<Placed<'_, A>, A>, AllocError> {
+    let mut placed = Vec::new(alloc);
+    for window in windows.windows.iter() {
+        placed.push(Placed {
+            place: window.first.saturating_add(window.row.accesses / 2),
+            row: &window.row,
+        })?;
+    }
+    Ok(placed)
 }
 
 /// Returns the curve of each policy, in their order at the right end, the highest first.

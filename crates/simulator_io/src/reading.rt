@@ -24,8 +24,8 @@ const BLOCK: usize = 65536;
 ///
 /// # Errors
 ///
-/// `Read` if a read fails, `Line`, `Size` or `Record` if what was read isn't in the format, and
-/// `Memory` if a request for memory is refused. What was read is dropped then.
+/// `Read` if a read fails, `Line`, `Size` or `Record` for the first record that isn't in the format,
+/// and `Memory` if a request for memory is refused. What was read is dropped then.
 ///
 /// # Cost
 ///

@@ -1,7 +1,7 @@
 //! The records of a trace, put together from blocks of bytes.
-ghost use Rattle.std.specs.Prelude.{◌≡◌, ◌<◌, ◌∷◌, ◌++◌, ℕ, List, [], IfErr, IfOk, OnOk, None, Some, length};
-ghost use Rattle.simulator_io.specs.Formats.{Access, access_by, accesses_after, has_sizes, record_of};
-ghost use Rattle.simulator_io.specs.Reading.{HasNoEnd, IsBad, IsBegun, IsOfLines, IsOfLine, IsWholeRecord, TakesBytes, between, joined, next_number};
+ghost use Rattle.std.specs.Prelude.{◌≡◌, ◌<◌, ◌∷◌, ◌++◌, ℕ, List, [], Err, IfErr, IfOk, Ok, OnOk, length};
+ghost use Rattle.simulator_io.specs.Formats.{Access, access_by, accesses_after, has_sizes, next_number, record_of};
+ghost use Rattle.simulator_io.specs.Reading.{HasNoEnd, IsBad, IsBegun, IsOfLines, IsOfLine, IsWholeRecord, TakesBytes, between, joined};
 
 use crate::csv::{ColumnReader, is_blank};
 use crate::error::SimulationError;
@@ -62,7 +62,7 @@ impl<S: BuildHasher + Drop, A: Allocator + Copy> Records<S, A> {
         ensures sample { self.new.trace.sample ≡ self.old.trace.sample }
         ensures sized { self.new.trace.is_sized ≡ self.old.trace.is_sized }
         ensures taken { OnOk result (TakesBytes self.old.format self.old.trace.accesses self.old.count self.old.begun.items bytes.now self.new.trace.accesses self.new.count self.new.begun.items) }
-        ensures bad { IfErr result (λ refusal. IsBad refusal ((next : List ℕ) → accesses_after self.old.format self.old.count (self.old.begun.items ++ (bytes.now ++ next)) ≡ None)) }
+        ensures bad { IfErr result (λ refusal. IsBad refusal ((next : List ℕ) → accesses_after self.old.format self.old.count (self.old.begun.items ++ (bytes.now ++ next)) ≡ Err refusal)) }
     {
         match self.format {
             TraceFormat::Lines | TraceFormat::Csv(..) => self.take_lines(bytes),
@@ -78,7 +78,7 @@ impl<S: BuildHasher + Drop, A: Allocator + Copy> Records<S, A> {
         ensures sample { self.new.trace.sample ≡ self.old.trace.sample }
         ensures sized { self.new.trace.is_sized ≡ self.old.trace.is_sized }
         ensures taken { OnOk result (TakesBytes self.old.format self.old.trace.accesses self.old.count self.old.begun.items bytes.now self.new.trace.accesses self.new.count self.new.begun.items) }
-        ensures bad { IfErr result (λ refusal. IsBad refusal ((next : List ℕ) → accesses_after self.old.format self.old.count (self.old.begun.items ++ (bytes.now ++ next)) ≡ None)) }
+        ensures bad { IfErr result (λ refusal. IsBad refusal ((next : List ℕ) → accesses_after self.old.format self.old.count (self.old.begun.items ++ (bytes.now ++ next)) ≡ Err refusal)) }
     {
         let mut start = 0;
         for index in 0..bytes.len() {
@@ -103,7 +103,7 @@ impl<S: BuildHasher + Drop, A: Allocator + Copy> Records<S, A> {
             (accesses_after self.old.format self.old.count
             ((self.old.begun.items ++ last.now) ++ (between self.old.format ++ next)))
             ≡ joined self.new.trace.accesses (accesses_after self.old.format self.new.count next)) }
-        ensures bad { IfErr result (λ refusal. IsBad refusal ((next : List ℕ) → accesses_after self.old.format self.old.count ((self.old.begun.items ++ last.now) ++ (between self.old.format ++ next)) ≡ None)) }
+        ensures bad { IfErr result (λ refusal. IsBad refusal ((next : List ℕ) → accesses_after self.old.format self.old.count ((self.old.begun.items ++ last.now) ++ (between self.old.format ++ next)) ≡ Err refusal)) }
     {
         match self.format {
             TraceFormat::Lines if self.begun.is_empty() => {
@@ -126,7 +126,7 @@ impl<S: BuildHasher + Drop, A: Allocator + Copy> Records<S, A> {
         ensures sample { self.new.trace.sample ≡ self.old.trace.sample }
         ensures sized { self.new.trace.is_sized ≡ self.old.trace.is_sized }
         ensures taken { OnOk result (TakesBytes self.old.format self.old.trace.accesses self.old.count self.old.begun.items bytes.now self.new.trace.accesses self.new.count self.new.begun.items) }
-        ensures bad { IfErr result (λ refusal. IsBad refusal ((next : List ℕ) → accesses_after self.old.format self.old.count (self.old.begun.items ++ (bytes.now ++ next)) ≡ None)) }
+        ensures bad { IfErr result (λ refusal. IsBad refusal ((next : List ℕ) → accesses_after self.old.format self.old.count (self.old.begun.items ++ (bytes.now ++ next)) ≡ Err refusal)) }
     {
         for byte in bytes {
             self.push(*byte)?;
@@ -178,7 +178,7 @@ impl<S: BuildHasher + Drop, A: Allocator + Copy> Records<S, A> {
             (accesses_after self.old.format self.old.count
             (self.old.begun.items ++ (between self.old.format ++ next)))
             ≡ joined self.new.trace.accesses (accesses_after self.old.format self.new.count next)) }
-        ensures bad { IfErr result (λ refusal. IsBad refusal ((next : List ℕ) → accesses_after self.old.format self.old.count (self.old.begun.items ++ (between self.old.format ++ next)) ≡ None)) }
+        ensures bad { IfErr result (λ refusal. IsBad refusal ((next : List ℕ) → accesses_after self.old.format self.old.count (self.old.begun.items ++ (between self.old.format ++ next)) ≡ Err refusal)) }
     {
         self.add_access()?;
         self.count = self.count.saturating_add(1);
@@ -193,12 +193,12 @@ impl<S: BuildHasher + Drop, A: Allocator + Copy> Records<S, A> {
         ensures sample { self.new.trace.sample ≡ self.old.trace.sample }
         ensures sized { self.new.trace.is_sized ≡ self.old.trace.is_sized }
         ensures count { self.new.count ≡ self.old.count }
-        ensures ended { OnOk result ((counted : ℕ) → 0 < counted → (next : List ℕ)
+        ensures ended { OnOk result ((next : List ℕ)
             → joined self.old.trace.accesses
             (accesses_after self.old.format self.old.count
             (self.old.begun.items ++ (between self.old.format ++ next)))
-            ≡ joined self.new.trace.accesses (accesses_after self.old.format counted next)) }
-        ensures bad { IfErr result (λ refusal. IsBad refusal ((next : List ℕ) → accesses_after self.old.format self.old.count (self.old.begun.items ++ (between self.old.format ++ next)) ≡ None)) }
+            ≡ joined self.new.trace.accesses (accesses_after self.old.format (next_number self.old.count) next)) }
+        ensures bad { IfErr result (λ refusal. IsBad refusal ((next : List ℕ) → accesses_after self.old.format self.old.count (self.old.begun.items ++ (between self.old.format ++ next)) ≡ Err refusal)) }
     {
         match self.format {
             TraceFormat::Csv(columns) => self.add_line(columns),
@@ -214,12 +214,12 @@ impl<S: BuildHasher + Drop, A: Allocator + Copy> Records<S, A> {
         ensures sample { self.new.trace.sample ≡ self.old.trace.sample }
         ensures sized { self.new.trace.is_sized ≡ self.old.trace.is_sized }
         ensures count { self.new.count ≡ self.old.count }
-        ensures ended { OnOk result ((counted : ℕ) → 0 < counted → (next : List ℕ)
+        ensures ended { OnOk result ((next : List ℕ)
             → joined self.old.trace.accesses
             (accesses_after (TraceFormat.Csv columns) self.old.count (self.old.begun.items ++ 10 ∷ next))
-            ≡ joined self.new.trace.accesses (accesses_after (TraceFormat.Csv columns) counted next)) }
+            ≡ joined self.new.trace.accesses (accesses_after (TraceFormat.Csv columns) (next_number self.old.count) next)) }
         ensures bad { IfErr result (λ refusal. IsBad refusal ((next : List ℕ)
-            → accesses_after (TraceFormat.Csv columns) self.old.count (self.old.begun.items ++ 10 ∷ next) ≡ None)) }
+            → accesses_after (TraceFormat.Csv columns) self.old.count (self.old.begun.items ++ 10 ∷ next) ≡ Err refusal)) }
     {
         if self.count < columns.headers() {
             return Ok(());
@@ -250,14 +250,14 @@ impl<S: BuildHasher + Drop, A: Allocator + Copy> Records<S, A> {
 
     /// Adds the access of a line of fields.
     fn add_fields(&mut self, columns: Columns) -> Result<(), SimulationError>
-        ensures access { OnOk result ((access : Access) × (access_by columns self.old.begun.items ≡ Some access)
+        ensures access { OnOk result ((access : Access) × (access_by columns (next_number self.old.count) self.old.begun.items ≡ Ok access)
             × (self.new.trace.accesses ≡ self.old.trace.accesses ++ access ∷ [])) }
         ensures count { self.new.count ≡ self.old.count }
         ensures format { self.new.format ≡ self.old.format }
         ensures sample { self.new.trace.sample ≡ self.old.trace.sample }
         ensures sized { self.new.trace.is_sized ≡ self.old.trace.is_sized }
         ensures named { IfErr result (IsOfLine columns.separator (next_number self.old.count) self.old.begun.items) }
-        ensures bad { IfErr result (λ refusal. IsBad refusal (access_by columns self.old.begun.items ≡ None)) }
+        ensures bad { IfErr result (λ refusal. IsBad refusal (access_by columns (next_number self.old.count) self.old.begun.items ≡ Err refusal)) }
     {
         let line = self.count.saturating_add(1);
         let separator = columns.separator;
@@ -275,8 +275,8 @@ impl<S: BuildHasher + Drop, A: Allocator + Copy> Records<S, A> {
         requires begun { IsBegun self.format self.begun.items }
         ensures sample { IfOk result (λ trace. trace.sample ≡ self.trace.sample) }
         ensures sized { IfOk result (λ trace. trace.is_sized ≡ self.trace.is_sized) }
-        ensures accesses { IfOk result (λ trace. joined self.trace.accesses (accesses_after self.format self.count self.begun.items) ≡ Some trace.accesses) }
-        ensures bad { IfErr result (λ refusal. IsBad refusal (accesses_after self.format self.count self.begun.items ≡ None)) }
+        ensures accesses { IfOk result (λ trace. joined self.trace.accesses (accesses_after self.format self.count self.begun.items) ≡ Ok trace.accesses) }
+        ensures bad { IfErr result (λ refusal. IsBad refusal (accesses_after self.format self.count self.begun.items ≡ Err refusal)) }
     {
         let mut records = self;
         if !records.begun.is_empty() {
@@ -291,8 +291,8 @@ impl<S: BuildHasher + Drop, A: Allocator + Copy> Records<S, A> {
         requires some { 0 < length self.old.begun.items }
         ensures sample { self.new.trace.sample ≡ self.old.trace.sample }
         ensures sized { self.new.trace.is_sized ≡ self.old.trace.is_sized }
-        ensures accesses { OnOk result (joined self.old.trace.accesses (accesses_after self.old.format self.old.count self.old.begun.items) ≡ Some self.new.trace.accesses) }
-        ensures bad { IfErr result (λ refusal. IsBad refusal (accesses_after self.old.format self.old.count self.old.begun.items ≡ None)) }
+        ensures accesses { OnOk result (joined self.old.trace.accesses (accesses_after self.old.format self.old.count self.old.begun.items) ≡ Ok self.new.trace.accesses) }
+        ensures bad { IfErr result (λ refusal. IsBad refusal (accesses_after self.old.format self.old.count self.old.begun.items ≡ Err refusal)) }
     {
         match self.format {
             TraceFormat::Lines | TraceFormat::Csv(..) => self.end_record(),

@@ -1,4 +1,4 @@
-use Rattle.std.proofs.Common.{◌≡◌, ◌∙◌, ◌++◌, ℕ, List, None, false, take, ap, sym, subst, rules}
+use Rattle.std.proofs.Common.{◌≡◌, ◌∙◌, ◌++◌, ℕ, List, Err, false, take, ap, sym, subst, rules}
 use Rattle.std.proofs.lemmas.Bool.{ne_eqb}
 use Rattle.std.proofs.lemmas.Result.{err_from_is_err_and}
 use Rattle.clock2q_ports.specs.Ports.{traffic_after}
@@ -78,7 +78,7 @@ returns-in_err-take-clause-read g c =
     rw (p.1, p.2)
     (given-up old new left remain format c.in_err-take.field-0.0
     (is.input ++ bytes, false, read-given old mid new left some remain format records.trace.accesses records.count records.begun.items bytes is false false given)
-    (λ (none : (next : List ℕ) → accesses_after records.format records.count (records.begun.items ++ (bytes ++ next)) ≡ None).
-    read-bad old mid new left some remain format records.trace.accesses records.count records.begun.items bytes is given
+    (λ (none : (next : List ℕ) → accesses_after records.format records.count (records.begun.items ++ (bytes ++ next)) ≡ Err c.in_err-take.field-0.0).
+    read-bad old mid new left some remain format records.trace.accesses records.count records.begun.items bytes is c.in_err-take.field-0.0 given
     (λ next. ap (λ f. accesses_after f records.count (records.begun.items ++ (bytes ++ next))) (sym c.loop-index.invariant.format) ∙ none next))
     c.in_err-take.ensures.bad)

@@ -1,6 +1,5 @@
-use Rattle.std.proofs.Common.{◌≡◌, ◌∙◌, Option, Some, ap, refl, subst, sym}
+use Rattle.std.proofs.Common.{◌≡◌, ◌∙◌, Some, ap, refl, subst, sym}
 use Rattle.std.specs.Option.{option_map}
-use Rattle.simulator_io.specs.declared.format.FormatName.{FormatName}
 use Rattle.simulator_io.specs.declared.format.FormatName.TheVariants as name
 use Rattle.simulator_io.specs.declared.format.TraceFormat.TheVariants as trace
 use Rattle.simulator_io.specs.AskedOptions.{IsFormat, format_so_far}

@@ -1,7 +1,7 @@
-use Rattle.std.proofs.Common.{◌≡◌, ◌∙◌, ◌<◌, ◌∷◌, ◌++◌, ℕ, List, [], None, ap}
+use Rattle.std.proofs.Common.{◌≡◌, ◌∙◌, ◌∷◌, ◌++◌, ℕ, List, [], Err, refl, ap}
 use Rattle.simulator_io.specs.declared.format.TraceFormat.TheVariants.{Csv}
-use Rattle.simulator_io.specs.Formats.{accesses_after, record_of, unsized}
-use Rattle.simulator_io.specs.Reading.{joined}
+use Rattle.simulator_io.specs.Formats.{accesses_after, next_number, record_of, unsized}
+use Rattle.simulator_io.specs.Reading.{between, joined}
 use Rattle.simulator_io.proofs.RecordByRecord.{bad-of-csv, bad-result, line-ends, line-of-csv, ok-result, piece-ends}
 use Rattle.simulator_io.proofs.records.Records.add_access.Goals as goal
 
@@ -11,8 +11,8 @@ returns-in-Csv-clause-ended g c =
     let columns = c.in-Csv.columns in
     let more = c.add_line.new.self.trace.accesses in
     ok-result c.add_line.result
-    (λ (ends : (counted : ℕ) → 0 < counted → (next : List ℕ) → joined self.trace.accesses (accesses_after (Csv columns) self.count (self.begun.items ++ 10 ∷ next)) ≡ joined more (accesses_after (Csv columns) counted next)).
-    λ counted some next. line-of-csv self.trace.accesses more self.count counted self.begun.items self.format columns c.in-Csv.is (ends counted some) next)
+    (λ (ends : (next : List ℕ) → joined self.trace.accesses (accesses_after (Csv columns) self.count (self.begun.items ++ 10 ∷ next)) ≡ joined more (accesses_after (Csv columns) (next_number self.count) next)).
+    λ next. line-of-csv self.trace.accesses more self.count (next_number self.count) self.begun.items self.format columns c.in-Csv.is ends next)
     c.add_line.ensures.ended
 
 pub returns-in-Csv-clause-bad : goal.returns-in-Csv-clause-bad
@@ -20,16 +20,17 @@ returns-in-Csv-clause-bad g c =
     let self = c.args.self.now in
     let columns = c.in-Csv.columns in
     bad-result c.add_line.result
-    (λ (none : (next : List ℕ) → accesses_after (Csv columns) self.count (self.begun.items ++ 10 ∷ next) ≡ None).
-    λ next. bad-of-csv self.count self.begun.items self.format columns c.in-Csv.is none next)
+    (λ refusal. (next : List ℕ) → accesses_after (Csv columns) self.count (self.begun.items ++ 10 ∷ next) ≡ Err refusal)
+    (λ refusal. (next : List ℕ) → accesses_after self.format self.count (self.begun.items ++ (between self.format ++ next)) ≡ Err refusal)
+    (λ refusal none next. bad-of-csv self.count self.begun.items self.format columns refusal c.in-Csv.is none next)
     c.add_line.ensures.bad
 
 pub returns-in_ok-push-in-Lines-clause-ended : goal.returns-in_ok-push-in-Lines-clause-ended
-returns-in_ok-push-in-Lines-clause-ended g c counted some next =
+returns-in_ok-push-in-Lines-clause-ended g c next =
     let self = c.args.self.now in
     let keys = self.trace.accesses in
     let more : c.push.new.self.accesses ≡ keys ++ unsized self.begun.items ∷ [] = c.in_ok-push-in-Lines.ensures.added ∙ ap (λ l. keys ++ unsized l ∷ []) c.deref.ensures.value in
-    line-ends keys c.push.new.self.accesses self.count counted self.begun.items self.format c.in-Lines.is c.requires.whole more next
+    line-ends keys c.push.new.self.accesses self.count (next_number self.count) self.begun.items self.format c.in-Lines.is c.requires.whole more next
 
 pub returns-in-OracleGeneral-clause-ended : goal.returns-in-OracleGeneral-clause-ended
 returns-in-OracleGeneral-clause-ended g c =
@@ -37,5 +38,5 @@ returns-in-OracleGeneral-clause-ended g c =
     let more = c.add_piece.new.self.trace.accesses in
     ok-result c.add_piece.result
     (λ (is : more ≡ self.trace.accesses ++ record_of self.begun.items ∷ []).
-    λ counted some next. piece-ends self.trace.accesses more self.count counted self.begun.items self.format c.in-OracleGeneral.is c.requires.whole is next)
+    λ next. piece-ends self.trace.accesses more self.count (next_number self.count) self.begun.items self.format c.in-OracleGeneral.is c.requires.whole is refl next)
     c.add_piece.ensures.added

@@ -1,20 +1,21 @@
-use Rattle.std.proofs.Common.{◌≡◌, ◌<◌, ◌≤◌, ◌∷◌, ◌++◌, [], Some, None, true, false, refl, arith, rules}
-use Rattle.simulator_io.specs.Formats.{Access, access_by, headers, is_blank}
+use Rattle.std.proofs.Common.{◌≡◌, ◌<◌, ◌≤◌, ◌∷◌, ◌++◌, ℕ, List, [], Ok, Err, true, false, refl, arith, rules}
+use Rattle.simulator_io.specs.declared.format.TraceFormat.TheVariants.{Csv}
+use Rattle.simulator_io.specs.Formats.{Access, access_by, accesses_after, headers, is_blank, next_number}
 use Rattle.simulator_io.proofs.RecordByRecord.{bad-result, blank-ends, fields-end, header-ends, no-field-ends, ok-result}
 use Rattle.simulator_io.proofs.records.Records.add_line.Goals as goal
 
 pub returns-then-self-headers-clause-ended : goal.returns-then-self-headers-clause-ended
-returns-then-self-headers-clause-ended g c counted some next =
+returns-then-self-headers-clause-ended g c next =
     let self = c.args.self.now in
     let is : self.count < headers c.args.columns = omega (arith, c.if-self-headers.true, c.headers.ensures.headers) in
-    header-ends self.trace.accesses self.trace.accesses self.count counted self.begun.items c.args.columns c.requires.line is some refl next
+    header-ends self.trace.accesses self.trace.accesses self.count self.begun.items c.args.columns c.requires.line is refl next
 
 pub returns-then-is_blank-clause-ended : goal.returns-then-is_blank-clause-ended
-returns-then-is_blank-clause-ended g c counted some next =
+returns-then-is_blank-clause-ended g c next =
     let self = c.args.self.now in
     let later : headers c.args.columns ≤ self.count = omega (arith, c.if-self-headers.false, c.headers.ensures.headers) in
     let blank : is_blank self.begun.items ≡ true = search rules in
-    blank-ends self.trace.accesses self.trace.accesses self.count counted self.begun.items c.args.columns c.requires.line later some blank refl next
+    blank-ends self.trace.accesses self.trace.accesses self.count self.begun.items c.args.columns c.requires.line later blank refl next
 
 pub returns-clause-ended : goal.returns-clause-ended
 returns-clause-ended g c =
@@ -24,8 +25,8 @@ returns-clause-ended g c =
     let later : headers columns ≤ self.count = omega (arith, c.if-self-headers.false, c.headers.ensures.headers) in
     let filled : is_blank self.begun.items ≡ false = search rules in
     ok-result c.add_fields.result
-    (λ (is : (access : Access) × (access_by columns self.begun.items ≡ Some access) × (more ≡ self.trace.accesses ++ access ∷ [])).
-    λ counted some next. fields-end self.trace.accesses more self.count counted self.begun.items columns c.requires.line is.0 later some filled is.1 is.2 next)
+    (λ (is : (access : Access) × (access_by columns (next_number self.count) self.begun.items ≡ Ok access) × (more ≡ self.trace.accesses ++ access ∷ [])).
+    λ next. fields-end self.trace.accesses more self.count self.begun.items columns c.requires.line is.0 later filled is.1 is.2 next)
     c.add_fields.ensures.access
 
 pub returns-clause-bad : goal.returns-clause-bad
@@ -35,5 +36,7 @@ returns-clause-bad g c =
     let later : headers columns ≤ self.count = omega (arith, c.if-self-headers.false, c.headers.ensures.headers) in
     let filled : is_blank self.begun.items ≡ false = search rules in
     bad-result c.add_fields.result
-    (λ (none : access_by columns self.begun.items ≡ None). λ next. no-field-ends self.trace.accesses self.trace.accesses self.count 0 self.begun.items columns c.requires.line later filled none next)
+    (λ refusal. access_by columns (next_number self.count) self.begun.items ≡ Err refusal)
+    (λ refusal. (next : List ℕ) → accesses_after (Csv columns) self.count (self.begun.items ++ 10 ∷ next) ≡ Err refusal)
+    (λ refusal none next. no-field-ends self.trace.accesses self.trace.accesses self.count self.begun.items columns c.requires.line refusal later filled none next)
     c.add_fields.ensures.bad

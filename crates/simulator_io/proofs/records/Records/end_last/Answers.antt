@@ -1,4 +1,4 @@
-use Rattle.std.proofs.Common.{◌≡◌, ◌∙◌, ◌++◌, ℕ, List, [], Some, None, ap, append-nil, rules}
+use Rattle.std.proofs.Common.{◌≡◌, ◌∙◌, ◌++◌, ℕ, List, [], Ok, Err, ap, append-nil, rules}
 use Rattle.simulator_io.specs.Formats.{accesses_after}
 use Rattle.simulator_io.specs.Reading.{IsOfLines, between, joined}
 use Rattle.simulator_io.proofs.RecordByRecord.{Ends, bad-result, last-ends, none-left, ok-result}
@@ -16,9 +16,11 @@ returns-in-Lines g c =
       sized = c.end_record.ensures.sized;
       accesses = ok-result c.end_record.result
           (λ (ends : Ends self.trace.accesses new.trace.accesses self.count new.count self.begun.items self.format).
-          ap (joined self.trace.accesses) same ∙ ends [] ∙ ap (joined new.trace.accesses) (none-left self.format new.count) ∙ ap Some (append-nil new.trace.accesses))
+          ap (joined self.trace.accesses) same ∙ ends [] ∙ ap (joined new.trace.accesses) (none-left self.format new.count) ∙ ap Ok (append-nil new.trace.accesses))
           c.end_record.ensures.ended;
       bad = bad-result c.end_record.result
-          (λ (none : (next : List ℕ) → accesses_after self.format self.count (self.begun.items ++ (between self.format ++ next)) ≡ None). same ∙ none [])
+          (λ refusal. (next : List ℕ) → accesses_after self.format self.count (self.begun.items ++ (between self.format ++ next)) ≡ Err refusal)
+          (λ refusal. accesses_after self.format self.count self.begun.items ≡ Err refusal)
+          (λ refusal none. same ∙ none [])
           c.end_record.ensures.bad;
     }

@@ -1,4 +1,4 @@
-use Rattle.std.proofs.Common.{◌≡◌, ◌∙◌, ◌+◌, ◌++◌, ℕ, List, [], None, arith, append_assoc, drop, get_or, ap, sym, subst}
+use Rattle.std.proofs.Common.{◌≡◌, ◌∙◌, ◌+◌, ◌++◌, ℕ, List, [], Err, arith, append_assoc, drop, get_or, ap, sym, subst}
 use Rattle.std.proofs.lemmas.Bool.{ne_eqb}
 use Rattle.std.proofs.lemmas.List.{take_rest}
 use Rattle.std.proofs.lemmas.List.Edits.{between_none}
@@ -19,10 +19,10 @@ returns-in_err-end_line-clause-bad g c =
     let p = err_from_is_err_and c.from_residual.result c.from_residual.ensures.1 in
     rw (p.1, p.2)
     (bad-by c.in_err-end_line.field-0.0
-    (λ (none : (next : List ℕ) → accesses_after was.format was.count (line ++ (between was.format ++ next)) ≡ None).
+    (λ (none : (next : List ℕ) → accesses_after was.format was.count (line ++ (between was.format ++ next)) ≡ Err c.in_err-end_line.field-0.0).
     line-bad was.begun.items c.args.bytes.now c.loop-index.start c.loop-index.index c.loop-index.invariant.from
     self.format c.requires.lines c.loop-index-test.true c.if-bytes-index-eq10.true was.trace.accesses was.count
-    was.format self.trace.accesses self.count self.begun.items c.loop-index.invariant.format c.loop-index.invariant.same none)
+    was.format self.trace.accesses self.count self.begun.items c.loop-index.invariant.format c.loop-index.invariant.same c.in_err-end_line.field-0.0 none)
     c.in_err-end_line.ensures.bad)
 
 pub returns-clause-taken : goal.returns-clause-taken

@@ -1,4 +1,4 @@
-use Rattle.std.proofs.Common.{◌≡◌, ◌∙◌, ◌++◌, ℕ, List, None, ap}
+use Rattle.std.proofs.Common.{◌≡◌, ◌∙◌, ◌++◌, ℕ, List, Err, ap}
 use Rattle.std.proofs.lemmas.Result.{err_from_is_err_and}
 use Rattle.simulator_io.specs.Formats.{accesses_after}
 use Rattle.simulator_io.specs.Reading.{between}
@@ -13,9 +13,9 @@ returns-in_err-end_record-clause-bad g c =
     let p = err_from_is_err_and c.from_residual-in_err-end_record.result c.from_residual-in_err-end_record.ensures.1 in
     rw (p.1, p.2)
     (bad-by c.in_err-end_record.field-0.0
-    (λ (none : (next : List ℕ) → accesses_after new.format new.count (new.begun.items ++ (between new.format ++ next)) ≡ None).
+    (λ (none : (next : List ℕ) → accesses_after new.format new.count (new.begun.items ++ (between new.format ++ next)) ≡ Err c.in_err-end_record.field-0.0).
     piece-bad self.format new.format self.trace.accesses was.trace.accesses self.count was.count new.count self.begun.items was.begun.items new.begun.items c.args.bytes.now c.loop-byte.byte-index
-    c.loop-byte-test.true (c.in_ok-push.ensures.format ∙ c.loop-byte.invariant.format) c.requires.pieces c.in_ok-push.ensures.count c.in_ok-push.ensures.begun c.loop-byte.invariant.same none)
+    c.loop-byte-test.true (c.in_ok-push.ensures.format ∙ c.loop-byte.invariant.format) c.requires.pieces c.in_ok-push.ensures.count c.in_ok-push.ensures.begun c.loop-byte.invariant.same c.in_err-end_record.field-0.0 none)
     c.in_err-end_record.ensures.bad)
 
 pub returns-in_err-push-clause-sample : goal.returns-in_err-push-clause-sample
