@@ -85,8 +85,7 @@ pub struct Options<A: Allocator> {
 /// more than `MAX_CAPACITY` keys: what is wrong, and its index. `NoCapacity` if there is no
 /// capacity; `UnusedShares` if there are shares, but Clock2Q+ isn't among the policies; `Shares` if
 /// the shares don't fit together in a cache of a capacity that is a number of keys; `Memory` if a
-/// request for memory is refused. The arguments are read in order, and the first bad one ends the
-/// call with its error.
+/// request for memory is refused. The error is that of the first bad argument.
 ///
 /// # Cost
 ///
