@@ -1,6 +1,5 @@
 -- The names of the policies, by which arguments choose them.
 use Rattle.std.specs.Prelude.{ℕ, Bool, true, false, List, Option, None, Some, if◌then◌else◌, codes}
-use Rattle.std.specs.Option.{option_or}
 use Rattle.std.specs.Str.{bytes_eq}
 use Rattle.simulator_io.specs.declared.policy.Policy.{Policy}
 use Rattle.simulator_io.specs.declared.policy.Policy.TheVariants.{Clock2Q, Sieve, S3Fifo, LeastRecentlyUsed, Optimal, FirstInFirstOut, Clock, Arc, TwoQ, Lirs, Lru2, WTinyLfu}
@@ -23,20 +22,11 @@ name_of WTinyLfu = codes "wtinylfu"
 abbrev pub if_named : List ℕ → Policy → Option Policy → Option Policy
 if_named word policy others = if bytes_eq word (name_of policy) then Some policy else others
 
--- the policy of a name, among those that are shown if none is chosen
-abbrev pub shown_named : List ℕ → Option Policy
-shown_named word = if_named word Clock2Q (if_named word Sieve (if_named word S3Fifo (if_named word LeastRecentlyUsed (if_named word Optimal None))))
-
--- and among others
-abbrev pub plain_named : List ℕ → Option Policy
-plain_named word = if_named word FirstInFirstOut (if_named word Clock (if_named word Arc (if_named word TwoQ None)))
-
-abbrev pub other_named : List ℕ → Option Policy
-other_named word = if_named word Lirs (if_named word Lru2 (if_named word WTinyLfu None))
-
 -- the policy of a name
 abbrev pub policy_named : List ℕ → Option Policy
-policy_named word = option_or (shown_named word) (option_or (plain_named word) (other_named word))
+policy_named word =
+    if_named word Clock2Q (if_named word Sieve (if_named word S3Fifo (if_named word LeastRecentlyUsed (if_named word Optimal (if_named word FirstInFirstOut
+    (if_named word Clock (if_named word Arc (if_named word TwoQ (if_named word Lirs (if_named word Lru2 (if_named word WTinyLfu None)))))))))))
 
 -- the policies that are defined over keys of unequal sizes, in a cache for a number of bytes
 abbrev pub has_bytes : Policy → Bool

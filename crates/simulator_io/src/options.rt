@@ -298,8 +298,7 @@ impl<A: Allocator + Copy> Asked<A> {
     /// Refuses what doesn't go together, and returns the format of the traces.
     fn checked(&self) -> Result<TraceFormat, SimulationError>
         requires within { All IsCapacity self.now.capacities.items }
-        ensures some { OnOk result (0 < length self.now.capacities.items
-            + length self.now.byte_capacities.items) }
+        ensures some { OnOk result (0 < length self.now.capacities.items + length self.now.byte_capacities.items) }
         ensures fit { OnOk result (MatchOption self.now.chosen.shares (Unit {0}) (λ shares. All (Fits (Some shares)) self.now.capacities.items)) }
         ensures format { IfOk result (IsFormat (format_so_far self.now.chosen.trace_format).name (format_so_far self.now.chosen.trace_format)) }
     {

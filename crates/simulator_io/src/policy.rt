@@ -1,6 +1,6 @@
 //! The policies that can be compared.
 ghost use Rattle.std.specs.Prelude.{◌≡◌};
-ghost use Rattle.simulator_io.specs.PolicyNames.{has_bytes, name_of, other_named, plain_named, policy_named, shown_named};
+ghost use Rattle.simulator_io.specs.PolicyNames.{has_bytes, name_of, policy_named};
 
 /// Which key a cache evicts.
 ///
@@ -68,7 +68,21 @@ impl Policy {
     pub fn named(name: &str) -> Option<Policy>
         ensures named { result ≡ policy_named name.now }
     {
-        shown_named(name).or(plain_named(name).or(other_named(name)))
+        match name {
+            "clock2q" => Some(Policy::Clock2Q),
+            "sieve" => Some(Policy::Sieve),
+            "s3fifo" => Some(Policy::S3Fifo),
+            "lru" => Some(Policy::LeastRecentlyUsed),
+            "opt" => Some(Policy::Optimal),
+            "fifo" => Some(Policy::FirstInFirstOut),
+            "clock" => Some(Policy::Clock),
+            "arc" => Some(Policy::Arc),
+            "2q" => Some(Policy::TwoQ),
+            "lirs" => Some(Policy::Lirs),
+            "lru2" => Some(Policy::Lru2),
+            "wtinylfu" => Some(Policy::WTinyLfu),
+            _ => None,
+        }
     }
 
     /// Returns the name by which an argument chooses the policy.
@@ -114,44 +128,5 @@ impl Policy {
             Policy::Lru2 => "LRU-2",
             Policy::WTinyLfu => "WTinyLFU",
         }
-    }
-}
-
-/// Returns the policy with a name, if it is among those that are shown if none is chosen.
-fn shown_named(name: &str) -> Option<Policy>
-    ensures named { result ≡ shown_named name.now }
-{
-    match name {
-        "clock2q" => Some(Policy::Clock2Q),
-        "sieve" => Some(Policy::Sieve),
-        "s3fifo" => Some(Policy::S3Fifo),
-        "lru" => Some(Policy::LeastRecentlyUsed),
-        "opt" => Some(Policy::Optimal),
-        _ => None,
-    }
-}
-
-/// Returns the policy with a name, if it is one of one or two lists.
-fn plain_named(name: &str) -> Option<Policy>
-    ensures named { result ≡ plain_named name.now }
-{
-    match name {
-        "fifo" => Some(Policy::FirstInFirstOut),
-        "clock" => Some(Policy::Clock),
-        "arc" => Some(Policy::Arc),
-        "2q" => Some(Policy::TwoQ),
-        _ => None,
-    }
-}
-
-/// Returns the policy with a name, if it is one of the others.
-fn other_named(name: &str) -> Option<Policy>
-    ensures named { result ≡ other_named name.now }
-{
-    match name {
-        "lirs" => Some(Policy::Lirs),
-        "lru2" => Some(Policy::Lru2),
-        "wtinylfu" => Some(Policy::WTinyLfu),
-        _ => None,
     }
 }
