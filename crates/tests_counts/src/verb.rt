@@ -81,15 +81,9 @@ const VERBS: &[(&str, Verb)] = &[
 ];
 
 impl Verb {
-    /// Returns the call or the question with this name. A function with a cache in scope only matches
-    /// the result, since a comparison of words is proved anew with all that is in scope.
+    /// Returns the call or the question with this name.
     pub(crate) fn named(name: &str) -> Option<Verb> {
-        for (word, verb) in VERBS {
-            if *word == name {
-                return Some(*verb);
-            }
-        }
-        None
+        named_in(VERBS, name)
     }
 }
 
@@ -116,11 +110,17 @@ const KINDS: &[(&str, Kind)] = &[
 impl Kind {
     /// Returns what has this name.
     pub(crate) fn named(name: &str) -> Option<Kind> {
-        for (word, kind) in KINDS {
-            if *word == name {
-                return Some(*kind);
-            }
-        }
-        None
+        named_in(KINDS, name)
     }
+}
+
+/// Returns what has this name in a table. A function with a cache in scope only matches the result,
+/// since a comparison of words is proved anew with all that is in scope.
+fn named_in<T: Copy>(table: &[(&str, T)], name: &str) -> Option<T> {
+    for (word, named) in table {
+        if *word == name {
+            return Some(*named);
+        }
+    }
+    None
 }
