@@ -5,7 +5,7 @@ use std::alloc::Global;
 use std::num::NonZeroUsize;
 use std::process::Abort;
 use std::test::Fail;
-use testing::{LinearHashBuilder, SplitMix64, same, same_at};
+use testing::{LinearHashBuilder, SplitMix64};
 
 type Numbers = Cache<u64, u64, LinearHashBuilder>;
 
@@ -157,70 +157,4 @@ fn by_slot_as_by_key(rt: HostRuntime) -> Result<(), Fail> {
         caches_agree(&rt, rt.alloc(), capacity)?;
     }
     Ok(())
-}
-
-/// Offers keys, each with its value, and the slot and whether it is new.
-fn offer_each(cache: &mut Numbers, offers: &[(u64, u64, (usize, bool))]) -> Result<(), Fail> {
-    for (key, value, wanted) in offers {
-        let reply = cache.slot_with_hash_or_insert(*key, *value);
-        same_at(reply, *wanted, *key)?;
-    }
-    Ok(())
-}
-
-/// Hits slots, some of which hold a key.
-fn hit_each(cache: &mut Numbers, hits: &[(usize, bool)]) -> Result<(), Fail> {
-    for (slot, wanted) in hits {
-        same_at(cache.hit_slot(*slot), *wanted, *slot)?;
-    }
-    Ok(())
-}
-
-/// Removes the keys at slots, some of which hold one.
-fn remove_each(cache: &mut Numbers, removals: &[(usize, bool)]) -> Result<(), Fail> {
-    for (slot, wanted) in removals {
-        same_at(cache.remove_slot(*slot), *wanted, *slot)?;
-    }
-    Ok(())
-}
-
-/// These slots are listed for the hash of the key 0, and the next number lists none.
-fn listed_first(cache: &Numbers, wanted: &[Option<usize>]) -> Result<(), Fail> {
-    for (nth, slot) in wanted.iter().enumerate() {
-        same_at(
-            cache.slot_with_hash(hash_of(FOUR_HASHES, 0), nth),
-            *slot,
-            nth,
-        )?;
-    }
-    Ok(())
-}
-
-/// A key is resident with this value, and another isn't resident.
-fn holds(cache: &Numbers, (key, value): (u64, u64), absent: u64) -> Result<(), Fail> {
-    same(cache.peek(&key).copied(), Some(value))?;
-    same(cache.peek_slot(&absent), None)
-}
-
-/// Offers two keys of one hash, and one of another.
-const OFFERED: &[(u64, u64, (usize, bool))] = &[
-    (0, 10, (0, true)),
-    (4, 14, (0, false)),
-    (0, 11, (0, false)),
-    (1, 12, (1, true)),
-];
-
-/// A second key of a hash doesn't enter, and nothing changes. It enters once the first has left.
-fn second_key_enters_later(cache: &mut Numbers) -> Result<(), Fail> {
-    offer_each(cache, OFFERED)?;
-    holds(cache, (0, 10), 4)?;
-    hit_each(cache, &[(1, true), (2, false)])?;
-    remove_each(cache, &[(0, true), (0, false)])?;
-    offer_each(cache, &[(4, 14, (0, true))])?;
-    listed_first(cache, &[Some(0), None])
-}
-
-#[test]
-fn one_key_for_a_hash(rt: HostRuntime) -> Result<(), Fail> {
-    second_key_enters_later(&mut cache_of(rt.alloc(), 3, FOUR_HASHES)?)
 }

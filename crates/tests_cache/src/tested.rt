@@ -63,35 +63,12 @@ impl<S: BuildHasher + Drop> Tested<S> {
         Ok(answer)
     }
 
-    /// Makes the call on both. The answer is the one worked out.
-    pub(crate) fn answers(
-        &mut self,
-        rt: &impl Abort,
-        call: Call,
-        wanted: Answer,
-        position: Position,
-    ) -> Result<(), Fail> {
-        let answer = self.call(rt, call, position)?;
-        assert_eq!(rt; answer, wanted, "{position:?}: {call:?}");
-        Ok(())
-    }
-
-    /// The cache's `Debug` text is this one.
-    pub(crate) fn shows(
-        &self,
-        rt: &impl Abort,
-        wanted: &str,
-        position: Position,
-    ) -> Result<(), Fail> {
-        let shown = self.called.text(self.alloc)?;
-        assert_eq!(rt; shown.as_str(), wanted, "{position:?}");
-        Ok(())
-    }
-
     /// The cache's `Debug` text has the same numbers of keys.
     pub(crate) fn sizes_are_same(&self, rt: &impl Abort, position: Position) -> Result<(), Fail> {
         let wanted = self.model.text()?;
-        self.shows(rt, wanted.as_str(), position)
+        let shown = self.called.text(self.alloc)?;
+        assert_eq!(rt; shown.as_str(), wanted.as_str(), "{position:?}");
+        Ok(())
     }
 
     /// The cache holds the same keys with the same values, slot by slot.

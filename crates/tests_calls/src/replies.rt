@@ -2,7 +2,7 @@
 
 use crate::counted::Counts;
 use crate::verb::Question;
-use clock2q_cache::CacheError;
+use clock2q_cache::{CacheError, Entered, Occupant};
 use std::alloc::{AllocError, Global};
 use std::cell::Cell;
 use testing::Refusing;
@@ -33,6 +33,16 @@ pub(crate) enum Reply {
     Pair((u64, u64)),
     /// A slot, the value there, and how often the closure was called.
     Slot(u64, u64, u64),
+    /// The same, and what became of the key.
+    Entered(u64, u64, u64, Entered),
+    /// A slot, and who had it.
+    Placed(u64, Occupant<u64>),
+    /// A slot, and whether the key there is new.
+    Offered(u64, bool),
+    /// A key that left, and its value or its slot, if one left.
+    Left(Option<(u64, u64)>),
+    /// The closure's error, and how many bytes it owns.
+    Failed(u64),
     Done,
     Refused(CacheError),
     /// There is no such call.
@@ -49,10 +59,40 @@ impl Reply {
             Reply::Number(number) => write!(replies, "{number}\n"),
             Reply::Pair((first, second)) => write!(replies, "{first} {second}\n"),
             Reply::Slot(slot, value, calls) => write!(replies, "{slot} {value} {calls}\n"),
+            Reply::Entered(slot, value, calls, entered) => {
+                write!(replies, "{slot} {value} {calls} {}\n", word_of(entered))
+            }
+            Reply::Placed(slot, occupant) => write_placed(slot, occupant, replies),
+            Reply::Offered(slot, is_new) => write!(replies, "{slot} {is_new}\n"),
+            Reply::Left(None) => replies.push_str("none\n"),
+            Reply::Left(Some((key, held))) => write!(replies, "some {key} {held}\n"),
+            Reply::Failed(bytes) => write!(replies, "failed {bytes}\n"),
             Reply::Done => replies.push_str("ok\n"),
             Reply::Refused(refusal) => write!(replies, "{refusal}\n"),
             Reply::Unknown => replies.push_str("no call\n"),
         }
+    }
+}
+
+/// Writes a slot and who had it, with a line end.
+fn write_placed(
+    slot: u64,
+    occupant: Occupant<u64>,
+    replies: &mut String,
+) -> Result<(), AllocError> {
+    match occupant {
+        Occupant::Itself => write!(replies, "{slot} itself\n"),
+        Occupant::Nobody => write!(replies, "{slot} nobody\n"),
+        Occupant::Other(key) => write!(replies, "{slot} other {key}\n"),
+    }
+}
+
+/// Returns what became of a key that entered, as a word.
+fn word_of(entered: Entered) -> &'static str {
+    match (entered.is_hit, entered.has_evicted) {
+        (true, _) => "hit",
+        (false, true) => "evicted",
+        (false, false) => "new",
     }
 }
 

@@ -3,6 +3,7 @@
 use crate::cached::Cached;
 use crate::counted::Counts;
 use crate::drops::play_drops;
+use crate::leaving::play_leaving;
 use crate::replies::{Reply, Watch, number_of, two_numbers, two_words};
 use crate::verb::{Kind, Verb};
 use clock2q_cache::DefaultHashBuilder;
@@ -14,6 +15,26 @@ use testing::{LinearHashBuilder, Refusing, SpellingError, spelled};
 const APART: LinearHashBuilder = LinearHashBuilder { times: 1, more: 0 };
 
 const ALIKE: LinearHashBuilder = LinearHashBuilder { times: 0, more: 0 };
+
+/// Hashes of which only the two highest bits differ.
+const FOUR: LinearHashBuilder = LinearHashBuilder {
+    times: 1 << 62,
+    more: 5,
+};
+
+/// Hashers that return one number for all keys, and one that returns the key.
+const SPREADS: [LinearHashBuilder; 4] = [
+    ALIKE,
+    LinearHashBuilder {
+        times: 0,
+        more: 0xAB00_0000_0000_000F,
+    },
+    LinearHashBuilder {
+        times: 0,
+        more: u64::MAX,
+    },
+    APART,
+];
 
 /// Returns what a line gives in place of what it should, if it does.
 pub(crate) fn other_replies(alloc: Global, line: &str) -> Result<Option<Vec<u8>>, SpellingError> {
@@ -32,7 +53,7 @@ fn replies_to(alloc: Global, calls: &str) -> Result<String, AllocError> {
     let counts = Counts::new();
     let memory = Refusing::new(alloc);
     let mut replies = String::new(alloc);
-    play(&counts, &memory, calls, &mut replies)?;
+    play(alloc, &counts, &memory, calls, &mut replies)?;
     if counts.dropped().1 != 0 {
         replies.push_str("keys kept\n")?;
     }
@@ -44,6 +65,7 @@ fn replies_to(alloc: Global, calls: &str) -> Result<String, AllocError> {
 
 /// Makes what the first words of a line say, and plays the calls that follow.
 fn play(
+    alloc: Global,
     counts: &Counts,
     memory: &Refusing<Global>,
     line: &str,
@@ -56,9 +78,60 @@ fn play(
         Some(Kind::Usual) => play_cache(watch, DefaultHashBuilder::new(), made, calls, replies),
         Some(Kind::Apart) => play_cache(watch, APART, made, calls, replies),
         Some(Kind::Alike) => play_cache(watch, ALIKE, made, calls, replies),
+        Some(Kind::Four) => play_cache(watch, FOUR, made, calls, replies),
+        Some(Kind::Any) => play_any(alloc, (counts, memory), made, calls, replies),
+        Some(Kind::Leaving) => play_any_leaving(alloc, memory, made, calls, replies),
         Some(Kind::Drops) => play_drops(memory, number_of(made), calls, replies),
         None => Reply::Unknown.write(replies),
     }
+}
+
+/// Plays calls under each of several hashers, and writes their replies. Replies that are others than
+/// under the usual hasher are written too.
+fn play_any(
+    alloc: Global,
+    (counts, memory): (&Counts, &Refusing<Global>),
+    made: &str,
+    calls: &str,
+    replies: &mut String,
+) -> Result<(), AllocError> {
+    let usual = DefaultHashBuilder::new();
+    play_cache(Watch::new(counts, memory), usual, made, calls, replies)?;
+    for spread in SPREADS {
+        let mut others = String::new(alloc);
+        play_cache(Watch::new(counts, memory), spread, made, calls, &mut others)?;
+        add_others(spread, &others, replies)?;
+    }
+    Ok(())
+}
+
+/// Does so with a cache of plain keys.
+fn play_any_leaving(
+    alloc: Global,
+    memory: &Refusing<Global>,
+    made: &str,
+    calls: &str,
+    replies: &mut String,
+) -> Result<(), AllocError> {
+    play_leaving(memory, DefaultHashBuilder::new(), made, calls, replies)?;
+    for spread in SPREADS {
+        let mut others = String::new(alloc);
+        play_leaving(memory, spread, made, calls, &mut others)?;
+        add_others(spread, &others, replies)?;
+    }
+    Ok(())
+}
+
+/// Adds the replies under a hasher if they are others than those there.
+fn add_others(
+    spread: LinearHashBuilder,
+    others: &str,
+    replies: &mut String,
+) -> Result<(), AllocError> {
+    if others == replies.as_str() {
+        return Ok(());
+    }
+    write!(replies, "under {spread:?}:\n{others}")
 }
 
 /// Makes a cache, makes calls of it, and writes their replies.
@@ -88,17 +161,20 @@ fn make_calls<'a, S: BuildHasher>(
     replies: &mut String,
 ) -> Result<(), AllocError> {
     for call in calls.split_terminator(';') {
-        reply_to(cached, call).write(replies)?;
+        make_call(cached, call, replies)?;
     }
     Ok(())
 }
 
-/// Makes the call that a text spells.
-fn reply_to<'a, S: BuildHasher>(cached: &mut Cached<'a, S>, call: &str) -> Reply {
+/// Makes the call that a text spells, and writes its reply.
+fn make_call<'a, S: BuildHasher>(
+    cached: &mut Cached<'a, S>,
+    call: &str,
+    replies: &mut String,
+) -> Result<(), AllocError> {
     let (name, words) = two_words(call);
-    let numbers = two_numbers(words);
     match Verb::named(name) {
-        Some(verb) => cached.reply(verb, numbers),
-        None => Reply::Unknown,
+        Some(verb) => cached.write_reply(verb, two_numbers(words), replies),
+        None => Reply::Unknown.write(replies),
     }
 }

@@ -5,30 +5,57 @@
 pub(crate) enum Verb {
     Get,
     GetMut,
+    GetAt,
     Slot,
     Peek,
     Contains,
-    GetAt,
+    Len,
+    Capacity,
+    IsEmpty,
     Put,
+    PutEvicting,
+    PutSlot,
     With,
     Try,
     TryFail,
     TryMut,
     TryMutFail,
+    Fail,
     SlotFor,
     Enter,
-    Remove,
     Puts,
     Stores,
     Prefill,
+    Remove,
+    Evict,
     Retain,
     EveryOther,
     Tags,
     Clear,
-    Len,
-    Capacity,
-    IsEmpty,
+    At(AtSlot),
+    Show(Shown),
     Ask(Question),
+}
+
+/// A call that finds a key by its slot or by its hash.
+#[derive(Clone, Copy)]
+pub(crate) enum AtSlot {
+    Peek,
+    Listed,
+    Hit,
+    Remove,
+    Offer,
+}
+
+/// What is written of all residents.
+#[derive(Clone, Copy)]
+pub(crate) enum Shown {
+    /// Their keys, slots and values.
+    Residents,
+    Keys,
+    Values,
+    /// How many are where.
+    Debug,
 }
 
 /// A question about a run, or what changes what is counted or granted in it.
@@ -48,29 +75,42 @@ pub(crate) enum Question {
 const VERBS: &[(&str, Verb)] = &[
     ("get", Verb::Get),
     ("get_mut", Verb::GetMut),
+    ("get_at", Verb::GetAt),
     ("slot", Verb::Slot),
     ("peek", Verb::Peek),
     ("contains", Verb::Contains),
-    ("get_at", Verb::GetAt),
+    ("len", Verb::Len),
+    ("capacity", Verb::Capacity),
+    ("is_empty", Verb::IsEmpty),
     ("put", Verb::Put),
+    ("put_evicting", Verb::PutEvicting),
+    ("put_slot", Verb::PutSlot),
     ("with", Verb::With),
     ("try", Verb::Try),
     ("try_fail", Verb::TryFail),
     ("try_mut", Verb::TryMut),
     ("try_mut_fail", Verb::TryMutFail),
+    ("fail", Verb::Fail),
     ("slot_for", Verb::SlotFor),
     ("enter", Verb::Enter),
-    ("remove", Verb::Remove),
     ("puts", Verb::Puts),
     ("stores", Verb::Stores),
     ("prefill", Verb::Prefill),
+    ("remove", Verb::Remove),
+    ("evict", Verb::Evict),
     ("retain", Verb::Retain),
     ("every_other", Verb::EveryOther),
     ("tags", Verb::Tags),
     ("clear", Verb::Clear),
-    ("len", Verb::Len),
-    ("capacity", Verb::Capacity),
-    ("is_empty", Verb::IsEmpty),
+    ("peek_slot", Verb::At(AtSlot::Peek)),
+    ("slot_with_hash", Verb::At(AtSlot::Listed)),
+    ("hit_slot", Verb::At(AtSlot::Hit)),
+    ("remove_slot", Verb::At(AtSlot::Remove)),
+    ("offer", Verb::At(AtSlot::Offer)),
+    ("residents", Verb::Show(Shown::Residents)),
+    ("keys", Verb::Show(Shown::Keys)),
+    ("values", Verb::Show(Shown::Values)),
+    ("debug", Verb::Show(Shown::Debug)),
     ("reset", Verb::Ask(Question::Reset)),
     ("asked", Verb::Ask(Question::Asked)),
     ("hashed", Verb::Ask(Question::Hashed)),
@@ -96,6 +136,12 @@ pub(crate) enum Kind {
     Apart,
     /// A cache under a hasher that gives all keys one hash.
     Alike,
+    /// A cache under a hasher with four hashes.
+    Four,
+    /// A cache under each of several hashers, whose replies are the same.
+    Any,
+    /// The same, of plain keys, whose calls reply with the key that leaves.
+    Leaving,
     /// A cache whose values count how many of them were dropped.
     Drops,
 }
@@ -104,6 +150,9 @@ const KINDS: &[(&str, Kind)] = &[
     ("usual", Kind::Usual),
     ("apart", Kind::Apart),
     ("alike", Kind::Alike),
+    ("four", Kind::Four),
+    ("any", Kind::Any),
+    ("leaving", Kind::Leaving),
     ("drops", Kind::Drops),
 ];
 

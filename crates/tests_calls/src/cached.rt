@@ -1,10 +1,13 @@
 //! A cache of counted keys, whose calls are given as small values.
 
+mod at_slot;
+mod shown;
+
 use crate::counted::{Counted, CountedHashes};
 use crate::replies::{Reply, Watch};
 use crate::verb::Verb;
 use clock2q_cache::{Cache, CacheError};
-use std::alloc::Global;
+use std::alloc::{AllocError, Global};
 use std::hash::BuildHasher;
 use std::num::NonZeroUsize;
 use testing::Refusing;
@@ -52,35 +55,59 @@ impl<'a, S: BuildHasher + Drop> Cached<'a, S> {
 }
 
 impl<'a, S: BuildHasher> Cached<'a, S> {
+    /// Makes a call, or answers a question about the run, and writes the reply, with a line end.
+    pub(crate) fn write_reply(
+        &mut self,
+        verb: Verb,
+        numbers: (u64, u64),
+        replies: &mut String,
+    ) -> Result<(), AllocError> {
+        match verb {
+            Verb::Show(shown) => self.write_shown(shown, replies),
+            _ => self.reply(verb, numbers).write(replies),
+        }
+    }
+
     /// Makes a call, or answers a question about the run.
-    pub(crate) fn reply(&mut self, verb: Verb, (first, second): (u64, u64)) -> Reply {
+    fn reply(&mut self, verb: Verb, (first, second): (u64, u64)) -> Reply {
         match verb {
             Verb::Get => Reply::Value(self.get(first)),
-            Verb::GetMut => Reply::Value(self.get_mut(first)),
+            Verb::GetMut => Reply::Value(self.get_mut(first, second)),
+            Verb::GetAt => Reply::Value(self.get_at(first as usize, second)),
             Verb::Slot => Reply::Value(self.slot(first)),
             Verb::Peek => Reply::Value(self.peek(first)),
             Verb::Contains => Reply::Flag(self.contains(first)),
-            Verb::GetAt => Reply::Value(self.get_at(first as usize, second)),
+            Verb::Len => Reply::Number(self.len()),
+            Verb::Capacity => Reply::Number(self.capacity()),
+            Verb::IsEmpty => Reply::Flag(self.is_empty()),
+            Verb::At(call) => self.reply_at(call, first, second),
+            Verb::Ask(question) => self.watch.reply(question),
+            Verb::Show(_) => Reply::Unknown,
+            _ => self.change(verb, first, second),
+        }
+    }
+
+    /// Makes a call that lets keys in or out.
+    fn change(&mut self, verb: Verb, first: u64, second: u64) -> Reply {
+        match verb {
             Verb::Put => Reply::Value(self.put(first, second)),
             Verb::With => Reply::Pair(self.with(first, second)),
             Verb::Try => Reply::Value(self.fetch(first, Ok(second))),
             Verb::TryFail => Reply::Value(self.fetch(first, Err(()))),
             Verb::TryMut => Reply::Value(self.fetch_mut(first, Ok(second))),
             Verb::TryMutFail => Reply::Value(self.fetch_mut(first, Err(()))),
+            Verb::Fail => self.fail(first),
             Verb::SlotFor => self.slot_for(first, second),
             Verb::Enter => self.enter(first, second),
-            Verb::Remove => Reply::Flag(self.remove(first)),
             Verb::Puts => Reply::Number(self.puts(first, second)),
             Verb::Stores => Reply::Number(self.stores(first, second)),
             Verb::Prefill => Reply::Number(self.prefill()),
+            Verb::Remove => Reply::Flag(self.remove(first)),
             Verb::Retain => self.retain(first, second),
             Verb::EveryOther => Reply::Number(self.every_other()),
             Verb::Tags => Reply::Number(self.tags()),
             Verb::Clear => self.clear(),
-            Verb::Len => Reply::Number(self.len()),
-            Verb::Capacity => Reply::Number(self.capacity()),
-            Verb::IsEmpty => Reply::Flag(self.is_empty()),
-            Verb::Ask(question) => self.watch.reply(question),
+            _ => Reply::Unknown,
         }
     }
 }
@@ -96,12 +123,13 @@ impl<'a, S: BuildHasher> Cached<'a, S> {
         self.cache.get(&key).copied()
     }
 
-    fn get_mut(&mut self, id: u64) -> Option<u64> {
+    /// Writes a value where one is lent, and returns the one before.
+    fn get_mut(&mut self, id: u64, value: u64) -> Option<u64> {
         let key = self.key(id);
-        match self.cache.get_mut(&key) {
-            Some(value) => Some(*value),
-            None => None,
-        }
+        let held = self.cache.get_mut(&key)?;
+        let before = *held;
+        *held = value;
+        Some(before)
     }
 
     fn slot(&mut self, id: u64) -> Option<u64> {
@@ -149,12 +177,27 @@ impl<'a, S: BuildHasher> Cached<'a, S> {
         }
     }
 
-    /// Fetches a value to be written to, unless the closure fails.
+    /// Fetches a value, unless the closure fails, and writes one more where it is lent.
     fn fetch_mut(&mut self, id: u64, fetched: Result<u64, ()>) -> Option<u64> {
         let key = self.key(id);
         match self.cache.try_get_or_insert_with_mut(key, || fetched) {
-            Ok(value) => Some(*value),
+            Ok(held) => {
+                let before = *held;
+                *held = before.wrapping_add(1);
+                Some(before)
+            }
             Err(()) => None,
+        }
+    }
+
+    /// Fetches a value with a closure that fails with an error that owns two bytes.
+    fn fail(&mut self, id: u64) -> Reply {
+        let key = self.key(id);
+        let refusal: Result<_, _> = Vec::from_slice(self.watch.memory, b"no");
+        match self.cache.try_get_or_insert_with(key, || Err(refusal)) {
+            Ok(value) => Reply::Value(Some(*value)),
+            Err(Ok(refusal)) => Reply::Failed(refusal.len() as u64),
+            Err(Err(_)) => Reply::Failed(0),
         }
     }
 
@@ -172,12 +215,12 @@ impl<'a, S: BuildHasher> Cached<'a, S> {
     fn enter(&mut self, id: u64, value: u64) -> Reply {
         let key = self.key(id);
         let mut calls = 0u64;
-        let (slot, value, _) = self.cache.enter(key, || {
+        let (slot, value, entered) = self.cache.enter(key, || {
             calls = calls.saturating_add(1);
             value
         });
         let value = *value;
-        Reply::Slot(slot as u64, value, calls)
+        Reply::Entered(slot as u64, value, calls, entered)
     }
 
     fn remove(&mut self, id: u64) -> bool {
