@@ -23,7 +23,7 @@ const FOUR: LinearHashBuilder = LinearHashBuilder {
 };
 
 /// Hashers that return one number for all keys, and one that returns the key.
-const SPREADS: [LinearHashBuilder; 4] = [
+pub(crate) const SPREADS: [LinearHashBuilder; 4] = [
     ALIKE,
     LinearHashBuilder {
         times: 0,

@@ -1,6 +1,6 @@
 //! Tests of what users call: the first example, the callers in `clock2q_uses`, memos, lists of commands,
-//! a table's closure whose answers change, and the memory that caches and memos take and may be
-//! refused.
+//! texts from devices that fail, a table's closure whose answers change, and the memory that caches and
+//! memos take and may be refused.
 #![tactic(auto)]
 
 #[cfg(test)]
@@ -12,7 +12,13 @@ mod constructions;
 #[cfg(test)]
 mod counted;
 #[cfg(test)]
+mod devices;
+#[cfg(test)]
 mod first_example;
+#[cfg(test)]
+mod hashers;
+#[cfg(test)]
+mod long_texts;
 #[cfg(test)]
 mod memo_keys;
 #[cfg(test)]
@@ -21,6 +27,10 @@ mod memos;
 mod no_requests;
 #[cfg(test)]
 mod offered;
+#[cfg(test)]
+mod refused_runs;
+#[cfg(test)]
+mod refused_texts;
 #[cfg(test)]
 mod runs;
 #[cfg(test)]

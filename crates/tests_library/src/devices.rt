@@ -1,6 +1,6 @@
 //! Devices that give and take a few bytes at a time, and fail at one of their calls.
 
-use crate::texts::served;
+use crate::long_texts::served;
 use clock2q_command::{Device, Failed, ServeError, Sink, Source, serve};
 use std::alloc::{AllocError, Global};
 use std::fmt::Debug;

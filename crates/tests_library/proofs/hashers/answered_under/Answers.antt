@@ -2,7 +2,7 @@
 use Rattle.std.proofs.Common.{rules}
 use Rattle.clock2q_text.specs.Parsing.{shares_value, script_value}
 use Rattle.clock2q_text.proofs.Supplying.{supplied-spelled}
-use Rattle.tests_text.proofs.hashers.answered_under.Goals as goal
+use Rattle.tests_library.proofs.hashers.answered_under.Goals as goal
 
 pub run-requires : goal.run-requires
 run-requires c = record {

@@ -1,23 +1,10 @@
 //! Cases of texts, a line each, served under hashers that spread keys well, badly and at random.
 
+use crate::player::SPREADS;
 use clock2q_command::{Device, ServeError, serve, serve_with};
 use std::alloc::{AllocError, Global};
 use std::hash::{BuildHasher, RandomState};
-use testing::{LinearHashBuilder, SpellingError, spelled};
-
-/// One hash for all keys, three times, and each key as its own hash.
-const SPREADS: [LinearHashBuilder; 4] = [
-    LinearHashBuilder { times: 0, more: 0 },
-    LinearHashBuilder {
-        times: 0,
-        more: 0xAB00_0000_0000_000F,
-    },
-    LinearHashBuilder {
-        times: 0,
-        more: u64::MAX,
-    },
-    LinearHashBuilder { times: 1, more: 0 },
-];
+use testing::{SpellingError, spelled};
 
 /// Returns what was written, or after it the refusal and its status.
 fn shown(
