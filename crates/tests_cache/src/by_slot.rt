@@ -3,9 +3,8 @@
 use clock2q_cache::{Cache, CacheError};
 use std::alloc::Global;
 use std::num::NonZeroUsize;
-use std::process::Abort;
 use std::test::Fail;
-use testing::{LinearHashBuilder, SplitMix64};
+use testing::{LinearHashBuilder, SplitMix64, same, same_at};
 
 type Numbers = Cache<u64, u64, LinearHashBuilder>;
 
@@ -45,35 +44,29 @@ fn slots_of(alloc: Global, cache: &Numbers, hash: u64) -> Result<Vec<usize>, Fai
 
 /// Each resident with this hash is listed, and nothing else is.
 fn list_is_right(
-    rt: &impl Abort,
     slots: &[usize],
     cache: &Numbers,
     hash: u64,
     spread: LinearHashBuilder,
-) {
+) -> Result<(), Fail> {
     let mut residents: usize = 0;
     for other in 0..KEYS {
         if hash_of(spread, other) == hash {
             if let Some(slot) = cache.peek_slot(&other) {
-                assert!(rt; slots.contains(&slot), "{other} isn't listed");
+                same_at(slots.contains(&slot), true, other)?;
                 residents = residents.wrapping_add(1);
             }
         }
     }
-    assert_eq!(rt; slots.len(), residents);
+    same(slots.len(), residents)
 }
 
 /// Each resident is listed once for its hash, and nothing else is.
-fn lists_are_right(
-    rt: &impl Abort,
-    alloc: Global,
-    cache: &Numbers,
-    spread: LinearHashBuilder,
-) -> Result<(), Fail> {
+fn lists_are_right(alloc: Global, cache: &Numbers, spread: LinearHashBuilder) -> Result<(), Fail> {
     for key in 0..KEYS {
         let hash = hash_of(spread, key);
         let slots = slots_of(alloc, cache, hash)?;
-        list_is_right(rt, &slots, cache, hash, spread);
+        list_is_right(&slots, cache, hash, spread)?;
     }
     Ok(())
 }
@@ -121,15 +114,15 @@ fn call_both(by_key: &mut Numbers, by_slot: &mut Numbers, call: u64, key: u64) {
 }
 
 /// Both caches have the same keys at the same slots.
-fn are_same(rt: &impl Abort, one: &Numbers, other: &Numbers) {
+fn are_same(one: &Numbers, other: &Numbers) -> Result<(), Fail> {
     for key in 0..KEYS {
-        assert_eq!(rt; one.peek_slot(&key), other.peek_slot(&key));
+        same_at(one.peek_slot(&key), other.peek_slot(&key), key)?;
     }
+    Ok(())
 }
 
 /// The same calls of two empty caches leave the same keys at the same slots.
 fn calls_agree(
-    rt: &impl Abort,
     alloc: Global,
     by_key: &mut Numbers,
     by_slot: &mut Numbers,
@@ -139,22 +132,22 @@ fn calls_agree(
     for _ in 0..500 {
         let call = draws.below(4);
         call_both(by_key, by_slot, call, draws.below(KEYS));
-        are_same(rt, by_key, by_slot);
+        are_same(by_key, by_slot)?;
     }
-    lists_are_right(rt, alloc, by_slot, FOUR_HASHES)
+    lists_are_right(alloc, by_slot, FOUR_HASHES)
 }
 
 /// The same, with caches made for it.
-fn caches_agree(rt: &impl Abort, alloc: Global, capacity: usize) -> Result<(), Fail> {
+fn caches_agree(alloc: Global, capacity: usize) -> Result<(), Fail> {
     let mut by_key = cache_of(alloc, capacity, FOUR_HASHES)?;
     let mut by_slot = cache_of(alloc, capacity, FOUR_HASHES)?;
-    calls_agree(rt, alloc, &mut by_key, &mut by_slot, capacity as u64)
+    calls_agree(alloc, &mut by_key, &mut by_slot, capacity as u64)
 }
 
 #[test]
 fn by_slot_as_by_key(rt: HostRuntime) -> Result<(), Fail> {
     for capacity in [1, 2, 7, 30] {
-        caches_agree(&rt, rt.alloc(), capacity)?;
+        caches_agree(rt.alloc(), capacity)?;
     }
     Ok(())
 }

@@ -3,29 +3,28 @@
 use crate::calls::Call;
 use crate::tested::{Position, Tested};
 use std::alloc::Global;
-use std::process::Abort;
 use std::test::Fail;
 use testing::{LinearHashBuilder, SplitMix64};
 
 type Crowded = Tested<LinearHashBuilder>;
 
 /// Puts a quarter more keys than the cache can hold.
-fn fill(rt: &impl Abort, tested: &mut Crowded, capacity: u64, list: u64) -> Result<(), Fail> {
+fn fill(tested: &mut Crowded, capacity: u64, list: u64) -> Result<(), Fail> {
     for number in 0..capacity.saturating_add(capacity / 4) {
-        tested.call(rt, Call::Put(number, number), Position { list, number })?;
+        tested.call(Call::Put(number, number), Position { list, number })?;
     }
     Ok(())
 }
 
 /// Makes drawn calls, except those that clear the cache.
-fn drive(rt: &impl Abort, tested: &mut Crowded, calls: u64, list: u64) -> Result<(), Fail> {
+fn drive(tested: &mut Crowded, calls: u64, list: u64) -> Result<(), Fail> {
     let mut draws = SplitMix64::new(list);
     for number in 0..calls {
         let position = Position { list, number };
         match Call::drawn(&mut draws, &tested.model, number) {
-            Call::Clear => tested.residents_are_same(rt, position)?,
+            Call::Clear => tested.residents_are_same(position)?,
             call => {
-                tested.call(rt, call, position)?;
+                tested.call(call, position)?;
             }
         }
     }
@@ -33,37 +32,24 @@ fn drive(rt: &impl Abort, tested: &mut Crowded, calls: u64, list: u64) -> Result
 }
 
 /// An empty cache with this capacity agrees with its lists.
-fn is_same(rt: &impl Abort, tested: &mut Crowded, capacity: u64, list: u64) -> Result<(), Fail> {
-    fill(rt, tested, capacity, list)?;
-    drive(rt, tested, 1_000, list)?;
-    tested.slots_are_same(
-        rt,
-        Position {
-            list,
-            number: capacity,
-        },
-    )
+fn is_same(tested: &mut Crowded, capacity: u64, list: u64) -> Result<(), Fail> {
+    fill(tested, capacity, list)?;
+    drive(tested, 1_000, list)?;
+    tested.slots_are_same(Position {
+        list,
+        number: capacity,
+    })
 }
 
 /// The same, with a cache made for it, under a hasher.
-fn agrees(
-    rt: &impl Abort,
-    alloc: Global,
-    capacity: u64,
-    spread: LinearHashBuilder,
-) -> Result<(), Fail> {
+fn agrees(alloc: Global, capacity: u64, spread: LinearHashBuilder) -> Result<(), Fail> {
     let mut tested = Tested::usual(alloc, capacity as usize, spread)?;
-    is_same(rt, &mut tested, capacity, spread.times)
+    is_same(&mut tested, capacity, spread.times)
 }
 
 #[test]
 fn one_hash_for_all(rt: HostRuntime) -> Result<(), Fail> {
-    agrees(
-        &rt,
-        rt.alloc(),
-        2_000,
-        LinearHashBuilder { times: 0, more: 0 },
-    )
+    agrees(rt.alloc(), 2_000, LinearHashBuilder { times: 0, more: 0 })
 }
 
 /// Hashes that differ only in their lowest bits, in the highest, or in bits between, which no table
@@ -75,7 +61,7 @@ fn hashes_that_differ_little(rt: HostRuntime) -> Result<(), Fail> {
             times: 1 << bit,
             more: 0xAB00_0000_0000_000F,
         };
-        agrees(&rt, rt.alloc(), 200, spread)?;
+        agrees(rt.alloc(), 200, spread)?;
     }
     Ok(())
 }

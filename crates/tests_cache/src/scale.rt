@@ -7,6 +7,7 @@ use clock2q_cache::{Cache, CacheError, DefaultHashBuilder};
 use std::alloc::Global;
 use std::num::NonZeroUsize;
 use std::test::Fail;
+use testing::same;
 
 /// The result of a million accesses with a thousand keys.
 const THOUSAND: Hits = Hits {
@@ -33,20 +34,17 @@ fn cache_of(
 #[test]
 fn lists_of_a_thousand_keys(rt: HostRuntime) -> Result<(), Fail> {
     let mut lists = Model::new(rt.alloc(), Shares::usual(1_000));
-    assert_eq!(rt; on_lists(&mut lists, 1_000_000, 13)?, THOUSAND);
-    Ok(())
+    same(on_lists(&mut lists, 1_000_000, 13)?, THOUSAND)
 }
 
 #[test]
 fn cache_of_a_thousand_keys(rt: HostRuntime) -> Result<(), Fail> {
     let mut cache = cache_of(rt.alloc(), 1_000)?;
-    assert_eq!(rt; on_cache(&mut cache, 1_000_000, 13), THOUSAND);
-    Ok(())
+    same(on_cache(&mut cache, 1_000_000, 13), THOUSAND)
 }
 
 #[test]
 fn cache_of_a_million_keys(rt: HostRuntime) -> Result<(), Fail> {
     let mut cache = cache_of(rt.alloc(), 1_000_000)?;
-    assert_eq!(rt; on_cache(&mut cache, 10_000_000, 23), MILLION);
-    Ok(())
+    same(on_cache(&mut cache, 10_000_000, 23), MILLION)
 }

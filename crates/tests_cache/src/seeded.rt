@@ -5,7 +5,6 @@ use crate::model::Shares;
 use crate::tested::{Position, Tested};
 use clock2q_cache::DefaultHashBuilder;
 use std::alloc::Global;
-use std::process::Abort;
 use std::test::Fail;
 use testing::SplitMix64;
 
@@ -59,94 +58,79 @@ fn made(alloc: Global, kind: Kind, shares: Shares) -> Result<Usual, Fail> {
 }
 
 /// Makes the first calls of a list, and compares after each.
-fn drive(
-    rt: &impl Abort,
-    tested: &mut Usual,
-    end: Position,
-    draws: &mut SplitMix64,
-) -> Result<(), Fail> {
+fn drive(tested: &mut Usual, end: Position, draws: &mut SplitMix64) -> Result<(), Fail> {
     let list = end.list;
     for number in 0..end.number {
         let call = Call::drawn(draws, &tested.model, number);
         let position = Position { list, number };
-        tested.call(rt, call, position)?;
-        tested.sizes_are_same(rt, position)?;
-        tested.residents_are_same(rt, position)?;
+        tested.call(call, position)?;
+        tested.sizes_are_same(position)?;
+        tested.residents_are_same(position)?;
     }
     Ok(())
 }
 
 /// Checks what only mutating calls show: the slots, and which keys are remembered.
-fn look_closely(rt: &impl Abort, tested: &mut Usual, end: Position) -> Result<(), Fail> {
-    tested.slots_are_same(rt, end)?;
-    tested.take_apart(rt, end)
+fn look_closely(tested: &mut Usual, end: Position) -> Result<(), Fail> {
+    tested.slots_are_same(end)?;
+    tested.take_apart(end)
 }
 
 /// Begins a list in an empty cache, and looks closely at the result.
-fn drive_and_look(
-    rt: &impl Abort,
-    tested: &mut Usual,
-    end: Position,
-    draws: &mut SplitMix64,
-) -> Result<(), Fail> {
-    drive(rt, tested, end, draws)?;
-    look_closely(rt, tested, end)
+fn drive_and_look(tested: &mut Usual, end: Position, draws: &mut SplitMix64) -> Result<(), Fail> {
+    drive(tested, end, draws)?;
+    look_closely(tested, end)
 }
 
 /// The same, with a cache made for it.
-fn beginning_is_same(
-    rt: &impl Abort,
-    alloc: Global,
-    kind: Kind,
-    end: Position,
-) -> Result<(), Fail> {
+fn beginning_is_same(alloc: Global, kind: Kind, end: Position) -> Result<(), Fail> {
     let mut draws = SplitMix64::new(end.list);
     let shares = shares_of(&mut draws, kind, end.list as usize);
     let mut tested = made(alloc, kind, shares)?;
-    drive_and_look(rt, &mut tested, end, &mut draws)
+    drive_and_look(&mut tested, end, &mut draws)
 }
 
 /// A close look ends a run, so each has a run of its own.
-fn list_is_same(rt: &impl Abort, alloc: Global, kind: Kind, list: u64) -> Result<(), Fail> {
+fn list_is_same(alloc: Global, kind: Kind, list: u64) -> Result<(), Fail> {
     for look in 1..=LOOKS {
         let end = Position {
             list,
             number: look * CALLS,
         };
-        beginning_is_same(rt, alloc, kind, end)?;
+        beginning_is_same(alloc, kind, end)?;
     }
     Ok(())
 }
 
 /// A list for each capacity.
-fn lists_are_same(rt: &impl Abort, alloc: Global, kind: Kind) -> Result<(), Fail> {
+fn lists_are_same(alloc: Global, kind: Kind) -> Result<(), Fail> {
     for capacity in 1..=CAPACITIES {
-        list_is_same(rt, alloc, kind, capacity)?;
+        list_is_same(alloc, kind, capacity)?;
     }
     Ok(())
 }
 
 #[test]
 fn usual_shares(rt: HostRuntime) -> Result<(), Fail> {
-    lists_are_same(&rt, rt.alloc(), Kind::Usual)
+    lists_are_same(rt.alloc(), Kind::Usual)
 }
 
 #[test]
 fn no_small(rt: HostRuntime) -> Result<(), Fail> {
-    lists_are_same(&rt, rt.alloc(), Kind::NoSmall)
+    lists_are_same(rt.alloc(), Kind::NoSmall)
 }
 
 #[test]
 fn shortest_window(rt: HostRuntime) -> Result<(), Fail> {
-    lists_are_same(&rt, rt.alloc(), Kind::ShortestWindow)
+    lists_are_same(rt.alloc(), Kind::ShortestWindow)
 }
 
 #[test]
 fn longest_window(rt: HostRuntime) -> Result<(), Fail> {
-    lists_are_same(&rt, rt.alloc(), Kind::LongestWindow)
+    lists_are_same(rt.alloc(), Kind::LongestWindow)
 }
 
 #[test]
 fn smallest_main(rt: HostRuntime) -> Result<(), Fail> {
-    lists_are_same(&rt, rt.alloc(), Kind::SmallestMain)
+    lists_are_same(rt.alloc(), Kind::SmallestMain)
 }

@@ -1,14 +1,14 @@
 //! A cache and its plain lists, driven by the same calls.
 
 use crate::called::Called;
-use crate::calls::{Answer, Call};
+use crate::calls::Call;
 use crate::model::{Model, Shares};
 use clock2q_cache::Cache;
 use std::alloc::Global;
 use std::hash::BuildHasher;
 use std::num::NonZeroUsize;
-use std::process::Abort;
 use std::test::Fail;
+use testing::same_at;
 
 /// The list, and the call in it, that a test is at.
 #[derive(Clone, Copy, Debug)]
@@ -51,58 +51,46 @@ impl<S: BuildHasher + Drop> Tested<S> {
     }
 
     /// Makes the call on both. The answers are the same.
-    pub(crate) fn call(
-        &mut self,
-        rt: &impl Abort,
-        call: Call,
-        position: Position,
-    ) -> Result<Answer, Fail> {
+    pub(crate) fn call(&mut self, call: Call, position: Position) -> Result<(), Fail> {
         let answer = self.called.answer(call);
         let wanted = self.model.answer(call)?;
-        assert_eq!(rt; answer, wanted, "{position:?}: {call:?}");
-        Ok(answer)
+        same_at(answer, wanted, (position, call))
     }
 
     /// The cache's `Debug` text has the same numbers of keys.
-    pub(crate) fn sizes_are_same(&self, rt: &impl Abort, position: Position) -> Result<(), Fail> {
+    pub(crate) fn sizes_are_same(&self, position: Position) -> Result<(), Fail> {
         let wanted = self.model.text()?;
         let shown = self.called.text(self.alloc)?;
-        assert_eq!(rt; shown.as_str(), wanted.as_str(), "{position:?}");
-        Ok(())
+        same_at(shown.as_str(), wanted.as_str(), position)
     }
 
     /// The cache holds the same keys with the same values, slot by slot.
-    pub(crate) fn residents_are_same(
-        &mut self,
-        rt: &impl Abort,
-        position: Position,
-    ) -> Result<(), Fail> {
+    pub(crate) fn residents_are_same(&mut self, position: Position) -> Result<(), Fail> {
         let wanted = self.model.residents()?;
-        assert!(rt; self.called.lists(&wanted), "{position:?}");
-        assert!(rt; self.called.holds(&wanted), "{position:?}");
-        Ok(())
+        let is_listed = self.called.lists(&wanted);
+        same_at(
+            (is_listed, self.called.holds(&wanted)),
+            (true, true),
+            position,
+        )
     }
 
     /// Looks each resident up at its slot and at the next one.
-    pub(crate) fn slots_are_same(
-        &mut self,
-        rt: &impl Abort,
-        position: Position,
-    ) -> Result<(), Fail> {
+    pub(crate) fn slots_are_same(&mut self, position: Position) -> Result<(), Fail> {
         for slot in 0..self.model.made() {
             let key = self.model.key_at(slot).unwrap_or(0);
-            self.call(rt, Call::GetAt(slot, key), position)?;
-            self.call(rt, Call::GetAt(slot + 1, key), position)?;
+            self.call(Call::GetAt(slot, key), position)?;
+            self.call(Call::GetAt(slot + 1, key), position)?;
         }
         Ok(())
     }
 
     /// Removes each key, resident or remembered. The `Debug` text shows after each which of the two
     /// it was.
-    pub(crate) fn take_apart(&mut self, rt: &impl Abort, position: Position) -> Result<(), Fail> {
+    pub(crate) fn take_apart(&mut self, position: Position) -> Result<(), Fail> {
         for key in 0..self.model.keys() {
-            self.call(rt, Call::Remove(key), position)?;
-            self.sizes_are_same(rt, position)?;
+            self.call(Call::Remove(key), position)?;
+            self.sizes_are_same(position)?;
         }
         Ok(())
     }
