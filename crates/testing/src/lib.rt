@@ -1,8 +1,10 @@
 //! What the test crates share: comparisons, bytes that lines of data spell, an allocator that refuses
-//! chosen requests for memory, numbers determined by a seed, and hashers that spread keys badly.
+//! chosen requests for memory, numbers determined by a seed, hashers that spread keys badly, and keys
+//! that count what is done with them.
 #![tactic(auto)]
 
 mod comparing;
+mod counted;
 mod linear_hash;
 mod playing;
 mod refusing;
@@ -11,6 +13,7 @@ mod split_mix;
 mod trying;
 
 pub use comparing::{same, same_at};
+pub use counted::{Counted, CountedHashes, Counts};
 pub use linear_hash::{LinearHashBuilder, LinearHasher};
 pub use playing::play_cases;
 pub use refusing::Refusing;

@@ -3,14 +3,13 @@
 mod at_slot;
 mod shown;
 
-use crate::counted::{Counted, CountedHashes};
 use crate::replies::{Reply, Watch};
 use crate::verb::Verb;
 use clock2q_cache::{Cache, CacheError};
 use std::alloc::{AllocError, Global};
 use std::hash::BuildHasher;
 use std::num::NonZeroUsize;
-use testing::Refusing;
+use testing::{Counted, CountedHashes, Refusing};
 
 /// A cache whose keys, hashers and requests for memory are counted.
 pub(crate) type Counting<'a, S> = Cache<

@@ -8,7 +8,6 @@
 #![tactic(auto)]
 
 mod cached;
-mod counted;
 mod drops;
 mod leaving;
 mod player;

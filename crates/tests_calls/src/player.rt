@@ -1,7 +1,6 @@
 //! Cases of calls to a cache, a line each.
 
 use crate::cached::Cached;
-use crate::counted::Counts;
 use crate::drops::play_drops;
 use crate::leaving::play_leaving;
 use crate::replies::{Reply, Watch, number_of, two_numbers, two_words};
@@ -9,7 +8,7 @@ use crate::verb::{Kind, Verb};
 use clock2q_cache::DefaultHashBuilder;
 use std::alloc::{AllocError, Global};
 use std::hash::BuildHasher;
-use testing::{LinearHashBuilder, Refusing, SpellingError, spelled};
+use testing::{Counts, LinearHashBuilder, Refusing, SpellingError, spelled};
 
 /// A hash of its own for each key, and one hash for all keys.
 const APART: LinearHashBuilder = LinearHashBuilder { times: 1, more: 0 };

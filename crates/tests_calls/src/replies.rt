@@ -1,11 +1,10 @@
 //! The words that calls are spelled by, the replies, and what a run is asked beside its calls.
 
-use crate::counted::Counts;
 use crate::verb::Question;
 use clock2q_cache::{CacheError, Entered, Occupant};
 use std::alloc::{AllocError, Global};
 use std::cell::Cell;
-use testing::Refusing;
+use testing::{Counts, Refusing};
 
 /// Returns the two parts of a text, of which the second begins after its first blank.
 pub(crate) fn two_words(text: &str) -> (&str, &str) {

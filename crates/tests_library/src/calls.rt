@@ -1,11 +1,10 @@
 //! A cache of counted keys that is lent to a function.
 
-use crate::counted::{Counted, Counts};
 use clock2q_cache::Cache;
 use std::alloc::Global;
 use std::num::NonZeroUsize;
 use std::test::Fail;
-use testing::LinearHashBuilder;
+use testing::{Counted, Counts, LinearHashBuilder};
 
 /// A hash of its own for each key, and one hash for all keys.
 pub(crate) const APART: LinearHashBuilder = LinearHashBuilder { times: 1, more: 0 };
@@ -21,7 +20,7 @@ pub(crate) fn put_three<'a>(cache: &mut Counting<'a>, counts: &'a Counts) {
     for id in 1..4 {
         let _ = cache.put(counts.key(id), id);
     }
-    let _ = counts.asked_and_hashed();
+    let _ = counts.asked();
 }
 
 /// Makes a cache for this many keys, and lends it to `work`.

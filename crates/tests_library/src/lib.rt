@@ -10,8 +10,6 @@ mod calls;
 #[cfg(test)]
 mod constructions;
 #[cfg(test)]
-mod counted;
-#[cfg(test)]
 mod devices;
 #[cfg(test)]
 mod first_example;

@@ -1,11 +1,10 @@
 //! What a memo does with its keys.
 ghost use Rattle.clock2q_memo.specs.Memo.{IsCallableAt};
 
-use crate::counted::{Counted, Counts};
 use clock2q_memo::Memo;
 use std::num::NonZeroUsize;
 use std::test::Fail;
-use testing::{same, same_at};
+use testing::{Counted, Counts, same, same_at};
 
 /// Looks keys up, each twice.
 fn misses_hash_twice<'a, F: Fn(&Counted<'a>) -> u64>(
@@ -16,9 +15,9 @@ fn misses_hash_twice<'a, F: Fn(&Counted<'a>) -> u64>(
 {
     for (id, hashes) in [(1, 2), (1, 1), (2, 2), (3, 2), (2, 1)] {
         same(memo.get(counts.key(id)), 7)?;
-        same_at(counts.asked_and_hashed().1, hashes, id)?;
+        same_at(counts.asked().1, hashes, id)?;
         same(memo.get_recorded(counts.key(id)), 7)?;
-        same_at(counts.asked_and_hashed().1, 1, id)?;
+        same_at(counts.asked().1, 1, id)?;
     }
     Ok(())
 }
@@ -51,6 +50,6 @@ fn no_key_outlives_its_memo(rt: HostRuntime) -> Result<(), Fail> {
     let mut memo = Memo::new(rt.alloc(), capacity, |_: &Counted<'_>| 7u64)?;
     look_up_six(&mut memo, &counts)?;
     let function = memo.into_function();
-    same(counts.dropped_and_left(), (6, 0))?;
+    same(counts.dropped(), (6, 0))?;
     same(function(&counts.key(5)), 7)
 }

@@ -3,11 +3,10 @@ ghost use Rattle.std.specs.Prelude.{IfOk, map};
 ghost use Rattle.clock2q_text.specs.Commands.{AreSupplied, call_of};
 
 use crate::calls::{ALIKE, APART, Counting, put_three, with_counting};
-use crate::counted::{Counted, Counts};
 use clock2q_command::{Command, run};
 use std::alloc::{AllocError, Global};
 use std::test::Fail;
-use testing::{LinearHashBuilder, same_at};
+use testing::{Counted, Counts, LinearHashBuilder, same_at};
 
 type Commands<'a> = Vec<Command<Counted<'a>, u64>>;
 
@@ -23,7 +22,7 @@ fn asks<'a>(
 {
     let (list, wanted) = case;
     let _ = run(alloc, cache, commands)?;
-    same_at(counts.asked_and_hashed(), wanted, list)
+    same_at(counts.asked(), wanted, list)
 }
 
 /// Commands that only look a key up.

@@ -9,9 +9,18 @@ ghost use Rattle.std.proofs.Common.{rules};
 use std::cell::Cell;
 use std::hash::{BuildHasher, Hash, Hasher};
 
-/// How often each operation was done in a run.
+/// How often keys were made, compared, hashed and dropped, and hashers were made, in a run. The keys and
+/// hashers share it.
+///
+/// # Example
+///
+/// ```
+/// let counts = Counts::new();
+/// cache.put(counts.key(3), 30);
+/// same(counts.asked(), (0, 1))?;
+/// ```
 #[derive(Drop)]
-pub(crate) struct Counts {
+pub struct Counts {
     made: Cell<u64>,
     compared: Cell<u64>,
     hashed: Cell<u64>,
@@ -21,7 +30,7 @@ pub(crate) struct Counts {
 
 impl Counts {
     /// Starts with nothing counted.
-    pub(crate) fn new() -> Counts {
+    pub fn new() -> Counts {
         Counts {
             made: Cell::new(0),
             compared: Cell::new(0),
@@ -32,7 +41,7 @@ impl Counts {
     }
 
     /// Makes a key that is counted here. Its tag is the number of keys made so far.
-    pub(crate) fn key(&self, id: u64) -> Counted<'_> {
+    pub fn key(&self, id: u64) -> Counted<'_> {
         add_one(&self.made);
         Counted {
             id,
@@ -43,17 +52,17 @@ impl Counts {
 
     /// Returns how often keys were compared, and how often one was hashed, since the last such
     /// call.
-    pub(crate) fn asked(&self) -> (u64, u64) {
+    pub fn asked(&self) -> (u64, u64) {
         (self.compared.replace(0), self.hashed.replace(0))
     }
 
     /// Returns how many hashers were made since the last such call.
-    pub(crate) fn hashers(&self) -> u64 {
+    pub fn hashers(&self) -> u64 {
         self.hashers.replace(0)
     }
 
     /// Returns how many keys were dropped, and how many are left.
-    pub(crate) fn dropped(&self) -> (u64, u64) {
+    pub fn dropped(&self) -> (u64, u64) {
         let dropped = self.dropped.get();
         (dropped, self.made.get().wrapping_sub(dropped))
     }
@@ -65,11 +74,19 @@ fn add_one(count: &Cell<u64>) {
 }
 
 /// A key that is compared by its id alone, and counted. The default one isn't.
+///
+/// # Example
+///
+/// ```
+/// same(counts.key(3) == counts.key(3), true)?;
+/// same(counts.dropped(), (2, 0))?;
+/// ```
 #[derive(Default)]
-pub(crate) struct Counted<'a> {
-    pub(crate) id: u64,
-    /// Which of the keys made it is.
-    pub(crate) tag: u64,
+pub struct Counted<'a> {
+    /// What it is compared and hashed by.
+    pub id: u64,
+    /// Which of the keys made it is, from 1 on.
+    pub tag: u64,
     counts: Option<&'a Counts>,
 }
 
@@ -117,10 +134,18 @@ impl Drop for Counted<'_> {
 }
 
 /// Hashes as another does, and counts the hashers that it makes.
+///
+/// # Example
+///
+/// ```
+/// let hasher = CountedHashes { hasher: DefaultHashBuilder::new(), counts: &counts };
+/// ```
 #[derive(Clone, Copy)]
-pub(crate) struct CountedHashes<'a, S> {
-    pub(crate) hasher: S,
-    pub(crate) counts: &'a Counts,
+pub struct CountedHashes<'a, S> {
+    /// What hashes.
+    pub hasher: S,
+    /// Where the hashers are counted.
+    pub counts: &'a Counts,
 }
 
 impl<S: BuildHasher> BuildHasher for CountedHashes<'_, S> {
