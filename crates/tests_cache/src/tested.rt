@@ -27,7 +27,7 @@ pub(crate) struct Tested<S: BuildHasher> {
 
 impl<S: BuildHasher + Drop> Tested<S> {
     pub(crate) fn new(alloc: Global, shares: Shares, hasher: S) -> Result<Tested<S>, Fail> {
-        let capacity = NonZeroUsize::new(shares.capacity).ok_or("not zero")?;
+        let capacity = NonZeroUsize::new(shares.capacity).unwrap_or(NonZeroUsize::MIN);
         let (small, window) = (shares.small, shares.window);
         let cache = Cache::with_policy(alloc, capacity, small, window, hasher)?;
         let model = Model::new(alloc, shares);
@@ -41,7 +41,7 @@ impl<S: BuildHasher + Drop> Tested<S> {
     /// With the shares of a cache that is made with only a capacity.
     pub(crate) fn usual(alloc: Global, capacity: usize, hasher: S) -> Result<Tested<S>, Fail> {
         let model = Model::new(alloc, Shares::usual(capacity));
-        let capacity = NonZeroUsize::new(capacity).ok_or("not zero")?;
+        let capacity = NonZeroUsize::new(capacity).unwrap_or(NonZeroUsize::MIN);
         let cache = Cache::with_hasher(alloc, capacity, hasher)?;
         Ok(Tested {
             alloc,

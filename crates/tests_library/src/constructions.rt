@@ -137,7 +137,7 @@ fn is_refused_for(
 fn nothing_asked_before(rt: HostRuntime) -> Result<(), Fail> {
     let alloc = Refusing::new(rt.alloc());
     alloc.refuse_after(0);
-    let too_large = NonZeroUsize::new(16_777_216).ok_or("not zero")?;
+    let too_large = NonZeroUsize::new(16_777_216).unwrap_or(NonZeroUsize::MIN);
     for maker in [Maker::New, Maker::MemoNew, Maker::WithPolicy(1)] {
         is_refused_for(&alloc, maker, too_large, CacheError::Capacity)?;
     }

@@ -25,7 +25,7 @@ fn misses_hash_twice<'a, F: Fn(&Counted<'a>) -> u64>(
 #[test]
 fn a_miss_hashes_its_key_twice(rt: HostRuntime) -> Result<(), Fail> {
     let counts = Counts::new();
-    let capacity = NonZeroUsize::new(2).ok_or("not zero")?;
+    let capacity = NonZeroUsize::new(2).unwrap_or(NonZeroUsize::MIN);
     let mut memo = Memo::new(rt.alloc(), capacity, |_: &Counted<'_>| 7u64)?;
     misses_hash_twice(&mut memo, &counts)
 }
@@ -46,7 +46,7 @@ fn look_up_six<'a, F: Fn(&Counted<'a>) -> u64>(
 #[test]
 fn no_key_outlives_its_memo(rt: HostRuntime) -> Result<(), Fail> {
     let counts = Counts::new();
-    let capacity = NonZeroUsize::new(2).ok_or("not zero")?;
+    let capacity = NonZeroUsize::new(2).unwrap_or(NonZeroUsize::MIN);
     let mut memo = Memo::new(rt.alloc(), capacity, |_: &Counted<'_>| 7u64)?;
     look_up_six(&mut memo, &counts)?;
     let function = memo.into_function();

@@ -20,7 +20,7 @@ fn memo_of<F: Fn(&u64) -> u64 + Drop>(
     capacity: usize,
     function: F,
 ) -> Result<Memo<u64, u64, F>, Fail> {
-    let capacity = NonZeroUsize::new(capacity).ok_or("not zero")?;
+    let capacity = NonZeroUsize::new(capacity).unwrap_or(NonZeroUsize::MIN);
     Ok(Memo::new(alloc, capacity, function)?)
 }
 
@@ -180,7 +180,7 @@ fn cleared_and_taken_apart(rt: HostRuntime) -> Result<(), Fail> {
 
 #[test]
 fn a_capacity_past_the_limit(rt: HostRuntime) -> Result<(), Fail> {
-    let capacity = NonZeroUsize::new(16_777_216).ok_or("not zero")?;
+    let capacity = NonZeroUsize::new(16_777_216).unwrap_or(NonZeroUsize::MIN);
     let refused = Memo::<u64, u64, _>::new(rt.alloc(), capacity, square);
     same(refused.err(), Some(CacheError::Capacity))
 }
@@ -213,7 +213,7 @@ fn quotients_are_returned<F: Fn(&u64) -> Result<u64, ByZero>>(
 
 #[test]
 fn a_function_that_may_fail(rt: HostRuntime) -> Result<(), Fail> {
-    let capacity = NonZeroUsize::new(2).ok_or("not zero")?;
+    let capacity = NonZeroUsize::new(2).unwrap_or(NonZeroUsize::MIN);
     let mut memo = Memo::fallible(rt.alloc(), capacity, quotient)?;
     quotients_are_returned(&mut memo)
 }

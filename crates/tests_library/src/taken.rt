@@ -60,7 +60,7 @@ fn identity(key: &u64) -> u64 {
 fn caches(rt: HostRuntime) -> Result<(), Fail> {
     let alloc = Refusing::new(rt.alloc());
     for (capacity, bytes) in BYTES {
-        let capacity = NonZeroUsize::new(capacity).ok_or("not zero")?;
+        let capacity = NonZeroUsize::new(capacity).unwrap_or(NonZeroUsize::MIN);
         let made = Cache::<u64, u64, DefaultHashBuilder, &Refusing<Global>>::new(&alloc, capacity);
         holds(&alloc, made, bytes)?;
         let hasher = LinearHashBuilder { times: 1, more: 0 };
@@ -76,7 +76,7 @@ fn caches(rt: HostRuntime) -> Result<(), Fail> {
 fn chosen_shares(rt: HostRuntime) -> Result<(), Fail> {
     let alloc = Refusing::new(rt.alloc());
     for ((capacity, small, window), bytes) in CHOSEN {
-        let capacity = NonZeroUsize::new(capacity).ok_or("not zero")?;
+        let capacity = NonZeroUsize::new(capacity).unwrap_or(NonZeroUsize::MIN);
         let hasher = DefaultHashBuilder::new();
         let made = Cache::<u64, u64, DefaultHashBuilder, &Refusing<Global>>::with_policy(
             &alloc, capacity, small, window, hasher,
@@ -90,7 +90,7 @@ fn chosen_shares(rt: HostRuntime) -> Result<(), Fail> {
 fn memos(rt: HostRuntime) -> Result<(), Fail> {
     let alloc = Refusing::new(rt.alloc());
     for (capacity, bytes) in BYTES {
-        let capacity = NonZeroUsize::new(capacity).ok_or("not zero")?;
+        let capacity = NonZeroUsize::new(capacity).unwrap_or(NonZeroUsize::MIN);
         let made: Result<Memo<u64, u64, _, DefaultHashBuilder, &Refusing<Global>>, CacheError> =
             Memo::new(&alloc, capacity, identity);
         holds(&alloc, made, bytes)?;
