@@ -1,4 +1,4 @@
-//! What the test crates share: comparisons, bytes that lines of data spell, an allocator that refuses
+//! What the test crates share: comparisons, bytes and words that lines of data spell, an allocator that refuses
 //! chosen requests for memory, numbers determined by a seed, hashers that spread keys badly, and keys
 //! that count what is done with them.
 #![tactic(auto)]
@@ -11,6 +11,7 @@ mod refusing;
 mod spelling;
 mod split_mix;
 mod trying;
+mod words;
 
 pub use comparing::{same, same_at};
 pub use counted::{Counted, CountedHashes, Counts};
@@ -20,3 +21,4 @@ pub use refusing::Refusing;
 pub use spelling::{SpellingError, spelled, spelling_of};
 pub use split_mix::SplitMix64;
 pub use trying::{Tried, try_in_turn};
+pub use words::{number_of, two_numbers, two_words};

@@ -278,17 +278,6 @@ impl<'a, S: BuildHasher> Cached<'a, S> {
         asked
     }
 
-    /// Returns the id and the tag of each resident's key, by ascending slot, as digits of a number.
-    fn tags(&mut self) -> u64 {
-        let mut tags = 0u64;
-        self.cache.retain(|key, _| {
-            tags = tags.wrapping_mul(10).wrapping_add(key.id);
-            tags = tags.wrapping_mul(10).wrapping_add(key.tag);
-            true
-        });
-        tags
-    }
-
     fn clear(&mut self) -> Reply {
         self.cache.clear();
         Reply::Done

@@ -1,12 +1,11 @@
 //! A cache whose values count how many of them were dropped.
 
-use crate::replies::{number_of, two_words};
 use crate::verb::Verb;
 use clock2q_cache::{Cache, DefaultHashBuilder};
 use std::alloc::{AllocError, Global};
 use std::cell::Cell;
 use std::num::NonZeroUsize;
-use testing::Refusing;
+use testing::{Refusing, number_of, two_words};
 
 /// A value that counts in a place that all values of a run share.
 struct Dropped<'a> {

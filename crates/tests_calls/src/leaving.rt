@@ -1,12 +1,12 @@
 //! A cache whose calls reply with the key that leaves.
 
-use crate::replies::{Reply, number_of, two_numbers, two_words};
+use crate::replies::Reply;
 use crate::verb::Verb;
 use clock2q_cache::Cache;
 use std::alloc::{AllocError, Global};
 use std::hash::BuildHasher;
 use std::num::NonZeroUsize;
-use testing::Refusing;
+use testing::{Refusing, number_of, two_numbers, two_words};
 
 /// A cache of plain keys.
 #[derive(Drop)]

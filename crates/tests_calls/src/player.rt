@@ -3,12 +3,14 @@
 use crate::cached::Cached;
 use crate::drops::play_drops;
 use crate::leaving::play_leaving;
-use crate::replies::{Reply, Watch, number_of, two_numbers, two_words};
+use crate::replies::{Reply, Watch};
 use crate::verb::{Kind, Verb};
 use clock2q_cache::DefaultHashBuilder;
 use std::alloc::{AllocError, Global};
 use std::hash::BuildHasher;
-use testing::{Counts, LinearHashBuilder, Refusing, SpellingError, spelled};
+use testing::{
+    Counts, LinearHashBuilder, Refusing, SpellingError, number_of, spelled, two_numbers, two_words,
+};
 
 /// A hash of its own for each key, and one hash for all keys.
 const APART: LinearHashBuilder = LinearHashBuilder { times: 1, more: 0 };

@@ -1,26 +1,10 @@
-//! The words that calls are spelled by, the replies, and what a run is asked beside its calls.
+//! The replies of calls, and what a run is asked beside its calls.
 
 use crate::verb::Question;
 use clock2q_cache::{CacheError, Entered, Occupant};
 use std::alloc::{AllocError, Global};
 use std::cell::Cell;
 use testing::{Counts, Refusing};
-
-/// Returns the two parts of a text, of which the second begins after its first blank.
-pub(crate) fn two_words(text: &str) -> (&str, &str) {
-    text.split_once(' ').unwrap_or((text, ""))
-}
-
-/// Returns the number that a word spells, or 0.
-pub(crate) fn number_of(word: &str) -> u64 {
-    word.parse().unwrap_or(0)
-}
-
-/// Returns the two numbers that a text spells, each 0 if it isn't there.
-pub(crate) fn two_numbers(text: &str) -> (u64, u64) {
-    let (first, second) = two_words(text);
-    (number_of(first), number_of(second))
-}
 
 /// The reply of a call.
 #[derive(Clone, Copy)]
@@ -88,10 +72,12 @@ fn write_placed(
 
 /// Returns what became of a key that entered, as a word.
 fn word_of(entered: Entered) -> &'static str {
-    match (entered.is_hit, entered.has_evicted) {
-        (true, _) => "hit",
-        (false, true) => "evicted",
-        (false, false) => "new",
+    if entered.is_hit {
+        "hit"
+    } else if entered.has_evicted {
+        "evicted"
+    } else {
+        "new"
     }
 }
 
