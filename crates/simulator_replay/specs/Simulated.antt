@@ -15,6 +15,7 @@ use Rattle.simulator_io.specs.Formats.{Access}
 use Rattle.simulator_replay.specs.Rows.{AreRows}
 use Rattle.simulator_io.specs.Sample.{sampled, scaled, scaled_shares, shown}
 use Rattle.simulator_io.specs.Written.{IsWritten}
+use Rattle.simulator_io.specs.Uses.{keys_once}
 use Rattle.simulator_io.specs.Trace.{AreNumbers, Numbered, keys_of, sizes_of}
 use Rattle.simulator_replay.specs.Windows.{AreAskedWindows}
 
@@ -27,6 +28,7 @@ pub record IsRun {A : Type 0} (tried : List ChosenShares) (options : Options A) 
   pub numbers : AreNumbers (keys_of trace.accesses) trace.numbers
   pub accesses : outcome.summary.accesses ≡ length trace.numbers
   pub keys : outcome.summary.keys ≡ trace.different
+  pub once : outcome.summary.keys_once ≡ keys_once trace.different trace.numbers
   pub sizes : outcome.summary.bytes ≡ asked_between 0 (length trace.numbers) (sizes_of trace)
   pub rows : AreRows options.policies.items shares options.skipped trace capacities outcome.rows.items
   pub byte_rows : AreAskedByteRows options.skipped trace options.policies.items options.byte_capacities.items outcome.byte_rows.items
