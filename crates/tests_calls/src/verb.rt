@@ -53,7 +53,6 @@ pub(crate) enum Shown {
     /// Their keys, slots and values.
     Residents,
     Keys,
-    Values,
     /// How many are where.
     Debug,
 }
@@ -109,7 +108,6 @@ const VERBS: &[(&str, Verb)] = &[
     ("offer", Verb::At(AtSlot::Offer)),
     ("residents", Verb::Show(Shown::Residents)),
     ("keys", Verb::Show(Shown::Keys)),
-    ("values", Verb::Show(Shown::Values)),
     ("debug", Verb::Show(Shown::Debug)),
     ("reset", Verb::Ask(Question::Reset)),
     ("asked", Verb::Ask(Question::Asked)),

@@ -11,7 +11,6 @@ impl<'a, S: BuildHasher> Cached<'a, S> {
         match shown {
             Shown::Residents => self.write_residents(replies)?,
             Shown::Keys => self.write_keys(replies)?,
-            Shown::Values => self.write_values(replies)?,
             Shown::Debug => write!(replies, "{:?}", self.cache)?,
         }
         replies.push_str("\n")
@@ -38,13 +37,6 @@ impl<'a, S: BuildHasher> Cached<'a, S> {
     fn write_keys(&self, replies: &mut String) -> Result<(), AllocError> {
         for key in self.cache.keys() {
             write!(replies, "{} ", key.id)?;
-        }
-        Ok(())
-    }
-
-    fn write_values(&self, replies: &mut String) -> Result<(), AllocError> {
-        for value in self.cache.values() {
-            write!(replies, "{value} ")?;
         }
         Ok(())
     }
