@@ -1,4 +1,4 @@
-//! A cache that is lent to a function, and the refusals of a cache.
+//! A cache that is lent to a function, its values in order, and the refusals of a cache.
 
 use clock2q::{Cache, CacheError, DefaultHashBuilder};
 use std::alloc::Global;
@@ -28,4 +28,29 @@ fn refusals_show(rt: HostRuntime) -> Result<(), Fail> {
         same(shown.as_str(), text)?;
     }
     Ok(())
+}
+
+/// Puts the keys 1 to 4 with ten times themselves, removes two, and puts one more.
+fn put_and_removed(cache: &mut Cache<u64, u64>) {
+    for key in 1..5 {
+        cache.put(key, key * 10);
+    }
+    cache.remove(&2);
+    cache.remove(&4);
+    cache.put(5, 50);
+}
+
+/// A key takes the slot that was freed last, and a free slot yields nothing.
+fn values_are_listed(cache: &mut Cache<u64, u64>) -> Result<(), Fail> {
+    put_and_removed(cache);
+    let mut digits = 0u64;
+    for value in cache.values() {
+        digits = digits.wrapping_mul(100).wrapping_add(*value);
+    }
+    same(digits, 103_050)
+}
+
+#[test]
+fn values_by_slot(rt: HostRuntime) -> Result<(), Fail> {
+    with_cache(rt.alloc(), 5, values_are_listed)
 }

@@ -22,7 +22,10 @@ enum Maker {
 fn capacity_of<A: Allocator>(
     made: Result<Cache<u64, u64, DefaultHashBuilder, A>, CacheError>,
 ) -> Result<usize, CacheError> {
-    made.map(|cache| cache.capacity())
+    match made {
+        Ok(cache) => Ok(cache.capacity()),
+        Err(refusal) => Err(refusal),
+    }
 }
 
 /// Returns the capacity of a memo if it was made.
@@ -32,7 +35,10 @@ fn memo_capacity_of<F, A: Allocator>(
 where
     F: Fn(&u64) -> u64 + Drop,
 {
-    made.map(|memo| memo.capacity())
+    match made {
+        Ok(memo) => Ok(memo.capacity()),
+        Err(refusal) => Err(refusal),
+    }
 }
 
 fn square(key: &u64) -> u64 {
