@@ -14,8 +14,6 @@ mod devices;
 #[cfg(test)]
 mod first_example;
 #[cfg(test)]
-mod hashers;
-#[cfg(test)]
 mod long_texts;
 #[cfg(test)]
 mod memo_keys;
