@@ -6,6 +6,23 @@ use std::num::NonZeroUsize;
 use std::test::Fail;
 use testing::{Counted, Counts, same, same_at};
 
+/// A value that a memo returns, and how often it hashed the key.
+type Looked = (u64, u64);
+
+/// Looks a key up, without and with recording a hit.
+fn look_up_twice<'a, F: Fn(&Counted<'a>) -> u64>(
+    memo: &mut Memo<Counted<'a>, u64, F>,
+    counts: &'a Counts,
+    id: u64,
+) -> (Looked, Looked)
+    requires { (function : F) (key : _) → IsCallableAt F.Fn function key }
+{
+    let value = memo.get(counts.key(id));
+    let hashes = counts.asked().1;
+    let recorded = memo.get_recorded(counts.key(id));
+    ((value, hashes), (recorded, counts.asked().1))
+}
+
 /// Looks keys up, each twice.
 fn misses_hash_twice<'a, F: Fn(&Counted<'a>) -> u64>(
     memo: &mut Memo<Counted<'a>, u64, F>,
@@ -14,10 +31,8 @@ fn misses_hash_twice<'a, F: Fn(&Counted<'a>) -> u64>(
     requires { (function : F) (key : _) → IsCallableAt F.Fn function key }
 {
     for (id, hashes) in [(1, 2), (1, 1), (2, 2), (3, 2), (2, 1)] {
-        same(memo.get(counts.key(id)), 7)?;
-        same_at(counts.asked().1, hashes, id)?;
-        same(memo.get_recorded(counts.key(id)), 7)?;
-        same_at(counts.asked().1, 1, id)?;
+        let looked = look_up_twice(memo, counts, id);
+        same_at(looked, ((7, hashes), (7, 1)), id)?;
     }
     Ok(())
 }
