@@ -4,19 +4,24 @@ ghost use Rattle.clock2q_directory.specs.Index.{IsGapFor};
 ghost use Rattle.clock2q_directory.specs.History.{is_remembered};
 ghost use Rattle.tests_queues.specs.Beside.{IsAlone, HasResident};
 
+use crate::calls::{HistoryCall, Reply};
 use clock2q_directory::directory::Directory;
 use clock2q_directory::handle::Found;
 use clock2q_directory::newcomer::Newcomer;
 use clock2q_handles::Gap;
 use std::alloc::{AllocError, Allocator, Global};
 use std::marker::Model;
+use testing::Refusing;
+
+/// A directory whose requests for memory can be refused.
+pub(crate) type TestedHistory<'a> = Beside<&'a Refusing<Global>>;
 
 /// The key that takes the slot of one that is remembered, and leaves at once.
 const NOBODY: u64 = u64::MAX;
 
 /// A directory in which no key is resident between two calls.
 #[derive(Drop)]
-pub struct Beside<A: Allocator = Global> {
+pub struct Beside<A: Allocator> {
     directory: Directory<u64, (), A>,
     hashes: u64,
 }
@@ -94,6 +99,23 @@ impl<A: Allocator> Beside<A> {
     /// Forgets every key.
     pub fn clear(&mut self) {
         self.directory.clear();
+    }
+
+    /// Makes a call.
+    pub(crate) fn reply(&mut self, call: HistoryCall) -> Reply {
+        match call {
+            HistoryCall::Renew(key) => {
+                let (known, is_found) = self.renew(key);
+                Reply::Renewed(known, is_found)
+            }
+            HistoryCall::Pass(key) => Reply::Flag(self.pass(key)),
+            HistoryCall::Forget(key) => Reply::Flag(self.forget(key)),
+            HistoryCall::Clear => {
+                self.clear();
+                Reply::Done
+            }
+            HistoryCall::Len => Reply::Number(self.len()),
+        }
     }
 }
 

@@ -1,140 +1,122 @@
 //! The history beside a plain list of keys.
 ghost use Rattle.std.specs.Prelude.{◌<◌};
 
-use crate::beside::Beside;
-use std::alloc::Global;
+use crate::beside::{Beside, TestedHistory};
+use crate::calls::{HistoryCall, Reply};
+use std::alloc::{AllocError, Global};
 use std::test::Fail;
-use testing::{same, same_at};
+use testing::{Refusing, SplitMix64, same_at};
 
-/// Mixes the bits of a number.
-fn mixed(x: u64) -> u64 {
-    let y = (x ^ (x >> 31)).wrapping_mul(0x9E37_79B9_7F4A_7C15);
-    (y ^ (y >> 29)).wrapping_mul(0xBF58_476D_1CE4_E5B9)
-}
-
-/// One call in 97 clears the history, one in three of the others discards the key, half of which
-/// also make it resident for a while, and the rest renew it. Returns whether the key was there, and
-/// whether it was found where it had just become resident, or `None` if the history was cleared.
-fn call(beside: &mut Beside, key: u64, drawn: u64) -> Option<(bool, bool)> {
-    if drawn % 97 == 0 {
-        beside.clear();
-        return None;
-    }
-    if drawn % 6 == 0 {
-        return Some((beside.pass(key), true));
-    }
-    if drawn % 3 == 0 {
-        return Some((beside.forget(key), true));
-    }
-    Some(beside.renew(key))
-}
-
-/// Renews keys that were not remembered.
-fn renew_new(beside: &mut Beside, keys: &[u64]) -> Result<(), Fail> {
-    for key in keys {
-        same_at(beside.renew(*key), (false, true), *key)?;
-    }
-    Ok(())
-}
-
-/// Two keys fit: a third one takes the place of the oldest.
-fn a_third_key_takes_a_place(beside: &mut Beside) -> Result<(), Fail> {
-    renew_new(beside, &[1, 5])?;
-    same(beside.forget(1), true)?;
-    renew_new(beside, &[6, 7])?;
-    same(beside.len(), 2)?;
-    same(beside.pass(6), true)?;
-    same((beside.forget(6), beside.forget(5)), (false, false))
-}
-
-/// A key that is renewed twice is remembered once.
-fn a_key_comes_twice(beside: &mut Beside) -> Result<(), Fail> {
-    same(beside.renew(8), (false, true))?;
-    same(beside.renew(8), (true, true))?;
-    same(beside.len(), 2)
-}
-
-/// A cleared history takes keys again.
-fn cleared(beside: &mut Beside) -> Result<(), Fail> {
-    beside.clear();
-    same(beside.len(), 0)?;
-    same(beside.renew(8), (false, true))?;
-    same(beside.len(), 1)
-}
-
-/// A history of two keys that is cleared in the end.
-fn two_keys_fit(beside: &mut Beside) -> Result<(), Fail> {
-    a_third_key_takes_a_place(beside)?;
-    a_key_comes_twice(beside)?;
-    cleared(beside)
-}
-
-#[test]
-fn two_keys(rt: HostRuntime) -> Result<(), Fail> {
-    two_keys_fit(&mut Beside::new(rt.alloc(), 2, 100)?)
-}
-
-/// Takes a key out of the list, and returns true if it was there.
-fn take(list: &mut Vec<u64>, key: u64) -> bool {
-    let index = list.iter().position(|other| *other == key);
-    if let Some(index) = index {
-        list.remove(index);
-    }
-    index.is_some()
-}
-
-/// Does to the list, from which the key was taken, what [`call`] does to the history.
-fn follow(list: &mut Vec<u64>, key: u64, drawn: u64, limit: usize) -> Result<(), Fail> {
-    if drawn % 97 == 0 {
-        list.clear();
-    } else if drawn % 3 != 0 {
-        list.insert(0, key)?;
-        list.truncate(limit);
-    }
-    Ok(())
-}
-
-/// One call on both.
-fn step(
-    beside: &mut Beside,
-    list: &mut Vec<u64>,
+/// Keys without duplicates, newest first.
+#[derive(Drop)]
+struct Newest {
+    keys: Vec<u64>,
     limit: usize,
-    turn: u64,
-    drawn: u64,
-) -> Result<(), Fail> {
-    let key = (drawn >> 8) % 12;
-    let known = take(list, key);
-    if let Some(asked) = call(beside, key, drawn) {
-        same_at(asked, (known, true), turn)?;
-    }
-    follow(list, key, drawn, limit)?;
-    same_at(beside.len(), list.len(), turn)?;
-    Ok(())
 }
 
-/// 2,000 calls beside a plain list of keys, newest first.
-fn go_along(beside: &mut Beside, list: &mut Vec<u64>, limit: usize, seed: u64) -> Result<(), Fail> {
-    for turn in 0..2000u64 {
-        let drawn = mixed(turn.wrapping_add(seed));
-        step(beside, list, limit, turn, drawn)?;
+impl Newest {
+    /// Takes a key out, and returns true if it was there.
+    fn take(&mut self, key: u64) -> bool {
+        for place in 0..self.keys.len() {
+            if self.keys[place] == key {
+                self.keys.remove(place);
+                return true;
+            }
+        }
+        false
     }
-    Ok(())
+
+    /// Remembers a key, and returns true if it was remembered before.
+    fn renew(&mut self, key: u64) -> Result<bool, AllocError> {
+        let known = self.take(key);
+        self.keys.insert(0, key)?;
+        self.keys.truncate(self.limit);
+        Ok(known)
+    }
+
+    /// Returns what a history replies to a call.
+    fn reply(&mut self, call: HistoryCall) -> Result<Reply, AllocError> {
+        Ok(match call {
+            HistoryCall::Renew(key) => Reply::Renewed(self.renew(key)?, true),
+            HistoryCall::Pass(key) | HistoryCall::Forget(key) => Reply::Flag(self.take(key)),
+            HistoryCall::Clear => {
+                self.keys.clear();
+                Reply::Done
+            }
+            HistoryCall::Len => Reply::Number(self.keys.len()),
+        })
+    }
 }
 
-/// The keys are few, and those with the same remainder modulo `hashes` have the same hash.
-fn beside_a_list(alloc: Global, limit: usize, hashes: u64) -> Result<(), Fail>
+/// Returns a drawn call: one in 97 clears the history, one in three of the others discards the key, half
+/// of which also make it resident for a while, and the rest renew it. The keys are few.
+fn drawn_call(draws: &mut SplitMix64) -> HistoryCall {
+    let key = draws.below(12);
+    if draws.below(97) == 0 {
+        return HistoryCall::Clear;
+    }
+    match draws.below(6) {
+        0 => HistoryCall::Pass(key),
+        1 => HistoryCall::Forget(key),
+        _ => HistoryCall::Renew(key),
+    }
+}
+
+/// A history and a plain list, of which the same calls are made.
+#[derive(Drop)]
+struct Pair<'a> {
+    history: TestedHistory<'a>,
+    newest: Newest,
+}
+
+impl<'a> Pair<'a> {
+    /// Makes a call of both, which reply the same.
+    fn make(&mut self, call: HistoryCall, turn: u32) -> Result<(), Fail> {
+        let wanted = self.newest.reply(call)?;
+        same_at(self.history.reply(call), wanted, turn)
+    }
+
+    /// Makes 2,000 calls, and compares the numbers of keys after each.
+    fn go_along(&mut self, draws: &mut SplitMix64) -> Result<(), Fail> {
+        for turn in 0..2000 {
+            self.make(drawn_call(draws), turn)?;
+            self.make(HistoryCall::Len, turn)?;
+        }
+        Ok(())
+    }
+}
+
+/// Plays a run with a history of `limit` keys, of which those with the same remainder modulo `hashes`
+/// have the same hash.
+fn play_run(
+    alloc: Global,
+    memory: &Refusing<Global>,
+    limit: usize,
+    hashes: u64,
+    draws: &mut SplitMix64,
+) -> Result<(), Fail>
     requires few { limit < 10 }
     requires some { 0 < hashes }
 {
-    let mut beside = Beside::new(alloc, limit, hashes)?;
-    go_along(&mut beside, &mut Vec::new(alloc), limit, hashes)
+    let mut pair = Pair {
+        history: Beside::new(memory, limit, hashes)?,
+        newest: Newest {
+            keys: Vec::new(alloc),
+            limit,
+        },
+    };
+    pair.go_along(draws)
 }
 
-#[test]
-fn two_thousand_calls(rt: HostRuntime) -> Result<(), Fail> {
+/// Plays runs at each of some limits, with many keys of one hash or few.
+pub(crate) fn play_histories(
+    alloc: Global,
+    memory: &Refusing<Global>,
+    draws: &mut SplitMix64,
+) -> Result<(), Fail> {
     for hashes in [1, 3, 100] {
         for limit in [0, 1, 2, 7] {
-            beside_a_list(rt.alloc(), limit, hashes)?;
+            play_run(alloc, memory, limit, hashes, draws)?;
         }
     }
     Ok(())

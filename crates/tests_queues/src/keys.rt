@@ -9,8 +9,9 @@ use clock2q_count::Count;
 use clock2q_directory::index::index_room;
 use clock2q_directory::keys::Keys;
 use clock2q_handles::Table;
+use std::alloc::Global;
 use std::test::Fail;
-use testing::same;
+use testing::{same, same_at};
 
 /// Writes a value through the reference that is lent.
 fn set_value(keys: &mut Keys<u64, u64>, place: u32, value: u64)
@@ -20,46 +21,38 @@ fn set_value(keys: &mut Keys<u64, u64>, place: u32, value: u64)
     *keys.value_mut(place) = value;
 }
 
-/// The entries at the first two places have these keys.
-fn have(keys: &mut Keys<u64, u64>, first: u64, second: u64) -> Result<(), Fail>
+/// Returns the keys and values at the first two places, and whether each key equals another one.
+fn held(keys: &mut Keys<u64, u64>, key: u64) -> ([u64; 4], [bool; 2])
     requires two { 2 ≤ length keys.old.entries }
     ensures len { length keys.new.entries ≡ length keys.old.entries }
     ensures room { keys.new.room ≡ keys.old.room }
 {
-    same((*keys.key(0), *keys.key(1)), (first, second))?;
-    same(
-        (keys.key_equals(0, &first), keys.key_equals(1, &first)),
-        (true, false),
+    let equal = [keys.key_equals(0, &key), keys.key_equals(1, &key)];
+    (
+        [*keys.key(0), *keys.value(0), *keys.key(1), *keys.value(1)],
+        equal,
     )
 }
 
-/// They have these values.
-fn have_values(keys: &Keys<u64, u64>, first: u64, second: u64) -> Result<(), Fail>
-    requires two { 2 ≤ length keys.now.entries }
-{
-    same((*keys.value(0), *keys.value(1)), (first, second))
-}
-
-/// The key at the first place is replaced, and keeps its value.
-fn replace_first(keys: &mut Keys<u64, u64>) -> Result<(), Fail>
+/// Replaces the key at the first place, which keeps its value. Returns the old one and its hash, and the
+/// new one's hash.
+fn replace_first(keys: &mut Keys<u64, u64>) -> (u64, u64, u64)
     requires two { 2 ≤ length keys.old.entries }
     ensures len { length keys.new.entries ≡ length keys.old.entries }
     ensures room { keys.new.room ≡ keys.old.room }
 {
-    same(keys.replace(0, 9, 90, None), (7, 70))?;
-    same(keys.hash(0), 9)?;
-    have(keys, 90, 80)?;
-    have_values(keys, 700, 800)
+    let (hash, key) = keys.replace(0, 9, 90, None);
+    (hash, key, keys.hash(0))
 }
 
-/// The value at the first place is replaced.
-fn replace_first_value(keys: &mut Keys<u64, u64>) -> Result<(), Fail>
+/// Replaces the value at the first place twice, and returns the one that was replaced last.
+fn replace_first_value(keys: &mut Keys<u64, u64>) -> u64
     requires two { 2 ≤ length keys.old.entries }
     ensures len { length keys.new.entries ≡ length keys.old.entries }
     ensures room { keys.new.room ≡ keys.old.room }
 {
     set_value(keys, 0, 900);
-    same(keys.replace_value(0, 901), 900)
+    keys.replace_value(0, 901)
 }
 
 /// One of two keys is replaced, and the other is overwritten.
@@ -67,25 +60,31 @@ fn replace_both(keys: &mut Keys<u64, u64>) -> Result<(), Fail>
     requires two { length keys.old.entries ≡ 2 }
     requires room { keys.old.room ≡ 2 }
 {
-    have(keys, 70, 80)?;
-    replace_first(keys)?;
-    replace_first_value(keys)?;
+    let at_first = held(keys, 70);
+    let replaced = replace_first(keys);
+    let then = held(keys, 90);
+    let value = replace_first_value(keys);
     keys.put(1, 6, 60, Some(600));
-    if keys.len() != 2 {
-        return Err(Fail::from("not two keys"));
-    }
-    have(keys, 90, 60)?;
-    have_values(keys, 901, 600)?;
+    let at_last = (keys.len(), held(keys, 90));
     keys.clear();
-    same(keys.len(), 0)
+    same(
+        (at_first, replaced, then, value, at_last, keys.len()),
+        (
+            ([70, 700, 80, 800], [true, false]),
+            (7, 70, 9),
+            ([90, 700, 80, 800], [true, false]),
+            900,
+            (2, ([90, 901, 60, 600], [true, false])),
+            0,
+        ),
+    )
 }
 
-#[test]
-fn two_keys(rt: HostRuntime) -> Result<(), Fail> {
-    let mut keys: Keys<u64, u64> = Keys::new(rt.alloc(), 2)?;
+/// Two keys are pushed and put, replaced, and cleared.
+pub(crate) fn two_keys(alloc: Global) -> Result<(), Fail> {
+    let mut keys: Keys<u64, u64> = Keys::new(alloc, 2)?;
     keys.push(7, 70, 700);
     keys.put(1, 8, 80, Some(800));
-    same(keys.len(), 2)?;
     replace_both(&mut keys)
 }
 
@@ -132,10 +131,10 @@ fn three_are_found(keys: &mut Keys<u64, ()>, index: &Table<u32>) -> Result<(), F
     same(place_of(keys, index, 8, 71), None)
 }
 
-#[test]
-fn keys_of_one_hash(rt: HostRuntime) -> Result<(), Fail> {
-    let mut keys: Keys<u64, ()> = Keys::new(rt.alloc(), 3)?;
-    let mut index: Table<u32> = Table::with_capacity(rt.alloc(), index_room(3))?;
+/// Three keys, of which two have the same hash.
+pub(crate) fn keys_of_one_hash(alloc: Global) -> Result<(), Fail> {
+    let mut keys: Keys<u64, ()> = Keys::new(alloc, 3)?;
+    let mut index: Table<u32> = Table::with_capacity(alloc, index_room(3))?;
     put(&mut keys, &mut index, 7, 70);
     put(&mut keys, &mut index, 7, 71);
     put(&mut keys, &mut index, 7 + 16, 72);
@@ -144,13 +143,17 @@ fn keys_of_one_hash(rt: HostRuntime) -> Result<(), Fail> {
 
 /// A small index is made for three times as many entries, one of medium size for twice as many, and
 /// a large one for one more.
-#[test]
-fn room_of_an_index(rt: HostRuntime) -> Result<(), Fail> {
-    same(index_room(0), 0)?;
-    same(index_room(1), 3)?;
-    same(index_room(16_384), 49_152)?;
-    same(index_room(16_385), 32_770)?;
-    same(index_room(262_144), 524_288)?;
-    same(index_room(262_145), 262_146)?;
-    same(index_room(16_777_215), 16_777_216)
+pub(crate) fn room_of_an_index() -> Result<(), Fail> {
+    for (entries, room) in [
+        (0, 0),
+        (1, 3),
+        (16_384, 49_152),
+        (16_385, 32_770),
+        (262_144, 524_288),
+        (262_145, 262_146),
+        (16_777_215, 16_777_216),
+    ] {
+        same_at(index_room(entries), room, entries)?;
+    }
+    Ok(())
 }

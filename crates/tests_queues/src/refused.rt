@@ -1,8 +1,9 @@
 //! Queues and directories whose requests for memory are refused.
-ghost use Rattle.std.specs.Prelude.{◌≡◌, []};
 
-use crate::beside::Beside;
-use crate::queues::is_tail_promoted;
+use crate::beside::{Beside, TestedHistory};
+use crate::calls::{Call, HistoryCall, Reply};
+use crate::played::{Played, TestedQueues};
+use crate::worked::{HistoryStep, Step, play, play_history};
 use clock2q_directory::directory::Directory;
 use clock2q_queues::queues::Queues;
 use std::alloc::{AllocError, Global};
@@ -10,145 +11,114 @@ use std::test::Fail;
 use testing::{Refusing, Tried, same, same_at, try_in_turn};
 
 /// Makes queues, and returns the number of slots in Small and whether memory is held for them.
-fn new_queues(alloc: &Refusing<Global>) -> Result<(usize, bool), AllocError> {
-    let made = Queues::new(alloc, 12, 2)?;
-    Ok((made.small_len(), alloc.held() != 0))
+fn new_queues(memory: &Refusing<Global>) -> Result<(usize, bool), AllocError> {
+    let made = Queues::new(memory, 12, 2)?;
+    Ok((made.small_len(), memory.held() != 0))
 }
 
-/// Three requests: for the records, the window's positions and the hit bits.
-#[test]
-fn queues(rt: HostRuntime) -> Result<(), Fail> {
-    let alloc = Refusing::new(rt.alloc());
-    let tried = try_in_turn(&alloc, (0, true), AllocError, || new_queues(&alloc));
-    same(tried, Tried::Done(3))?;
-    same(alloc.held(), 0)
+/// Queues, by three requests: for the records, the window's positions and the hit bits.
+pub(crate) fn queues(memory: &Refusing<Global>) -> Result<(), Fail> {
+    let tried = try_in_turn(memory, (0, true), AllocError, || new_queues(memory));
+    same((tried, memory.held()), (Tried::Done(3), 0))
 }
 
 /// Makes a directory for up to `limit` remembered keys, and returns how many it has and whether
 /// memory is held for it.
-fn new_directory(alloc: &Refusing<Global>, limit: u8) -> Result<(usize, bool), AllocError> {
-    let made: Directory<u64, u64, &Refusing<Global>> = Directory::new(
-        alloc,
+fn new_directory(memory: &Refusing<Global>, limit: u8) -> Result<(usize, bool), AllocError> {
+    let made: Directory<u64, (), &Refusing<Global>> = Directory::new(
+        memory,
         5,
         usize::from(limit),
     )?;
-    Ok((made.remembered_len(), alloc.held() != 0))
+    Ok((made.remembered_len(), memory.held() != 0))
 }
 
-/// Requests for the two vectors of the index, the records of the order, the remembered keys, and
-/// the residents' keys. With a limit of zero, only the index and the residents' keys are requested.
-#[test]
-fn directories(rt: HostRuntime) -> Result<(), Fail> {
-    for (limit, requests) in [(7, 5), (0, 3)] {
-        let alloc = Refusing::new(rt.alloc());
-        let tried = try_in_turn(
-            &alloc,
-            (0, true),
-            AllocError,
-            || new_directory(&alloc, limit),
-        );
-        same_at(tried, Tried::Done(requests), limit)?;
-        same_at(alloc.held(), 0, limit)?;
+/// A directory, by requests for the two vectors of the index, the records of the order, the remembered
+/// keys, and the residents' keys. With a limit of zero, only the index and the residents' keys are
+/// requested.
+fn directories_of(memory: &Refusing<Global>, limit: u8, requests: u64) -> Result<(), Fail> {
+    let tried = try_in_turn(
+        memory,
+        (0, true),
+        AllocError,
+        || new_directory(memory, limit),
+    );
+    same((tried, memory.held()), (Tried::Done(requests), 0))
+}
+
+/// Directories that remember keys, and that remember none.
+pub(crate) fn directories(memory: &Refusing<Global>) -> Result<(), Fail> {
+    directories_of(memory, 7, 5)?;
+    directories_of(memory, 0, 3)
+}
+
+/// Slot 0 goes through Small and Main, and is evicted. Only the slot that is admitted last is left.
+const THROUGH_BOTH: &[Step] = &[
+    (Call::Admit(0), Reply::Done),
+    (Call::Admit(1), Reply::Done),
+    (Call::Admit(2), Reply::Done),
+    (Call::Hit(0), Reply::Done),
+    (Call::IsTailPromoted, Reply::Flag(true)),
+    (Call::TakeTail, Reply::Slot(0)),
+    (Call::Append(0), Reply::Done),
+    (Call::Hit(0), Reply::Done),
+    (Call::TakeVictim, Reply::Slot(0)),
+    (Call::Leave(1), Reply::Done),
+    (Call::Clear, Reply::Done),
+    (Call::MakeBelow(3), Reply::Done),
+    (Call::Admit(3), Reply::Done),
+    (Call::SmallLen, Reply::Number(1)),
+    (Call::MainLen, Reply::Number(0)),
+    (Call::TakeTail, Reply::Slot(3)),
+];
+
+/// Once made, queues request no memory and give none back.
+fn play_refused(memory: &Refusing<Global>, queues: &mut TestedQueues<'_>) -> Result<(), Fail> {
+    let before = (memory.requests(), memory.held());
+    memory.refuse_after(0);
+    play(queues, THROUGH_BOTH)?;
+    memory.grant();
+    same((memory.requests(), memory.held()), before)
+}
+
+/// Queues of four slots, once they are made.
+pub(crate) fn queues_once_made(memory: &Refusing<Global>) -> Result<(), Fail> {
+    let mut queues = Played::new(memory, 4, 2)?;
+    play_refused(memory, &mut queues)
+}
+
+/// What the 20 keys from 0 leave. A key that is forgotten is new again.
+const LAST_SEVEN: &[HistoryStep] = &[
+    (HistoryCall::Len, Reply::Number(7)),
+    (HistoryCall::Forget(15), Reply::Flag(true)),
+    (HistoryCall::Forget(12), Reply::Flag(false)),
+    (HistoryCall::Renew(13), Reply::Renewed(true, true)),
+    (HistoryCall::Len, Reply::Number(6)),
+    (HistoryCall::Clear, Reply::Done),
+    (HistoryCall::Renew(13), Reply::Renewed(false, true)),
+    (HistoryCall::Len, Reply::Number(1)),
+];
+
+/// Renews more keys than fit, each with the same hash as others.
+fn renew_each(history: &mut TestedHistory<'_>) -> Result<(), Fail> {
+    for key in 0..20 {
+        same_at(history.renew(key), (false, true), key)?;
     }
     Ok(())
 }
 
-/// Slot 0 goes through Small and Main, and is evicted.
-fn pass_through(queues: &mut Queues<&Refusing<Global>>)
-    requires slots { queues.old.slots ≡ 4 }
-    requires window { queues.old.window ≡ 2 }
-    requires small { queues.old.small ≡ [] }
-    requires main { queues.old.main ≡ [] }
-{
-    queues.admit(0);
-    queues.admit(1);
-    queues.admit(2);
-    queues.hit(0);
-    let _ = is_tail_promoted(queues);
-    let _ = queues.take_tail();
-    queues.append(0);
-    queues.hit(0);
-    let _ = queues.take_victim();
-    queues.leave(1);
-    queues.clear();
-    queues.make_below(3);
-    queues.admit(3);
-}
-
-/// Only the slot that is admitted last is left.
-fn pass_and_look(queues: &mut Queues<&Refusing<Global>>) -> Result<(), Fail>
-    requires slots { queues.old.slots ≡ 4 }
-    requires window { queues.old.window ≡ 2 }
-    requires small { queues.old.small ≡ [] }
-    requires main { queues.old.main ≡ [] }
-{
-    pass_through(queues);
-    same(queues.small_len(), 1)?;
-    same(queues.main_len(), 0)?;
-    same(queues.take_tail(), Some(3))
-}
-
-/// Once made, queues request no memory and give none back.
-fn pass_with_all_refused(
-    alloc: &Refusing<Global>,
-    queues: &mut Queues<&Refusing<Global>>,
-) -> Result<(), Fail>
-    requires slots { queues.old.slots ≡ 4 }
-    requires window { queues.old.window ≡ 2 }
-    requires small { queues.old.small ≡ [] }
-    requires main { queues.old.main ≡ [] }
-{
-    let asked = alloc.requests();
-    let held = alloc.held();
-    alloc.refuse_after(0);
-    pass_and_look(queues)?;
-    same(alloc.requests(), asked)?;
-    same(alloc.held(), held)
-}
-
-#[test]
-fn queues_ask_for_nothing_more(rt: HostRuntime) -> Result<(), Fail> {
-    let alloc = Refusing::new(rt.alloc());
-    let mut queues = Queues::new(&alloc, 4, 2)?;
-    pass_with_all_refused(&alloc, &mut queues)
-}
-
-/// More keys than fit, each with the same hash as others.
-fn fill_and_forget(beside: &mut Beside<&Refusing<Global>>) -> Result<(), Fail> {
-    for key in 0..20 {
-        same_at(beside.renew(key), (false, true), key)?;
-    }
-    same(beside.len(), 7)?;
-    same(beside.forget(15), true)?;
-    same(beside.forget(12), false)?;
-    same(beside.renew(13), (true, true))?;
-    same(beside.len(), 6)
-}
-
-/// A key that is forgotten is new again.
-fn clear_and_renew(beside: &mut Beside<&Refusing<Global>>) -> Result<(), Fail> {
-    beside.clear();
-    same(beside.renew(13), (false, true))?;
-    same(beside.len(), 1)
-}
-
 /// Once made, a directory requests no memory and gives none back.
-fn renew_with_all_refused(
-    alloc: &Refusing<Global>,
-    beside: &mut Beside<&Refusing<Global>>,
-) -> Result<(), Fail> {
-    let asked = alloc.requests();
-    let held = alloc.held();
-    alloc.refuse_after(0);
-    fill_and_forget(beside)?;
-    clear_and_renew(beside)?;
-    same(alloc.requests(), asked)?;
-    same(alloc.held(), held)
+fn renew_refused(memory: &Refusing<Global>, history: &mut TestedHistory<'_>) -> Result<(), Fail> {
+    let before = (memory.requests(), memory.held());
+    memory.refuse_after(0);
+    renew_each(history)?;
+    play_history(history, LAST_SEVEN)?;
+    memory.grant();
+    same((memory.requests(), memory.held()), before)
 }
 
-#[test]
-fn directories_ask_for_nothing_more(rt: HostRuntime) -> Result<(), Fail> {
-    let alloc = Refusing::new(rt.alloc());
-    let mut beside = Beside::new(&alloc, 7, 3)?;
-    renew_with_all_refused(&alloc, &mut beside)
+/// A directory that remembers seven keys, once it is made.
+pub(crate) fn directories_once_made(memory: &Refusing<Global>) -> Result<(), Fail> {
+    let mut history = Beside::new(memory, 7, 3)?;
+    renew_refused(memory, &mut history)
 }

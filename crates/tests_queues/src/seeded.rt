@@ -1,168 +1,120 @@
 //! The two queues beside plain lists.
-ghost use Rattle.std.specs.Prelude.{◌≡◌, ◌<◌, length};
 
+use crate::calls::Call;
 use crate::lists::Lists;
-use crate::queues::{admit, append, hit, is_tail_promoted};
-use clock2q_queues::queues::Queues;
+use crate::played::{Played, TestedQueues};
 use std::alloc::Global;
 use std::test::Fail;
-use testing::{same, same_at};
+use testing::{Refusing, SplitMix64, same, same_at};
 
 const SLOTS: u32 = 12;
 
-/// Each slot is in a queue if the lists have it, and only then.
-fn compare(queues: &mut Queues, lists: &Lists) -> Result<(), Fail>
-    requires { queues.old.slots ≡ 12 }
-    ensures slots { queues.new.slots ≡ 12 }
-    ensures window { queues.new.window ≡ queues.old.window }
-{
-    for slot in 0..SLOTS {
-        same_at(
-            queues.is_resident(slot as usize),
-            lists.is_resident(slot),
-            slot,
-        )?;
+/// Queues and plain lists, of which the same calls are made.
+#[derive(Drop)]
+struct Pair<'a> {
+    played: TestedQueues<'a>,
+    lists: Lists,
+    calls: u64,
+}
+
+impl<'a> Pair<'a> {
+    /// Makes a call of both, which reply the same.
+    fn make(&mut self, call: Call) -> Result<(), Fail> {
+        let wanted = self.lists.reply(call)?;
+        self.calls = self.calls.saturating_add(1);
+        same_at(self.played.reply(call), wanted, self.calls)
     }
-    same(queues.small_len(), lists.small.len())?;
-    same(queues.main_len(), lists.main.len())?;
-    same(is_tail_promoted(queues), lists.tail_is_promoted())
-}
 
-/// Small's tail, if there is one, leaves.
-fn take_tail(queues: &mut Queues, lists: &mut Lists) -> Result<(), Fail>
-    ensures slots { queues.new.slots ≡ queues.old.slots }
-    ensures window { queues.new.window ≡ queues.old.window }
-{
-    let tail = queues.take_tail();
-    same(tail, lists.tail())?;
-    if let Some(tail) = tail {
-        lists.leave(tail);
+    /// Each slot is in a queue if the lists have it, and only then.
+    fn compare(&mut self) -> Result<(), Fail> {
+        for slot in 0..SLOTS {
+            self.make(Call::IsResident(slot))?;
+        }
+        self.make(Call::SmallLen)?;
+        self.make(Call::MainLen)?;
+        self.make(Call::IsTailPromoted)
     }
-    Ok(())
-}
 
-/// Main's victim leaves.
-fn take_victim(queues: &mut Queues, lists: &mut Lists) -> Result<(), Fail>
-    requires some { 0 < length queues.old.main }
-    ensures slots { queues.new.slots ≡ queues.old.slots }
-    ensures window { queues.new.window ≡ queues.old.window }
-{
-    let victim = queues.take_victim();
-    same(Some(victim), lists.select()?)?;
-    lists.leave(victim);
-    Ok(())
-}
-
-/// Empties both: each slot leaves the queue that the lists have it in, in their order.
-fn drain(queues: &mut Queues, lists: &mut Lists) -> Result<(), Fail> {
-    for _ in 0..SLOTS {
-        take_tail(queues, lists)?;
-        if queues.main_len() > 0 {
-            take_victim(queues, lists)?;
+    /// Returns a drawn call: an admission, a slot put into Main, a slot that leaves, a hit, an eviction
+    /// from Main, or Small's tail or Main's victim reused.
+    fn drawn_call(&self, draws: &mut SplitMix64) -> Call {
+        let slot = draws.below(12) as u32;
+        match draws.below(9) {
+            0..4 if !self.lists.is_resident(slot) => Call::Admit(slot),
+            4 if !self.lists.is_resident(slot) => Call::Append(slot),
+            5 => Call::Leave(slot),
+            6 if self.lists.main_len() > 0 => Call::TakeVictim,
+            7 => Call::ReuseTail,
+            8 => Call::ReuseVictim,
+            _ => Call::Hit(slot),
         }
     }
-    same((queues.small_len(), queues.main_len()), (0, 0))
-}
 
-/// Small's tail, if there is one, is reused for another key.
-fn reuse_tail(queues: &mut Queues, lists: &mut Lists) -> Result<(), Fail>
-    requires slots { queues.old.slots ≡ 12 }
-    requires window { 0 < queues.old.window }
-    ensures slots { queues.new.slots ≡ 12 }
-    ensures window { queues.new.window ≡ queues.old.window }
-{
-    if queues.small_len() > 0 {
-        let tail = queues.reuse_tail();
-        same(Some(tail), lists.tail())?;
-        lists.leave(tail);
-        lists.admit(tail)?;
+    /// Makes a drawn call. Small's tail leaves before an admission if Small is full.
+    fn step(&mut self, small: usize, draws: &mut SplitMix64) -> Result<(), Fail> {
+        let call = self.drawn_call(draws);
+        if matches!(call, Call::Admit(_)) && self.lists.small_len() >= small {
+            self.make(Call::TakeTail)?;
+        }
+        self.make(call)
     }
-    Ok(())
-}
 
-/// Main's victim, if there is one, is reused for another key.
-fn reuse_victim(queues: &mut Queues, lists: &mut Lists) -> Result<(), Fail>
-    requires slots { queues.old.slots ≡ 12 }
-    requires window { 0 < queues.old.window }
-    ensures slots { queues.new.slots ≡ 12 }
-    ensures window { queues.new.window ≡ queues.old.window }
-{
-    if queues.main_len() > 0 {
-        let victim = queues.reuse_victim();
-        same(Some(victim), lists.select()?)?;
-        lists.leave(victim);
-        lists.append(victim)?;
+    /// Empties both: each slot leaves the queue that the lists have it in, in their order.
+    fn drain(&mut self) -> Result<(), Fail> {
+        for _ in 0..SLOTS {
+            self.make(Call::TakeTail)?;
+            self.make(Call::TakeVictim)?;
+        }
+        self.compare()?;
+        same((self.lists.small_len(), self.lists.main_len()), (0, 0))
     }
-    Ok(())
-}
 
-/// One step of a run: an admission, in place of Small's tail if Small is full, a slot put into
-/// Main, a slot that leaves, a hit, an eviction from Main, or Small's tail or Main's victim reused.
-fn step(queues: &mut Queues, lists: &mut Lists, small: usize, random: u32) -> Result<(), Fail>
-    requires slots { queues.old.slots ≡ 12 }
-    requires window { 0 < queues.old.window }
-    ensures slots { queues.new.slots ≡ 12 }
-    ensures window { queues.new.window ≡ queues.old.window }
-{
-    let slot = random / 9 % SLOTS;
-    let free = !queues.is_resident(slot as usize);
-    match random % 9 {
-        0..4 if free => {
-            if queues.small_len() >= small {
-                take_tail(queues, lists)?;
-            }
-            admit(queues, slot)?;
-            lists.admit(slot)?;
+    /// 2,000 steps, with a comparison after each, until both are emptied.
+    fn go_along(&mut self, small: usize, draws: &mut SplitMix64) -> Result<(), Fail> {
+        for _ in 0..2000 {
+            self.step(small, draws)?;
+            self.compare()?;
         }
-        4 if free => {
-            append(queues, slot)?;
-            lists.append(slot)?;
-        }
-        5 => {
-            queues.leave(slot);
-            lists.leave(slot);
-        }
-        6 if queues.main_len() > 0 => take_victim(queues, lists)?,
-        7 => reuse_tail(queues, lists)?,
-        8 => reuse_victim(queues, lists)?,
-        _ if !free => {
-            hit(queues, slot)?;
-            lists.hit(slot);
-        }
-        _ => {}
+        self.drain()
     }
-    Ok(())
 }
 
-/// 2,000 steps, with a comparison after each, until both are emptied.
-fn go_along(queues: &mut Queues, lists: &mut Lists, small: usize) -> Result<(), Fail>
-    requires slots { queues.old.slots ≡ 12 }
-    requires window { 0 < queues.old.window }
-{
-    let mut seed: u64 = 1;
-    for _ in 0..2000 {
-        seed = seed
-            .wrapping_mul(6364136223846793005)
-            .wrapping_add(1442695040888963407);
-        step(queues, lists, small, (seed >> 33) as u32)?;
-        compare(queues, lists)?;
-    }
-    drain(queues, lists)
+/// Plays a run with this much room in Small.
+fn play_run(
+    alloc: Global,
+    memory: &Refusing<Global>,
+    small: usize,
+    window: u32,
+    draws: &mut SplitMix64,
+) -> Result<(), Fail> {
+    let mut pair = Pair {
+        played: Played::new(memory, SLOTS, window)?,
+        lists: Lists::new(alloc, window),
+        calls: 0,
+    };
+    pair.go_along(small, draws)
 }
 
-fn seeded_run(alloc: Global, small: usize, window: u32) -> Result<(), Fail>
-    requires { 0 < window }
-{
-    let mut queues = Queues::new(alloc, SLOTS, window)?;
-    go_along(&mut queues, &mut Lists::new(alloc, window), small)
-}
+/// The room in Small and the window of each run.
+const RUNS: [(usize, u32); 8] = [
+    (1, 1),
+    (2, 1),
+    (2, 2),
+    (5, 1),
+    (5, 2),
+    (5, 3),
+    (5, 4),
+    (5, 5),
+];
 
-#[test]
-fn seeded_runs_match_plain_lists(rt: HostRuntime) -> Result<(), Fail> {
-    for (small, windows) in [(1, 1), (2, 2), (5, 5)] {
-        for window in 1..=windows {
-            seeded_run(rt.alloc(), small, window)?;
-        }
+/// Plays seeded runs.
+pub(crate) fn play_runs(
+    alloc: Global,
+    memory: &Refusing<Global>,
+    draws: &mut SplitMix64,
+) -> Result<(), Fail> {
+    for (small, window) in RUNS {
+        play_run(alloc, memory, small, window, draws)?;
     }
     Ok(())
 }

@@ -5,7 +5,7 @@ use Rattle.clock2q_queues.specs.MainRing.{main_hit_at}
 use Rattle.clock2q_queues.specs.Small.{small_hit_at}
 use Rattle.clock2q_queues.specs.Queues.{QueueState, slots_of}
 use Rattle.tests_queues.proofs.Filling.{all_set, filled_more, not_there, put_there}
-use Rattle.tests_queues.proofs.queues.fill_main.Goals as goal
+use Rattle.tests_queues.proofs.counts.fill_main.Goals as goal
 
 pub append-requires-clause-not_in_main : goal.append-requires-clause-not_in_main
 append-requires-clause-not_in_main c =

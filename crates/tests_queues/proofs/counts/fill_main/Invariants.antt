@@ -1,6 +1,6 @@
 use Rattle.std.proofs.Common.{◌≡◌, ◌-◌, ◌≤◌, true, [], map}
 use Rattle.std.specs.List.{range_with_len}
-use Rattle.tests_queues.proofs.queues.fill_main.Given as goal
+use Rattle.tests_queues.proofs.counts.fill_main.Given as goal
 
 abbrev pub invariant-loop-slot : goal.invariant-loop-slot
 invariant-loop-slot l =
