@@ -56,12 +56,12 @@ fn best_are_best(alloc: Global, trace: &Trace<Global>, skipped: usize) -> Result
     Ok(())
 }
 
-#[test]
-fn none_of_the_tried_hits_more(rt: HostRuntime) -> Result<(), Fail> {
-    let numbers = trace_of(rt.alloc(), 7, 1500, 400)?;
-    let trace = trace_with(rt.alloc(), &numbers)?;
+/// Checks that none of the tried shares hits more.
+pub(crate) fn try_shares(alloc: Global) -> Result<(), Fail> {
+    let numbers = trace_of(alloc, 7, 1500, 400)?;
+    let trace = trace_with(alloc, &numbers)?;
     for skipped in [0, 700, 1500] {
-        best_are_best(rt.alloc(), &trace, skipped)?;
+        best_are_best(alloc, &trace, skipped)?;
     }
     Ok(())
 }

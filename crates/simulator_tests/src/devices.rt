@@ -1,6 +1,6 @@
 //! Traces from readers and texts to writers that fail at one of their calls.
 
-use crate::arguments::options_of;
+use crate::player::options_of;
 use clock2q_cache::DefaultHashBuilder;
 use clock2q_ports::Device;
 use simulator_io::{Progress, SimulationError};
@@ -165,11 +165,11 @@ fn each_kind_of_read_fails(alloc: Global, line: &str, step: usize) -> Result<(),
     Ok(())
 }
 
-#[test]
-fn failing_reads(rt: HostRuntime) -> Result<(), Fail> {
+/// Lets each read fail, in each form and in pieces of several lengths.
+pub(crate) fn fail_reads(alloc: Global) -> Result<(), Fail> {
     for (line, _) in TEXTS {
         for step in [1, 3, 100] {
-            each_kind_of_read_fails(rt.alloc(), line, step)?;
+            each_kind_of_read_fails(alloc, line, step)?;
         }
     }
     same(SimulationError::Read.status(), 4)
@@ -209,18 +209,18 @@ fn each_kind_of_write_fails(alloc: Global, of_line: (&str, &str), step: usize) -
     Ok(())
 }
 
-#[test]
-fn failing_writes(rt: HostRuntime) -> Result<(), Fail> {
+/// Lets each write fail, in each form and in pieces of several lengths.
+pub(crate) fn fail_writes(alloc: Global) -> Result<(), Fail> {
     for of_line in TEXTS {
         for step in [1, 7, 1000] {
-            each_kind_of_write_fails(rt.alloc(), of_line, step)?;
+            each_kind_of_write_fails(alloc, of_line, step)?;
         }
     }
     same(SimulationError::Write.status(), 4)
 }
 
-#[test]
-fn nothing_fails(rt: HostRuntime) -> Result<(), Fail> {
+/// Checks each form if nothing fails.
+pub(crate) fn fail_nothing(alloc: Global) -> Result<(), Fail> {
     for (line, text) in TEXTS {
         let plan = Plan {
             step: 2,
@@ -228,7 +228,7 @@ fn nothing_fails(rt: HostRuntime) -> Result<(), Fail> {
             writes: usize::MAX,
             kind: ErrorKind::Other,
         };
-        let ended = run_with(rt.alloc(), line, plan)?;
+        let ended = run_with(alloc, line, plan)?;
         same(
             (ended.result, ended.text.as_slice()),
             (Ok(()), text.as_bytes()),

@@ -16,31 +16,10 @@ pub(crate) fn trace_of(alloc: Global, input: &[u8]) -> Result<Trace<Global>, Sim
     read_trace(alloc, hasher, "-", lines, &mut reader, &mut progress)
 }
 
-#[test]
-fn keys_have_numbers(rt: HostRuntime) -> Result<(), Fail> {
-    let cases: [(&[u8], &[u32]); 9] = [
-        (b"", &[]),
-        (b"a", &[0]),
-        (b"a\n", &[0]),
-        (b"\n", &[0]),
-        (b"\n\n", &[0, 0]),
-        (b"a\n\n\na", &[0, 1, 1, 0]),
-        (b"b\na\nb\nab\na\n", &[0, 1, 0, 2, 1]),
-        (b"\0\xff\n\0\n\0\xff\n\xff\n", &[0, 1, 0, 2]),
-        (b"a\r\na\n", &[0, 1]),
-    ];
-    for (input, numbers) in cases {
-        let trace = trace_of(rt.alloc(), input)?;
-        same(trace.numbers(), numbers)?;
-    }
-    Ok(())
-}
-
 /// Keys that are prefixes of others, and an empty one: only their starts distinguish them.
-#[test]
-fn keys_that_begin_others(rt: HostRuntime) -> Result<(), Fail> {
+pub(crate) fn number_prefixes(alloc: Global) -> Result<(), Fail> {
     let keys: [&[u8]; 8] = [b"", b"a", b"aa", b"", b"aaa", b"a", b"aa", b"aaa"];
-    let mut growing = GrowingTrace::new(rt.alloc());
+    let mut growing = GrowingTrace::new(alloc);
     for (count, key) in keys.iter().enumerate() {
         same(growing.len(), count)?;
         growing.push(key)?;
@@ -51,15 +30,15 @@ fn keys_that_begin_others(rt: HostRuntime) -> Result<(), Fail> {
     Ok(())
 }
 
-#[test]
-fn long_keys_differ_in_their_last_byte(rt: HostRuntime) -> Result<(), Fail> {
-    let mut input = vec![in rt.alloc(); b'k'; 200_003]?;
+/// Numbers long keys that differ in their last byte.
+pub(crate) fn number_long_keys(alloc: Global) -> Result<(), Fail> {
+    let mut input = vec![in alloc; b'k'; 200_003]?;
     for end in [100_000, 200_002] {
         if let Some(byte) = input.get_mut(end) {
             *byte = b'\n';
         }
     }
-    let trace = trace_of(rt.alloc(), &input)?;
+    let trace = trace_of(alloc, &input)?;
     same(trace.numbers(), [0, 1].as_slice())
 }
 
@@ -89,7 +68,7 @@ fn numbers_go_back(trace: &Trace<Global>) -> Result<(), Fail> {
     Ok(())
 }
 
-#[test]
-fn many_keys(rt: HostRuntime) -> Result<(), Fail> {
-    numbers_go_back(&trace_of(rt.alloc(), &many_lines(rt.alloc())?)?)
+/// Numbers more keys than 16 bits can.
+pub(crate) fn number_many_keys(alloc: Global) -> Result<(), Fail> {
+    numbers_go_back(&trace_of(alloc, &many_lines(alloc)?)?)
 }

@@ -1,59 +1,42 @@
-//! What pictures contain: lines, labels, and names in the order of the curves.
+//! What pictures contain, lines, labels and names: cases of a file, a line each.
 
+use crate::player::words_of;
 use crate::texts::{TRACE, written};
 use std::alloc::Global;
 use std::str::from_utf8;
-use std::test::Fail;
-use testing::{same, same_at};
+use testing::SpellingError;
 
-/// Returns where a word begins in the picture of the trace, or nothing.
-fn place_in_picture(alloc: Global, line: &str, word: &str) -> Result<Option<usize>, Fail> {
-    let bytes = written(alloc, line, TRACE)?;
-    let Ok(text) = from_utf8(&bytes) else {
-        return Err(Fail::from("not text"));
-    };
-    Ok(text.find(word))
+/// Returns a picture that doesn't contain what a line says, or contains what it says is absent.
+pub(crate) fn other_picture(alloc: Global, line: &str) -> Result<Option<Vec<u8>>, SpellingError> {
+    let (words, rest) = line.split_once('|').unwrap_or((line, ""));
+    let (pieces, wanted) = rest.split_once('|').unwrap_or((rest, "no bar"));
+    let words = words_of(alloc, words)?;
+    let picture = written(alloc, &words, TRACE).unwrap_or(Vec::new(alloc));
+    Ok(if place_of(&picture, pieces) == wanted {
+        None
+    } else {
+        Some(picture)
+    })
 }
 
-/// Words that pictures contain, and words that they don't: no line goes through two points, an axis
-/// of percentages has them at both ends, and each capacity has a chart of its windows.
-#[test]
-fn words_of_pictures(rt: HostRuntime) -> Result<(), Fail> {
-    for (line, word, is_there) in [
-        ("2 3 --svg", "<polyline", false),
-        ("2 3 4 --svg", "<polyline", true),
-        ("50% 100% --svg", ">50%</text>", true),
-        ("60% 100% --svg", ">60%</text>", true),
-        ("50% 100% --svg", "capacity in percent of 4 keys", true),
-        ("2 100% --svg", "percent of", false),
-        ("2 4 --svg", ">4</text>", true),
-        ("2 3 --svg", "(8 accesses)", true),
-        ("2 3 --svg --skip=7", "(1 access)", true),
-        (
-            "2 3 --svg --window=3",
-            "each 3 accesses at capacity 2",
-            true,
-        ),
-        (
-            "2 3 --svg --window=3",
-            "each 3 accesses at capacity 3",
-            true,
-        ),
-        ("2 3 --svg --window=3", "<polyline", true),
-        ("2 --svg --window=5 --skip=2", ">2</text>", true),
-    ] {
-        let place = place_in_picture(rt.alloc(), line, word)?;
-        same_at(place.is_some(), is_there, (line, word))?;
+/// Returns whether pieces are in a picture, one after another.
+fn place_of(picture: &[u8], pieces: &str) -> &'static str {
+    match from_utf8(picture) {
+        Ok(text) if !text.starts_with("<svg") => "no picture",
+        Ok(text) if are_in_order(text, pieces) => "there",
+        Ok(_) => "absent",
+        Err(_) => "no text",
     }
-    Ok(())
 }
 
-/// At three keys OPT hits more than LRU, which hits more than FIFO.
-#[test]
-fn names_in_the_order_of_the_curves(rt: HostRuntime) -> Result<(), Fail> {
-    let line = "2 3 --svg --policies=fifo,lru,opt";
-    let first = place_in_picture(rt.alloc(), line, ">OPT<")?.ok_or("no OPT")?;
-    let second = place_in_picture(rt.alloc(), line, ">LRU<")?.ok_or("no LRU")?;
-    let third = place_in_picture(rt.alloc(), line, ">FIFO<")?.ok_or("no FIFO")?;
-    same((first < second, second < third), (true, true))
+/// Returns true if each piece is in a text, after the one before it.
+fn are_in_order(text: &str, pieces: &str) -> bool {
+    let mut rest = text;
+    for piece in pieces.split(';') {
+        match rest.split_once(piece) {
+            Some((_, after)) => rest = after,
+            None => return false,
+        }
+    }
+    true
 }

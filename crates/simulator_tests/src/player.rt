@@ -2,11 +2,13 @@
 
 use clock2q_cache::DefaultHashBuilder;
 use clock2q_ports::Device;
-use simulator_io::{ErrorReport, Progress, SimulationError, parse_options};
+use simulator_io::{ErrorReport, Options, Progress, SimulationError, parse_options};
 use simulator_replay::simulate;
 use std::alloc::{AllocError, Global};
 use std::hash::BuildHasher;
-use std::io::{Read, Result as IoResult};
+use std::io::{Read, Result as IoResult, Write};
+use std::test::Fail;
+use std::time::Clock;
 use testing::{LinearHashBuilder, SpellingError, spelled};
 
 /// How many bytes of a short trace are given at a time.
@@ -42,6 +44,15 @@ pub(crate) fn other_outcome(alloc: Global, line: &str) -> Result<Option<Vec<u8>>
     Ok(case.other_outcome(alloc)?)
 }
 
+/// Does so with the usual hasher and the whole trace at once.
+pub(crate) fn other_outcome_at_once(
+    alloc: Global,
+    line: &str,
+) -> Result<Option<Vec<u8>>, SpellingError> {
+    let case = Case::from_line(alloc, line)?;
+    Ok(case.other_outcome_with(alloc, DefaultHashBuilder::new(), SHORT)?)
+}
+
 /// Arguments, a trace, and what is written, to standard output and then to standard error.
 #[derive(Drop)]
 struct Case {
@@ -64,25 +75,31 @@ impl Case {
 
     /// Returns what the case gives in place of what it should, if it does.
     fn other_outcome(&self, alloc: Global) -> Result<Option<Vec<u8>>, AllocError> {
-        let got = self.outcome(alloc, DefaultHashBuilder::new(), SHORT)?;
-        if got != self.wanted {
-            return Ok(Some(got));
+        match self.other_outcome_with(alloc, DefaultHashBuilder::new(), SHORT)? {
+            None if self.trace.len() <= SHORT => self.other_outcome_of_short(alloc),
+            other => Ok(other),
         }
-        if self.trace.len() > SHORT {
-            return Ok(None);
-        }
-        self.other_outcome_of_short(alloc)
     }
 
     /// Does so in pieces of several lengths, and with one hash for all keys.
     fn other_outcome_of_short(&self, alloc: Global) -> Result<Option<Vec<u8>>, AllocError> {
         for step in STEPS {
-            let got = self.outcome(alloc, DefaultHashBuilder::new(), step)?;
-            if got != self.wanted {
-                return Ok(Some(got));
+            let other = self.other_outcome_with(alloc, DefaultHashBuilder::new(), step)?;
+            if other.is_some() {
+                return Ok(other);
             }
         }
-        let got = self.outcome(alloc, ALIKE, SHORT)?;
+        self.other_outcome_with(alloc, ALIKE, SHORT)
+    }
+
+    /// Does so with a hasher, and in pieces of some length.
+    fn other_outcome_with<S: BuildHasher + Drop>(
+        &self,
+        alloc: Global,
+        hasher: S,
+        step: usize,
+    ) -> Result<Option<Vec<u8>>, AllocError> {
+        let got = self.outcome(alloc, hasher, step)?;
         Ok(if got == self.wanted { None } else { Some(got) })
     }
 
@@ -115,31 +132,46 @@ impl Case {
         step: usize,
     ) -> Result<Vec<u8>, SimulationError> {
         let options = parse_options(alloc, &self.words)?;
-        let mut warnings = Vec::new(alloc);
-        let mut writer = Device::new(Vec::new(alloc));
-        {
-            let mut progress = Progress::new(&mut warnings, false);
-            let mut reader = Device::new(Slow {
-                left: &self.trace,
-                step,
-            });
-            simulate(
-                alloc,
-                &options,
-                hasher,
-                &mut reader,
-                &mut writer,
-                &mut progress,
-            )?;
-        }
-        let mut written = writer.into_inner();
-        written.extend_from_slice(&warnings)?;
-        Ok(written)
+        let left = self.trace.as_slice();
+        with_warnings(alloc, &options, hasher, Slow { left, step })
     }
 }
 
+/// Returns what a simulation writes to standard output, and then the warnings.
+fn with_warnings<S: BuildHasher + Drop>(
+    alloc: Global,
+    options: &Options<Global>,
+    hasher: S,
+    trace: Slow<'_>,
+) -> Result<Vec<u8>, SimulationError> {
+    let mut warnings = Vec::new(alloc);
+    let mut written = {
+        let mut progress = Progress::new(&mut warnings, false);
+        simulated(alloc, options, hasher, trace, &mut progress)?
+    };
+    written.extend_from_slice(&warnings)?;
+    Ok(written)
+}
+
+/// Returns what a simulation writes to standard output.
+pub(crate) fn simulated<S: BuildHasher + Drop, R: Read, P: Write, C: Clock>(
+    alloc: Global,
+    options: &Options<Global>,
+    hasher: S,
+    trace: R,
+    progress: &mut Progress<P, C>,
+) -> Result<Vec<u8>, SimulationError>
+where
+    R: Drop,
+{
+    let mut reader = Device::new(trace);
+    let mut writer = Device::new(Vec::new(alloc));
+    simulate(alloc, options, hasher, &mut reader, &mut writer, progress)?;
+    Ok(writer.into_inner())
+}
+
 /// Returns the words of a line of arguments.
-fn words_of(alloc: Global, line: &str) -> Result<Vec<String>, SpellingError> {
+pub(crate) fn words_of(alloc: Global, line: &str) -> Result<Vec<String>, SpellingError> {
     let mut words = Vec::new(alloc);
     for word in line.split_whitespace() {
         push(&mut words, String::from_str(alloc, word)?)?;
@@ -152,5 +184,14 @@ fn push(words: &mut Vec<String>, word: String) -> Result<(), SpellingError> {
     match words.push(word) {
         Ok(()) => Ok(()),
         Err(_) => Err(SpellingError::Memory),
+    }
+}
+
+/// Parses the words of a line.
+pub(crate) fn options_of(alloc: Global, line: &str) -> Result<Options<Global>, Fail> {
+    let words = words_of(alloc, line)?;
+    match parse_options(alloc, &words) {
+        Ok(options) => Ok(options),
+        Err(refusal) => Err(Fail::from(refusal)),
     }
 }

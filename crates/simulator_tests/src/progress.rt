@@ -1,7 +1,6 @@
 //! The progress of a simulation, in one line that is written over, and rows above it.
 
-use crate::arguments::options_of;
-use crate::texts::replayed;
+use crate::player::{options_of, simulated};
 use clock2q_cache::DefaultHashBuilder;
 use simulator_io::Progress;
 use std::alloc::Global;
@@ -38,20 +37,19 @@ fn replay_with<C: Clock>(
 ) -> Result<(), Fail> {
     let options = options_of(alloc, line)?;
     progress.begin(length);
-    let _ = replayed(alloc, &options, DefaultHashBuilder::new(), trace, progress)?;
+    let _ = simulated(alloc, &options, DefaultHashBuilder::new(), trace, progress)?;
     Ok(())
 }
 
 /// Seventeen blocks of one long key, half of the length that is given: nothing is shown of the first
 /// million bytes.
-#[test]
-fn progress_in_percent(rt: HostRuntime) -> Result<(), Fail> {
-    let trace = vec![in rt.alloc(); b'a'; 1_114_112]?;
+pub(crate) fn show_percents(alloc: Global) -> Result<(), Fail> {
+    let trace = vec![in alloc; b'a'; 1_114_112]?;
     let length = Some(2_228_224);
     let lines = "\r\x1b[Kclock2q-simulate: 47% read\r\x1b[Kclock2q-simulate: 50% read\r\x1b[K";
-    shows(rt.alloc(), "5", &trace, (length, true), lines)?;
-    shows(rt.alloc(), "5", &trace, (length, false), "")?;
-    shows(rt.alloc(), "5", &trace, (None, true), "")
+    shows(alloc, "5", &trace, (length, true), lines)?;
+    shows(alloc, "5", &trace, (length, false), "")?;
+    shows(alloc, "5", &trace, (None, true), "")
 }
 
 /// A clock on which ten seconds pass before each reading.
@@ -73,9 +71,8 @@ impl Clock for Ticking {
 
 /// A million accesses to one key. A line is erased before another is written there, and a row isn't
 /// wrapped.
-#[test]
-fn rows_as_they_come(rt: HostRuntime) -> Result<(), Fail> {
-    let trace = vec![in rt.alloc(); b'\n'; 1_000_000]?;
+pub(crate) fn show_rows(alloc: Global) -> Result<(), Fail> {
+    let trace = vec![in alloc; b'\n'; 1_000_000]?;
     let length = Some(1_000_000_000);
     let lines = "\r\x1b[Kclock2q-simulate: capacity 5, 1 of 2\
         \r\x1b[K\x1b[?7lcapacity      LRU\x1b[?7h\n\
@@ -84,31 +81,29 @@ fn rows_as_they_come(rt: HostRuntime) -> Result<(), Fail> {
         \r\x1b[K\x1b[?7l       7   100.00\x1b[?7h\n\
         \r\x1b[K\x1b[3A\x1b[J";
     let line = "5 7 --policies=lru";
-    shows(rt.alloc(), line, &trace, (length, true), lines)?;
-    shows(rt.alloc(), line, &trace, (length, false), "")
+    shows(alloc, line, &trace, (length, true), lines)?;
+    shows(alloc, line, &trace, (length, false), "")
 }
 
 /// Of a sample the capacity for all keys is shown, which is replayed as one for three keys.
-#[test]
-fn rows_of_a_sample(rt: HostRuntime) -> Result<(), Fail> {
-    let trace = vec![in rt.alloc(); b'\n'; 1_000_000]?;
+pub(crate) fn show_rows_of_a_sample(alloc: Global) -> Result<(), Fail> {
+    let trace = vec![in alloc; b'\n'; 1_000_000]?;
     let lines = "\r\x1b[Kclock2q-simulate: capacity 7, 1 of 1\
         \r\x1b[K\x1b[?7lcapacity      LRU\x1b[?7h\n\
         \r\x1b[K\x1b[?7l       7   100.00\x1b[?7h\n\
         \r\x1b[K\x1b[2A\x1b[J";
     let line = "7 --policies=lru --sample=0.5";
-    shows(rt.alloc(), line, &trace, (Some(1_000_000_000), true), lines)
+    shows(alloc, line, &trace, (Some(1_000_000_000), true), lines)
 }
 
 /// Of 2,228,224 bytes 1,048,576 are read after 10 seconds, and half after 20.
-#[test]
-fn time_left(rt: HostRuntime) -> Result<(), Fail> {
-    let trace = vec![in rt.alloc(); b'a'; 1_114_112]?;
-    let mut shown = Vec::new(rt.alloc());
+pub(crate) fn show_time_left(alloc: Global) -> Result<(), Fail> {
+    let trace = vec![in alloc; b'a'; 1_114_112]?;
+    let mut shown = Vec::new(alloc);
     {
         let clock = Ticking { tens: Cell::new(0) };
         let mut progress = Progress::with_clock(&mut shown, true, clock);
-        replay_with(rt.alloc(), "5", &trace, Some(2_228_224), &mut progress)?;
+        replay_with(alloc, "5", &trace, Some(2_228_224), &mut progress)?;
     }
     let lines =
         "\r\x1b[Kclock2q-simulate: 47% read, 11 s left\r\x1b[Kclock2q-simulate: 50% read, 20 s left";

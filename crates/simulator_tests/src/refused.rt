@@ -1,6 +1,7 @@
-//! Requests for memory refused in turn, while the arguments are fetched and from them to the text.
+//! Requests for memory refused in turn, while the arguments are fetched and from them to the text: cases
+//! of a file, a line each.
 
-use crate::arguments::{ALL_POLICIES, words_of};
+use crate::player::words_of;
 use clock2q_cache::DefaultHashBuilder;
 use clock2q_ports::Device;
 use simulator_io::{Progress, SimulationError, parse_options};
@@ -8,7 +9,7 @@ use simulator_replay::simulate;
 use std::alloc::{Allocator, Global};
 use std::env;
 use std::test::Fail;
-use testing::{Refusing, Tried, same, same_at, try_in_turn};
+use testing::{Refusing, SpellingError, Tried, same_at, try_in_turn};
 
 const TRACE: &[u8] = b"a\nb\na\nc\nb\nd\na\nb\n";
 
@@ -44,41 +45,25 @@ fn has_arguments<A: Allocator>(rt: &HostRuntime, alloc: &A) -> Result<bool, Simu
     }
 }
 
-/// Each request made to fetch the arguments, as `main` fetches them.
-#[test]
-fn arguments_fetched(rt: HostRuntime) -> Result<(), Fail> {
+/// Refuses in turn each request made to fetch the arguments, as `main` fetches them.
+pub(crate) fn refuse_arguments(rt: &HostRuntime) -> Result<(), Fail> {
     let alloc = Refusing::new(rt.alloc());
     let tried = try_in_turn(&alloc, true, SimulationError::Memory, || {
-        has_arguments(&rt, &alloc)
+        has_arguments(rt, &alloc)
     });
     same_at(matches!(tried, Tried::Done(_)), true, tried)
 }
 
-/// Refuses in turn each request made for the arguments of a line and for what is written.
-fn each_is_refused(alloc: Global, line: &str) -> Result<(), Fail> {
+/// Refuses in turn each request made for the arguments of a line and for what is written, and returns
+/// what came of it if it is wrong.
+pub(crate) fn wrong_refusal(alloc: Global, line: &str) -> Result<Option<Vec<u8>>, SpellingError> {
     let words = words_of(alloc, line)?;
     let refusing = Refusing::new(alloc);
     let tried = try_in_turn(&refusing, true, SimulationError::Memory, || {
         Ok(written(&refusing, alloc, &words)? > 0)
     });
-    same_at(matches!(tried, Tried::Done(_)), true, (line, tried))
-}
-
-/// Each form over capacities of each kind: with all policies, and windows with two.
-#[test]
-fn each_request(rt: HostRuntime) -> Result<(), Fail> {
-    let asked = "2 2..3 50%..100% --policy small=1,window=100% --policies";
-    for (form, policies) in [
-        ("", ALL_POLICIES),
-        ("--csv", ALL_POLICIES),
-        ("--svg", ALL_POLICIES),
-        ("--json --format=csv --column=1", ALL_POLICIES),
-        ("--json --window=5", "clock2q,opt"),
-        ("--svg --window=5", "clock2q,opt"),
-    ] {
-        let line = format!(in rt.alloc(); "{form} {asked} {policies}")?;
-        each_is_refused(rt.alloc(), &line)?;
-    }
-    same(SimulationError::Memory.status(), 3)?;
-    Ok(())
+    Ok(match tried {
+        Tried::Done(_) => None,
+        _ => Some(format!(in alloc; "{tried:?}")?.into_bytes()),
+    })
 }
