@@ -93,17 +93,26 @@ impl fmt::Display for Amount {
 
 /// Writes millionths as a percentage, with the decimals that it needs.
 fn write_percentage<W: fmt::Write>(f: &mut fmt::Formatter<W>, number: usize) -> fmt::Result {
-    let (whole, rest) = (number / 10_000, number % 10_000);
-    if rest == 0 {
-        write!(f, "{whole}%")
-    } else if rest % 1_000 == 0 {
-        write!(f, "{whole}.{}%", rest / 1_000)
-    } else if rest % 100 == 0 {
-        write!(f, "{whole}.{:02}%", rest / 100)
-    } else if rest % 10 == 0 {
-        write!(f, "{whole}.{:03}%", rest / 10)
+    write!(f, "{}", number / 10_000)?;
+    let (decimals, digits) = trimmed(number % 10_000);
+    if digits > 0 {
+        write!(f, ".{decimals:0digits$}")?;
+    }
+    f.write_str("%")
+}
+
+/// Returns four decimals without the zeros at their end, and how many are left.
+fn trimmed(decimals: usize) -> (usize, usize) {
+    if decimals == 0 {
+        (0, 0)
+    } else if decimals % 1_000 == 0 {
+        (decimals / 1_000, 1)
+    } else if decimals % 100 == 0 {
+        (decimals / 100, 2)
+    } else if decimals % 10 == 0 {
+        (decimals / 10, 3)
     } else {
-        write!(f, "{whole}.{rest:04}%")
+        (decimals, 4)
     }
 }
 

@@ -43,7 +43,7 @@ const NAMED: usize = 10;
 const CLEAR: f64 = 0.08;
 
 /// The numbers from `low` to `high`, on a linear or logarithmic scale.
-#[derive(Clone, Copy, Debug, PartialEq, Eq)]
+#[derive(Clone, Copy)]
 pub(crate) struct Axis {
     pub(crate) low: usize,
     pub(crate) high: usize,

@@ -17,7 +17,7 @@ use std::alloc::Allocator;
 use std::num::NonZeroUsize;
 
 /// An option that takes a value.
-#[derive(Clone, Copy, Debug, PartialEq, Eq)]
+#[derive(Clone, Copy)]
 pub(crate) enum Valued {
     Policies,
     Shares,

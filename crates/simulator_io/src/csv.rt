@@ -12,7 +12,7 @@ use std::alloc::{AllocError, Allocator};
 use std::num::NonZeroUsize;
 
 /// Where in a field the next byte is.
-#[derive(Clone, Copy, Debug, PartialEq, Eq)]
+#[derive(Clone, Copy)]
 pub(crate) enum Place {
     /// At its beginning.
     Start,
@@ -25,7 +25,7 @@ pub(crate) enum Place {
 }
 
 /// What a byte of a line is.
-#[derive(Clone, Copy, Debug, PartialEq, Eq)]
+#[derive(Clone, Copy)]
 pub(crate) enum Step {
     /// A byte of the field.
     Add(Place),

@@ -117,7 +117,7 @@ fn write_byte_row<A: Allocator>(
     page.add_number("B,", row.accesses);
     page.add_number(",", row.bytes);
     for policy in policies {
-        match row.hits.iter().find(|hits| hits.policy == *policy) {
+        match row.hits_with(*policy) {
             Some(hits) => write_hits(page, row, hits, true),
             None => page.add(",,,,"),
         }

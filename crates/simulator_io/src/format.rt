@@ -73,7 +73,7 @@ impl Columns {
 }
 
 /// The name of a format.
-#[derive(Clone, Copy, Debug, PartialEq, Eq)]
+#[derive(Clone, Copy)]
 enum FormatName {
     Lines,
     Csv,

@@ -126,15 +126,27 @@ fn write_window<A: Allocator>(page: &mut Page<A>, window: &Window<A>, is_sized: 
 fn write_hits<A: Allocator>(page: &mut Page<A>, row: &Row<A>, hits: &Hits, is_sized: bool) {
     page.add("\"");
     page.add(hits.policy.name());
-    let Figure { number, ratio } = row.figure(hits, Counted::Hits);
-    page.add_number("\": {\"hits\": ", number);
-    page.add_decimals(", \"ratio\": ", ratio, 4);
+    page.add("\": {\"");
+    write_figure(page, "hits", "ratio", row.figure(hits, Counted::Hits));
     if is_sized {
-        let Figure { number, ratio } = row.figure(hits, Counted::Bytes);
-        page.add_number(", \"hit_bytes\": ", number);
-        page.add_decimals(", \"byte_ratio\": ", ratio, 4);
+        page.add(", \"");
+        write_figure(
+            page,
+            "hit_bytes",
+            "byte_ratio",
+            row.figure(hits, Counted::Bytes),
+        );
     }
     page.add("}");
+}
+
+/// Writes a number and its part of all, each after its name, of which the first has its quote already.
+fn write_figure<A: Allocator>(page: &mut Page<A>, number: &str, ratio: &str, figure: Figure) {
+    page.add(number);
+    page.add_number("\": ", figure.number);
+    page.add(", \"");
+    page.add(ratio);
+    page.add_decimals("\": ", figure.ratio, 4);
 }
 
 /// Writes a string between quotes.
@@ -159,16 +171,8 @@ fn write_letter<A: Allocator>(page: &mut Page<A>, letter: char) {
         page.add("\\");
     }
     if letter < ' ' {
-        write_control(page, u32::from(letter));
+        page.add_escape(u32::from(letter));
     } else {
         page.add_char(letter);
-    }
-}
-
-/// Writes a control character, which has a number below 32, as an escape.
-fn write_control<A: Allocator>(page: &mut Page<A>, number: u32) {
-    page.add(if number < 16 { "\\u000" } else { "\\u001" });
-    if let Some(digit) = char::from_digit(number % 16, 16) {
-        page.add_char(digit);
     }
 }

@@ -43,6 +43,13 @@ impl<A: Allocator> Page<A> {
         }
     }
 
+    /// Adds the escape of a character in JSON.
+    pub(crate) fn add_escape(&mut self, letter: u32) {
+        if self.is_whole {
+            self.is_whole = write!(self.text, "\\u{letter:04x}").is_ok();
+        }
+    }
+
     /// Adds a text, and a number after it.
     pub(crate) fn add_number(&mut self, before: &str, number: usize) {
         self.add(before);

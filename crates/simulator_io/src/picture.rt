@@ -233,10 +233,8 @@ fn points_of<A: Allocator + Copy>(
 
 /// Returns the hit ratio of a policy in percent.
 fn percent_of<A: Allocator>(row: &Row<A>, policy: Policy) -> f64 {
-    for hits in row.hits.iter() {
-        if hits.policy == policy {
-            return row.ratio(hits.hits) * 100.0;
-        }
+    match row.hits_with(policy) {
+        Some(hits) => row.ratio(hits.hits) * 100.0,
+        None => 0.0,
     }
-    0.0
 }

@@ -12,6 +12,13 @@ const MILLION: usize = 1_000_000;
 /// The number of bytes of a trace that are read before a percentage is reported.
 const LONG: u64 = 1_000_000;
 
+/// The first bytes of compressed files, and the command that shows each.
+const COMPRESSED: [(&[u8], &str); 3] = [
+    (b"\x1F\x8B", "zcat"),
+    (b"\x28\xB5\x2F\xFD", "zstdcat"),
+    (b"\xFD7zXZ\0", "xzcat"),
+];
+
 /// What goes back to the beginning of a terminal's line and erases it.
 const ERASED: &str = "\r\x1b[K";
 
@@ -102,7 +109,7 @@ impl<W: Write, C: Clock> Progress<W, C> {
     /// Erases the line and those above it, before anything else is written to the terminal.
     pub fn end(&mut self) {
         if self.is_begun {
-            let _ = self.writer.write_all(ERASED.as_bytes());
+            self.put(ERASED);
             if self.lines > 0 {
                 let _ = write!(self.writer, "\x1b[{}A\x1b[J", self.lines);
             }
@@ -123,7 +130,10 @@ impl<W: Write, C: Clock> Progress<W, C> {
         if self.is_shown && figure != self.reported {
             self.reported = figure;
             self.is_begun = true;
-            let _ = write!(self.writer, "{ERASED}clock2q-simulate: {figure}{unit} read");
+            self.begin_line();
+            self.put_number(figure);
+            self.put(unit);
+            self.put(" read");
             self.end_line(self.read, self.length);
         }
     }
@@ -135,7 +145,9 @@ impl<W: Write, C: Clock> Progress<W, C> {
 
     /// Writes a line above the one of progress, where it is until the end.
     pub(crate) fn add_line(&mut self, line: &str) {
-        let _ = writeln!(self.writer, "{ERASED}{CUT}{line}{WRAPPED}");
+        for part in [ERASED, CUT, line, WRAPPED, "\n"] {
+            self.put(part);
+        }
         let _ = self.writer.flush();
         self.is_begun = true;
         self.lines = self.lines.saturating_add(1);
@@ -145,11 +157,13 @@ impl<W: Write, C: Clock> Progress<W, C> {
     pub fn replay(&mut self, accesses: usize, capacity: usize, index: usize, of: usize) {
         if self.shows(accesses) {
             self.is_begun = true;
-            let number = index.saturating_add(1);
-            let _ = write!(
-                self.writer,
-                "{ERASED}clock2q-simulate: capacity {capacity}, {number} of {of}"
-            );
+            self.begin_line();
+            self.put("capacity ");
+            self.put_number(capacity as u64);
+            self.put(", ");
+            self.put_number((index as u64).saturating_add(1));
+            self.put(" of ");
+            self.put_number(of as u64);
             if index == 0 {
                 self.start();
             }
@@ -183,53 +197,79 @@ impl<W: Write, C: Clock> Progress<W, C> {
     /// Writes a warning if the first bytes of a trace are those of a compressed file, whether
     /// progress is shown or not.
     pub(crate) fn warn_if_compressed(&mut self, name: &str, bytes: &[u8]) {
-        let command = match bytes {
-            [0x1F, 0x8B, ..] => "zcat",
-            [0x28, 0xB5, 0x2F, 0xFD, ..] => "zstdcat",
-            [0xFD, b'7', b'z', b'X', b'Z', 0, ..] => "xzcat",
-            [b'B', b'Z', b'h', _, 0x31, 0x41, 0x59, 0x26, 0x53, 0x59, ..] => "bzcat",
-            _ => return,
-        };
+        if let Some(command) = command_for(bytes) {
+            self.warn(name);
+            self.put("looks compressed: try ");
+            self.put(command);
+            self.put(" FILE | clock2q-simulate .. -\n");
+        }
+    }
+
+    /// Erases what is shown, and begins a warning about a trace.
+    fn warn(&mut self, name: &str) {
         self.end();
-        let _ = writeln!(
-            self.writer,
-            "clock2q-simulate: {name}: warning: looks compressed: try {command} FILE | clock2q-simulate .. -"
-        );
+        self.put("clock2q-simulate: ");
+        self.put(name);
+        self.put(": warning: ");
+    }
+
+    /// Begins the line anew.
+    fn begin_line(&mut self) {
+        self.put(ERASED);
+        self.put("clock2q-simulate: ");
+    }
+
+    /// Writes a text.
+    fn put(&mut self, text: &str) {
+        let _ = self.writer.write_all(text.as_bytes());
+    }
+
+    /// Writes a number.
+    fn put_number(&mut self, number: u64) {
+        let _ = write!(self.writer, "{number}");
     }
 
     /// Writes a warning that a trace has no access, or none to a key of its sample.
     fn warn_of_none(&mut self, name: &str, is_sampled: bool) {
-        let what = if is_sampled {
-            "no access to a key of the sample"
+        self.warn(name);
+        self.put(if is_sampled {
+            "no access to a key of the sample\n"
         } else {
-            "an empty trace"
-        };
-        self.end();
-        let _ = writeln!(self.writer, "clock2q-simulate: {name}: warning: {what}");
+            "an empty trace\n"
+        });
     }
 
     /// Writes a warning if a trace is empty or suspicious, or if all its accesses are skipped, whether
     /// progress is shown or not.
     pub fn warn_of(&mut self, name: &str, summary: &Summary, skipped: usize, is_sampled: bool) {
         if summary.is_nearly_all_once() {
-            self.end();
-            let _ = writeln!(
-                self.writer,
-                "clock2q-simulate: {name}: warning: more than 99 of 100 keys are asked for once: is each line a key?"
-            );
+            self.warn(name);
+            self.put("more than 99 of 100 keys are asked for once: is each line a key?\n");
         }
         if summary.accesses == 0 {
             self.warn_of_none(name, is_sampled);
         } else if summary.is_all_skipped(skipped) {
-            let accesses = summary.accesses;
-            let plural = plural_of(accesses);
-            self.end();
-            let _ = writeln!(
-                self.writer,
-                "clock2q-simulate: {name}: warning: --skip={skipped} leaves none of {accesses} access{plural} to count"
-            );
+            self.warn(name);
+            self.put("--skip=");
+            self.put_number(skipped as u64);
+            self.put(" leaves none of ");
+            self.put_number(summary.accesses as u64);
+            self.put(" access");
+            self.put(plural_of(summary.accesses));
+            self.put(" to count\n");
         }
     }
+}
+
+/// Returns the command that shows a compressed file, by its first bytes.
+fn command_for(bytes: &[u8]) -> Option<&'static str> {
+    for (first, command) in COMPRESSED {
+        if bytes.starts_with(first) {
+            return Some(command);
+        }
+    }
+    let is_bzip2 = bytes.starts_with(b"BZh") && bytes.get(4..10) == Some(b"1AY&SY".as_slice());
+    is_bzip2.then_some("bzcat")
 }
 
 /// Returns the letters that make more than one of a number of accesses.

@@ -78,6 +78,11 @@ pub struct Row<A: Allocator> {
 }
 
 impl<A: Allocator> Row<A> {
+    /// Returns the hits with a policy, if they were counted.
+    pub(crate) fn hits_with(&self, policy: Policy) -> Option<&Hits> {
+        self.hits.iter().find(|hits| hits.policy == policy)
+    }
+
     /// Returns what the texts show of the hits with a policy.
     pub(crate) fn figure(&self, hits: &Hits, counted: Counted) -> Figure
         ensures number { result.number ≡ number_of counted hits.now }

@@ -191,7 +191,7 @@ fn write_byte_row<A: Allocator>(
 ) {
     write_bytes(page, row.capacity.get());
     for policy in policies {
-        match row.hits.iter().find(|hits| hits.policy == *policy) {
+        match row.hits_with(*policy) {
             Some(hits) => write_percents(page, row, hits, true),
             None => page.add("        -        -"),
         }
