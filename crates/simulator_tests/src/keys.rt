@@ -52,12 +52,17 @@ fn keys_read(
 /// Returns the numbers of a trace's keys, and the sizes if it has some.
 fn keys_of(alloc: Global, trace: &Trace<Global>) -> Result<String, AllocError> {
     let mut text = String::new(alloc);
-    list(&mut text, trace.numbers())?;
-    if trace.has_sizes() {
-        list(&mut text, &["of"])?;
-        list(&mut text, trace.sizes())?;
-    }
+    write_keys(&mut text, trace)?;
     Ok(text)
+}
+
+fn write_keys(text: &mut String, trace: &Trace<Global>) -> Result<(), AllocError> {
+    list(text, trace.numbers())?;
+    if !trace.has_sizes() {
+        return Ok(());
+    }
+    text.push_str(" of")?;
+    list(text, trace.sizes())
 }
 
 /// Reads a trace in the format and sample that arguments ask for, a few bytes at a time.

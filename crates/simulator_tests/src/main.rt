@@ -2,7 +2,8 @@
 //! out by hand, devices that fail, and memory that is refused.
 //!
 //! The program plays the cases of its files, and prints those whose outcome is another. The hits of
-//! those in `modelled` are worked out by `models.py`.
+//! those in `modelled` are worked out by `models.py`. Then it checks what no file has cases of. Given
+//! the names of files, it plays those alone.
 #![tactic(auto)]
 
 mod arguments;
@@ -23,44 +24,87 @@ mod texts;
 mod traces;
 
 use std::alloc::Global;
-use std::io;
 use std::test::Fail;
-use testing::play_cases;
+use std::{env, io};
+use testing::{SpellingError, play_cases};
+
+/// What the cases of a file are.
+#[derive(Clone, Copy)]
+enum Cases {
+    Answers,
+    Keys,
+    Outcomes,
+    OutcomesAtOnce,
+    TextsOfTwo,
+    Pictures,
+    Refusals,
+}
+
+/// The files of cases.
+const FILES: [(&str, Cases); 8] = [
+    ("asked", Cases::Answers),
+    ("keys", Cases::Keys),
+    ("cases", Cases::Outcomes),
+    ("modelled", Cases::Outcomes),
+    ("at_once", Cases::OutcomesAtOnce),
+    ("pairs", Cases::TextsOfTwo),
+    ("pictures", Cases::Pictures),
+    ("refused", Cases::Refusals),
+];
 
 fn main(rt: HostRuntime) -> Result<(), Fail> {
-    play_files(&rt)?;
-    texts::other_hashers(&rt)?;
-    refused::refuse_arguments(&rt)?;
-    check(rt.alloc())?;
-    println!(rt; "the rest: checked")?;
+    let names: Vec<String> = env::args(&rt)?.skip(1).collect(rt.alloc())?;
+    play_files(&rt, &names)?;
+    if names.is_empty() {
+        texts::other_hashers(&rt)?;
+        refused::refuse_arguments(&rt)?;
+        check(rt.alloc())?;
+        println!(rt; "the rest: checked")?;
+    }
     Ok(())
 }
 
-/// Plays the cases of all files.
-fn play_files(rt: &HostRuntime) -> io::Result<()> {
-    play_cases(rt, "asked", |line| asked::other_answer(rt.alloc(), line))?;
-    play_cases(rt, "keys", |line| keys::other_keys(rt.alloc(), line))?;
-    for name in ["cases", "modelled"] {
-        play_cases(rt, name, |line| player::other_outcome(rt.alloc(), line))?;
+/// Plays the cases of files, or of all if there are no names.
+fn play_files(rt: &HostRuntime, names: &[String]) -> io::Result<()> {
+    for (name, cases) in FILES {
+        if names.is_empty() || has_name(names, name) {
+            play(rt, name, cases)?;
+        }
     }
-    play_cases(rt, "at_once", |line| {
-        player::other_outcome_at_once(rt.alloc(), line)
-    })?;
-    play_cases(
-        rt,
-        "pairs",
-        |line| texts::other_text_of_two(rt.alloc(), line),
-    )?;
-    play_cases(
-        rt,
-        "pictures",
-        |line| pictures::other_picture(rt.alloc(), line),
-    )?;
-    play_cases(
-        rt,
-        "refused",
-        |line| refused::wrong_refusal(rt.alloc(), line),
-    )
+    Ok(())
+}
+
+/// Returns true if a name is among others.
+fn has_name(names: &[String], name: &str) -> bool {
+    for other in names {
+        if other.as_str() == name {
+            return true;
+        }
+    }
+    false
+}
+
+/// Plays the cases of a file.
+fn play(rt: &HostRuntime, name: &str, cases: Cases) -> io::Result<()> {
+    let alloc = rt.alloc();
+    play_cases(rt, name, |line| other_outcome(alloc, cases, line))
+}
+
+/// Returns what a case gives in place of what it should, if it does.
+fn other_outcome(
+    alloc: Global,
+    cases: Cases,
+    line: &str,
+) -> Result<Option<Vec<u8>>, SpellingError> {
+    match cases {
+        Cases::Answers => asked::other_answer(alloc, line),
+        Cases::Keys => keys::other_keys(alloc, line),
+        Cases::Outcomes => player::other_outcome(alloc, line),
+        Cases::OutcomesAtOnce => player::other_outcome_at_once(alloc, line),
+        Cases::TextsOfTwo => texts::other_text_of_two(alloc, line),
+        Cases::Pictures => pictures::other_picture(alloc, line),
+        Cases::Refusals => refused::wrong_refusal(alloc, line),
+    }
 }
 
 /// Checks what no file has cases of.

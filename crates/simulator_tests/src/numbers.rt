@@ -3,7 +3,7 @@
 use clock2q_cache::DefaultHashBuilder;
 use clock2q_ports::Device;
 use simulator_io::{GrowingTrace, Progress, SimulationError, Trace, TraceFormat, read_trace};
-use std::alloc::Global;
+use std::alloc::{AllocError, Global};
 use std::test::Fail;
 use testing::{same, same_at};
 
@@ -16,14 +16,22 @@ pub(crate) fn trace_of(alloc: Global, input: &[u8]) -> Result<Trace<Global>, Sim
     read_trace(alloc, hasher, "-", lines, &mut reader, &mut progress)
 }
 
-/// Keys that are prefixes of others, and an empty one: only their starts distinguish them.
-pub(crate) fn number_prefixes(alloc: Global) -> Result<(), Fail> {
-    let keys: [&[u8]; 8] = [b"", b"a", b"aa", b"", b"aaa", b"a", b"aa", b"aaa"];
-    let mut growing = GrowingTrace::new(alloc);
-    for (count, key) in keys.iter().enumerate() {
+/// Keys that are prefixes of others, and an empty one.
+const PREFIXES: [&[u8]; 8] = [b"", b"a", b"aa", b"", b"aaa", b"a", b"aa", b"aaa"];
+
+/// Adds such keys, and checks how many there are before each.
+fn push_prefixes(growing: &mut GrowingTrace<DefaultHashBuilder, Global>) -> Result<(), Fail> {
+    for (count, key) in PREFIXES.iter().enumerate() {
         same(growing.len(), count)?;
         growing.push(key)?;
     }
+    Ok(())
+}
+
+/// Numbers keys that only their starts distinguish.
+pub(crate) fn number_prefixes(alloc: Global) -> Result<(), Fail> {
+    let mut growing = GrowingTrace::new(alloc);
+    push_prefixes(&mut growing)?;
     let trace = growing.finish();
     same(trace.numbers(), [0, 1, 2, 0, 3, 1, 2, 3].as_slice())?;
     same(trace.key_count(), 4)?;
@@ -43,18 +51,17 @@ pub(crate) fn number_long_keys(alloc: Global) -> Result<(), Fail> {
 }
 
 /// Adds a line with a number.
-fn push_line(alloc: Global, lines: &mut Vec<u8>, number: u32) -> Result<(), Fail> {
-    let line = format!(in alloc; "{number}\n")?;
-    Ok(lines.extend_from_slice(line.as_bytes())?)
+pub(crate) fn push_line(lines: &mut String, number: u32) -> Result<(), AllocError> {
+    write!(lines, "{number}\n")
 }
 
 /// Returns 65,537 keys, more than 16 bits can number, each twice: first ascending, then descending.
-fn many_lines(alloc: Global) -> Result<Vec<u8>, Fail> {
-    let mut input = Vec::new(alloc);
+fn many_lines(alloc: Global) -> Result<String, AllocError> {
+    let mut lines = String::new(alloc);
     for key in (0..65_537u32).chain((0..65_537).rev()) {
-        push_line(alloc, &mut input, key)?;
+        push_line(&mut lines, key)?;
     }
-    Ok(input)
+    Ok(lines)
 }
 
 /// Checks the numbers of the keys of such lines.
@@ -70,5 +77,5 @@ fn numbers_go_back(trace: &Trace<Global>) -> Result<(), Fail> {
 
 /// Numbers more keys than 16 bits can.
 pub(crate) fn number_many_keys(alloc: Global) -> Result<(), Fail> {
-    numbers_go_back(&trace_of(alloc, &many_lines(alloc)?)?)
+    numbers_go_back(&trace_of(alloc, many_lines(alloc)?.as_bytes())?)
 }

@@ -1,9 +1,11 @@
 //! Samples of the keys: which keys are in one, and that only those are replayed.
 
+use crate::numbers::push_line;
 use crate::player::words_of;
 use crate::texts::written;
+use crate::traces::next_state;
 use simulator_io::Sample;
-use std::alloc::Global;
+use std::alloc::{AllocError, Global};
 use std::test::Fail;
 use testing::same_at;
 
@@ -33,66 +35,84 @@ pub(crate) fn keep_their_part(alloc: Global) -> Result<(), Fail> {
     Ok(())
 }
 
-/// Adds a line with a number.
-fn push_line(alloc: Global, lines: &mut String, number: u64) -> Result<(), Fail> {
-    let line = format!(in alloc; "{number}\n")?;
-    Ok(lines.push_str(&line)?)
+/// Adds a line with a key to others, and to those in a sample if it is in it.
+fn push_key(
+    alloc: Global,
+    (all, kept): (&mut String, &mut String),
+    sample: Sample,
+    key: u32,
+) -> Result<(), AllocError> {
+    push_line(all, key)?;
+    if sample.has(format!(in alloc; "{key}")?.as_bytes()) {
+        push_line(kept, key)?;
+    }
+    Ok(())
 }
 
-/// Returns a trace of numbers as lines, and the lines of those in a sample.
-fn lines_of(alloc: Global, sample: Sample) -> Result<(String, String), Fail> {
-    let (mut all, mut kept) = (String::new(alloc), String::new(alloc));
+/// Adds a trace of numbers as lines, and the lines of those in a sample.
+fn push_lines(
+    alloc: Global,
+    all: &mut String,
+    kept: &mut String,
+    sample: Sample,
+) -> Result<(), AllocError> {
     let mut state = 1u64;
     for _ in 0..2_000 {
-        state = state
-            .wrapping_mul(6364136223846793005)
-            .wrapping_add(1442695040888963407);
-        let key = (state >> 33) % 200;
-        push_line(alloc, &mut all, key)?;
-        if sample.has(format!(in alloc; "{key}")?.as_bytes()) {
-            push_line(alloc, &mut kept, key)?;
-        }
+        state = next_state(state);
+        let key = ((state >> 33) % 200) as u32;
+        push_key(alloc, (&mut *all, &mut *kept), sample, key)?;
     }
-    Ok((all, kept))
+    Ok(())
 }
+
+/// Arguments of a sample of a fourth of the keys, and those of caches as much smaller.
+const SCALED: [(&str, &str); 4] = [
+    ("--json --sample=0.25 40", "--json 10"),
+    (
+        "--json --sample=0.25 40 --shares=small=20,window=9",
+        "--json 10 --shares=small=5,window=2",
+    ),
+    (
+        "--json --sample=0.25 40 --shares=small=50%,window=9",
+        "--json 10 --shares=small=50%,window=2",
+    ),
+    (
+        "--json --sample=0.25 40 --shares=small=0,window=0",
+        "--json 10 --shares=small=0,window=0",
+    ),
+];
 
 /// A sample's rows are those of a trace of its keys alone in smaller caches, whose shares are as much
 /// smaller too if they are numbers of keys.
 pub(crate) fn replay_as_alone(alloc: Global) -> Result<(), Fail> {
     let sample = Sample::written("0.25").ok_or("no sample")?;
-    let (all, kept) = lines_of(alloc, sample)?;
-    for (larger, smaller) in [
-        ("40", "10"),
-        (
-            "40 --shares=small=20,window=9",
-            "10 --shares=small=5,window=2",
-        ),
-        (
-            "40 --shares=small=50%,window=9",
-            "10 --shares=small=50%,window=2",
-        ),
-        (
-            "40 --shares=small=0,window=0",
-            "10 --shares=small=0,window=0",
-        ),
-    ] {
-        let line = format!(in alloc; "--json --sample=0.25 {larger}")?;
-        let sampled = text_of(alloc, &line, all.as_bytes())?;
-        let line = format!(in alloc; "--json {smaller}")?;
-        let alone = text_of(alloc, &line, kept.as_bytes())?;
-        same_at(
-            rows_after(&sampled, "\"capacity\": 40"),
-            rows_after(&alone, "\"capacity\": 10"),
-            larger,
-        )?;
+    let (mut all, mut kept) = (String::new(alloc), String::new(alloc));
+    push_lines(alloc, &mut all, &mut kept, sample)?;
+    for (larger, smaller) in SCALED {
+        have_same_rows(alloc, (larger, &all), (smaller, &kept))?;
     }
     Ok(())
 }
 
+/// Checks that a sample of a trace has the rows that the sample has alone.
+fn have_same_rows(
+    alloc: Global,
+    (larger, all): (&str, &str),
+    (smaller, kept): (&str, &str),
+) -> Result<(), Fail> {
+    let sampled = text_of(alloc, larger, all)?;
+    let alone = text_of(alloc, smaller, kept)?;
+    same_at(
+        rows_after(&sampled, "\"capacity\": 40"),
+        rows_after(&alone, "\"capacity\": 10"),
+        larger,
+    )
+}
+
 /// Returns what a simulation writes.
-fn text_of(alloc: Global, line: &str, trace: &[u8]) -> Result<String, Fail> {
+fn text_of(alloc: Global, line: &str, trace: &str) -> Result<String, Fail> {
     let words = words_of(alloc, line)?;
-    let bytes = written(alloc, &words, trace)?;
+    let bytes = written(alloc, &words, trace.as_bytes())?;
     Ok(String::from_utf8(bytes)?)
 }
 

@@ -8,7 +8,7 @@ use simulator_replay::replay_source;
 use std::alloc::Global;
 use std::hash::{BuildHasher, RandomState};
 use std::test::Fail;
-use testing::{LinearHashBuilder, SpellingError, same, same_at, spelled};
+use testing::{LinearHashBuilder, SpellingError, same, spelled};
 
 /// Returns what a simulation with these arguments writes.
 pub(crate) fn written(
@@ -31,19 +31,30 @@ fn written_with<S: BuildHasher + Drop>(
     simulated(alloc, &options, hasher, input, &mut progress)
 }
 
+/// A trace with an empty key.
+const HASHED: &[u8] = b"a\nb\na\nc\n\nb\nd\na\nb\n";
+
 /// Checks a text with random numbers, and with hashers that spread the keys badly.
 pub(crate) fn other_hashers(rt: &HostRuntime) -> Result<(), Fail> {
     let words = words_of(rt.alloc(), "2 100%")?;
-    let trace = b"a\nb\na\nc\n\nb\nd\na\nb\n";
-    let wanted = written(rt.alloc(), &words, trace)?;
-    let text = written_with(rt.alloc(), &words, trace, RandomState::new(rt)?)?;
-    same(text.as_slice(), wanted.as_slice())?;
+    let wanted = written(rt.alloc(), &words, HASHED)?;
+    writes_with(rt.alloc(), &words, RandomState::new(rt)?, &wanted)?;
     for (times, more) in [(0, 0), (0, 0xAB00_0000_0000_000F), (0, u64::MAX), (1, 0)] {
         let spread = LinearHashBuilder { times, more };
-        let text = written_with(rt.alloc(), &words, trace, spread)?;
-        same_at(text.as_slice(), wanted.as_slice(), spread)?;
+        writes_with(rt.alloc(), &words, spread, &wanted)?;
     }
     Ok(())
+}
+
+/// Checks a text with a hasher.
+fn writes_with<S: BuildHasher + Drop>(
+    alloc: Global,
+    words: &[String],
+    hasher: S,
+    wanted: &[u8],
+) -> Result<(), Fail> {
+    let text = written_with(alloc, words, HASHED, hasher)?;
+    same(text.as_slice(), wanted)
 }
 
 /// A trace that others are written for, too.

@@ -16,9 +16,7 @@ pub(crate) fn trace_of(
     let mut state = seed;
     let mut trace = Vec::new(alloc);
     for i in 0..length {
-        state = state
-            .wrapping_mul(6364136223846793005)
-            .wrapping_add(1442695040888963407);
+        state = next_state(state);
         let keys = u64::from(keys.max(1));
         let chance = (state >> 33) % keys;
         let key = match i / (length / 3).max(1) {
@@ -31,6 +29,13 @@ pub(crate) fn trace_of(
             .map_err(AllocError::from)?;
     }
     Ok(trace)
+}
+
+/// Returns the state after another one: its highest bits look random.
+pub(crate) fn next_state(state: u64) -> u64 {
+    state
+        .wrapping_mul(6364136223846793005)
+        .wrapping_add(1442695040888963407)
 }
 
 /// Returns a number that isn't 0 as such, and 1 for 0.
