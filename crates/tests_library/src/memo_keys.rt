@@ -45,17 +45,27 @@ fn a_miss_hashes_its_key_twice(rt: HostRuntime) -> Result<(), Fail> {
     misses_hash_twice(&mut memo, &counts)
 }
 
-/// Looks six keys up, two of them for the second time.
+/// Looks six keys up, two of them for the second time, and returns the sum of their values.
 fn look_up_six<'a, F: Fn(&Counted<'a>) -> u64>(
     memo: &mut Memo<Counted<'a>, u64, F>,
     counts: &'a Counts,
-) -> Result<(), Fail>
+) -> u64
     requires { (function : F) (key : _) → IsCallableAt F.Fn function key }
 {
+    let mut sum = 0u64;
     for id in [1, 2, 3, 1, 4, 4] {
-        same(memo.get(counts.key(id)), 7)?;
+        sum = sum.wrapping_add(memo.get(counts.key(id)));
     }
-    Ok(())
+    sum
+}
+
+/// Takes a memo apart, and returns how many keys were dropped, and how many are left.
+fn dropped_with<'a, F: Fn(&Counted<'a>) -> u64 + Drop>(
+    memo: Memo<Counted<'a>, u64, F>,
+    counts: &'a Counts,
+) -> (u64, u64) {
+    drop(memo.into_function());
+    counts.dropped()
 }
 
 #[test]
@@ -63,8 +73,6 @@ fn no_key_outlives_its_memo(rt: HostRuntime) -> Result<(), Fail> {
     let counts = Counts::new();
     let capacity = NonZeroUsize::new(2).unwrap_or(NonZeroUsize::MIN);
     let mut memo = Memo::new(rt.alloc(), capacity, |_: &Counted<'_>| 7u64)?;
-    look_up_six(&mut memo, &counts)?;
-    let function = memo.into_function();
-    same(counts.dropped(), (6, 0))?;
-    same(function(&counts.key(5)), 7)
+    let sum = look_up_six(&mut memo, &counts);
+    same((sum, dropped_with(memo, &counts)), (42, (6, 0)))
 }
