@@ -56,11 +56,12 @@ fn look_up_twenty<F: Fn(&u64) -> u64>(memo: &mut Memo<u64, u64, F>)
     }
 }
 
-/// The same, with hits recorded.
-fn record_twenty<F: Fn(&u64) -> u64>(memo: &mut Memo<u64, u64, F>)
+/// Looks these keys up twice, the second time with recording a hit.
+fn look_up_each_twice<F: Fn(&u64) -> u64>(memo: &mut Memo<u64, u64, F>)
     requires { (function : F) (key : ℕ) → IsCallableAt F.Fn function key }
 {
     for key in 1..21u64 {
+        memo.get(key);
         memo.get_recorded(key);
     }
 }
@@ -73,8 +74,8 @@ fn one_call_for_each_key(rt: HostRuntime) -> Result<(), Fail> {
         square(key)
     };
     let mut memo = memo_of(rt.alloc(), 20, counted)?;
+    look_up_each_twice(&mut memo);
     look_up_twenty(&mut memo);
-    record_twenty(&mut memo);
     same(calls.get(), 20)
 }
 
@@ -169,13 +170,21 @@ fn a_list_of_keys(rt: HostRuntime) -> Result<(), Fail> {
     look_up_anew(rt.alloc(), 2, Run::List)
 }
 
+/// Looks a key up, clears the memo, and returns true if it is empty.
+fn is_cleared<F: Fn(&u64) -> u64>(memo: &mut Memo<u64, u64, F>) -> bool
+    requires { (function : F) (key : ℕ) → IsCallableAt F.Fn function key }
+{
+    memo.get(7);
+    memo.clear();
+    memo.is_empty()
+}
+
 #[test]
 fn cleared_and_taken_apart(rt: HostRuntime) -> Result<(), Fail> {
     let mut memo = memo_of(rt.alloc(), 2, square)?;
-    memo.get(7);
-    memo.clear();
-    same(memo.is_empty(), true)?;
-    same((memo.into_function())(&5), 25)
+    let is_empty = is_cleared(&mut memo);
+    let function = memo.into_function();
+    same((is_empty, function(&5)), (true, 25))
 }
 
 #[test]
