@@ -7,18 +7,15 @@ use std::num::NonZeroUsize;
 use std::test::Fail;
 use testing::{Refusing, Tried, same, try_in_turn};
 
-/// Returns a cache of four keys, two of which were hit.
-fn new_cache<A: Allocator + Copy>(
-    alloc: A,
-) -> Result<Cache<u64, u64, DefaultHashBuilder, A>, CacheError> {
-    let capacity = NonZeroUsize::new(4).unwrap_or(NonZeroUsize::MIN);
-    let mut cache = Cache::new(alloc, capacity)?;
+type Numbers<A> = Cache<u64, u64, DefaultHashBuilder, A>;
+
+/// Puts four keys, and hits two.
+fn fill<A: Allocator>(cache: &mut Numbers<A>) {
     for key in 1..5 {
         cache.put(key, key);
     }
     cache.get(&4);
     cache.get(&3);
-    Ok(cache)
 }
 
 /// The replies of a run on such a cache. An earlier run would leave other keys.
@@ -37,7 +34,7 @@ const REPLIES: [Reply<u64>; 9] = [
 /// Makes a list of commands and runs it. Returns true if the replies are those expected.
 fn replies_as_wanted<'a>(
     alloc: &'a Refusing<Global>,
-    cache: &mut Cache<u64, u64, DefaultHashBuilder, &'a Refusing<Global>>,
+    cache: &mut Numbers<&'a Refusing<Global>>,
 ) -> Result<bool, CacheError> {
     let Ok(commands) = vec![in alloc;
         Command::Put(5, 5),
@@ -60,7 +57,9 @@ fn replies_as_wanted<'a>(
 #[test]
 fn a_list_of_commands(rt: HostRuntime) -> Result<(), Fail> {
     let alloc = Refusing::new(rt.alloc());
-    let mut cache = new_cache(&alloc)?;
+    let capacity = NonZeroUsize::new(4).unwrap_or(NonZeroUsize::MIN);
+    let mut cache = Cache::new(&alloc, capacity)?;
+    fill(&mut cache);
     let tried = try_in_turn(&alloc, true, CacheError::Memory, || {
         replies_as_wanted(&alloc, &mut cache)
     });
