@@ -49,7 +49,7 @@ fn keys_read(
     }
 }
 
-/// Returns the numbers of a trace's keys, and the sizes if it has some.
+/// Returns how many keys a trace has, their numbers, and the sizes if it has some.
 fn keys_of(alloc: Global, trace: &Trace<Global>) -> Result<String, AllocError> {
     let mut text = String::new(alloc);
     write_keys(&mut text, trace)?;
@@ -57,6 +57,8 @@ fn keys_of(alloc: Global, trace: &Trace<Global>) -> Result<String, AllocError> {
 }
 
 fn write_keys(text: &mut String, trace: &Trace<Global>) -> Result<(), AllocError> {
+    list(text, &[trace.key_count()])?;
+    text.push_str(":")?;
     list(text, trace.numbers())?;
     if !trace.has_sizes() {
         return Ok(());

@@ -1,6 +1,7 @@
 //! Sizes of a sample's keys, and of keys that are added, and their sums.
 
 use crate::keys::read;
+use crate::numbers::push_line;
 use crate::player::words_of;
 use clock2q_cache::DefaultHashBuilder;
 use simulator_io::{GrowingTrace, Sample, asked_bytes, hit_bytes};
@@ -9,23 +10,24 @@ use std::test::Fail;
 use testing::{same, same_at};
 
 /// Adds a line with a number as its size, and returns true if its key is in the sample.
-fn push_line(
+fn push_sized(
     alloc: Global,
     lines: &mut String,
-    number: usize,
+    number: u32,
     sample: Sample,
 ) -> Result<bool, AllocError> {
     let key = number % 30;
-    write!(lines, "0,{key},{number}\n")?;
+    write!(lines, "0,{key},")?;
+    push_line(lines, number)?;
     Ok(sample.has(format!(in alloc; "{key}")?.as_bytes()))
 }
 
 /// Adds lines with sizes, and returns the sizes of those whose keys are in the sample.
 fn push_lines(alloc: Global, lines: &mut String, sample: Sample) -> Result<Vec<usize>, AllocError> {
     let mut sizes = Vec::with_capacity(alloc, 200)?;
-    for number in 0..200usize {
-        if push_line(alloc, lines, number, sample)? {
-            sizes.extend_from_slice(&[number])?;
+    for number in 0..200 {
+        if push_sized(alloc, lines, number, sample)? {
+            sizes.extend_from_slice(&[number as usize])?;
         }
     }
     Ok(sizes)
