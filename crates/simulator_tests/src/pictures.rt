@@ -29,13 +29,13 @@ fn place_of(picture: &[u8], pieces: &str) -> &'static str {
     }
 }
 
-/// Returns true if each piece is in a text, after the one before it.
+/// Returns true if each piece is in a text, and none begins before the one before it.
 fn are_in_order(text: &str, pieces: &str) -> bool {
-    let mut rest = text;
+    let mut last = 0;
     for piece in pieces.split(';') {
-        match rest.split_once(piece) {
-            Some((_, after)) => rest = after,
-            None => return false,
+        match text.find(piece) {
+            Some(place) if last <= place => last = place,
+            _ => return false,
         }
     }
     true
