@@ -1,6 +1,7 @@
 //! The words that calls of a table are spelled by, and the words of replies.
 
 use crate::handle::{Command, Handle, Reply};
+use crate::verb::Order;
 use clock2q_table_commands::TableReply;
 use std::alloc::{AllocError, Allocator};
 
@@ -37,21 +38,20 @@ fn handles_of<A: Allocator + Copy>(alloc: A, text: &str) -> Result<Vec<Handle, A
     Ok(handles)
 }
 
-/// Returns the command that a text spells, if it spells one.
+/// Returns a command whose words a text spells.
 pub(crate) fn command_of<A: Allocator + Copy>(
     alloc: A,
-    call: &str,
-) -> Result<Option<Command<A>>, AllocError> {
-    let (name, words) = two_words(call);
+    order: Order,
+    words: &str,
+) -> Result<Command<A>, AllocError> {
     let (first, others) = two_words(words);
-    Ok(Some(match name {
-        "put" => Command::Insert(handle_of(first)),
-        "remove" => Command::Remove(hash_of(first), handle_of(others)),
-        "find" => Command::Find(handle_of(first), handles_of(alloc, others)?),
-        "reserve" => Command::Reserve(number_of(first) as usize),
-        "get" => Command::Get(hash_of(first)),
-        _ => return Ok(None),
-    }))
+    Ok(match order {
+        Order::Put => Command::Insert(handle_of(first)),
+        Order::Remove => Command::Remove(hash_of(first), handle_of(others)),
+        Order::Find => Command::Find(handle_of(first), handles_of(alloc, others)?),
+        Order::Reserve => Command::Reserve(number_of(first) as usize),
+        Order::Get => Command::Get(hash_of(first)),
+    })
 }
 
 /// Writes a reply.

@@ -15,6 +15,7 @@ mod player;
 mod runs;
 mod seeded;
 mod seen;
+mod verb;
 
 use crowded::crowd;
 use player::other_replies;

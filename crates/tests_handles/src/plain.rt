@@ -6,6 +6,8 @@ use crate::seen::{Notes, Seen};
 use clock2q_handles::TableError;
 use clock2q_table_commands::TableReply;
 use std::alloc::{AllocError, Global};
+use std::test::Fail;
+use testing::same_at;
 
 /// The entries of each home, in the order in which they were inserted.
 #[derive(Drop)]
@@ -45,7 +47,7 @@ impl Plain {
 
     /// Returns how many entries fit before the lists grow.
     pub(crate) fn capacity(&self) -> usize {
-        self.homes.len() / 4 * 3
+        fitting(self.homes.len())
     }
 
     /// Returns the entry with this number, home by home.
@@ -109,14 +111,25 @@ impl Plain {
         notes: &Notes,
     ) -> Result<Reply<Global>, AllocError> {
         self.make_room(&notes.asked)?;
-        for held in &self.candidates(handle.hash)? {
-            notes.offered.note(held.number);
-            if accepted.contains(held) {
-                return Ok(TableReply::Found(*held, false));
-            }
+        if let Some(held) = self.first_accepted(handle.hash, accepted, &notes.offered) {
+            return Ok(TableReply::Found(held, false));
         }
         self.put(handle)?;
         Ok(TableReply::Found(handle, true))
+    }
+
+    /// Returns the first candidate of a hash that is accepted, and notes those that are offered.
+    fn first_accepted(&self, hash: u64, accepted: &[Handle], offered: &Seen) -> Option<Handle> {
+        let list = self.homes.get(self.home(hash))?;
+        for held in list {
+            if is_candidate(held, hash) {
+                offered.note(held.number);
+                if accepted.contains(held) {
+                    return Some(*held);
+                }
+            }
+        }
+        None
     }
 
     /// Removes a handle from the candidates of a hash.
@@ -144,7 +157,7 @@ impl Plain {
     }
 
     /// Returns where each home's list puts its entries, slot by slot, and how far past their home.
-    pub(crate) fn layout(&self) -> Result<Vec<Slot>, AllocError> {
+    fn layout(&self) -> Result<Vec<Slot>, AllocError> {
         let mut slots = vec![in self.alloc; None; self.homes.len()]?;
         let mut spill = self.wrapped();
         for (home, list) in self.homes.iter().enumerate() {
@@ -154,14 +167,29 @@ impl Plain {
         Ok(slots)
     }
 
+    /// Compares the contents of slots with where the lists put their entries, after a command.
+    pub(crate) fn is_laid_out(
+        &self,
+        slots: &[Slot],
+        command: &Command<Global>,
+    ) -> Result<(), Fail> {
+        let wanted = self.layout()?;
+        same_at(slots, wanted.as_slice(), command)
+    }
+
     /// Returns the number of entries past the end, which are in the first slots: what the last home
     /// hands on to the first.
     fn wrapped(&self) -> usize {
-        let mut spill = 0;
-        for list in self.homes.iter().chain(self.homes.iter()) {
-            spill = handed_on(spill, list);
+        self.handed_on_by_all(self.handed_on_by_all(0))
+    }
+
+    /// Returns the number of entries for which no home has a slot, if there were `spill` before.
+    fn handed_on_by_all(&self, spill: usize) -> usize {
+        let mut left = spill;
+        for list in &self.homes {
+            left = handed_on(left, list);
         }
-        spill
+        left
     }
 
     /// Doubles the slots if one more entry doesn't fit.
@@ -202,13 +230,19 @@ impl Plain {
     }
 }
 
+/// Returns how many entries fit into a number of slots.
+fn fitting(slots: usize) -> usize {
+    (slots / 4).saturating_mul(3)
+}
+
 /// Returns the smallest slot count in which `entries` entries fit, if it can be counted.
 fn slots_for(entries: usize) -> Option<usize> {
-    for bits in 4..64u32 {
-        let count = 1usize << bits;
-        if count / 4 * 3 >= entries {
+    let mut count = 16usize;
+    for _ in 4..64 {
+        if fitting(count) >= entries {
             return Some(count);
         }
+        count = count.saturating_mul(2);
     }
     None
 }

@@ -6,6 +6,7 @@ use crate::hashed::Hashed;
 use crate::layout::slots_of;
 use crate::runs::play_run;
 use crate::seen::{Notes, Seen};
+use crate::verb::{Change, Grant, Look, Order, Question, Verb};
 use clock2q_handles::{TableError, partition};
 use std::alloc::{AllocError, Global};
 use testing::{Refusing, SpellingError, spelled};
@@ -27,16 +28,26 @@ pub(crate) fn other_replies(alloc: Global, line: &str) -> Result<Option<Vec<u8>>
 
 /// Returns the replies to calls, each with a line end.
 fn replies_to(alloc: Global, calls: &str) -> Result<String, AllocError> {
-    let refusing = Refusing::new(alloc);
     let mut replies = String::new(alloc);
+    play_case(&Refusing::new(alloc), alloc, calls, &mut replies)?;
+    Ok(replies)
+}
+
+/// Plays the calls of a case. What memory is kept after them is said too.
+fn play_case(
+    refusing: &Refusing<Global>,
+    lists: Global,
+    calls: &str,
+    replies: &mut String,
+) -> Result<(), AllocError> {
     match calls.strip_prefix("run ") {
-        Some(run) => play_run(&refusing, alloc, run, &mut replies)?,
-        None => play(&refusing, alloc, calls, &mut replies)?,
+        Some(run) => play_run(refusing, lists, run, replies)?,
+        None => play(refusing, lists, calls, replies)?,
     }
     if refusing.held() != 0 {
         replies.push_str("memory kept\n")?;
     }
-    Ok(replies)
+    Ok(())
 }
 
 /// Makes calls to a table without slots at first, and writes their replies.
@@ -53,11 +64,7 @@ fn play(
         notes: Notes::new(),
         marked: (0, 0),
     };
-    for call in calls.split_terminator(';') {
-        played.call(call, replies)?;
-        replies.push_str("\n")?;
-    }
-    Ok(())
+    played.call_each(calls, replies)
 }
 
 /// A table that calls are made to, and what its closures were called on.
@@ -72,48 +79,62 @@ struct Played<'a> {
 }
 
 impl<'a> Played<'a> {
+    /// Makes calls, and writes their replies, each with a line end.
+    fn call_each(&mut self, calls: &str, replies: &mut String) -> Result<(), AllocError> {
+        for call in calls.split_terminator(';') {
+            self.call(call, replies)?;
+            replies.push_str("\n")?;
+        }
+        Ok(())
+    }
+
     /// Makes a call, and writes its reply.
     fn call(&mut self, call: &str, replies: &mut String) -> Result<(), AllocError> {
-        if let Some(command) = command_of(self.lists, call)? {
-            let reply = self.tested.reply(self.lists, &command, &self.notes);
-            return write_reply(replies, &reply);
-        }
         let (name, words) = two_words(call);
-        match self.outcome(name, words) {
-            Some(Ok(())) => replies.push_str("ok"),
-            Some(Err(refusal)) => write!(replies, "{refusal}"),
-            None => self.look(name, words, replies),
+        match Verb::named(name) {
+            Some(Verb::Make(order)) => self.make(order, words, replies),
+            Some(Verb::Change(change)) => write_outcome(replies, self.change(change, words)),
+            Some(Verb::Grant(grant)) => self.set(grant, number_of(words), replies),
+            Some(Verb::Look(look)) => self.look(look, words, replies),
+            Some(Verb::Ask(question)) => self.answer(question, replies),
+            Some(Verb::Fill) => self.fill(number_of(words), replies),
+            None => replies.push_str("no call"),
         }
     }
 
-    /// Makes a call that may change the table or what is refused, if it is one and the table allows it.
-    fn outcome(&mut self, name: &str, words: &str) -> Option<Result<(), TableError>> {
+    /// Makes the call of a command.
+    fn make(&mut self, order: Order, words: &str, replies: &mut String) -> Result<(), AllocError> {
+        let command = command_of(self.lists, order, words)?;
+        let reply = self.tested.reply(self.lists, &command, &self.notes);
+        write_reply(replies, &reply)
+    }
+
+    /// Makes a call that may change the table, if the table allows it.
+    fn change(&mut self, change: Change, words: &str) -> Option<Result<(), TableError>> {
         let (first, second) = two_words(words);
-        match name {
-            "of" => Some(self.remake(number_of(first) as usize)),
-            "put_within" => self.tested.put_within(handle_of(first)),
-            "put_few" => self.tested.put_few(handle_of(first)),
-            "put_at_gap" => self.tested.put_at_gap(handle_of(first)),
-            "exchange" => self
+        match change {
+            Change::Of => Some(self.remake(number_of(first) as usize)),
+            Change::PutWithin => self.tested.put_within(handle_of(first)),
+            Change::PutFew => self.tested.put_few(handle_of(first)),
+            Change::PutAtGap => self.tested.put_at_gap(handle_of(first)),
+            Change::Exchange => self
                 .tested
                 .exchange(hash_of(first), handle_of(second), false),
-            "exchange_at_gap" => self
+            Change::ExchangeAtGap => self
                 .tested
                 .exchange(hash_of(first), handle_of(second), true),
-            _ => self.set(name, number_of(first)),
         }
     }
 
     /// Changes what is refused or compared with.
-    fn set(&mut self, name: &str, number: u64) -> Option<Result<(), TableError>> {
-        match name {
-            "refuse" => self.refusing.refuse_after(number),
-            "refuse_one" => self.refusing.refuse_one_after(number),
-            "grant" => self.refusing.grant(),
-            "mark" => self.marked = (self.refusing.requests(), self.refusing.held()),
-            _ => return None,
+    fn set(&mut self, grant: Grant, number: u64, replies: &mut String) -> Result<(), AllocError> {
+        match grant {
+            Grant::Refuse => self.refusing.refuse_after(number),
+            Grant::RefuseOne => self.refusing.refuse_one_after(number),
+            Grant::Grant => self.refusing.grant(),
+            Grant::Mark => self.marked = (self.refusing.requests(), self.refusing.held()),
         }
-        Some(Ok(()))
+        replies.push_str("ok")
     }
 
     /// Makes a table in place of the one there.
@@ -123,54 +144,37 @@ impl<'a> Played<'a> {
     }
 
     /// Writes what a call that changes nothing returns.
-    fn look(&mut self, name: &str, words: &str, replies: &mut String) -> Result<(), AllocError> {
+    fn look(&self, look: Look, words: &str, replies: &mut String) -> Result<(), AllocError> {
         let table = &self.tested.table;
-        match name {
-            "len" => write!(replies, "{}", table.len()),
-            "capacity" => write!(replies, "{}", table.capacity()),
-            "is_empty" => write!(replies, "{}", table.is_empty()),
-            "show" => write!(replies, "{table:?}"),
-            "peek" => self.peek(hash_of(words), replies),
-            "position" => {
-                let (hash, handle) = two_words(words);
-                self.position(hash_of(hash), handle_of(handle), replies)
+        match look {
+            Look::Len => write!(replies, "{}", table.len()),
+            Look::Capacity => write!(replies, "{}", table.capacity()),
+            Look::IsEmpty => write!(replies, "{}", table.is_empty()),
+            Look::Show => write!(replies, "{table:?}"),
+            Look::Peek => self.peek(hash_of(words), replies),
+            Look::Position => self.position(words, replies),
+            Look::Slots => self.write_slots(replies),
+            Look::Prefetch => {
+                table.prefetch(hash_of(words));
+                replies.push_str("ok")
             }
-            "slots" => self.write_slots(replies),
-            _ => self.look_beside(name, words, replies),
         }
     }
 }
 
 impl<'a> Played<'a> {
-    /// Writes what closures were called on, what is held, and texts that no table writes.
-    fn look_beside(
-        &mut self,
-        name: &str,
-        words: &str,
-        replies: &mut String,
-    ) -> Result<(), AllocError> {
-        match name {
-            "asked" => write_noted(replies, &mut self.notes.asked),
-            "offered" => write_noted(replies, &mut self.notes.offered),
-            "requests" => {
+    /// Writes what closures were called on, what is held, or texts that no table writes.
+    fn answer(&mut self, question: Question, replies: &mut String) -> Result<(), AllocError> {
+        match question {
+            Question::Asked => write_noted(replies, &mut self.notes.asked),
+            Question::Offered => write_noted(replies, &mut self.notes.offered),
+            Question::Requests => {
                 let made = self.refusing.requests().wrapping_sub(self.marked.0);
                 write!(replies, "{made}")
             }
-            "is_kept" => write!(replies, "{}", self.refusing.held() == self.marked.1),
-            "fill" => self.fill(number_of(words), replies),
-            "prefetch" => {
-                self.tested.table.prefetch(hash_of(words));
-                replies.push_str("ok")
-            }
-            "partitions" => write!(replies, "{:?}", partitions()),
-            "refusals" => write!(
-                replies,
-                "{}, {}, {}",
-                TableError::Memory,
-                TableError::Size,
-                TableError::RunTooLong
-            ),
-            _ => replies.push_str("no call"),
+            Question::IsKept => write!(replies, "{}", self.refusing.held() == self.marked.1),
+            Question::Partitions => write!(replies, "{:?}", partitions()),
+            Question::Refusals => write_refusals(replies),
         }
     }
 
@@ -179,15 +183,17 @@ impl<'a> Played<'a> {
         replies.push_str("yields")?;
         let mut walk = self.tested.table.get(hash);
         for _ in 0..=self.tested.table.len() {
-            let peeked = (walk.peek(), walk.peek());
-            write_yielded(replies, peeked, walk.next())?;
+            let first = walk.peek();
+            let second = walk.peek();
+            write_yielded(replies, [first, second], walk.next())?;
         }
         Ok(())
     }
 
     /// Writes the position of a candidate of a hash, or which gap there is.
-    fn position(&self, hash: u64, handle: Handle, replies: &mut String) -> Result<(), AllocError> {
-        match self.tested.position(hash, handle) {
+    fn position(&self, words: &str, replies: &mut String) -> Result<(), AllocError> {
+        let (hash, handle) = two_words(words);
+        match self.tested.position(hash_of(hash), handle_of(handle)) {
             Ok(position) => write!(replies, "at {position}"),
             Err(Some(_)) => replies.push_str("gap"),
             Err(None) => replies.push_str("no gap"),
@@ -228,14 +234,39 @@ impl<'a> Played<'a> {
     }
 }
 
+/// Writes the reply to a call that the table may not have allowed.
+fn write_outcome(
+    replies: &mut String,
+    outcome: Option<Result<(), TableError>>,
+) -> Result<(), AllocError> {
+    match outcome {
+        Some(Ok(())) => replies.push_str("ok"),
+        Some(Err(refusal)) => write!(replies, "{refusal}"),
+        None => replies.push_str("no call"),
+    }
+}
+
+/// Writes the texts of all refusals.
+fn write_refusals(replies: &mut String) -> Result<(), AllocError> {
+    write!(
+        replies,
+        "{}, {}, {}",
+        TableError::Memory,
+        TableError::Size,
+        TableError::RunTooLong
+    )
+}
+
 /// Writes a handle's number, or a dash if there is none, if it was peeked at twice before.
 fn write_yielded(
     replies: &mut String,
-    peeked: (Option<Handle>, Option<Handle>),
+    peeked: [Option<Handle>; 2],
     yielded: Option<Handle>,
 ) -> Result<(), AllocError> {
-    if peeked != (yielded, yielded) {
-        return replies.push_str(" another");
+    for handle in peeked {
+        if handle != yielded {
+            return replies.push_str(" another");
+        }
     }
     match yielded {
         Some(handle) => write!(replies, " {}", handle.number),

@@ -3,6 +3,7 @@ ghost use Rattle.std.specs.Prelude.{◌≡◌};
 
 use crate::calls::{command_of, number_of, two_words, write_reply};
 use crate::handle::{Command, Handle, Reply};
+use crate::verb::{Grant, Verb};
 use clock2q_handles::{Table, TableError};
 use clock2q_table_commands::run_table;
 use std::alloc::{AllocError, Allocator, Global};
@@ -22,14 +23,34 @@ pub(crate) fn play_run(
 ) -> Result<(), AllocError> {
     let (made, calls) = case.split_once(';').unwrap_or((case, ""));
     let commands = commands_of(refusing, lists, calls)?;
+    run(refusing, made, &commands, replies)
+}
+
+/// Runs commands, and writes the replies and the number of hashes that were asked for.
+fn run<'a>(
+    refusing: &'a Refusing<Global>,
+    made: &str,
+    commands: &[Command<&'a Refusing<Global>>],
+    replies: &mut String,
+) -> Result<(), AllocError> {
     let (entries, refused) = two_words(made);
     refuse(refusing, refused);
     let asked = Cell::new(0u64);
-    match run_counted(refusing, number_of(entries) as usize, &commands, &asked) {
+    let given = run_counted(refusing, number_of(entries) as usize, commands, &asked);
+    write_outcome(replies, given, asked.get())
+}
+
+/// Writes the replies, or why nothing was run, and the number of hashes that were asked for.
+fn write_outcome<A: Allocator + Drop>(
+    replies: &mut String,
+    given: Result<Vec<Reply<A>, A>, TableError>,
+    asked: u64,
+) -> Result<(), AllocError> {
+    match given {
         Ok(given) => write_replies(replies, &given)?,
         Err(refusal) => write!(replies, "{refusal}\n")?,
     }
-    write!(replies, "asked {}\n", asked.get())
+    write!(replies, "asked {asked}\n")
 }
 
 /// Returns the commands that a text spells.
@@ -40,8 +61,9 @@ fn commands_of<'a>(
 ) -> Result<Vec<Command<&'a Refusing<Global>>>, AllocError> {
     let mut commands = Vec::new(lists);
     for call in calls.split_terminator(';') {
-        if let Some(command) = command_of(refusing, call)? {
-            commands.push(command)?;
+        let (name, words) = two_words(call);
+        if let Some(Verb::Make(order)) = Verb::named(name) {
+            commands.push(command_of(refusing, order, words)?)?;
         }
     }
     Ok(commands)
@@ -50,9 +72,9 @@ fn commands_of<'a>(
 /// Refuses all requests after a number of granted ones, or one of them, if that is spelled.
 fn refuse(refusing: &Refusing<Global>, refused: &str) {
     let (name, granted) = two_words(refused);
-    match name {
-        "refuse" => refusing.refuse_after(number_of(granted)),
-        "refuse_one" => refusing.refuse_one_after(number_of(granted)),
+    match Verb::named(name) {
+        Some(Verb::Grant(Grant::Refuse)) => refusing.refuse_after(number_of(granted)),
+        Some(Verb::Grant(Grant::RefuseOne)) => refusing.refuse_one_after(number_of(granted)),
         _ => {}
     }
 }

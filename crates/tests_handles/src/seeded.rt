@@ -73,18 +73,27 @@ impl DrawnCommands {
     /// Returns up to three candidates of a hash, or any handles in their place.
     fn accepted(&mut self, hash: u64, plain: &Plain) -> Result<Vec<Handle>, AllocError> {
         let candidates = plain.candidates(hash)?;
-        let mut accepted = Vec::new(self.alloc);
+        self.chosen(&candidates, plain)
+    }
+
+    /// Returns up to three of some candidates, or any handles in their place.
+    fn chosen(&mut self, candidates: &[Handle], plain: &Plain) -> Result<Vec<Handle>, AllocError> {
+        let mut chosen = Vec::new(self.alloc);
         for number in 0..self.draws.below(4) {
-            let place = self
-                .draws
-                .below((candidates.len() as u64).saturating_add(1));
-            let handle = match candidates.get(place as usize) {
-                Some(candidate) => *candidate,
-                None => self.held(number, plain),
-            };
-            accepted.push(handle)?;
+            chosen.push(self.one_of(number, candidates, plain))?;
         }
-        Ok(accepted)
+        Ok(chosen)
+    }
+
+    /// Returns one of some candidates, or any handle.
+    fn one_of(&mut self, number: u64, candidates: &[Handle], plain: &Plain) -> Handle {
+        let place = self
+            .draws
+            .below((candidates.len() as u64).saturating_add(1));
+        match candidates.get(place as usize) {
+            Some(candidate) => *candidate,
+            None => self.held(number, plain),
+        }
     }
 
     /// Returns a search under the hash of an entry, or under one that agrees with it in what a table
@@ -163,42 +172,57 @@ impl Pair {
     /// called on, the sizes, and the handle in each slot.
     fn make(&mut self, command: Command<Global>) -> Result<(), Fail> {
         let reply = self.tested.reply(self.alloc, &command, &self.got);
-        let wanted = self.plain.reply(&command, &self.wanted)?;
-        same_at(&reply, &wanted, &command)?;
-        if !matches!(command, Command::Get(_)) {
-            self.is_same(&command)?;
-        }
-        self.commands.push(command)?;
+        self.is_wanted(&reply, &command)?;
         self.replies.push(reply)?;
+        self.commands.push(command)?;
         Ok(())
+    }
+
+    /// Compares both after a command, and the reply of the one with that of the other.
+    fn is_wanted(&mut self, reply: &Reply<Global>, command: &Command<Global>) -> Result<(), Fail> {
+        let wanted = self.plain.reply(command, &self.wanted)?;
+        same_at(reply, &wanted, command)?;
+        match command {
+            Command::Get(_) => Ok(()),
+            _ => self.is_same(command),
+        }
     }
 
     /// Compares both after a command.
     fn is_same(&self, command: &Command<Global>) -> Result<(), Fail> {
-        let table = &self.tested.table;
-        let slots = slots_of(self.alloc, table, FINGERPRINTS)?;
-        let wanted = self.plain.layout()?;
-        let offered = (self.got.offered.noted(), self.wanted.offered.noted());
-        let asked = (self.got.asked.noted(), self.wanted.asked.noted());
+        self.have_same_notes(command)?;
+        self.have_same_sizes(command)?;
+        self.have_same_slots(command)
+    }
+
+    /// Closures of both were called on the same handles.
+    fn have_same_notes(&self, command: &Command<Global>) -> Result<(), Fail> {
         same_at(
+            self.got.offered.noted(),
+            self.wanted.offered.noted(),
+            command,
+        )?;
+        same_at(self.got.asked.noted(), self.wanted.asked.noted(), command)
+    }
+
+    /// As many handles are in both, and as many fit.
+    fn have_same_sizes(&self, command: &Command<Global>) -> Result<(), Fail> {
+        let table = &self.tested.table;
+        same_at(
+            (table.len(), table.capacity(), table.is_empty()),
             (
-                offered.0,
-                asked.0,
-                table.len(),
-                table.capacity(),
-                table.is_empty(),
-                slots.as_slice(),
-            ),
-            (
-                offered.1,
-                asked.1,
                 self.plain.len(),
                 self.plain.capacity(),
                 self.plain.len() == 0,
-                wanted.as_slice(),
             ),
             command,
         )
+    }
+
+    /// The same handles are in the slots of both.
+    fn have_same_slots(&self, command: &Command<Global>) -> Result<(), Fail> {
+        let slots = slots_of(self.alloc, &self.tested.table, FINGERPRINTS)?;
+        self.plain.is_laid_out(&slots, command)
     }
 
     /// Grows both after some commands, and looks up drawn hashes after others.
@@ -225,6 +249,17 @@ impl Pair {
         Ok(())
     }
 
+    /// Makes the commands of a list, and runs them as one list.
+    fn play(&mut self, list: u64, entries: usize) -> Result<(), Fail> {
+        let mut draws = DrawnCommands {
+            draws: SplitMix64::new(list),
+            homes: 1 << (list % 4),
+            alloc: self.alloc,
+        };
+        self.make_all(&mut draws)?;
+        self.is_run(entries)
+    }
+
     /// A new table replies to the commands as one list as it did to each.
     fn is_run(&self, entries: usize) -> Result<(), Fail> {
         let asked = Cell::new(0);
@@ -235,15 +270,9 @@ impl Pair {
 
 /// Makes the commands of a list on a new table and on new plain lists, and runs them as one list.
 fn play_list(alloc: Global, list: u64) -> Result<(), Fail> {
-    let mut draws = DrawnCommands {
-        draws: SplitMix64::new(list),
-        homes: 1 << (list % 4),
-        alloc,
-    };
     let entries = (list % 3 * 10) as usize;
     let mut pair = Pair::with_capacity(alloc, entries)?;
-    pair.make_all(&mut draws)?;
-    pair.is_run(entries)
+    pair.play(list, entries)
 }
 
 /// Plays all lists, and returns their number.

@@ -1,6 +1,7 @@
 //! What a closure was called on.
 
 use std::cell::Cell;
+use testing::SplitMix64;
 
 /// The handles that a closure was called on: their number, the first eight, and a number that
 /// depends on all of them and their order.
@@ -29,8 +30,8 @@ impl Seen {
             first[count] = handle;
         }
         self.first.set(first);
-        let mixed = self.mixed.get().wrapping_add(handle.wrapping_add(1));
-        self.mixed.set(mixed.wrapping_mul(0x9E37_79B9_7F4A_7C15));
+        self.mixed
+            .set(SplitMix64::new(self.mixed.get() ^ handle).next());
         self.count.set(count.saturating_add(1));
     }
 
