@@ -4,16 +4,7 @@ use crate::handle::{Command, Handle, Reply};
 use crate::verb::Order;
 use clock2q_table_commands::TableReply;
 use std::alloc::{AllocError, Allocator};
-
-/// Returns the two parts of a text, of which the second begins after its first blank.
-pub(crate) fn two_words(text: &str) -> (&str, &str) {
-    text.split_once(' ').unwrap_or((text, ""))
-}
-
-/// Returns the number that a word spells, or 0.
-pub(crate) fn number_of(word: &str) -> u64 {
-    word.parse().unwrap_or(0)
-}
+use testing::{number_of, two_words};
 
 /// Returns the hash that a word spells in hexadecimal digits, or 0.
 pub(crate) fn hash_of(word: &str) -> u64 {

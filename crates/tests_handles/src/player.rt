@@ -1,6 +1,6 @@
 //! Cases of calls to a table, a line each.
 
-use crate::calls::{command_of, handle_of, hash_of, number_of, two_words, write_reply};
+use crate::calls::{command_of, handle_of, hash_of, write_reply};
 use crate::handle::Handle;
 use crate::hashed::Hashed;
 use crate::layout::slots_of;
@@ -9,7 +9,7 @@ use crate::seen::{Notes, Seen};
 use crate::verb::{Change, Grant, Look, Order, Question, Verb};
 use clock2q_handles::{TableError, partition};
 use std::alloc::{AllocError, Global};
-use testing::{Refusing, SpellingError, spelled};
+use testing::{Refusing, SpellingError, number_of, spelled, two_words};
 
 /// The fingerprints of the hashes in runs that are worked out by hand.
 const FINGERPRINTS: [u64; 3] = [0, 0xAB, 0xCD];

@@ -1,14 +1,14 @@
 //! Cases of lists of commands, which are run on a new table.
 ghost use Rattle.std.specs.Prelude.{◌≡◌};
 
-use crate::calls::{command_of, number_of, two_words, write_reply};
+use crate::calls::{command_of, write_reply};
 use crate::handle::{Command, Handle, Reply};
 use crate::verb::{Grant, Verb};
 use clock2q_handles::{Table, TableError};
 use clock2q_table_commands::run_table;
 use std::alloc::{AllocError, Allocator, Global};
 use std::cell::Cell;
-use testing::Refusing;
+use testing::{Refusing, number_of, two_words};
 
 /// Runs the commands of a case on a new table, and writes the replies, or why nothing was run, and the
 /// number of hashes that were asked for.
