@@ -40,10 +40,9 @@ fn go_round(queues: &mut Queues<&Refusing<Global>>) -> u32
 
 /// One slot in Main whose bit is set: it is evicted after two inspections.
 fn look_twice(queues: &mut Queues<&Refusing<Global>>) -> u32
-    requires slots { queues.old.slots ≡ 1 }
+    requires slots { queues.old.slots ≡ 20 }
     requires small { queues.old.small ≡ [] }
     requires main { queues.old.main ≡ [] }
-    ensures slots { queues.new.slots ≡ 1 }
     ensures victim { result ≡ 0 }
     ensures main { queues.new.main ≡ [] }
     ensures inspections { queues.new.inspections ≡ queues.old.inspections + 2 }
@@ -56,10 +55,11 @@ fn look_twice(queues: &mut Queues<&Refusing<Global>>) -> u32
 /// Slot 3 comes first, so the link records of the three below it are made ahead, and later that of
 /// slot 4. Each is an access to a link.
 fn come_in_any_order(queues: &mut Queues<&Refusing<Global>>)
-    requires slots { queues.old.slots ≡ 6 }
+    requires slots { queues.old.slots ≡ 20 }
     requires none { queues.old.made ≡ 0 }
     requires small { queues.old.small ≡ [] }
     requires main { queues.old.main ≡ [] }
+    ensures slots { queues.new.slots ≡ 20 }
     ensures main { queues.new.main ≡ (3, false) ∷ (1, false) ∷ (5, false) ∷ [] }
     ensures made { queues.new.made ≡ 6 }
     ensures accesses { queues.new.accesses ≤ queues.old.accesses + 23 }
@@ -71,28 +71,22 @@ fn come_in_any_order(queues: &mut Queues<&Refusing<Global>>)
     queues.append(5);
 }
 
-/// The hand goes round.
-fn count_round(memory: &Refusing<Global>) -> Result<(), Fail> {
-    let mut queues = Queues::new(memory, 20, 1)?;
-    same(go_round(&mut queues), 2)
-}
-
-/// The hand looks twice at a single slot.
-fn count_looks(memory: &Refusing<Global>) -> Result<(), Fail> {
-    let mut queues = Queues::new(memory, 1, 0)?;
-    same(look_twice(&mut queues), 0)
-}
-
-/// Three slots come, whose records are made in any order.
-fn count_accesses(memory: &Refusing<Global>) -> Result<(), Fail> {
-    let mut queues = Queues::new(memory, 6, 0)?;
-    come_in_any_order(&mut queues);
-    Ok(())
+/// Plays the runs, and returns the victims of the second and the third one.
+fn play_each(queues: &mut Queues<&Refusing<Global>>) -> (u32, u32)
+    requires slots { queues.old.slots ≡ 20 }
+    requires none { queues.old.made ≡ 0 }
+    requires small { queues.old.small ≡ [] }
+    requires main { queues.old.main ≡ [] }
+{
+    come_in_any_order(queues);
+    queues.clear();
+    let first = go_round(queues);
+    queues.clear();
+    (first, look_twice(queues))
 }
 
 /// Plays the runs. What they leave is proved.
 pub(crate) fn count(memory: &Refusing<Global>) -> Result<(), Fail> {
-    count_round(memory)?;
-    count_looks(memory)?;
-    count_accesses(memory)
+    let mut queues = Queues::new(memory, 20, 0)?;
+    same(play_each(&mut queues), (2, 0))
 }

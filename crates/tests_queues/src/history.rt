@@ -62,50 +62,60 @@ fn drawn_call(draws: &mut SplitMix64) -> HistoryCall {
     }
 }
 
-/// A history and a plain list, of which the same calls are made.
-#[derive(Drop)]
-struct Pair<'a> {
-    history: TestedHistory<'a>,
-    newest: Newest,
+/// Makes a call of both, which reply the same.
+fn make(
+    history: &mut TestedHistory<'_>,
+    newest: &mut Newest,
+    call: HistoryCall,
+    turn: u32,
+) -> Result<(), Fail> {
+    let wanted = newest.reply(call)?;
+    same_at(history.reply(call), wanted, turn)
 }
 
-impl<'a> Pair<'a> {
-    /// Makes a call of both, which reply the same.
-    fn make(&mut self, call: HistoryCall, turn: u32) -> Result<(), Fail> {
-        let wanted = self.newest.reply(call)?;
-        same_at(self.history.reply(call), wanted, turn)
+/// Makes 2,000 calls, and compares the numbers of keys after each.
+fn go_along(
+    history: &mut TestedHistory<'_>,
+    newest: &mut Newest,
+    draws: &mut SplitMix64,
+) -> Result<(), Fail> {
+    for turn in 0..2000 {
+        make(history, newest, drawn_call(draws), turn)?;
+        make(history, newest, HistoryCall::Len, turn)?;
     }
-
-    /// Makes 2,000 calls, and compares the numbers of keys after each.
-    fn go_along(&mut self, draws: &mut SplitMix64) -> Result<(), Fail> {
-        for turn in 0..2000 {
-            self.make(drawn_call(draws), turn)?;
-            self.make(HistoryCall::Len, turn)?;
-        }
-        Ok(())
-    }
+    Ok(())
 }
 
-/// Plays a run with a history of `limit` keys, of which those with the same remainder modulo `hashes`
-/// have the same hash.
-fn play_run(
-    alloc: Global,
+/// Plays a run on a new history, in which keys with the same remainder modulo `hashes` have the same
+/// hash.
+fn play_new(
     memory: &Refusing<Global>,
-    limit: usize,
+    newest: &mut Newest,
+    limit: u8,
     hashes: u64,
     draws: &mut SplitMix64,
 ) -> Result<(), Fail>
-    requires few { limit < 10 }
     requires some { 0 < hashes }
 {
-    let mut pair = Pair {
-        history: Beside::new(memory, limit, hashes)?,
-        newest: Newest {
-            keys: Vec::new(alloc),
-            limit,
-        },
+    let mut history = Beside::new(memory, usize::from(limit), hashes)?;
+    go_along(&mut history, newest, draws)
+}
+
+/// Plays a run with a history of `limit` keys.
+fn play_run(
+    alloc: Global,
+    memory: &Refusing<Global>,
+    limit: u8,
+    hashes: u64,
+    draws: &mut SplitMix64,
+) -> Result<(), Fail>
+    requires some { 0 < hashes }
+{
+    let mut newest = Newest {
+        keys: Vec::new(alloc),
+        limit: usize::from(limit),
     };
-    pair.go_along(draws)
+    play_new(memory, &mut newest, limit, hashes, draws)
 }
 
 /// Plays runs at each of some limits, with many keys of one hash or few.

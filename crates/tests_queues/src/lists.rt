@@ -27,6 +27,8 @@ pub(crate) struct Lists {
     small: Vec<Entry>,
     main: Vec<Entry>,
     window: u32,
+    /// The number of calls that were made.
+    calls: u64,
 }
 
 impl Lists {
@@ -35,11 +37,13 @@ impl Lists {
             small: Vec::new(alloc),
             main: Vec::new(alloc),
             window,
+            calls: 0,
         }
     }
 
     /// Makes a call.
     pub(crate) fn reply(&mut self, call: Call) -> Result<Reply, AllocError> {
+        self.calls = self.calls.saturating_add(1);
         Ok(match call {
             Call::Admit(slot) => self.admit(slot)?,
             Call::Append(slot) => self.append(slot)?,
@@ -55,6 +59,10 @@ impl Lists {
             Call::IsTailPromoted => Reply::Flag(self.tail_is_promoted()),
             Call::MakeBelow(_) | Call::Clear => Reply::NoCall,
         })
+    }
+
+    pub(crate) fn calls(&self) -> u64 {
+        self.calls
     }
 
     pub(crate) fn small_len(&self) -> usize {

@@ -23,9 +23,7 @@ use testing::{Refusing, SplitMix64, same};
 /// Plays the runs that are worked out by hand.
 fn play_worked(alloc: Global, memory: &Refusing<Global>) -> Result<(), Fail> {
     worked::play_queues(memory)?;
-    worked::play_hand(memory)?;
-    worked::play_two_keys(memory)?;
-    worked::play_resident(memory)?;
+    worked::play_histories(memory)?;
     counts::count(memory)?;
     directory::a_slot(alloc)?;
     keys::two_keys(alloc)?;
@@ -33,12 +31,10 @@ fn play_worked(alloc: Global, memory: &Refusing<Global>) -> Result<(), Fail> {
     keys::room_of_an_index()
 }
 
-/// Makes queues and directories, and calls of them, with memory refused.
+/// Makes queues and directories with memory refused.
 fn play_refused(memory: &Refusing<Global>) -> Result<(), Fail> {
     refused::queues(memory)?;
-    refused::directories(memory)?;
-    refused::queues_once_made(memory)?;
-    refused::directories_once_made(memory)
+    refused::directories(memory)
 }
 
 /// Plays the seeded runs.

@@ -1,4 +1,5 @@
 //! Runs worked out by hand: calls, and what they reply.
+ghost use Rattle.std.specs.Prelude.{◌<◌};
 
 use crate::beside::{Beside, TestedHistory};
 use crate::calls::{Call, HistoryCall, Reply};
@@ -8,13 +9,13 @@ use std::test::Fail;
 use testing::{Refusing, same, same_at};
 
 /// A call of queues, and its reply.
-pub(crate) type Step = (Call, Reply);
+type Step = (Call, Reply);
 
 /// A call of a history, and its reply.
-pub(crate) type HistoryStep = (HistoryCall, Reply);
+type HistoryStep = (HistoryCall, Reply);
 
 /// Makes calls, whose replies are compared.
-pub(crate) fn play(queues: &mut TestedQueues<'_>, steps: &[Step]) -> Result<(), Fail> {
+fn play(queues: &mut TestedQueues<'_>, steps: &[Step]) -> Result<(), Fail> {
     for (index, (call, wanted)) in steps.iter().enumerate() {
         same_at(queues.reply(*call), *wanted, index)?;
     }
@@ -22,10 +23,7 @@ pub(crate) fn play(queues: &mut TestedQueues<'_>, steps: &[Step]) -> Result<(), 
 }
 
 /// Makes calls of a history, whose replies are compared.
-pub(crate) fn play_history(
-    history: &mut TestedHistory<'_>,
-    steps: &[HistoryStep],
-) -> Result<(), Fail> {
+fn play_history(history: &mut TestedHistory<'_>, steps: &[HistoryStep]) -> Result<(), Fail> {
     for (index, (call, wanted)) in steps.iter().enumerate() {
         same_at(history.reply(*call), *wanted, index)?;
     }
@@ -99,14 +97,6 @@ const ANY_ORDER: &[Step] = &[
     (Call::TakeVictim, Reply::Slot(5)),
 ];
 
-/// The runs, each with the number of slots and the window.
-const RUNS: &[(u32, u32, &[Step])] = &[
-    (4, 2, SECOND_ADMISSION),
-    (4, 2, EMPTIED_POSITIONS),
-    (1, 0, SINGLE_SLOT),
-    (6, 0, ANY_ORDER),
-];
-
 /// All 18 bits are set: the hand passes them all, and evicts the first slot. Then it is at slot 3, and
 /// passes 3 and 19, which are hit.
 const FIRST_VICTIMS: &[Step] = &[
@@ -152,29 +142,78 @@ fn come_round(queues: &mut TestedQueues<'_>) -> Result<(), Fail> {
     play(queues, LAST_VICTIMS)
 }
 
-/// Plays a run on new queues.
-fn play_new(
-    memory: &Refusing<Global>,
-    slots: u32,
-    window: u32,
-    steps: &[Step],
-) -> Result<(), Fail> {
-    let mut queues = Played::new(memory, slots, window)?;
-    play(&mut queues, steps)
+/// Slot 0 goes through Small and Main, and is evicted. Only the slot that is admitted last is left.
+const THROUGH_BOTH: &[Step] = &[
+    (Call::Admit(0), Reply::Done),
+    (Call::Admit(1), Reply::Done),
+    (Call::Admit(2), Reply::Done),
+    (Call::Hit(0), Reply::Done),
+    (Call::IsTailPromoted, Reply::Flag(true)),
+    (Call::TakeTail, Reply::Slot(0)),
+    (Call::Append(0), Reply::Done),
+    (Call::Hit(0), Reply::Done),
+    (Call::TakeVictim, Reply::Slot(0)),
+    (Call::Leave(1), Reply::Done),
+    (Call::Clear, Reply::Done),
+    (Call::MakeBelow(3), Reply::Done),
+    (Call::Admit(3), Reply::Done),
+    (Call::SmallLen, Reply::Number(1)),
+    (Call::MainLen, Reply::Number(0)),
+    (Call::TakeTail, Reply::Slot(3)),
+];
+
+/// Once made, queues request no memory and give none back.
+fn play_refused(memory: &Refusing<Global>, queues: &mut TestedQueues<'_>) -> Result<(), Fail> {
+    let before = (memory.requests(), memory.held());
+    memory.refuse_after(0);
+    play(queues, THROUGH_BOTH)?;
+    memory.grant();
+    same((memory.requests(), memory.held()), before)
 }
 
-/// Plays the runs of queues but for that of the hand.
+/// A run of queues.
+#[derive(Clone, Copy)]
+enum Run {
+    Steps(&'static [Step]),
+    Hand,
+    Refused,
+}
+
+/// The runs, each with the number of slots and the window.
+const RUNS: &[(u32, u32, Run)] = &[
+    (4, 2, Run::Steps(SECOND_ADMISSION)),
+    (4, 2, Run::Steps(EMPTIED_POSITIONS)),
+    (1, 0, Run::Steps(SINGLE_SLOT)),
+    (6, 0, Run::Steps(ANY_ORDER)),
+    (20, 1, Run::Hand),
+    (4, 2, Run::Refused),
+];
+
+/// Plays a run.
+fn play_run(
+    memory: &Refusing<Global>,
+    queues: &mut TestedQueues<'_>,
+    run: Run,
+) -> Result<(), Fail> {
+    match run {
+        Run::Steps(steps) => play(queues, steps),
+        Run::Hand => come_round(queues),
+        Run::Refused => play_refused(memory, queues),
+    }
+}
+
+/// Plays a run on new queues.
+fn play_new(memory: &Refusing<Global>, slots: u32, window: u32, run: Run) -> Result<(), Fail> {
+    let mut queues = Played::new(memory, slots, window)?;
+    play_run(memory, &mut queues, run)
+}
+
+/// Plays the runs of queues.
 pub(crate) fn play_queues(memory: &Refusing<Global>) -> Result<(), Fail> {
-    for (slots, window, steps) in RUNS {
-        play_new(memory, *slots, *window, steps)?;
+    for (slots, window, run) in RUNS {
+        play_new(memory, *slots, *window, *run)?;
     }
     Ok(())
-}
-
-/// Plays the run in which the hand goes round.
-pub(crate) fn play_hand(memory: &Refusing<Global>) -> Result<(), Fail> {
-    let mut queues = Played::new(memory, 20, 1)?;
-    come_round(&mut queues)
 }
 
 /// Two keys fit: a third one takes the place of the oldest. A key that is renewed twice is remembered
@@ -218,14 +257,73 @@ fn comes_twice(history: &mut TestedHistory<'_>) -> Result<(), Fail> {
     play_history(history, A_RESIDENT)
 }
 
-/// Plays the run of a history that remembers two keys.
-pub(crate) fn play_two_keys(memory: &Refusing<Global>) -> Result<(), Fail> {
-    let mut history = Beside::new(memory, 2, 100)?;
-    play_history(&mut history, TWO_KEYS)
+/// What the 20 keys from 0 leave. A key that is forgotten is new again.
+const LAST_SEVEN: &[HistoryStep] = &[
+    (HistoryCall::Len, Reply::Number(7)),
+    (HistoryCall::Forget(15), Reply::Flag(true)),
+    (HistoryCall::Forget(12), Reply::Flag(false)),
+    (HistoryCall::Renew(13), Reply::Renewed(true, true)),
+    (HistoryCall::Len, Reply::Number(6)),
+    (HistoryCall::Clear, Reply::Done),
+    (HistoryCall::Renew(13), Reply::Renewed(false, true)),
+    (HistoryCall::Len, Reply::Number(1)),
+];
+
+/// Renews more keys than fit, each with the same hash as others.
+fn renew_each(history: &mut TestedHistory<'_>) -> Result<(), Fail> {
+    for key in 0..20 {
+        same_at(history.renew(key), (false, true), key)?;
+    }
+    Ok(())
 }
 
-/// Plays the run of a resident that comes twice.
-pub(crate) fn play_resident(memory: &Refusing<Global>) -> Result<(), Fail> {
-    let mut history = Beside::new(memory, 2, 100)?;
-    comes_twice(&mut history)
+/// Once made, a directory requests no memory and gives none back.
+fn renew_refused(memory: &Refusing<Global>, history: &mut TestedHistory<'_>) -> Result<(), Fail> {
+    let before = (memory.requests(), memory.held());
+    memory.refuse_after(0);
+    renew_each(history)?;
+    play_history(history, LAST_SEVEN)?;
+    memory.grant();
+    same((memory.requests(), memory.held()), before)
+}
+
+/// A run of a history.
+#[derive(Clone, Copy)]
+enum HistoryRun {
+    TwoKeys,
+    Resident,
+    Refused,
+}
+
+/// Plays a run.
+fn play_history_run(
+    memory: &Refusing<Global>,
+    history: &mut TestedHistory<'_>,
+    run: HistoryRun,
+) -> Result<(), Fail> {
+    match run {
+        HistoryRun::TwoKeys => play_history(history, TWO_KEYS),
+        HistoryRun::Resident => comes_twice(history),
+        HistoryRun::Refused => renew_refused(memory, history),
+    }
+}
+
+/// Plays a run on a new history, which remembers few keys.
+fn play_new_history(
+    memory: &Refusing<Global>,
+    limit: u8,
+    hashes: u64,
+    run: HistoryRun,
+) -> Result<(), Fail>
+    requires some { 0 < hashes }
+{
+    let mut history = Beside::new(memory, usize::from(limit), hashes)?;
+    play_history_run(memory, &mut history, run)
+}
+
+/// Plays the runs of histories.
+pub(crate) fn play_histories(memory: &Refusing<Global>) -> Result<(), Fail> {
+    play_new_history(memory, 2, 100, HistoryRun::TwoKeys)?;
+    play_new_history(memory, 2, 100, HistoryRun::Resident)?;
+    play_new_history(memory, 7, 3, HistoryRun::Refused)
 }
