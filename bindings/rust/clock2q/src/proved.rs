@@ -8,6 +8,7 @@
 #![allow(clippy::all)] // the sources follow their own rules
 #![deny(clippy::incompatible_msrv)]
 #![allow(missing_docs, dead_code, unused_imports, unused_variables)]
+#![allow(rustdoc::private_intra_doc_links)] // their comments link what only they see
 
 pub mod cache;
 pub mod count;
