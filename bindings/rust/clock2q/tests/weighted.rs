@@ -8,7 +8,7 @@ use std::cell::RefCell;
 use std::collections::HashMap;
 use std::hash::BuildHasher;
 use std::panic::{catch_unwind, AssertUnwindSafe};
-use std::sync::{Arc, Mutex, OnceLock};
+use std::sync::{mpsc, Mutex, OnceLock};
 use std::thread;
 
 fn weigh(_: &u64, value: &u64) -> u64 {
@@ -193,63 +193,66 @@ fn listeners_may_panic() {
     }
 }
 
+type Heard = Box<dyn Fn(&u64, &u64, Cause) + Send + Sync>;
+type Shared = sync::WeightedCache<u64, u64, fn(&u64, &u64) -> u64, Good, Heard>;
+
+/// Makes drawn calls, and returns the values that were stored.
+fn stored_by(cache: &Shared, seed: u64) -> Vec<u64> {
+    let (mut draws, mut own) = (Draws(seed), Vec::new());
+    for number in 0..(calls() / 20) as u64 {
+        let (key, value) = (
+            draws.below(1000),
+            4 * (8 * number + draws.below(8)) + seed - 1,
+        );
+        match draws.below(8) {
+            0 => drop(cache.remove(&key)),
+            1 => drop(cache.evict()),
+            2 if number % 500 == 0 => cache.clear(),
+            3 if number % 500 == 0 => cache.retain(|key, _| key % 3 != 0),
+            4 => {
+                if cache.get_or_insert_with(key, || value) == value {
+                    own.push(value);
+                }
+            }
+            _ => {
+                if cache.insert(key, value).is_ok() {
+                    own.push(value);
+                }
+            }
+        }
+    }
+    own
+}
+
 /// Threads that share a cache: each pair that was stored is there or was heard of, once, and a listener may use the cache.
 #[test]
 fn threads_are_heard() {
-    type Heard = Box<dyn Fn(&u64, &u64, Cause) + Send + Sync>;
-    type Shared = sync::WeightedCache<u64, u64, fn(&u64, &u64) -> u64, Good, Heard>;
     static SHARED: OnceLock<Shared> = OnceLock::new();
-    let left = Arc::new(Mutex::new(Vec::new()));
-    let own = Arc::clone(&left);
+    let (tell, heard) = mpsc::channel();
     let hear: Heard = Box::new(move |key, value, _| {
         let cache = SHARED.get().expect("it is made");
         cache.peek(key);
         if value % 100 == 0 {
             cache.remove(&(key + 1));
         }
-        own.lock().expect("no thread panics").push(*value);
+        tell.send(*value).expect("it is heard");
     });
     let weigher: fn(&u64, &u64) -> u64 = weigh;
     let made = sync::WeightedCache::with_hasher(400, 1000, weigher, Good::new()).expect("a cache");
     let cache = SHARED.get_or_init(|| made.heard_by(hear));
-    let stored = Mutex::new(Vec::new());
-    thread::scope(|scope| {
-        for seed in 1..=4u64 {
-            let stored = &stored;
-            scope.spawn(move || {
-                let (mut draws, mut own) = (Draws(seed), Vec::new());
-                for number in 0..(calls() / 20) as u64 {
-                    let (key, value) = (
-                        draws.below(1000),
-                        4 * (8 * number + draws.below(8)) + seed - 1,
-                    );
-                    match draws.below(8) {
-                        0 => drop(cache.remove(&key)),
-                        1 => drop(cache.evict()),
-                        2 if number % 500 == 0 => cache.clear(),
-                        3 if number % 500 == 0 => cache.retain(|key, _| key % 3 != 0),
-                        4 => {
-                            if cache.get_or_insert_with(key, || value) == value {
-                                own.push(value);
-                            }
-                        }
-                        _ => {
-                            if cache.insert(key, value).is_ok() {
-                                own.push(value);
-                            }
-                        }
-                    }
-                }
-                stored.lock().expect("no thread panics").extend(own);
-            });
-        }
+    let mut stored: Vec<u64> = thread::scope(|scope| {
+        let store = |seed| scope.spawn(move || stored_by(cache, seed));
+        let threads: Vec<_> = (1..=4).map(store).collect();
+        let joined = threads.into_iter().map(|thread| thread.join());
+        joined
+            .flat_map(|own| own.expect("no thread panics"))
+            .collect()
     });
     cache.resize(100).expect("it is smaller");
     cache.set_max_weight(100);
     cache.clear();
-    let mut heard = left.lock().expect("no thread panics").clone();
+    let mut heard: Vec<u64> = heard.try_iter().collect();
     heard.sort_unstable();
-    let mut stored = stored.into_inner().expect("no thread panics");
     stored.sort_unstable();
     let heard_count = heard.len();
     heard.dedup();
