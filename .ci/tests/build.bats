@@ -34,9 +34,9 @@ load helper
     cp -r "$top"/crates/clock2q_{cache,directory,handles,queues}/{src,proofs} "$copy/crates/clock2q_cache"
     start 0 clock2q
     TIMEFORMAT='%U %S'
-    for _ in 1 2 3 4 5; do
+    for _ in {1..10}; do
         { time alone "$copy/clock2q" >/dev/null 2>&1; } 2>&1
-    done | sort -n | awk 'NR == 1 { print; exit $1 + $2 > 0.1 }'
+    done | awk '{ took = $1 + $2 } NR == 1 || took < least { least = took } END { print least; exit least > 0.1 }'
 }
 
 @test "a source that is saved while the program is built is in the next one" {
