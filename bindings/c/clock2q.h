@@ -106,7 +106,7 @@ uint32_t clock2q_with_history(clock2q_cache *cache, size_t capacity, size_t smal
 
 /* Finds the slot of a key and records a hit, or gives the key a slot, which another key may lose.
  * Returns where it is; clock2q_enter below writes that instead. Needs a cache. Costs one hash;
- * without a hit at most 36 accesses to the queues, and one for each key that the hand passes over. */
+ * without a hit at most 29 accesses to the queues, and one for each key that the hand passes over. */
 clock2q_place clock2q_enter_key(clock2q_cache *cache, uint64_t key);
 
 /* Finds the slot of a key and records a hit, if the key has one; clock2q_find below writes the slot
@@ -131,7 +131,7 @@ bool clock2q_remove(clock2q_cache *cache, uint64_t key);
 /* Takes the slot away from the key that leaves next, and returns its place: `slot` was its slot, `last`
  * is the key, `has_last` and `evicted` are true. If no key has a slot, all of them are 0 or false.
  * clock2q_evict below writes that instead. In a full cache it is the key that a new one would make leave;
- * the next key that takes a free slot takes this one. Needs a cache. Costs no hash, at most 21 accesses to the
+ * the next key that takes a free slot takes this one. Needs a cache. Costs no hash, at most 19 accesses to the
  * queues, and one for each key that the hand passes over. */
 clock2q_place clock2q_evict_key(clock2q_cache *cache);
 

@@ -68,7 +68,7 @@ pub extern "C" fn clock2q_enter_key(handle: &mut Handle, key: usize) -> Place
     ensures holds { IsSome handle.new.cache }
 {
     let held = handle.held();
-    let _ = held.cache.len(); // whose contract says that the cache is whole
+    held.cache.facts();
     let (slot, occupant) = held.cache.put_slot(key, ());
     place_of(key, slot, occupant)
 }

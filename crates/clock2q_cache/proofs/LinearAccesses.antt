@@ -1,4 +1,4 @@
--- A list of calls takes linear time: at most 37 link accesses a call, and one for each bit that was set before.
+-- A list of calls takes linear time: at most 30 link accesses a call, and one for each bit that was set before.
 use Rattle.std.proofs.Common.{◌≡◌, ◌+◌, ◌*◌, ◌≤◌, Bool, false, List, [], ◌∷◌, length, Some, None, arith}
 use Rattle.std.specs.Cmp.{IsEquivalence}
 use Rattle.std.specs.List.{AllByRecursion}
@@ -12,11 +12,11 @@ use Rattle.clock2q_cache.specs.Costs.{accesses_for, most_accesses}
 use Rattle.clock2q_cache.specs.Visits.{visits_all}
 
 module _ {K V : Type 0} (eq : K → K → Bool) where
-  wanted_accesses : (is : K → Bool) (m : Machine K V) → accesses_for is m ≤ inspections_for is m + 36
+  wanted_accesses : (is : K → Bool) (m : Machine K V) → accesses_for is m ≤ inspections_for is m + 29
   wanted_accesses is m = grind arith
 
-  -- any other call makes at most 36 link accesses beside the hand's inspections
-  call_accesses : (call : Call K V) (m : Machine K V) → visits_all call ≡ false → most_accesses eq call m ≤ inspections_of eq call m + 36
+  -- any other call makes at most 29 link accesses beside the hand's inspections
+  call_accesses : (call : Call K V) (m : Machine K V) → visits_all call ≡ false → most_accesses eq call m ≤ inspections_of eq call m + 29
   call_accesses (Put key value) m some = wanted_accesses (eq key) m
   call_accesses (Get key) m some = omega arith
   call_accesses (Peek key) m some = omega arith
@@ -37,11 +37,11 @@ module _ {K V : Type 0} (eq : K → K → Bool) where
   call_accesses Capacity m some = omega arith
 
   list_accesses : (calls : List (Call K V)) (m : Machine K V) → AllByRecursion (λ call. visits_all call ≡ false) calls
-      → summed eq (most_accesses eq) calls m ≤ summed eq (inspections_of eq) calls m + 36 * length calls
+      → summed eq (most_accesses eq) calls m ≤ summed eq (inspections_of eq) calls m + 29 * length calls
   list_accesses [] m some = omega arith
   list_accesses (call ∷ calls) m some = omega (arith, call_accesses call m some.0, list_accesses calls (after eq call m) some.1)
 
   -- so a list of such calls takes linear time
   pub linear_accesses : (laws : IsEquivalence eq) (calls : List (Call K V)) (m : Machine K V) → IsWhole eq m → AllByRecursion (λ call. visits_all call ≡ false) calls
-      → summed eq (most_accesses eq) calls m + set_bits (after_all eq calls m) ≤ 37 * length calls + set_bits m
+      → summed eq (most_accesses eq) calls m + set_bits (after_all eq calls m) ≤ 30 * length calls + set_bits m
   linear_accesses laws calls m h some = omega (arith, list_accesses calls m some, linear_inspections eq laws calls m h)

@@ -12,7 +12,7 @@ use Rattle.clock2q_cache.proofs.Spent.{spends-more}
 module _ {K V S H : Type 0} {key : HashMembers K} {build : builder.Ghosts S H} {hash : hasher.Ghosts H} {k : K} {value : Option V} {b : Bool} {slot : ℕ} {old new : CacheState K V S} where
   -- there is a vacancy for Small
   pub joins-small : is_some (vacancy old.machine) ≡ true
-      → Enters key build hash k value (into_queue false k old.machine) b None 0 28 slot old new → EntersQueue key build hash false k value b slot old new
+      → Enters key build hash k value (into_queue false k old.machine) b None 0 10 slot old new → EntersQueue key build hash false k value b slot old new
   joins-small vacant e = record { slot = e.slot; machine = e.machine; indexes = rw vacant e.indexes; hasher = e.hasher; counts = rw vacant (spends-more e.counts (omega arith) (omega arith)) }
 
   -- Small's tail is looked at: it moves on to Main, or is evicted

@@ -26,7 +26,7 @@ module _ {K V S H : Type 0} (key : HashMembers K) (build : builder.Ghosts S H) (
     pub victim-costs : (r : K × ℕ) → first_of (from_victim old.machine.main) ≡ Some r
         → new.machine ≡ victim_evicted (tail_of old.machine) (from_victim old.machine.main) old.machine
         → new.known ≡ left_by (hash_in key build hash old) (Some r) r.1 old.known
-        → Spends (inspections old.machine.main) (inspections old.machine.main + 20) 0 looked new.counts → Costs key build hash Evict old new
+        → Spends (inspections old.machine.main) (inspections old.machine.main + 18) 0 looked new.counts → Costs key build hash Evict old new
     victim-costs r left is known more =
         let becomes : new.machine ≡ evicted old.machine =
         is ∙ sym (ap (λ b. if b then victim_evicted (tail_of old.machine) (from_victim old.machine.main) old.machine else tail_evicted (tail_of old.machine) old.machine) leaves) in

@@ -25,12 +25,12 @@ pub record Spends (inspected links keys : ℕ) (old new : Counts) : Type 0 where
 pub record Reaches {K V S : Type 0} (slots : ℕ) (old new : CacheState K V S) : Type 0 where
   pub accesses : new.known.index.accesses ≤ old.known.index.accesses + slots
 
--- the bound on accesses to links to fetch or insert a key: 0 if it is resident, otherwise 36 plus the hand's
+-- the bound on accesses to links to fetch or insert a key: 0 if it is resident, otherwise 29 plus the hand's
 -- inspections
 abbrev pub accesses_for : {K V : Type 0} → (K → Bool) → Machine K V → ℕ
-accesses_for is m = if is_some (slot_of is m) then 0 else inspections_for is m + 36
+accesses_for is m = if is_some (slot_of is m) then 0 else inspections_for is m + 29
 
--- the bound on a call's accesses to links: the above for a key that it may insert, 21 plus the hand's inspections to
+-- the bound on a call's accesses to links: the above for a key that it may insert, 19 plus the hand's inspections to
 -- evict a resident, or some for each slot if it visits all of them: one for each slot that is made ahead
 abbrev pub most_accesses : {K V : Type 0} → (K → K → Bool) → Call K V → Machine K V → ℕ
 most_accesses eq (Put key value) m = accesses_for (eq key) m
@@ -40,7 +40,7 @@ most_accesses eq (SlotFor key value) m = accesses_for (eq key) m
 most_accesses eq (Remove key) m = 8
 most_accesses eq (Retain bits) m = 8 * length m.values
 most_accesses eq Clear m = m.shares.window
-most_accesses eq Evict m = inspections_of eq Evict m + 21
+most_accesses eq Evict m = inspections_of eq Evict m + 19
 most_accesses eq (Try key None) m = 0
 most_accesses eq (Get key) m = 0
 most_accesses eq (Peek key) m = 0

@@ -53,6 +53,10 @@ module _ {K V : Type 0} where
   abbrev pub placed_inspections : Bool → Machine K V → ℕ
   placed_inspections main m = if main then main_inspections m else small_inspections m
 
+  -- the most links that are accessed then, beside one for each inspection
+  abbrev pub placed_links : Bool → ℕ
+  placed_links main = if main then 10 else 29
+
   -- whether no slot is free, and one was never made
   abbrev pub next_is_vacant : Machine K V → Bool
   next_is_vacant m = (length m.free == 0) && nat_lt (length m.values) m.shares.capacity
@@ -103,7 +107,7 @@ module _ {K V S H : Type 0} (key : HashMembers K) (build : builder.Ghosts S H) (
 
   -- the key went into Main, or into Small
   abbrev pub EntersMain : K → Option V → (is_found : Bool) → (looks slot : ℕ) → CacheState K V S → CacheState K V S → Type 0
-  EntersMain k value is_found looks slot old new = Enters k value (into_main k old.machine) is_found None looks 28 slot old new
+  EntersMain k value is_found looks slot old new = Enters k value (into_main k old.machine) is_found None looks 10 slot old new
 
   abbrev pub EntersSmall : K → Option V → (is_found : Bool) → Option K → (looks links slot : ℕ) → CacheState K V S → CacheState K V S → Type 0
   EntersSmall k value is_found out looks links slot old new = Enters k value (into_small k old.machine) is_found out looks links slot old new
@@ -111,11 +115,12 @@ module _ {K V S H : Type 0} (key : HashMembers K) (build : builder.Ghosts S H) (
   -- or into that of the two that was chosen
   abbrev pub EntersQueue : (main : Bool) → K → Option V → (is_found : Bool) → (slot : ℕ) → CacheState K V S → CacheState K V S → Type 0
   EntersQueue main k value is_found slot old new =
-      let m = old.machine in Enters k value (into_queue main k m) is_found (out_of main m) (placed_inspections main m) 29 slot old new
+      let m = old.machine in Enters k value (into_queue main k m) is_found (out_of main m) (placed_inspections main m) (placed_links main) slot old new
 
-  -- a key that is not resident is erased from the history, and goes into Main or into Small
+  -- a key that is not resident is erased from the history, and goes into Main or into Small; if it was remembered, and so
+  -- goes into Main, that accesses links
   pub record Admits (k : K) (x : ℕ) (main : Bool) (old new : CacheState K V S) : Type 0 where
     pub sent : IsAdmitted (key.eq k) old.machine new.machine main
     pub known : new.known ≡ discarded (key.eq k) x old
     pub hasher : new.hasher ≡ old.hasher
-    pub counts : Spends 0 7 0 old.counts new.counts
+    pub counts : Spends 0 (if main then 7 else 0) 0 old.counts new.counts

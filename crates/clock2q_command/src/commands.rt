@@ -68,7 +68,7 @@ where
         AllByRecursion (λ call. visits_all call ≡ false) (map call_of commands.items) →
         OnOk result
         (cache.new.counts.accesses + set_bits cache.new.machine ≤
-        cache.old.counts.accesses + 37 * length commands.items + set_bits cache.old.machine) }
+        cache.old.counts.accesses + 30 * length commands.items + set_bits cache.old.machine) }
     ensures memory { IfErr result (λ e. e ≡ CacheError.Memory) }
     ensures unchanged { OnErr result (cache.new ≡ cache.old) }
 {
@@ -97,7 +97,7 @@ where
     ensures indexed { IsIndexed K.Hash S.BuildHasher S.Hasher.Hasher cache.old }
     ensures spacious { IsSpacious cache.old }
 {
-    let _ = cache.len(); // its contract says what the index contains, and in how many slots
+    cache.facts();
     match command {
         Command::Put(key, value) => Reply::Value(cache.put(key, value)),
         Command::Get(key) => Reply::Value(cache.get(&key).copied()),
@@ -208,7 +208,7 @@ where
     ensures costs { Costs K.Hash S.BuildHasher S.Hasher.Hasher
         (SlotFor key value) cache.old cache.new }
 {
-    let _ = cache.len(); // whose contract says that the cache is whole
+    cache.facts();
     let (slot, found) = cache.get_or_insert_mut(key, || value);
     (slot, *found)
 }

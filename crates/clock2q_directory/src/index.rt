@@ -116,10 +116,17 @@ impl<A: Allocator> Index<A> {
     #[inline(always)]
     pub fn is_shared(&self) -> bool
         ensures shared { result ≡ is_shared self.now }
+    {
+        self.own.capacity() == 0
+    }
+
+    /// States what holds of every index, for a caller's proof. It does nothing.
+    #[inline(always)]
+    pub fn facts(&self)
         ensures within { IsWithinCapacity self.now }
     {
-        let _ = (self.shared.len(), self.own.len()); // whose contract says that the entries fit
-        self.own.capacity() == 0
+        self.shared.facts();
+        self.own.facts();
     }
 
     /// Returns the numbers of the [handles](Handle) under a hash in the table of the slots, which has

@@ -37,7 +37,7 @@ pub fn enter<S: BuildHasher>(
     ensures costs { Costs ⟦<usize as Hash>⟧ S.BuildHasher S.Hasher.Hasher
         (SlotFor page (Some page)) pages.old pages.new }
 {
-    let _ = pages.len(); // whose contract says that the cache is whole
+    pages.facts();
     let (frame, held) = pages.get_or_insert_mut(page, || None);
     let last = *held;
     *held = Some(page);
@@ -56,7 +56,7 @@ pub fn is_in<V, S: BuildHasher>(pages: &mut Cache<usize, V, S>, frame: usize, pa
     ensures costs { Costs ⟦<usize as Hash>⟧ S.BuildHasher S.Hasher.Hasher
         (GetAt frame page) pages.old pages.new }
 {
-    let _ = pages.len();
+    pages.facts();
     pages.get_at(frame, &page).is_some()
 }
 
@@ -71,6 +71,6 @@ pub fn find<V, S: BuildHasher>(pages: &mut Cache<usize, V, S>, page: usize) -> O
     ensures costs { Costs ⟦<usize as Hash>⟧ S.BuildHasher S.Hasher.Hasher
         (Get page) pages.old pages.new }
 {
-    let _ = pages.len(); // whose contract says that the cache is whole
+    pages.facts();
     pages.slot(&page)
 }

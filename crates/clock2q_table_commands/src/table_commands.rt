@@ -98,7 +98,7 @@ where
     ensures memory { IfErr result (λ e. e ≡ TableError.Memory) }
     ensures unchanged { OnErr result (table.new ≡ table.old) }
 {
-    let _ = table.len(); // whose contract says that the slots are laid out
+    table.facts();
     let Ok(mut replies) = Vec::with_capacity(alloc, commands.len()) else {
         return Err(TableError::Memory);
     };

@@ -136,7 +136,7 @@ pub fn serve<V: Copy, S: BuildHasher>(
         (λ served. cache.new.machine ≡ after_requests requests.now cache.old.machine) }
     ensures unserved { OnErr result (cache.new ≡ cache.old) }
 {
-    let _ = cache.len(); // whose contract says that the cache is whole
+    cache.facts();
     let mut served = Vec::with_capacity(alloc, requests.len())?;
     for (now, request) in requests {
         served.push_reserved(serve_one(cache, *now, *request));

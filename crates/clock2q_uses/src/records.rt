@@ -72,7 +72,7 @@ pub fn record_of<T: Copy, S: BuildHasher>(
         HoldsRecords file.now records.new.machine }
     ensures unchanged { OnErr result (records.new.machine ≡ records.old.machine) }
 {
-    let _ = records.len(); // whose contract says that the cache is whole
+    records.facts();
     read_through(
         records,
         number,

@@ -25,7 +25,7 @@ pub fn put_all(cache: &mut Cache<u64, u64>, keys: &[u64])
     ensures keeps { IsScan eqb (puts_of keys.now) cache.old.machine →
         LeavesOrStays cache.old.machine cache.new.machine }
 {
-    let _ = cache.len(); // whose contract says that the cache is whole
+    cache.facts();
     for key in keys {
         cache.put(*key, *key);
     }

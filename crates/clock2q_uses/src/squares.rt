@@ -10,7 +10,7 @@ pub fn square_of(squares: &mut Cache<u64, u64>, number: u64) -> u64
     ensures square { HasSquares squares.old.machine → result ≡ square number }
     ensures keeps { HasSquares squares.old.machine → HasSquares squares.new.machine }
 {
-    let _ = squares.len(); // whose contract says that the cache is whole
+    squares.facts();
     if let Some(square) = squares.get(&number) {
         return *square;
     }

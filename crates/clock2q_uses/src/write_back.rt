@@ -30,7 +30,7 @@ pub fn write_block<T: Copy, S: BuildHasher>(
     ensures marks { length dirty.new ≡ length dirty.old }
     ensures as_many { length device.new ≡ length device.old }
 {
-    let _ = cache.len(); // whose contract says that the cache is whole
+    cache.facts();
     let handed = cache.put_evicting(number, block);
     write_left(device, dirty, number, handed);
     dirty[number] = true;
@@ -58,7 +58,7 @@ pub fn read_block<T: Copy, S: BuildHasher>(
     ensures marks { length dirty.new ≡ length dirty.old }
     ensures as_many { length device.new ≡ length device.old }
 {
-    let _ = cache.len(); // whose contract says that the cache is whole
+    cache.facts();
     if let Some(block) = cache.get(&number) {
         return *block;
     }
@@ -86,7 +86,7 @@ pub fn flush<T: Copy, S: BuildHasher>(
     ensures in_step { IsInStep cache.now.machine dirty.new device.new }
     ensures clean { dirty.new ≡ replicate (length dirty.old) false }
 {
-    let _ = cache.len(); // whose contract says that the cache is whole
+    cache.facts();
     for (number, _, block) in cache.iter() {
         write_if_dirty(device, dirty, *number, *block);
     }

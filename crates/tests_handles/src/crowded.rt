@@ -66,8 +66,8 @@ impl Crowded {
         ensures all { result.0 ≡ self.now }
         ensures reads { 0 < self.now → result.1.reads ≡ self.now + 1 }
     {
-        // This call shows contracts that the handles can be counted.
-        let _ = self.table.len();
+        let _ = self.table.len(); // which bounds the number of handles
+        self.table.facts();
         drain(self.table.get(self.hash))
     }
 }

@@ -82,8 +82,7 @@ impl<A: Allocator + Copy> Hashed<A> {
 
     /// Makes room, and notes whose hashes are asked for.
     fn reserve(&mut self, additional: usize, notes: &Notes) -> Result<(), TableError> {
-        // This call shows contracts that the handles can be counted.
-        let _ = self.table.len();
+        self.table.facts();
         self.table.reserve(
             additional,
             |held: Handle| -> u64

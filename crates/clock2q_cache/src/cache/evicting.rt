@@ -66,7 +66,7 @@ impl<K: Hash + Eq + Copy, V: Drop, S: BuildHasher, A: Allocator> Cache<K, V, S, 
     ///
     /// # Cost
     ///
-    /// No hash and no comparison. At most 21 more accesses to links than inspections by the hand,
+    /// No hash and no comparison. At most 19 more accesses to links than inspections by the hand,
     /// and at most two changes of the index, one under the hash of the key that leaves and one
     /// under that of the oldest remembered key.
     pub fn evict(&mut self) -> Option<(K, usize)>
@@ -78,7 +78,7 @@ impl<K: Hash + Eq + Copy, V: Drop, S: BuildHasher, A: Allocator> Cache<K, V, S, 
         ensures hasher { self.new.hasher ≡ self.old.hasher }
         ensures costs { Costs K.Hash S.BuildHasher S.Hasher.Hasher Evict self.old self.new }
     {
-        let _ = self.len(); // whose contract says that the index is whole
+        self.facts();
         if self.victim_leaves() {
             return Some(self.evict_victim());
         }
@@ -112,7 +112,7 @@ impl<K: Hash + Eq + Copy, V: Drop, S: BuildHasher, A: Allocator> Cache<K, V, S, 
             (Some result) result.1 self.old.known }
         ensures hasher { self.new.hasher ≡ self.old.hasher }
         ensures counts { Spends (inspections self.old.machine.main)
-            (inspections self.old.machine.main + 20) 0 self.old.counts self.new.counts }
+            (inspections self.old.machine.main + 18) 0 self.old.counts self.new.counts }
     {
         let slot = self.queues.take_victim();
         let key = *self.directory.key(slot);
@@ -209,7 +209,7 @@ impl<K: Hash + Eq + Copy, V: Drop, S: BuildHasher, A: Allocator> Cache<K, V, S, 
             (placement (K.eq key) key self.old.machine).slot (is_some (found_gap found)) self.old }
         ensures hasher { self.new.hasher ≡ self.old.hasher }
         ensures counts { Spends (inspections_for (K.eq key) self.old.machine)
-            (inspections_for (K.eq key) self.old.machine + 36) 0 self.old.counts self.new.counts }
+            (inspections_for (K.eq key) self.old.machine + 29) 0 self.old.counts self.new.counts }
     {
         let admission = self.choose_queue(hash, &key, &found);
         let gap = found.gap();
@@ -254,7 +254,7 @@ impl<K: Hash + Eq + Copy, V: Drop, S: BuildHasher, A: Allocator> Cache<K, V, S, 
         ensures costs { Costs K.Hash S.BuildHasher S.Hasher.Hasher
             (SlotFor key value) self.old self.new }
     {
-        let _ = self.len(); // whose contract says that the cache is whole
+        self.facts();
         let hash = self.hash(&key);
         if let Some(slot) = self.find(hash, &key) {
             self.record_hit(slot, &key);
@@ -281,7 +281,7 @@ impl<K: Hash + Eq + Copy, V: Drop, S: BuildHasher, A: Allocator> Cache<K, V, S, 
             (looked_for K.Hash S.BuildHasher S.Hasher.Hasher key self.old) }
         ensures hasher { self.new.hasher ≡ self.old.hasher }
         ensures counts { Spends (inspections_for (K.eq key) self.old.machine)
-            (inspections_for (K.eq key) self.old.machine + 36)
+            (inspections_for (K.eq key) self.old.machine + 29)
             (length (candidates
             (remembered_in self.old.known) hash)) self.old.counts self.new.counts }
     {

@@ -60,7 +60,7 @@ impl<K: Hash + Eq + Drop, V: Drop, S: BuildHasher, A: Allocator> Cache<K, V, S, 
             known_at K.Hash S.BuildHasher S.Hasher.Hasher key result (is_some (found_gap found)) self.old }
         ensures hasher { self.new.hasher ≡ self.old.hasher }
         ensures counts { Spends (inspections_for (K.eq key) self.old.machine)
-            (inspections_for (K.eq key) self.old.machine + 36) 0 self.old.counts self.new.counts }
+            (inspections_for (K.eq key) self.old.machine + 29) 0 self.old.counts self.new.counts }
     {
         let admission = self.choose_queue(hash, &key, &found);
         let newcomer = Newcomer {
@@ -95,7 +95,7 @@ impl<K: Hash + Eq + Drop, V: Drop, S: BuildHasher, A: Allocator> Cache<K, V, S, 
             (looked_for K.Hash S.BuildHasher S.Hasher.Hasher key self.old) }
         ensures hasher { self.new.hasher ≡ self.old.hasher }
         ensures counts { Spends (inspections_for (K.eq key) self.old.machine)
-            (inspections_for (K.eq key) self.old.machine + 36)
+            (inspections_for (K.eq key) self.old.machine + 29)
             (length (candidates
             (remembered_in self.old.known) hash)) self.old.counts self.new.counts }
     {
@@ -238,7 +238,7 @@ impl<K: Hash + Eq + Drop, V: Drop, S: BuildHasher, A: Allocator> Cache<K, V, S, 
             < length self.old.machine.values) }
         ensures entered { Enters K.Hash S.BuildHasher S.Hasher.Hasher newcomer.key newcomer.value
             (into_queue (is_main admission) newcomer.key self.old.machine) (is_some newcomer.gap)
-            None 0 28 result self.old self.new }
+            None 0 10 result self.old self.new }
     {
         let slot = take_vacancy(&mut self.free, self.directory.made());
         self.directory.enter(slot, newcomer);

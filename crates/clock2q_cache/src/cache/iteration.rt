@@ -97,6 +97,7 @@ impl<K: Hash + Eq, V, S: BuildHasher, A: Allocator> Cache<K, V, S, A> {
         ensures values { result ≡ entries self.now.machine }
         ensures len { length result ≡ resident_count self.now.machine }
     {
+        self.facts();
         Iter {
             cache: self,
             slot: 0,

@@ -66,7 +66,7 @@ impl<K: Hash + Eq, V, S: BuildHasher, A: Allocator> Cache<K, V, S, A> {
         ensures removals { self.new.counts.accesses + 8 * resident_count self.new.machine ≤
             self.old.counts.accesses + 8 * resident_count self.old.machine }
     {
-        let _ = self.len(); // whose contract says that the index's entries fit
+        self.facts();
         for slot in 0..self.made() {
             if self.is_resident(slot) {
                 let stays = keep(self.key(slot), self.value(slot));

@@ -163,7 +163,7 @@ impl<K: Hash + Eq + Drop, V: Drop, S: BuildHasher, A: Allocator> Cache<K, V, S, 
         if let Some(slot) = self.with_hash(hash, 0) {
             return (slot as usize, false);
         }
-        let _ = self.len(); // whose contract says that the cache is whole
+        self.facts();
         let found = self.find_place(hash, &key);
         (self.insert(hash, key, value, found) as usize, true)
     }

@@ -5,7 +5,7 @@ use crate::newcomer::Newcomer;
 use std::alloc::Allocator;
 
 impl<K: Eq, V, A: Allocator> Directory<K, V, A> {
-    ghost use Rattle.std.specs.Prelude.{◌≡◌, ◌+◌, ◌<◌, ◌++◌, ◌∷◌, [], false, Some, length, map};
+    ghost use Rattle.std.specs.Prelude.{◌≡◌, ◌+◌, ◌<◌, ◌++◌, ◌∷◌, [], if◌then◌else◌, false, Some, length, map};
     ghost use Rattle.clock2q_handles.specs.Homes.{no_entries};
     ghost use Rattle.clock2q_queues.specs.Cells.{Rises};
     ghost use Rattle.clock2q_directory.specs.Keys.{entry, key_at};
@@ -81,7 +81,8 @@ impl<K: Eq, V, A: Allocator> Directory<K, V, A> {
             freed_place hash
             (place_of (K.eq key.now)
             (map (λ e. e.1) self.old.history.entries) self.old.history.places.taken) self.old.history.places }
-        ensures accesses { Rises 0 7 self.old.history.accesses self.new.history.accesses }
+        ensures accesses { Rises 0 (if result then 7 else 0)
+            self.old.history.accesses self.new.history.accesses }
     {
         let _ = key;
         let _ = self.history.order.len();

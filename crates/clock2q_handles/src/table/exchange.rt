@@ -76,7 +76,7 @@ impl<H: Copy + Eq + Default, A: Allocator> Table<H, A> {
             (listed self.old.homes old_hash) ≡ true }
         ensures { Exchanges H.PartialEq.eq None hash handle old_hash old self.old self.new }
     {
-        let _ = self.len(); // whose contract says that the table is whole
+        self.facts();
         self.remove_existing(old_hash, old);
         self.insert_infallible(hash, handle);
     }

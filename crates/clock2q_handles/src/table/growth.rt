@@ -74,6 +74,7 @@ impl<H: Copy + Eq + Default, A: Allocator + Copy> Table<H, A> {
         // No home's entries reach further past it than before.
         ensures nearer { IsNearer self.old.homes self.new.homes }
     {
+        self.facts();
         let Some(entries) = self.len().checked_add(additional) else {
             return Err(TableError::Size);
         };

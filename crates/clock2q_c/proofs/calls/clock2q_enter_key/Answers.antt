@@ -32,6 +32,6 @@ pub returns-clause-within : goal.returns-clause-within
 returns-clause-within c =
     let p = c.put_slot-slot in
     let m = c.held-held.result.now.cache.machine in
-    let capacity = ap (λ (z : Machine _ _). z.shares.capacity) p.ensures.machine ∙ ap (λ z. z.capacity) (same-shares c.args.key m c.len.ensures.whole) in
+    let capacity = ap (λ (z : Machine _ _). z.shares.capacity) p.ensures.machine ∙ ap (λ z. z.capacity) (same-shares c.args.key m c.facts.ensures.whole) in
     subst (λ o. IfSome (machine_in o) (λ m. c.place_of.result.slot < m.shares.capacity)) c.held-held.ensures.value
     (rw c.place_of.ensures.slot (subst (λ n. p.result.0 < n) capacity p.ensures.within))

@@ -11,5 +11,5 @@ returns g c =
     (g.K.PartialEq.eq c.args.key) c.args.key c.args.cache.now.machine _ c.get_or_insert_mut-slot.result.1.now c.args.value
     (λ w gave. search rules) c.get_or_insert_mut-slot.result.0 e.slot e.value in
     let spent = charged-costs {key = record { eq = g.K.PartialEq.eq; hash_input = g.K.Hash.hash_input }} {build = g.S.BuildHasher} {hash = g.S.Hasher.Hasher}
-    c.get_or_insert_mut-slot.result.1.now c.args.cache.now g.met.K.Eq.laws g.met.K.Hash.respects_eq c.len.ensures.whole c.len.ensures.indexed.as_many c.len.ensures.within in
+    c.get_or_insert_mut-slot.result.1.now c.args.cache.now g.met.K.Eq.laws g.met.K.Hash.respects_eq c.facts.ensures.whole c.facts.ensures.indexed.as_many c.facts.ensures.within in
     record { slot = e.slot; value = h.0; machine = e.unwritten ∙ h.1; known = refl; hasher = refl; costs = record { counts = spent.counts; index = spent.index; clock = spent.clock } }

@@ -7,21 +7,21 @@ use Rattle.clock2q_pages.specs.Pages.{last_in}
 use Rattle.clock2q_pages.proofs.pages.enter.Goals as goal
 
 pub returns-clause-resident : goal.returns-clause-resident
-returns-clause-resident g c = page_there c.args.pages.now.machine c.len.ensures.whole c.args.page (Some c.args.page) ∙ ap Some (sym c.get_or_insert_mut-frame.ensures.slot)
+returns-clause-resident g c = page_there c.args.pages.now.machine c.facts.ensures.whole c.args.page (Some c.args.page) ∙ ap Some (sym c.get_or_insert_mut-frame.ensures.slot)
 
 pub returns-clause-alone : goal.returns-clause-alone
 returns-clause-alone g c =
     λ other differ found.
-    page_alone c.args.pages.now.machine c.len.ensures.whole c.args.page (Some c.args.page) other differ
+    page_alone c.args.pages.now.machine c.facts.ensures.whole c.args.page (Some c.args.page) other differ
     (found ∙ ap Some c.get_or_insert_mut-frame.ensures.slot)
 
 pub returns-clause-others : goal.returns-clause-others
-returns-clause-others g c = others_keep_frames c.args.pages.now.machine c.len.ensures.whole c.args.page (Some c.args.page)
+returns-clause-others g c = others_keep_frames c.args.pages.now.machine c.facts.ensures.whole c.args.page (Some c.args.page)
 
 pub returns-clause-within : goal.returns-clause-within
 returns-clause-within g c =
     subst (λ frame. frame < c.args.pages.now.machine.shares.capacity) (sym c.get_or_insert_mut-frame.ensures.slot)
-    (frame_within c.args.pages.now.machine c.len.ensures.whole c.args.page (Some c.args.page))
+    (frame_within c.args.pages.now.machine c.facts.ensures.whole c.args.page (Some c.args.page))
 
 pub returns-clause-loaded : goal.returns-clause-loaded
 returns-clause-loaded g c =
@@ -32,17 +32,17 @@ pub returns-clause-loads : goal.returns-clause-loads
 returns-clause-loads g c =
     ap (slice_get (put (eqb c.args.page) c.args.page (Some c.args.page) c.args.pages.now.machine).values)
     c.get_or_insert_mut-frame.ensures.slot
-    ∙ value_there c.args.pages.now.machine c.len.ensures.whole c.args.page (Some c.args.page)
+    ∙ value_there c.args.pages.now.machine c.facts.ensures.whole c.args.page (Some c.args.page)
 
 pub returns-clause-keeps : goal.returns-clause-keeps
 returns-clause-keeps g c =
     λ other at differ loaded.
-    sym (values_elsewhere c.args.pages.now.machine c.len.ensures.whole c.args.page (Some c.args.page) at
+    sym (values_elsewhere c.args.pages.now.machine c.facts.ensures.whole c.args.page (Some c.args.page) at
     (λ same. differ (same ∙ sym c.get_or_insert_mut-frame.ensures.slot))) ∙ loaded
 
 pub returns-clause-costs : goal.returns-clause-costs
 returns-clause-costs g c =
-    charged-costs (Some c.args.page) c.args.pages.now nat_eq_equiv (λ x y same. rw (eqb-true x y same) refl) c.len.ensures.whole c.len.ensures.indexed.as_many c.len.ensures.within
+    charged-costs (Some c.args.page) c.args.pages.now nat_eq_equiv (λ x y same. rw (eqb-true x y same) refl) c.facts.ensures.whole c.facts.ensures.indexed.as_many c.facts.ensures.within
 
 pub returns-clause-shares : goal.returns-clause-shares
-returns-clause-shares g c = same_shares c.args.pages.now.machine c.len.ensures.whole c.args.page (Some c.args.page)
+returns-clause-shares g c = same_shares c.args.pages.now.machine c.facts.ensures.whole c.args.page (Some c.args.page)

@@ -10,13 +10,13 @@ pub loop-command-init : goal.loop-command-init
 loop-command-init g c = record {
   replied = search rules;
   hashes = λ key h. h;
-  laid = whole_laid _ c.len.ensures.whole;
+  laid = whole_laid _ c.facts.ensures.whole;
   spent = λ key h room. spent_begins _ g.H.PartialEq.eq key c.args.commands.now c.args.table.now room;
   room = search rules;
 }
 
 pub returns-in_default-clause-laid : goal.returns-in_default-clause-laid
-returns-in_default-clause-laid g c = whole_laid _ c.len.ensures.whole
+returns-in_default-clause-laid g c = whole_laid _ c.facts.ensures.whole
 
 pub execute-requires-clause-hashes : goal.execute-requires-clause-hashes
 execute-requires-clause-hashes g c = (c.requires.hashes.0, c.loop-command.invariant.hashes c.requires.hashes.0 c.requires.hashes.1)

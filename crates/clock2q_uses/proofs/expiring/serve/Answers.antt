@@ -28,4 +28,4 @@ loop-now-preserved g c =
 pub returns-clause-in_time : goal.returns-clause-in_time
 returns-clause-in_time g c empty =
     let all : c.loop-now.served.items ≡ replies c.args.requests.now c.args.cache.now.machine = grind (arith, common_steps) in
-    subst (AreInTime [] c.args.requests.now) (sym all) (from_empty c.args.requests.now c.args.cache.now.machine c.len.ensures.whole empty)
+    subst (AreInTime [] c.args.requests.now) (sym all) (from_empty c.args.requests.now c.args.cache.now.machine c.facts.ensures.whole empty)

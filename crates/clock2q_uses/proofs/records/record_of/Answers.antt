@@ -13,5 +13,5 @@ returns-clause-missing g c =
 pub returns-clause-keeps : goal.returns-clause-keeps
 returns-clause-keeps g c had =
     let e = c.read_through.ensures in
-    records_read c.args.file.now c.args.records.now.machine c.args.number had c.len.ensures.whole
+    records_read c.args.file.now c.args.records.now.machine c.args.number had c.facts.ensures.whole
     c.read_through.new.cache.machine c.read_through.result e.machine e.value e.unchanged (λ v gave. search rules)

@@ -12,27 +12,27 @@ returns-clause-all c some scans =
     let after : c.loop-key.cache.machine ≡ after_all eqb (calls_of c.args.keys.now) c.args.cache.now.machine =
     sym (at_drop_all (λ keys. after_all eqb (calls_of keys) c.loop-key.cache.machine) c.args.keys.now c.loop-key.key-index (omega (arith, c.loop-key-test.false))) ∙ c.loop-key.invariant in
     subst (λ m. left_all eqb c.args.cache.now.machine m ≤ c.args.cache.now.machine.shares.small) (sym after)
-    (scan_left_all eqb nat_eq_equiv c.args.cache.now.machine c.len.ensures.whole (puts_of c.args.keys.now) scans some)
+    (scan_left_all eqb nat_eq_equiv c.args.cache.now.machine c.facts.ensures.whole (puts_of c.args.keys.now) scans some)
 
 pub returns-clause-left : goal.returns-clause-left
 returns-clause-left c some scans =
     let after : c.loop-key.cache.machine ≡ after_all eqb (calls_of c.args.keys.now) c.args.cache.now.machine =
     sym (at_drop_all (λ keys. after_all eqb (calls_of keys) c.loop-key.cache.machine) c.args.keys.now c.loop-key.key-index (omega (arith, c.loop-key-test.false))) ∙ c.loop-key.invariant in
     subst (λ m. left_main eqb c.args.cache.now.machine m ≤ set_in_small c.args.cache.now.machine) (sym after)
-    (scan_left eqb nat_eq_equiv c.args.cache.now.machine c.len.ensures.whole (puts_of c.args.keys.now) scans some)
+    (scan_left eqb nat_eq_equiv c.args.cache.now.machine c.facts.ensures.whole (puts_of c.args.keys.now) scans some)
 
 pub returns-clause-share : goal.returns-clause-share
 returns-clause-share c some scans =
     let after : c.loop-key.cache.machine ≡ after_all eqb (calls_of c.args.keys.now) c.args.cache.now.machine =
     sym (at_drop_all (λ keys. after_all eqb (calls_of keys) c.loop-key.cache.machine) c.args.keys.now c.loop-key.key-index (omega (arith, c.loop-key-test.false))) ∙ c.loop-key.invariant in
     subst (λ m. left_main eqb c.args.cache.now.machine m ≤ c.args.cache.now.machine.shares.small) (sym after)
-    (scan_left_share eqb nat_eq_equiv c.args.cache.now.machine c.len.ensures.whole (puts_of c.args.keys.now) scans some)
+    (scan_left_share eqb nat_eq_equiv c.args.cache.now.machine c.facts.ensures.whole (puts_of c.args.keys.now) scans some)
 
 pub returns-clause-untouched : goal.returns-clause-untouched
 returns-clause-untouched c full scans none =
     let after : c.loop-key.cache.machine ≡ after_all eqb (calls_of c.args.keys.now) c.args.cache.now.machine =
     sym (at_drop_all (λ keys. after_all eqb (calls_of keys) c.loop-key.cache.machine) c.args.keys.now c.loop-key.key-index (omega (arith, c.loop-key-test.false))) ∙ c.loop-key.invariant in
-    ap (λ m. m.main) after ∙ scan_untouched eqb nat_eq_equiv c.args.cache.now.machine c.len.ensures.whole (puts_of c.args.keys.now) scans full none
+    ap (λ m. m.main) after ∙ scan_untouched eqb nat_eq_equiv c.args.cache.now.machine c.facts.ensures.whole (puts_of c.args.keys.now) scans full none
 
 pub returns-clause-keeps : goal.returns-clause-keeps
 returns-clause-keeps c scans =
@@ -41,5 +41,5 @@ returns-clause-keeps c scans =
     let after : c.loop-key.cache.machine ≡ after_all eqb (calls_of c.args.keys.now) m =
     sym (at_drop_all (λ keys. after_all eqb (calls_of keys) c.loop-key.cache.machine) c.args.keys.now c.loop-key.key-index (omega (arith, c.loop-key-test.false))) ∙ c.loop-key.invariant in
     subst (λ n. LeavesOrStays m n) (sym after) (λ key slot found.
-    elim (scan_keeps eqb nat_eq_equiv puts m c.len.ensures.whole key (scan_differs eqb nat_eq_equiv puts m key slot found scans))
+    elim (scan_keeps eqb nat_eq_equiv puts m c.facts.ensures.whole key (scan_differs eqb nat_eq_equiv puts m key slot found scans))
     [ inl gone ↦ inl gone | inr same ↦ inr (same.0 ∙ found, same.1) ])

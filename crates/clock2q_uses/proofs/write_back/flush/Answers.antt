@@ -9,7 +9,7 @@ loop-number-init g c =
     let is = c.into_iter-number-iterator.ensures.into_iter_gives ∙ c.iter-number-items.ensures.values in
     record {
       written = ap (λ (es : List (ℕ × ℕ × g.row.T.Denot)). flushed c.args.dirty.now (map number_and_block es) c.args.device.now) is;
-      within = entries_within c.args.cache.now.machine c.len.ensures.whole c.args.dirty.now c.args.device.now c.requires.in_step c.into_iter-number-iterator.result is;
+      within = entries_within c.args.cache.now.machine c.facts.ensures.whole c.args.dirty.now c.args.device.now c.requires.in_step c.into_iter-number-iterator.result is;
       as_many = refl;
     }
 
@@ -35,13 +35,13 @@ loop-number-preserved g c =
 pub returns-clause-device : goal.returns-clause-device
 returns-clause-device g c =
     sym (none_flushed {T = g.row.T.Denot} c.args.dirty.now c.loop-number.number-iterator c.next.new.self c.in-None.ensures.steps.0 c.loop-number.device)
-    ∙ c.loop-number.invariant.written ∙ all_flushed c.args.cache.now.machine c.len.ensures.whole c.args.dirty.now c.args.device.now c.requires.in_step
+    ∙ c.loop-number.invariant.written ∙ all_flushed c.args.cache.now.machine c.facts.ensures.whole c.args.dirty.now c.args.device.now c.requires.in_step
 
 pub returns-clause-blocks : goal.returns-clause-blocks
 returns-clause-blocks g c =
     let is : c.loop-number.device ≡ blocks c.args.cache.now.machine c.args.device.now =
     sym (none_flushed {T = g.row.T.Denot} c.args.dirty.now c.loop-number.number-iterator c.next.new.self c.in-None.ensures.steps.0 c.loop-number.device)
-    ∙ c.loop-number.invariant.written ∙ all_flushed c.args.cache.now.machine c.len.ensures.whole c.args.dirty.now c.args.device.now c.requires.in_step in
+    ∙ c.loop-number.invariant.written ∙ all_flushed c.args.cache.now.machine c.facts.ensures.whole c.args.dirty.now c.args.device.now c.requires.in_step in
     ap (λ (d : List g.row.T.Denot). blocks c.args.cache.now.machine d) is
     ∙ blocks_flushed c.args.cache.now.machine c.args.dirty.now c.fill.new.self c.args.device.now c.requires.in_step
 
@@ -49,6 +49,6 @@ pub returns-clause-in_step : goal.returns-clause-in_step
 returns-clause-in_step g c =
     let is : c.loop-number.device ≡ blocks c.args.cache.now.machine c.args.device.now =
     sym (none_flushed {T = g.row.T.Denot} c.args.dirty.now c.loop-number.number-iterator c.next.new.self c.in-None.ensures.steps.0 c.loop-number.device)
-    ∙ c.loop-number.invariant.written ∙ all_flushed c.args.cache.now.machine c.len.ensures.whole c.args.dirty.now c.args.device.now c.requires.in_step in
+    ∙ c.loop-number.invariant.written ∙ all_flushed c.args.cache.now.machine c.facts.ensures.whole c.args.dirty.now c.args.device.now c.requires.in_step in
     subst (λ (d : List g.row.T.Denot). IsInStep c.args.cache.now.machine c.fill.new.self d) (sym is)
     (in_step_flushed c.args.cache.now.machine c.args.dirty.now c.fill.new.self c.args.device.now c.requires.in_step)

@@ -77,7 +77,6 @@ impl<K: Hash + Eq, V, S: BuildHasher, A: Allocator> Cache<K, V, S, A> {
     /// Returns the number of keys in the cache, at most its capacity. Evicted keys don't count.
     #[inline]
     pub fn len(&self) -> usize {
-        let _ = self.directory.remembered_len();
         self.queues.small_len() + self.queues.main_len()
     }
 
@@ -210,7 +209,6 @@ impl<K: Hash + Eq, V, S: BuildHasher, A: Allocator> Cache<K, V, S, A> {
     /// Looks a key up among the residents and in the history.
     #[inline(always)]
     pub(crate) fn lookup(&mut self, hash: u64, key: &K) -> Found {
-        let _ = self.directory.remembered_len(); // whose contract says that the index is whole
         self.directory.lookup(hash, key)
     }
 
@@ -261,7 +259,7 @@ impl<K: Hash + Eq, V, S: BuildHasher, A: Allocator> Cache<K, V, S, A> {
     ///
     /// One hash of the key, one lookup in the index, and at most one comparison with each candidate
     /// among the residents and in the history. No link is accessed if the key is resident.
-    /// Otherwise there are at most 36 more accesses to links than inspections by the hand. The
+    /// Otherwise there are at most 29 more accesses to links than inspections by the hand. The
     /// index changes at most four times, twice under the key's hash, once under that of the key
     /// that leaves, and once under that of the oldest remembered key. A lookup reads at most the
     /// walk of its hash, and a change reads and writes at most that and twice its run with one more

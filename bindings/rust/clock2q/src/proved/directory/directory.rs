@@ -67,7 +67,6 @@ impl<K: Eq, V, A: Allocator> Directory<K, V, A> {
     /// Returns the number of remembered keys.
     #[inline]
     pub fn remembered_len(&self) -> usize {
-        let _ = self.index.is_shared(); // whose contract says that the entries fit
         self.history.order.len() as usize
     }
 

@@ -94,7 +94,6 @@ impl<A: Allocator> Index<A> {
     /// Returns true if slots and places are in one table.
     #[inline(always)]
     pub fn is_shared(&self) -> bool {
-        let _ = (self.shared.len(), self.own.len()); // whose contract says that the entries fit
         self.own.capacity() == 0
     }
 

@@ -38,7 +38,6 @@ pub struct Found {
 #[no_mangle]
 pub extern "C" fn clock2q_enter_key(handle: &mut Handle, key: u64) -> Place {
     let held = handle.held();
-    let _ = held.cache.len(); // whose contract says that the cache is whole
     let (slot, occupant) = held.cache.put_slot(key, ());
     place_of(key, slot, occupant)
 }

@@ -14,7 +14,6 @@ pub fn enter<S: BuildHasher>(
     pages: &mut Cache<u64, Option<u64>, S>,
     page: u64,
 ) -> (usize, Option<u64>) {
-    let _ = pages.len(); // whose contract says that the cache is whole
     let (frame, held) = pages.get_or_insert_mut(page, || None);
     let last = *held;
     *held = Some(page);
@@ -25,7 +24,6 @@ pub fn enter<S: BuildHasher>(
 /// Hashes nothing, so a caller that has kept the frame should ask here first.
 #[inline]
 pub fn is_in<V, S: BuildHasher>(pages: &mut Cache<u64, V, S>, frame: usize, page: u64) -> bool {
-    let _ = pages.len();
     pages.get_at(frame, &page).is_some()
 }
 
@@ -33,6 +31,5 @@ pub fn is_in<V, S: BuildHasher>(pages: &mut Cache<u64, V, S>, frame: usize, page
 /// nothing if it isn't.
 #[inline]
 pub fn find<V, S: BuildHasher>(pages: &mut Cache<u64, V, S>, page: u64) -> Option<usize> {
-    let _ = pages.len(); // whose contract says that the cache is whole
     pages.slot(&page)
 }

@@ -14,7 +14,7 @@ pub returns-clause-costs : goal.returns-clause-costs
 returns-clause-costs g c =
     let v = c.if-victim_leaves.ensures in
     let r = c.retire_tail.ensures in
-    let l = c.len.ensures in
+    let l = c.facts.ensures in
     tail-costs (record { eq = g.K.PartialEq.eq; hash_input = g.K.Hash.hash_input }) g.S.BuildHasher g.S.Hasher.Hasher c.args.self.now c.retire_tail.new.self
     g.met.K.Eq.laws g.met.K.Hash.respects_eq l.whole l.indexed.as_many l.within (sym v.leaves) v.counts c.retire_tail.result
     (rw v.kept at r.left) (rw v.kept at r.machine) (rw v.kept at r.known) (rw v.kept at r.counts)

@@ -104,7 +104,7 @@ returns-clause-known g c = grind (arith, c.self.view_is, c.leave.ensures.left.be
 pub returns-in_default-clause-counts : goal.returns-in_default-clause-counts
 returns-in_default-clause-counts g c =
     let taken = c.take_victim-slot.ensures.accesses in
-    rw (← c.self.view_is) (victim-spends g.met.K.Eq.laws c.self.invariant 20 c.take_victim-slot.ensures.inspections
+    rw (← c.self.view_is) (victim-spends g.met.K.Eq.laws c.self.invariant 18 c.take_victim-slot.ensures.inspections
     (omega (arith, taken, c.take_tail.ensures.accesses.0), omega (arith, taken, c.take_tail.ensures.accesses.1))
     (rw c.take_victim-slot.ensures.queues at c.take_tail.ensures.queues) c.leave.ensures.left.becomes c.leave.ensures.kept)
 
@@ -112,6 +112,6 @@ pub returns-clause-counts : goal.returns-clause-counts
 returns-clause-counts g c =
     let taken = c.take_victim-slot.ensures.accesses in
     let still = still g (goal.at.returns-clause-counts g c).In-Some in
-    rw (← c.self.view_is) (victim-spends g.met.K.Eq.laws c.self.invariant 20 c.take_victim-slot.ensures.inspections
+    rw (← c.self.view_is) (victim-spends g.met.K.Eq.laws c.self.invariant 18 c.take_victim-slot.ensures.inspections
     (omega (arith, taken, c.in-Some.ensures.accesses.0, c.append.ensures.accesses.0), omega (arith, taken, c.in-Some.ensures.accesses.1, c.append.ensures.accesses.1))
     (rw (c.in-Some.ensures.queues, c.take_victim-slot.ensures.queues, still) at c.append.ensures.queues) c.leave.ensures.left.becomes c.leave.ensures.kept)

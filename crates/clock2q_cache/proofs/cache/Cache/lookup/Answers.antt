@@ -25,4 +25,4 @@ pub returns-clause-made : goal.returns-clause-made
 returns-clause-made g c = rw (← c.self.view_is) (found-made g.met.K.Eq.laws c.self.invariant c.args.key.now (found_slot c.lookup.result) (rw (← c.self.view_is) at (returns-clause-slot g c)))
 
 pub returns-clause-as_many : goal.returns-clause-as_many
-returns-clause-as_many g c = rw (← c.self.view_is) (remembers g.met.K.Eq.laws c.self.invariant c.remembered_len.ensures.whole).as_many
+returns-clause-as_many g c = rw (← c.self.view_is) (remembers g.met.K.Eq.laws c.self.invariant c.facts.ensures.whole).as_many

@@ -18,14 +18,14 @@ pub returns-in-Some-clause-slot : goal.returns-in-Some-clause-slot
 returns-in-Some-clause-slot g c =
     let eq = g.K.PartialEq.eq in let is = eq c.args.key in let m = c.args.self.now.machine in
     ap (slot_of is) (c.replace_value.ensures.machine ∙ ap (stored c.in-Some.slot c.args.value) (c.record_hit.ensures.machine ∙ ap (hit is) c.find.ensures.machine))
-    ∙ same_slots eq (replaced_at is c.args.value (Some c.in-Some.slot) m) m c.len.ensures.whole (λ w. weight-replaced w is c.args.value (Some c.in-Some.slot) m) c.args.key
+    ∙ same_slots eq (replaced_at is c.args.value (Some c.in-Some.slot) m) m c.facts.ensures.whole (λ w. weight-replaced w is c.args.value (Some c.in-Some.slot) m) c.args.key
     ∙ sym c.in-Some.ensures.slot
 
 pub returns-clause-slot : goal.returns-clause-slot
 returns-clause-slot g c =
     let eq = g.K.PartialEq.eq in let m = c.args.self.now.machine in let absent = sym c.in_default.ensures.slot in
     ap (slot_of (eq c.args.key)) (c.insert_at_slot-slot.ensures.machine ∙ ap (inserted (eq c.args.key) c.args.key c.args.value) c.find.ensures.machine)
-    ∙ entered_there eq g.met.K.Eq.laws m c.len.ensures.whole c.args.key absent c.args.value false (lasting-inserted eq g.met.K.Eq.laws c.args.key m c.len.ensures.whole absent c.args.value)
+    ∙ entered_there eq g.met.K.Eq.laws m c.facts.ensures.whole c.args.key absent c.args.value false (lasting-inserted eq g.met.K.Eq.laws c.args.key m c.facts.ensures.whole absent c.args.value)
     ∙ sym (ap Some (rw c.find.ensures.machine at c.insert_at_slot-slot.ensures.slot))
 
 -- and that is below the capacity
@@ -36,11 +36,11 @@ within eq laws m whole key value now becomes slot there =
     omega (arith, resident_made eq laws (eq key) now h slot there, h.made_within)
 
 pub returns-in-Some-clause-within : goal.returns-in-Some-clause-within
-returns-in-Some-clause-within g c = grind (arith, within, c.len.ensures.whole)
+returns-in-Some-clause-within g c = grind (arith, within, c.facts.ensures.whole)
 
 pub returns-clause-within : goal.returns-clause-within
 returns-clause-within g c =
-    within g.K.PartialEq.eq g.met.K.Eq.laws c.args.self.now.machine c.len.ensures.whole c.args.key c.args.value c.insert_at_slot-slot.new.self.machine
+    within g.K.PartialEq.eq g.met.K.Eq.laws c.args.self.now.machine c.facts.ensures.whole c.args.key c.args.value c.insert_at_slot-slot.new.self.machine
     (returns-clause-machine g c) c.insert_at_slot-slot.result.0 (returns-clause-slot g c)
 
 pub returns-in-Some-clause-known : goal.returns-in-Some-clause-known
@@ -57,8 +57,8 @@ returns-in-Some-clause-costs g c =
     let counts = ap (λ (z : CacheState _ _ _). z.counts) c.replace_value.ensures.kept ∙ ap (λ (z : CacheState _ _ _). z.counts) c.record_hit.ensures.kept in
     put-costs (returns-in-Some-clause-machine g c)
     (reaches-taken (record { eq = g.K.PartialEq.eq; hash_input = g.K.Hash.hash_input }) g.S.BuildHasher g.S.Hasher.Hasher
-    c.args.key g.met.K.Eq.laws g.met.K.Hash.respects_eq c.len.ensures.whole c.len.ensures.indexed.as_many
-    c.len.ensures.within (returns-in-Some-clause-known g c))
+    c.args.key g.met.K.Eq.laws g.met.K.Hash.respects_eq c.facts.ensures.whole c.facts.ensures.indexed.as_many
+    c.facts.ensures.within (returns-in-Some-clause-known g c))
     (hit-spends is c.args.self.now.machine c.find.ensures.counts c.in-Some.ensures.slot counts (rw c.hash-hash.ensures (omega arith)))
 
 pub returns-clause-costs : goal.returns-clause-costs
@@ -66,7 +66,7 @@ returns-clause-costs g c =
     let is = g.K.PartialEq.eq c.args.key in
     put-costs (returns-clause-machine g c)
     (reaches-taken (record { eq = g.K.PartialEq.eq; hash_input = g.K.Hash.hash_input }) g.S.BuildHasher g.S.Hasher.Hasher
-    c.args.key g.met.K.Eq.laws g.met.K.Hash.respects_eq c.len.ensures.whole c.len.ensures.indexed.as_many
-    c.len.ensures.within (returns-clause-known g c))
+    c.args.key g.met.K.Eq.laws g.met.K.Hash.respects_eq c.facts.ensures.whole c.facts.ensures.indexed.as_many
+    c.facts.ensures.within (returns-clause-known g c))
     (insert-spends is c.args.self.now.machine c.find.ensures.counts c.in_default.ensures.slot c.find.ensures.machine c.insert_at_slot-slot.ensures.counts
     (rw (c.find.ensures.kept, c.hash-hash.ensures) (omega arith)))

@@ -51,7 +51,7 @@ returns g c =
         indexes = entered-renewed g.met.K.Eq.laws c.self.invariant c.self.inside.directory.history.places c.args.newcomer.key c.reuse_victim-victim.result (is_some c.args.newcomer.gap)
             (rw (← c.self.view_is) at c.requires.unknown.hashed) there c.replace-old.ensures.hash (ap (λ (z : Remembered _). z.places) c.replace-old.ensures.index);
         hasher = refl;
-        counts = victim-spends g.met.K.Eq.laws c.self.invariant 28 c.reuse_victim-victim.ensures.inspections (omega (arith, looked), omega (arith, looked))
+        counts = victim-spends g.met.K.Eq.laws c.self.invariant 10 c.reuse_victim-victim.ensures.inspections (omega (arith, looked), omega (arith, looked))
             c.reuse_victim-victim.ensures.queues c.replace-old.ensures.index c.replace-old.ensures.kept;
       };
       left = noted g.F.FnOnce (full-leaver machine (rw (← c.self.view_is) at c.requires.full) ∙ leaver) c.leaves.ensures;

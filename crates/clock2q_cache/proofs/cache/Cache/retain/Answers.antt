@@ -16,7 +16,7 @@ loop-slot-init g c = (
   refl,
   record { inspections = omega arith; accesses = (omega arith, omega arith); comparisons = (omega arith, omega arith) },
   omega arith,
-  left-none c.len.ensures.within,
+  left-none c.facts.ensures.within,
   refl,
 )
 

@@ -22,8 +22,8 @@ returns-clause-resident g c = λ entered.
     let m = c.args.self.now.machine in
     let kept = ap (λ (z : CacheState _ _ _). z.machine) c.find_place-found.ensures.kept in
     rw (c.insert.ensures.machine, c.insert.ensures.slot, kept)
-    (entered_there eq g.met.K.Eq.laws m c.len.ensures.whole c.args.key (returns-clause-absent g c refl) c.args.value false
-    (lasting-inserted eq g.met.K.Eq.laws c.args.key m c.len.ensures.whole (returns-clause-absent g c refl) c.args.value))
+    (entered_there eq g.met.K.Eq.laws m c.facts.ensures.whole c.args.key (returns-clause-absent g c refl) c.args.value false
+    (lasting-inserted eq g.met.K.Eq.laws c.args.key m c.facts.ensures.whole (returns-clause-absent g c refl) c.args.value))
 
 pub returns-clause-known : goal.returns-clause-known
 returns-clause-known g c = λ entered.
@@ -38,16 +38,16 @@ returns-clause-costs g c = λ entered.
     costs-of (c.insert.ensures.machine ∙ ap (inserted is c.args.key c.args.value) kept
     ∙ ap (λ o. if is_some o then replaced is c.args.value c.args.self.now.machine else inserted is c.args.key c.args.value c.args.self.now.machine) none)
     (reaches-once (record { eq = g.K.PartialEq.eq; hash_input = g.K.Hash.hash_input }) g.S.BuildHasher g.S.Hasher.Hasher
-    c.args.key false g.met.K.Eq.laws g.met.K.Hash.respects_eq c.len.ensures.whole c.len.ensures.indexed.as_many
-    c.len.ensures.within (returns-clause-known g c refl))
+    c.args.key false g.met.K.Eq.laws g.met.K.Hash.respects_eq c.facts.ensures.whole c.facts.ensures.indexed.as_many
+    c.facts.ensures.within (returns-clause-known g c refl))
     (insert-spends is c.args.self.now.machine c.find_place-found.ensures.counts none kept c.insert.ensures.counts (omega (arith, asked)))
 
 pub returns-clause-within : goal.returns-clause-within
 returns-clause-within g c =
     let eq = g.K.PartialEq.eq in
     let m = c.args.self.now.machine in
-    let whole = lasting-inserted eq g.met.K.Eq.laws c.args.key m c.len.ensures.whole (returns-clause-absent g c refl) c.args.value in
+    let whole = lasting-inserted eq g.met.K.Eq.laws c.args.key m c.facts.ensures.whole (returns-clause-absent g c refl) c.args.value in
     let kept = ap (λ (z : CacheState _ _ _). z.machine) c.find_place-found.ensures.kept in
-    let there = entered_there eq g.met.K.Eq.laws m c.len.ensures.whole c.args.key (returns-clause-absent g c refl) c.args.value false whole in
+    let there = entered_there eq g.met.K.Eq.laws m c.facts.ensures.whole c.args.key (returns-clause-absent g c refl) c.args.value false whole in
     rw (c.insert.ensures.machine, c.insert.ensures.slot, kept)
     (omega (arith, resident_made eq g.met.K.Eq.laws (eq c.args.key) (inserted (eq c.args.key) c.args.key c.args.value m) whole _ there, whole.made_within))

@@ -10,7 +10,7 @@ pub returns-clause-nearer : goal.returns-clause-nearer
 returns-clause-nearer g c x =
     let homes = c.args.self.now.homes in
     let m : ℕ = c.in-Some-slots_for.count in
-    let whole = c.len.ensures.whole in
+    let whole = c.facts.ensures.whole in
     let enough : total homes + c.args.additional ≤ capacity m = omega (arith, c.in-Some-slots_for.ensures.enough, c.in-Some.ensures.1, c.len.ensures.len) in
     let more : capacity (length homes) < capacity m = omega (arith, c.in-Some-slots_for.ensures.enough, c.if-entries-capacity.false, c.capacity.ensures.capacity) in
     let asked = c.requires.rehash (omega (arith, c.if-entries-capacity.false, c.capacity.ensures.capacity, c.in-Some.ensures.1, c.len.ensures.len)) in

@@ -6,11 +6,11 @@ use Rattle.tests_handles.proofs.crowded.Crowded.drained.Goals as goal
 pub drain-requires : goal.drain-requires
 drain-requires c =
     let counted : c.len.result < 18446744073709551616 = search rules in
-    omega (arith, counted, c.len.ensures.len, ap length c.get.ensures.candidates, all_candidates c.self.inside.hash c.self.inside.table.homes c.self.invariant c.len.ensures.whole.room)
+    omega (arith, counted, c.len.ensures.len, ap length c.get.ensures.candidates, all_candidates c.self.inside.hash c.self.inside.table.homes c.self.invariant c.facts.ensures.whole.room)
 
 pub returns-clause-all : goal.returns-clause-all
 returns-clause-all c =
-    omega (arith, c.drain.ensures.all, ap length c.get.ensures.candidates, all_candidates c.self.inside.hash c.self.inside.table.homes c.self.invariant c.len.ensures.whole.room, c.self.view_is)
+    omega (arith, c.drain.ensures.all, ap length c.get.ensures.candidates, all_candidates c.self.inside.hash c.self.inside.table.homes c.self.invariant c.facts.ensures.whole.room, c.self.view_is)
 
 pub returns-clause-reads : goal.returns-clause-reads
 returns-clause-reads c some =
@@ -20,6 +20,6 @@ returns-clause-reads c some =
       c.drain.ensures.reads,
       c.get.ensures.reads,
       c.get.ensures.unread,
-      walk_of_all c.self.inside.hash c.self.inside.table.homes c.self.invariant c.len.ensures.whole.room more,
+      walk_of_all c.self.inside.hash c.self.inside.table.homes c.self.invariant c.facts.ensures.whole.room more,
       c.self.view_is,
     )

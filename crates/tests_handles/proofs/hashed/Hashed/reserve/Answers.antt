@@ -10,4 +10,4 @@ pub invariant_of-self : goal.invariant_of-self
 invariant_of-self g c =
     keyed_reserved (λ handle. handle.hash) _ _ c.self.inside.table.homes c.reserve.new.self.homes 0 (record { hash = 0; number = 0 })
     c.self.inside.table c.reserve.new.self c.args.additional c.reserve.result c.reserve.ensures.reserved c.reserve.ensures.refused refl refl
-    c.len.ensures.whole.room c.self.invariant (keyed_given (λ handle. handle.hash) _ c.self.inside.table.homes _ c.self.invariant (λ _ _. tt) (λ f h r next called. search rules))
+    c.facts.ensures.whole.room c.self.invariant (keyed_given (λ handle. handle.hash) _ c.self.inside.table.homes _ c.self.invariant (λ _ _. tt) (λ f h r next called. search rules))

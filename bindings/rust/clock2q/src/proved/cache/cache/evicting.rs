@@ -40,12 +40,11 @@ impl<K: Hash + Eq + Copy, V, S: BuildHasher, A: Allocator> Cache<K, V, S, A> {
     ///
     /// # Cost
     ///
-    /// No hash and no comparison. At most 21 more accesses to links than inspections by the hand,
+    /// No hash and no comparison. At most 19 more accesses to links than inspections by the hand,
     /// and at most two changes of the index, one under the hash of the key that leaves and one
     /// under that of the oldest remembered key.
     #[inline]
     pub fn evict(&mut self) -> Option<(K, usize)> {
-        let _ = self.len(); // whose contract says that the index is whole
         if self.victim_leaves() {
             return Some(self.evict_victim());
         }
@@ -145,7 +144,6 @@ impl<K: Hash + Eq + Copy, V, S: BuildHasher, A: Allocator> Cache<K, V, S, A> {
     /// That of [`get_or_insert_mut`](Cache::get_or_insert_mut).
     #[inline]
     pub fn put_slot(&mut self, key: K, value: V) -> (usize, Occupant<K>) {
-        let _ = self.len(); // whose contract says that the cache is whole
         let hash = self.hash(&key);
         if let Some(slot) = self.find(hash, &key) {
             self.record_hit(slot, &key);

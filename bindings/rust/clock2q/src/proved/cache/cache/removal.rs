@@ -42,7 +42,6 @@ impl<K: Hash + Eq, V, S: BuildHasher, A: Allocator> Cache<K, V, S, A> {
     /// removed. No key is hashed.
     #[inline]
     pub fn retain<F: FnMut(&K, &V) -> bool>(&mut self, mut keep: F) {
-        let _ = self.len(); // whose contract says that the index's entries fit
         for slot in 0..self.made() {
             if self.is_resident(slot) {
                 let stays = keep(self.key(slot), self.value(slot));

@@ -91,7 +91,6 @@ impl<K: Hash + Eq, V, S: BuildHasher, A: Allocator> Cache<K, V, S, A> {
         if let Some(slot) = self.with_hash(hash, 0) {
             return (slot as usize, false);
         }
-        let _ = self.len(); // whose contract says that the cache is whole
         let found = self.find_place(hash, &key);
         (self.insert(hash, key, value, found) as usize, true)
     }

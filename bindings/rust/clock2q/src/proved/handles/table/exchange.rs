@@ -44,7 +44,6 @@ impl<H: Copy + Eq + Default, A: Allocator> Table<H, A> {
     /// Exchanges an entry whose gap is not known, in a table that may be full.
     #[inline(never)]
     fn take_then_insert(&mut self, hash: u64, handle: H, old_hash: u64, old: H) {
-        let _ = self.len(); // whose contract says that the table is whole
         self.remove_existing(old_hash, old);
         self.insert_infallible(hash, handle);
     }
