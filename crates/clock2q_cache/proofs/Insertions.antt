@@ -1,11 +1,11 @@
 -- What the insertion of a key costs.
-use Rattle.std.proofs.Common.{◌≡◌, ℕ, ◌+◌, ◌<◌, ◌≤◌, Bool, true, false, not, List, [], ◌∷◌, length, Some, None, ap, sym, ◌∙◌, arith}
+use Rattle.std.proofs.Common.{◌≡◌, ℕ, ◌+◌, ◌<◌, ◌≤◌, Bool, false, not, List, [], ◌∷◌, length, Some, None, ap, sym, ◌∙◌, arith}
 use Rattle.clock2q_cache.proofs.Names.{if◌then◌else◌, is_some, IfSome, list_any, last_or, IsEquivalence, KeyPlaces, key_at, inspections, QueueState, Entry, Remembered, Places, Age, is_promoted, last_some, none_is, Shares, Machine, slot_of, vacancy, goes_to_main, forgotten, goes_on, inspections_for, small_inspections, machine_of, IsCache, counts_of, CacheState, Counts, Spends, accesses_for, discarded}
 use Rattle.clock2q_queues.specs.Cells.{Rises}
 use Rattle.clock2q_directory.specs.declared.handle.Found.{Found}
 use Rattle.clock2q_directory.specs.History.{found_gap}
 use Rattle.clock2q_directory.specs.Index.{IsGapFor}
-use Rattle.clock2q_cache.specs.Insertions.{IsFoundFor, IsAdmitted, placed_links}
+use Rattle.clock2q_cache.specs.Insertions.{IsFoundFor, IsAdmitted}
 use Rattle.clock2q_machine.specs.Entries as machine
 use Rattle.clock2q_cache.proofs.Spent.{spends-both, spends-more}
 use Rattle.clock2q_cache.proofs.WithKeys.{main-inspections}
@@ -62,11 +62,6 @@ gap-still found f erased = grind (arith, f.place, f.gap)
 -- after a look at Small's tail
 pub looked-spends : {looks : ℕ} {a b c : Counts} → Spends 0 1 0 a b → Spends looks (looks + 28) 0 b c → Spends looks (looks + 29) 0 a c
 looked-spends before after = spends-both before after (omega arith) (omega arith) (omega arith)
-
--- a key was erased from the history, if it was there, and then placed
-pub placed-spends : (main : Bool) {looks : ℕ} {a b c : Counts} → Spends 0 (if main then 7 else 0) 0 a b → Spends looks (looks + placed_links main) 0 b c → Spends looks (looks + 29) 0 a c
-placed-spends true erased placed = spends-both erased placed (omega arith) (omega arith) (omega arith)
-placed-spends false erased placed = spends-both erased placed (omega arith) (omega arith) (omega arith)
 
 -- A key is looked up, and is hit or inserted.
 module _ {K V : Type 0} (is : K → Bool) (m : Machine K V) {r n : ℕ} {old found new : Counts} (asked : Spends 0 0 r old found) where

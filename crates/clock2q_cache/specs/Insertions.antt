@@ -29,6 +29,10 @@ abbrev pub is_main : Admission → Bool
 is_main Small = false
 is_main Main = true
 
+-- the most links that are accessed as a newcomer is placed, beside one for each inspection by the hand
+abbrev pub placed_links : Bool → ℕ
+placed_links main = if main then 10 else 29
+
 module _ {K V : Type 0} where
   -- for a key that enters Main
   abbrev pub main_inspections : Machine K V → ℕ
@@ -52,10 +56,6 @@ module _ {K V : Type 0} where
   -- the number of inspections by the hand then
   abbrev pub placed_inspections : Bool → Machine K V → ℕ
   placed_inspections main m = if main then main_inspections m else small_inspections m
-
-  -- the most links that are accessed then, beside one for each inspection
-  abbrev pub placed_links : Bool → ℕ
-  placed_links main = if main then 10 else 29
 
   -- whether no slot is free, and one was never made
   abbrev pub next_is_vacant : Machine K V → Bool

@@ -109,6 +109,7 @@ impl<H: Copy + Eq + Default, A: Allocator + Copy> Table<H, A> {
         ensures counted { self.old.writes ≤ self.new.writes }
         ensures reads { self.old.reads ≤ self.new.reads }
     {
+        self.facts();
         if self.len() == self.capacity() {
             return self.grow(rehash);
         }
