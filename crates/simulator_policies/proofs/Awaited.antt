@@ -1,13 +1,15 @@
 -- The next uses of the keys that the optimum holds, from one access to the next.
-use Rattle.std.proofs.Common.{◌≡◌, ◌≢◌, inl, inr, ℕ, suc, ◌+◌, ◌<◌, ◌≤◌, ◌==◌, Bool, true, false, List, [], ◌∷◌, length, get_or, drop, drop-cons, refl, sym, ap, ◌∙◌, subst, arith}
+use Rattle.std.proofs.Common.{◌≡◌, ◌≢◌, inl, inr, ℕ, suc, ◌+◌, ◌<◌, ◌≤◌, ◌==◌, Bool, true, false, eqb, List, [], ◌∷◌, length, get_or, drop, drop-cons, refl, sym, ap, ◌∙◌, subst, arith}
 use Rattle.std.specs.Prelude.{nat_lt, if◌then◌else◌}
+use Rattle.std.specs.List.{IsDistinct}
 use Rattle.std.proofs.lemmas.Bool.{cases_Bool, cases_eq, cases_lt, eqb-true, eq-eqb, ne_eqb, lt-ltb, le-ltb, or_cases, or_left, or_right, or_parts, true≢false}
 use Rattle.std.proofs.lemmas.List.{get_or-drop, length-drop}
+use Rattle.std.proofs.lemmas.Map.Keys.{IsDistinct-tail}
 use Rattle.simulator_policies.specs.Policies.{is_in, without}
 use Rattle.simulator_policies.specs.Optimum.{next_use, farthest, without_farthest}
 use Rattle.simulator_policies.specs.Awaited.{use_from, used_from, IsWaiting}
 use Rattle.simulator_policies.proofs.Stamping.{without-absent}
-use Rattle.simulator_policies.proofs.Sharing.{AreDifferent, left_without, others_without}
+use Rattle.simulator_policies.proofs.Sharing.{distinct_first, left_without, others_without}
 use Rattle.simulator_policies.proofs.Optimum.{farthest_is}
 use Rattle.simulator_policies.proofs.DemandPolicies.{farthest_in}
 
@@ -55,14 +57,14 @@ module _ (trace : List ℕ) where
   unused : (at key : ℕ) → length trace ≤ use_from trace at key → one_if_used at key ≡ 0
   unused at key past = rw (le-ltb (use_from trace at key) (length trace) past) refl
 
-  used_without : (at key : ℕ) (held : List ℕ) → AreDifferent held → is_in key held ≡ true → used_from trace at held ≡ one_if_used at key + used_from trace at (without key held)
+  used_without : (at key : ℕ) (held : List ℕ) → IsDistinct eqb held → is_in key held ≡ true → used_from trace at held ≡ one_if_used at key + used_from trace at (without key held)
   used_without at key [] differ is = absurd (true≢false (sym is))
   used_without at key (first ∷ held) differ is = elim (cases_Bool (first == key)) [
     | inl same ↦
-        let absent : is_in key held ≡ false = ap (λ k. is_in k held) (sym (eqb-true first key same)) ∙ differ.0 in
+        let absent : is_in key held ≡ false = ap (λ k. is_in k held) (sym (eqb-true first key same)) ∙ distinct_first first held differ in
         rw same (ap {B = ℕ} (λ k. one_if_used at k + used_from trace at held) (eqb-true first key same)
         ∙ ap (λ keys. one_if_used at key + used_from trace at keys) (sym (without-absent key held absent)))
-    | inr apart ↦ rw apart (omega (arith, used_without at key held differ.1 (rw apart at is)))
+    | inr apart ↦ rw apart (omega (arith, used_without at key held (IsDistinct-tail eqb first held differ) (rw apart at is)))
   ]
 
   used_passed : (at : ℕ) → at < length trace → (held : List ℕ) → is_in (key_at at) held ≡ false → used_from trace (suc at) held ≡ used_from trace at held
@@ -116,7 +118,7 @@ module _ (trace : List ℕ) where
       omega (arith, is.counted, used_some at (key_at index) held its.resident (omega (arith, its.next, its.within)))
 
   -- one that is used again leaves
-  pub left_one : (at key : ℕ) (held : List ℕ) (waits left : ℕ → Bool) (count less : ℕ) → IsWaiting trace at held waits count → AreDifferent held → is_in key held ≡ true
+  pub left_one : (at key : ℕ) (held : List ℕ) (waits left : ℕ → Bool) (count less : ℕ) → IsWaiting trace at held waits count → IsDistinct eqb held → is_in key held ≡ true
       → use_from trace at key < length trace → left (use_from trace at key) ≡ false → ((index : ℕ) → index ≢ use_from trace at key → left index ≡ waits index) → count ≡ less + 1
       → IsWaiting trace at (without key held) left less
   left_one at key held waits left count less is differ there again gone others fewer = record {
@@ -133,7 +135,7 @@ module _ (trace : List ℕ) where
   }
 
   -- one that isn't used again leaves
-  pub left_unused : (at key : ℕ) (held : List ℕ) (waits : ℕ → Bool) (count : ℕ) → IsWaiting trace at held waits count → AreDifferent held → is_in key held ≡ true
+  pub left_unused : (at key : ℕ) (held : List ℕ) (waits : ℕ → Bool) (count : ℕ) → IsWaiting trace at held waits count → IsDistinct eqb held → is_in key held ≡ true
       → length trace ≤ use_from trace at key → IsWaiting trace at (without key held) waits count
   left_unused at key held waits count is differ there past = record {
     sound = λ index waited.
@@ -160,7 +162,7 @@ module _ (trace : List ℕ) where
       }
 
   -- a key that is held again, if it is used again
-  pub joined_one : (at key : ℕ) (held : List ℕ) (waits more : ℕ → Bool) (count : ℕ) → IsWaiting trace at (without key held) waits count → AreDifferent held → is_in key held ≡ true
+  pub joined_one : (at key : ℕ) (held : List ℕ) (waits more : ℕ → Bool) (count : ℕ) → IsWaiting trace at (without key held) waits count → IsDistinct eqb held → is_in key held ≡ true
       → use_from trace at key < length trace → more (use_from trace at key) ≡ true → ((index : ℕ) → index ≢ use_from trace at key → more index ≡ waits index)
       → IsWaiting trace at held more (count + 1)
   joined_one at key held waits more count is differ there again new others = record {
@@ -183,7 +185,7 @@ module _ (trace : List ℕ) where
   }
 
   -- and if it isn't
-  pub joined_unused : (at key : ℕ) (held : List ℕ) (waits : ℕ → Bool) (count : ℕ) → IsWaiting trace at (without key held) waits count → AreDifferent held → is_in key held ≡ true
+  pub joined_unused : (at key : ℕ) (held : List ℕ) (waits : ℕ → Bool) (count : ℕ) → IsWaiting trace at (without key held) waits count → IsDistinct eqb held → is_in key held ≡ true
       → length trace ≤ use_from trace at key → IsWaiting trace at held waits count
   joined_unused at key held waits count is differ there past = record {
     sound = λ index waited.
@@ -225,7 +227,7 @@ module _ (trace : List ℕ) where
         omega (arith, gone_last one.0 one.1.0, one.1.1)
 
   -- the optimum evicts it
-  pub evicts : (at : ℕ) (best : List ℕ) (waits left : ℕ → Bool) (count less last : ℕ) → IsWaiting trace at best waits count → AreDifferent best → length best ≤ count → 0 < count
+  pub evicts : (at : ℕ) (best : List ℕ) (waits left : ℕ → Bool) (count less last : ℕ) → IsWaiting trace at best waits count → IsDistinct eqb best → length best ≤ count → 0 < count
       → waits last ≡ true → ((index : ℕ) → waits index ≡ true → index ≤ last) → left last ≡ false → ((index : ℕ) → index ≢ last → left index ≡ waits index) → count ≡ less + 1
       → IsWaiting trace at (without_farthest (drop at trace) best) left less
   evicts at [] waits left count less last is differ all some waited latest none others fewer = absurd (omega (arith, is.counted, some))
@@ -238,7 +240,7 @@ module _ (trace : List ℕ) where
   evicts_some at [] waits count is all some none = omega (arith, is.counted, some)
   evicts_some at (first ∷ held) waits count is all some none = true≢false (sym (gone_waits at first held waits count is all) ∙ none (use_from trace at (gone at first held)))
 
-  pub evicts_unused : (at : ℕ) (best : List ℕ) (waits : ℕ → Bool) (count : ℕ) → IsWaiting trace at best waits count → AreDifferent best → count < length best
+  pub evicts_unused : (at : ℕ) (best : List ℕ) (waits : ℕ → Bool) (count : ℕ) → IsWaiting trace at best waits count → IsDistinct eqb best → count < length best
       → IsWaiting trace at (without_farthest (drop at trace) best) waits count
   evicts_unused at [] waits count is differ few = absurd (omega (arith, few))
   evicts_unused at (first ∷ held) waits count is differ few =

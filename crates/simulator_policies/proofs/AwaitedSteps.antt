@@ -1,14 +1,15 @@
 -- The steps of the code of the optimum.
 use Rattle.std.proofs.Common.{◌≡◌, ◌≢◌, inl, inr, ℕ, zero, suc, ◌+◌, ◌<◌, ◌≤◌, Bool, true, false, List, [], ◌∷◌, ◌++◌, length, get_or, set, get_or-set_same, get_or-set_other, drop}
-use Rattle.std.proofs.Common.{drop-cons, refl, sym, ap, ◌∙◌, subst, arith}
+use Rattle.std.proofs.Common.{drop-cons, eqb, refl, sym, ap, ◌∙◌, subst, arith}
 use Rattle.std.specs.Prelude.{nat_lt, if◌then◌else◌}
+use Rattle.std.specs.List.{IsDistinct}
 use Rattle.std.proofs.lemmas.Bool.{cases_Bool, cases_eq, eq-eqb, ne_eqb, ltb-false, le-ltb, true≢false}
 use Rattle.std.proofs.lemmas.List.{append_assoc, get_or_default}
 use Rattle.simulator_policies.specs.Policies.{is_in, without}
 use Rattle.simulator_policies.specs.Optimum.{farthest, without_farthest, optimal_after, optimal_hits_from, optimal_outcomes_from}
 use Rattle.simulator_policies.specs.Awaited.{optimal_at, use_from, IsWaiting}
 use Rattle.simulator_policies.proofs.Stamping.{without-absent}
-use Rattle.simulator_policies.proofs.Sharing.{AreDifferent, absent_without, left_without}
+use Rattle.simulator_policies.proofs.Sharing.{distinct_none, absent_without, left_without}
 use Rattle.simulator_policies.proofs.Optimum.{optimal_comes, optimal_differ}
 use Rattle.simulator_policies.proofs.DemandPolicies.{without_shorter, optimal_fits}
 use Rattle.simulator_policies.proofs.Awaited.{use_now, use_passed, used_few, left_one, passed, joined_one, joined_unused, evicts, evicts_some, evicts_unused}
@@ -70,8 +71,8 @@ module _ (capacity : ℕ) (some : 0 < capacity) (trace : List ℕ) where
   abbrev best : ℕ → List ℕ
   best at = optimal_at capacity trace at
 
-  pub best_differ : (at : ℕ) → AreDifferent (best at)
-  best_differ zero = tt
+  pub best_differ : (at : ℕ) → IsDistinct eqb (best at)
+  best_differ zero = distinct_none
   best_differ (suc at) = optimal_differ capacity (get_or trace at 0) (drop (suc at) trace) (best at) (best_differ at)
 
   best_fit : (at : ℕ) → length (best at) ≤ capacity

@@ -1,17 +1,20 @@
 -- The number of accesses with each stack distance: what one more access adds to it, and to the hits at each capacity.
 use Rattle.std.proofs.Common.{◌≡◌, ◌≢◌, ℕ, zero, suc, ◌+◌, ◌<◌, ◌≤◌, refl, sym, ap, ◌∙◌, subst, arith, inl, inr, true, false, Bool, cond, ltb, List, [], ◌∷◌, ◌++◌, length, map, take, drop}
-use Rattle.std.proofs.Common.{set, get_or, get_or-set_same, get_or-set_other}
+use Rattle.std.proofs.Common.{eqb, set, get_or, get_or-set_same, get_or-set_other}
 use Rattle.std.specs.Prelude.{Option, None, Some}
+use Rattle.std.specs.List.{IsDistinct}
 use Rattle.std.proofs.lemmas.Bool.{cases_eq, cases_lt, eq-eqb, ne_eqb, lt-ltb, le-ltb}
 use Rattle.std.proofs.lemmas.List.{take_all, take_more, map-append, get_or_default}
+use Rattle.std.proofs.lemmas.Map.Keys.{IsDistinct-tail}
 use Rattle.simulator_policies.specs.declared.plain.PlainPolicy.TheVariants.{LeastRecentlyUsed}
 use Rattle.simulator_policies.specs.Policies.{hits, is_in, without, plain_after, plain_hits}
 use Rattle.simulator_policies.specs.CountTree.{sum_in}
 use Rattle.simulator_policies.specs.StackDistances.{recent_after, stack_distance, is_below}
 use Rattle.simulator_policies.proofs.Counting.{counted}
 use Rattle.simulator_policies.proofs.Stamping.{without-absent}
+use Rattle.simulator_policies.proofs.Sharing.{distinct_first}
 use Rattle.simulator_policies.proofs.Sums.{sum_same, sum_none, sum_more}
-use Rattle.simulator_policies.proofs.StackDistances.{AreApart, near, none-taken, distance-within, lru_holds_recent}
+use Rattle.simulator_policies.proofs.StackDistances.{near, none-taken, distance-within, lru_holds_recent}
 
 abbrev pub sum_to : List ℕ → ℕ → ℕ
 sum_to counts n = sum_in (λ n. get_or counts n 0) 0 n
@@ -60,16 +63,16 @@ sum-pushed counts n = sum_same (λ n. get_or (counts ++ 0 ∷ []) n 0) (λ n. ge
 came : (key : ℕ) (recent : List ℕ) → is_in key recent ≡ is_below (length recent) (stack_distance key recent)
 came key recent = sym (ap (is_in key) (take_all (length recent) recent (omega arith))) ∙ near (length recent) key recent
 
-once-apart : (key : ℕ) (recent : List ℕ) → AreApart recent → is_in key recent ≡ true → suc (length (without key recent)) ≡ length recent
+once-apart : (key : ℕ) (recent : List ℕ) → IsDistinct eqb recent → is_in key recent ≡ true → suc (length (without key recent)) ≡ length recent
 once-apart key [] apart there = absurd (cc)
 once-apart key (first ∷ recent) apart there = elim (cases_eq first key) [
   | inl same ↦
-      let absent : is_in key recent ≡ false = sym (ap (λ k. is_in k recent) same) ∙ apart.0 in
+      let absent : is_in key recent ≡ false = sym (ap (λ k. is_in k recent) same) ∙ distinct_first first recent apart in
       rw (eq-eqb first key same) (ap (λ rest. suc (length rest)) (without-absent key recent absent))
-  | inr other ↦ rw (ne_eqb first key other) (ap suc (once-apart key recent apart.1 (rw (ne_eqb first key other) at there)))
+  | inr other ↦ rw (ne_eqb first key other) (ap suc (once-apart key recent (IsDistinct-tail eqb first recent apart) (rw (ne_eqb first key other) at there)))
 ]
 
-pub long-again : (key n : ℕ) (recent : List ℕ) → AreApart recent → stack_distance key recent ≡ Some n → length (recent_after key recent) ≡ length recent
+pub long-again : (key n : ℕ) (recent : List ℕ) → IsDistinct eqb recent → stack_distance key recent ≡ Some n → length (recent_after key recent) ≡ length recent
 long-again key n recent apart is =
     once-apart key recent apart (came key recent ∙ ap (is_below (length recent)) is ∙ lt-ltb n (length recent) (distance-within key n recent is))
 
@@ -79,7 +82,7 @@ long-new key recent is =
     omega (arith, ap (length {A = ℕ}) same)
 
 -- the hits at a capacity, one key further
-pub hits-further : (trace recent after : List ℕ) (at capacity before now total : ℕ) (distance : Option ℕ) → at < length trace → 0 < capacity → AreApart recent
+pub hits-further : (trace recent after : List ℕ) (at capacity before now total : ℕ) (distance : Option ℕ) → at < length trace → 0 < capacity → IsDistinct eqb recent
     → distance ≡ stack_distance (get_or trace at 0) recent → after ≡ recent_after (get_or trace at 0) recent
     → before + hits is_in (plain_after LeastRecentlyUsed capacity) (drop at trace) (take capacity recent) ≡ total
     → now ≡ before + cond (is_below capacity distance) 1 0

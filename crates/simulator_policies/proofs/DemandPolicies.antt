@@ -3,6 +3,7 @@
 use Rattle.std.proofs.Common.{◌≡◌, ◌⊎◌, inl, inr, ℕ, zero, suc, ◌+◌, ◌<◌, ◌≤◌, ◌==◌, Bool, true, false, ◌||◌, List, [], ◌∷◌, ◌++◌, map, length, length-append, length-drop, length-take, take}
 use Rattle.std.proofs.Common.{drop, refl, sym, ap, ◌∙◌, arith}
 use Rattle.std.specs.Prelude.{nat_lt, if◌then◌else◌}
+use Rattle.std.specs.Cmp.{nat_eq_equiv}
 use Rattle.std.proofs.lemmas.Bool.{cases_Bool, eqb-true, eq-eqb, ltb-true, ltb-false, or_cases, or_left, or_right}
 use Rattle.std.proofs.lemmas.List.{length-map}
 use Rattle.simulator_policies.specs.declared.plain.PlainPolicy.{PlainPolicy}
@@ -10,7 +11,6 @@ use Rattle.simulator_policies.specs.declared.plain.PlainPolicy.TheVariants.{Leas
 use Rattle.simulator_policies.specs.Policies.{hits, hit_count, is_in, without, after_hit, plain_after, plain_hits}
 use Rattle.simulator_policies.specs.SecondChance.{Ring, is_on, marked, moved_on, joined, clock_after, clock_hits}
 use Rattle.simulator_policies.specs.Optimum.{next_use, later, farthest, without_farthest, optimal_after, optimal_hits_from, optimal_hits, optimal_outcomes_from, optimal_outcomes, IsDemandPolicy}
-use Rattle.simulator_policies.proofs.Flushing.{differ_back}
 use Rattle.simulator_policies.proofs.Sharing.{left_without}
 use Rattle.simulator_policies.proofs.Optimum.{optimum, optimum_first, optimal_comes}
 
@@ -194,15 +194,9 @@ plain_is_demand policy capacity some = record {
 abbrev keys_on : Ring → List ℕ
 keys_on ring = map (λ e. e.0) ring
 
-pub same_turned : (a b : ℕ) → (a == b) ≡ (b == a)
-same_turned a b = elim (cases_Bool (a == b)) [
-  | inl same ↦ same ∙ sym (eq-eqb b a (sym (eqb-true a b same)))
-  | inr apart ↦ apart ∙ sym (differ_back a b apart)
-]
-
 on_is_in : (key : ℕ) (ring : Ring) → is_on key ring ≡ is_in key (keys_on ring)
 on_is_in key [] = refl
-on_is_in key (e ∷ ring) = ap (λ b. b || is_on key ring) (same_turned key e.0) ∙ ap (λ b. (e.0 == key) || b) (on_is_in key ring)
+on_is_in key (e ∷ ring) = ap (λ b. b || is_on key ring) (nat_eq_equiv.symm key e.0) ∙ ap (λ b. (e.0 == key) || b) (on_is_in key ring)
 
 marked_keys : (key : ℕ) (ring : Ring) → keys_on (marked key ring) ≡ keys_on ring
 marked_keys key [] = refl

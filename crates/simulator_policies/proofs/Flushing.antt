@@ -1,12 +1,16 @@
 -- A scan flushes a cache of a plain policy: after as many new keys as its capacity, it holds none of those it held
 -- before.
-use Rattle.std.proofs.Common.{◌≡◌, ℕ, zero, suc, ◌+◌, ◌≤◌, ◌==◌, Bool, true, false, ◌||◌, List, [], ◌∷◌, ◌++◌, length, take, refl, sym, ap, ◌∙◌, arith, eq-eqb, ne_eqb}
+use Rattle.std.proofs.Common.{◌≡◌, ℕ, zero, suc, ◌+◌, ◌≤◌, ◌==◌, Bool, true, false, ◌||◌, List, [], ◌∷◌, ◌++◌, length, take, refl, sym, ap, ◌∙◌, arith, eqb, ne_eqb}
 use Rattle.std.specs.Prelude.{if◌then◌else◌}
+use Rattle.std.specs.Cmp.{nat_eq_equiv}
+use Rattle.std.specs.List.{AllByRecursion}
 use Rattle.std.proofs.lemmas.List.{take-append-le}
+use Rattle.std.proofs.lemmas.Map.Keys.{IsDistinct-tail}
 use Rattle.simulator_policies.specs.declared.plain.PlainPolicy.{PlainPolicy}
 use Rattle.simulator_policies.specs.Policies.{is_in, after_hit, brought, plain_after, plain_after_all, AreNew}
+use Rattle.simulator_policies.proofs.Sharing.{distinct_first}
 
--- Two tests that both fail, and a comparison of keys the other way round.
+-- Two tests that both fail.
 
 first_fails : (a b : Bool) → (a || b) ≡ false → a ≡ false
 first_fails true b fails = fails
@@ -19,12 +23,6 @@ second_fails false b fails = fails
 both_fail : (a b : Bool) → a ≡ false → b ≡ false → (a || b) ≡ false
 both_fail true b fails none = cc
 both_fail false b fails none = none
-
-pub differ_back : (a b : ℕ) → (a == b) ≡ false → (b == a) ≡ false
-differ_back a b differ =
-    ne_eqb b a (λ same. clash (sym (eq-eqb a b (sym same)) ∙ differ)) where
-      clash : true ≡ false → ⊥
-      clash is = cc
 
 -- a key that isn't in a list isn't among its first keys either
 is_in-take : (key n : ℕ) (held : List ℕ) → is_in key held ≡ false → is_in key (take n held) ≡ false
@@ -72,11 +70,13 @@ not_among key (first ∷ trace) held none nor =
 
 -- the rest of a trace is also new to a cache with its first key
 still_new : (key : ℕ) (trace held : List ℕ) → is_in key trace ≡ false → AreNew trace held → AreNew trace (key ∷ held)
-still_new key [] held none new = tt
-still_new key (next ∷ trace) held none new = (
-  both_fail (key == next) (is_in next held) (differ_back next key (first_fails (next == key) (is_in key trace) none)) new.0,
-  (new.1.0, still_new key trace held (second_fails (next == key) (is_in key trace) none) new.1.1),
-)
+still_new key trace held none new = (new.0, not_held trace none new.1) where
+  not_held : (trace : List ℕ) → is_in key trace ≡ false → AllByRecursion (λ k. is_in k held ≡ false) trace → AllByRecursion (λ k. is_in k (key ∷ held) ≡ false) trace
+  not_held [] none new = tt
+  not_held (next ∷ trace) none new = (
+    both_fail (key == next) (is_in next held) (nat_eq_equiv.symm key next ∙ first_fails (next == key) (is_in key trace) none) new.0,
+    not_held trace (second_fails (next == key) (is_in key trace) none) new.1,
+  )
 
 module _ (policy : PlainPolicy) (capacity : ℕ) where
   -- each key of the trace is added at the front
@@ -84,14 +84,15 @@ module _ (policy : PlainPolicy) (capacity : ℕ) where
   all_brought [] held new = refl
   all_brought (key ∷ trace) held new =
       let missed : plain_after policy capacity key (take capacity held) ≡ take capacity (key ∷ held) =
-      ap (λ b. if b then after_hit policy key (take capacity held) else brought capacity key (take capacity held)) (is_in-take key capacity held new.0)
+      ap (λ b. if b then after_hit policy key (take capacity held) else brought capacity key (take capacity held)) (is_in-take key capacity held new.1.0)
       ∙ take_one_more capacity key held in
-      ap (plain_after_all policy capacity trace) missed ∙ all_brought trace (key ∷ held) (still_new key trace held new.1.0 new.1.1)
+      ap (plain_after_all policy capacity trace) missed
+      ∙ all_brought trace (key ∷ held) (still_new key trace held (distinct_first key trace new.0) (IsDistinct-tail eqb key trace new.0, new.1.1))
 
   -- a key that is held is not one of the new ones
-  held_not_new : (key : ℕ) (trace held : List ℕ) → is_in key held ≡ true → AreNew trace held → is_in key trace ≡ false
+  held_not_new : (key : ℕ) (trace held : List ℕ) → is_in key held ≡ true → AllByRecursion (λ k. is_in k held ≡ false) trace → is_in key trace ≡ false
   held_not_new key [] held there new = refl
-  held_not_new key (next ∷ trace) held there new = both_fail (next == key) (is_in key trace) (ne_eqb next key (λ same. clash same)) (held_not_new key trace held there new.1.1) where
+  held_not_new key (next ∷ trace) held there new = both_fail (next == key) (is_in key trace) (ne_eqb next key (λ same. clash same)) (held_not_new key trace held there new.1) where
     clash : next ≡ key → ⊥
     clash same = let is : true ≡ false = sym there ∙ ap (λ k. is_in k held) (sym same) ∙ new.0 in cc
 
@@ -105,4 +106,4 @@ module _ (policy : PlainPolicy) (capacity : ℕ) where
       ∙ all_brought trace held new
       ∙ ap (take capacity) (newest_first-append trace [] held)
       ∙ take-append-le capacity newest held (omega (arith, long, length-newest_first trace [])) in
-      rw all (is_in-take key capacity newest (not_among key trace [] (held_not_new key trace held there new) refl))
+      rw all (is_in-take key capacity newest (not_among key trace [] (held_not_new key trace held there new.1) refl))

@@ -2,10 +2,10 @@ pub mod Stamping
 pub mod Holding
 pub mod Counting
 pub mod Outcomes
+pub mod Sharing
 pub mod Flushing
 pub mod Rings
 pub mod WithoutSmall
-pub mod Sharing
 pub mod Optimum
 pub mod DemandPolicies
 pub mod MachineOptimum

@@ -19,7 +19,6 @@ use Rattle.simulator_policies.specs.Policies.{hits, is_in}
 use Rattle.simulator_policies.specs.MachineHits.{machine_holds, machine_after}
 use Rattle.simulator_policies.specs.Optimum.{optimal_hits, IsDemandPolicy}
 use Rattle.simulator_policies.proofs.Optimum.{optimum}
-use Rattle.simulator_policies.proofs.DemandPolicies.{same_turned}
 
 abbrev resident_keys : Machine ℕ (Unit {0}) → List ℕ
 resident_keys m = map (λ r. r.0) (residents m)
@@ -29,7 +28,7 @@ found_is_in key [] = refl
 found_is_in key (r ∷ rs) =
     (elim (key == r.0) as (λ b. is_some (option_map (λ x. x.1) (cond b (Some r) (find (λ x. key == x.0) rs))) ≡ (b || is_in key (map (λ x. x.0) rs)))
     [ true ↦ refl | false ↦ found_is_in key rs ])
-    ∙ ap (λ b. b || is_in key (map (λ x. x.0) rs)) (same_turned key r.0)
+    ∙ ap (λ b. b || is_in key (map (λ x. x.0) rs)) (nat_eq_equiv.symm key r.0)
 
 -- a machine of these shares
 pub record IsCacheOf (shares : Shares) (m : Machine ℕ (Unit {0})) : Type 0 where

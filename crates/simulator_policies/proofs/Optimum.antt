@@ -1,10 +1,11 @@
 -- Belady's optimum is optimal: no demand policy of its capacity hits more keys of a trace.
-use Rattle.std.proofs.Common.{◌≡◌, ◌⊎◌, inl, inr, ℕ, zero, suc, ◌+◌, ◌-◌, ◌≤◌, ◌==◌, Bool, true, false, List, [], ◌∷◌, length, take, refl, sym, ap, ◌∙◌, arith}
+use Rattle.std.proofs.Common.{◌≡◌, ◌⊎◌, inl, inr, ℕ, zero, suc, ◌+◌, ◌-◌, ◌≤◌, ◌==◌, Bool, true, false, eqb, List, [], ◌∷◌, length, take, refl, sym, ap, ◌∙◌, arith}
 use Rattle.std.specs.Prelude.{nat_lt, if◌then◌else◌}
+use Rattle.std.specs.List.{IsDistinct}
 use Rattle.std.proofs.lemmas.Bool.{cases_Bool, eqb-true, eq-eqb, ltb-true, ltb-false, or_cases, or_left, or_right, true≢false}
 use Rattle.simulator_policies.specs.Policies.{hits, hit_count, is_in, without}
 use Rattle.simulator_policies.specs.Optimum.{next_use, later, farthest, without_farthest, optimal_after, optimal_hits_from, optimal_hits, optimal_outcomes_from, optimal_outcomes, IsDemandPolicy}
-use Rattle.simulator_policies.proofs.Sharing.{AreDifferent, different, shared, absent_without, left_without, others_without, different_without, length_without, different_are, in_different}
+use Rattle.simulator_policies.proofs.Sharing.{distinct_none, distinct_more, different, shared, absent_without, left_without, others_without, different_without, length_without, different_are, in_different}
 use Rattle.simulator_policies.proofs.Sharing.{shared_more, shared_all, shared_within, shared_without, shared_turned}
 
 -- The farthest next use.
@@ -72,21 +73,23 @@ module _ (capacity key : ℕ) (rest best : List ℕ) where
     | inr missed ↦ rw missed (or_left (key == key) (is_in key (if nat_lt (length best) capacity then best else without_farthest rest best)) (eq-eqb key key refl))
   ]
 
-  module _ (differ : AreDifferent best) where
-    fewer_differ : (best : List ℕ) → AreDifferent best → is_in key best ≡ false → AreDifferent (key ∷ without_farthest rest best)
-    fewer_differ [] differ missed = (refl, tt)
-    fewer_differ (first ∷ best) differ missed = (still_absent (farthest rest first best) (first ∷ best) missed, different_without (farthest rest first best) (first ∷ best) differ) where
-      still_absent : (gone : ℕ) (keys : List ℕ) → is_in key keys ≡ false → is_in key (without gone keys) ≡ false
-      still_absent gone keys absent = elim (cases_Bool (gone == key)) [
-        | inl same ↦ ap (λ k. is_in key (without k keys)) (eqb-true gone key same) ∙ absent_without key keys
-        | inr apart ↦ others_without gone key keys apart ∙ absent
-      ]
+  module _ (differ : IsDistinct eqb best) where
+    fewer_differ : (best : List ℕ) → IsDistinct eqb best → is_in key best ≡ false → IsDistinct eqb (key ∷ without_farthest rest best)
+    fewer_differ [] differ missed = distinct_more key [] refl distinct_none
+    fewer_differ (first ∷ best) differ missed =
+        let gone = farthest rest first best in
+        distinct_more key (without gone (first ∷ best)) (still_absent gone (first ∷ best) missed) (different_without gone (first ∷ best) differ) where
+          still_absent : (gone : ℕ) (keys : List ℕ) → is_in key keys ≡ false → is_in key (without gone keys) ≡ false
+          still_absent gone keys absent = elim (cases_Bool (gone == key)) [
+            | inl same ↦ ap (λ k. is_in key (without k keys)) (eqb-true gone key same) ∙ absent_without key keys
+            | inr apart ↦ others_without gone key keys apart ∙ absent
+          ]
 
-    pub optimal_differ : AreDifferent (optimal_after capacity key rest best)
+    pub optimal_differ : IsDistinct eqb (optimal_after capacity key rest best)
     optimal_differ = elim (cases_Bool (is_in key best)) [
       | inl is ↦ rw is differ
       | inr missed ↦ elim (cases_Bool (nat_lt (length best) capacity)) [
-        | inl space ↦ rw missed (rw space (missed, differ))
+        | inl space ↦ rw missed (rw space (distinct_more key best missed differ))
         | inr full ↦ rw missed (rw full (fewer_differ best differ missed))
       ]
     ]
@@ -98,7 +101,7 @@ module _ (capacity key : ℕ) (rest best : List ℕ) where
   more_keeps : (n : ℕ) → KeepsUp n (key ∷ best)
   more_keeps n = inl (shared_more (others n key rest) best (key ∷ best) (λ other there is. or_right (key == other) (is_in other best) is))
 
-module _ (capacity key n : ℕ) (rest : List ℕ) (first : ℕ) (best : List ℕ) (differ : AreDifferent (first ∷ best)) (missed : is_in key (first ∷ best) ≡ false) where
+module _ (capacity key n : ℕ) (rest : List ℕ) (first : ℕ) (best : List ℕ) (differ : IsDistinct eqb (first ∷ best)) (missed : is_in key (first ∷ best) ≡ false) where
   abbrev gone : ℕ
   gone = farthest rest first best
 
@@ -139,11 +142,11 @@ module _ (capacity key n : ℕ) (rest : List ℕ) (first : ℕ) (best : List ℕ
     | inr absent ↦ inl (unwanted absent)
   ]
 
-full_keeps : (capacity key n : ℕ) (rest best : List ℕ) → AreDifferent best → is_in key best ≡ false → capacity ≤ length best → KeepsUp capacity key rest best n (key ∷ without_farthest rest best)
+full_keeps : (capacity key n : ℕ) (rest best : List ℕ) → IsDistinct eqb best → is_in key best ≡ false → capacity ≤ length best → KeepsUp capacity key rest best n (key ∷ without_farthest rest best)
 full_keeps capacity key n rest [] differ missed full = inr (omega (arith, full))
 full_keeps capacity key n rest (first ∷ best) differ missed full = fewer_keeps capacity key n rest first best differ missed full
 
-keeps_up : (capacity key n : ℕ) (rest best : List ℕ) → AreDifferent best → KeepsUp capacity key rest best n (optimal_after capacity key rest best)
+keeps_up : (capacity key n : ℕ) (rest best : List ℕ) → IsDistinct eqb best → KeepsUp capacity key rest best n (optimal_after capacity key rest best)
 keeps_up capacity key n rest best differ = elim (cases_Bool (is_in key best)) [
   | inl is ↦ rw is (inl (omega arith))
   | inr missed ↦ elim (cases_Bool (nat_lt (length best) capacity)) [
@@ -187,7 +190,8 @@ module _ {Cache : Type 0} (IsCache : Cache → Type 0) (holds : ℕ → Cache �
       room_for_key : 1 + shared (others n key rest) next ≤ capacity
       room_for_key =
           let keys : List ℕ = key ∷ others n key rest in
-          let differ : AreDifferent keys = (absent_without key (coming n rest), different_without key (coming n rest) (different_are (take n rest))) in
+          let differ : IsDistinct eqb keys =
+          distinct_more key (others n key rest) (absent_without key (coming n rest)) (different_without key (coming n rest) (different_are (take n rest))) in
           omega (
             arith,
             ap (λ b. (if b then 1 else 0) + shared (others n key rest) next) key_comes,
@@ -196,7 +200,7 @@ module _ {Cache : Type 0} (IsCache : Cache → Type 0) (holds : ℕ → Cache �
             demand.room (after key cache) (demand.goes_on key cache is_cache),
           )
 
-      still_ahead : (best : List ℕ) (lead : ℕ) → AreDifferent best → IsAhead lead (key ∷ rest) best (held cache)
+      still_ahead : (best : List ℕ) (lead : ℕ) → IsDistinct eqb best → IsAhead lead (key ∷ rest) best (held cache)
           → shared (coming n rest) next ≤ shared (coming n rest) (optimal_after capacity key rest best) + lead_after lead (is_in key best) (is_in key (held cache))
       still_ahead best lead differ ahead =
           let before = ahead (suc n) in
@@ -208,7 +212,7 @@ module _ {Cache : Type 0} (IsCache : Cache → Type 0) (holds : ℕ → Cache �
           ]
 
   -- so its hits are at most the optimum's plus that lead
-  hits_behind : (trace : List ℕ) (cache : Cache) (best : List ℕ) (lead : ℕ) → IsCache cache → AreDifferent best → IsAhead lead trace best (held cache)
+  hits_behind : (trace : List ℕ) (cache : Cache) (best : List ℕ) (lead : ℕ) → IsCache cache → IsDistinct eqb best → IsAhead lead trace best (held cache)
       → hits holds after trace cache ≤ optimal_hits_from capacity trace best + lead
   hits_behind [] cache best lead is_cache differ ahead = omega arith
   hits_behind (key ∷ rest) cache best lead is_cache differ ahead = omega (
@@ -222,7 +226,7 @@ module _ {Cache : Type 0} (IsCache : Cache → Type 0) (holds : ℕ → Cache �
   )
 
   -- and so are those among the first keys, of the optimum that knows the whole trace
-  hits_behind_first : (m : ℕ) (trace : List ℕ) (cache : Cache) (best : List ℕ) (lead : ℕ) → IsCache cache → AreDifferent best → IsAhead lead trace best (held cache)
+  hits_behind_first : (m : ℕ) (trace : List ℕ) (cache : Cache) (best : List ℕ) (lead : ℕ) → IsCache cache → IsDistinct eqb best → IsAhead lead trace best (held cache)
       → hits holds after (take m trace) cache ≤ hit_count (take m (optimal_outcomes_from capacity trace best)) + lead
   hits_behind_first zero trace cache best lead is_cache differ ahead = omega arith
   hits_behind_first (suc m) [] cache best lead is_cache differ ahead = omega arith
@@ -245,10 +249,10 @@ module _ {Cache : Type 0} (IsCache : Cache → Type 0) (holds : ℕ → Cache �
   -- from an empty cache, no demand policy hits more keys of a trace than the optimum
   pub optimum : (trace : List ℕ) (cache : Cache) → IsCache cache → ((key : ℕ) → holds key cache ≡ false) → hits holds after trace cache ≤ optimal_hits capacity trace
   optimum trace cache is_cache empty =
-      omega (arith, hits_behind trace cache [] 0 is_cache tt (level trace cache is_cache empty))
+      omega (arith, hits_behind trace cache [] 0 is_cache distinct_none (level trace cache is_cache empty))
 
   -- nor more of the first keys than the optimum that knows the whole trace
   pub optimum_first : (m : ℕ) (trace : List ℕ) (cache : Cache) → IsCache cache → ((key : ℕ) → holds key cache ≡ false) →
       hits holds after (take m trace) cache ≤ hit_count (take m (optimal_outcomes capacity trace))
   optimum_first m trace cache is_cache empty =
-      omega (arith, hits_behind_first m trace cache [] 0 is_cache tt (level trace cache is_cache empty))
+      omega (arith, hits_behind_first m trace cache [] 0 is_cache distinct_none (level trace cache is_cache empty))

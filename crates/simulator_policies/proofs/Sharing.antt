@@ -1,15 +1,32 @@
 -- Lists of different keys, and how many keys two lists share.
-use Rattle.std.proofs.Common.{◌≡◌, inl, inr, ℕ, ◌+◌, ◌≤◌, ◌==◌, true, false, ◌||◌, List, [], ◌∷◌, length, refl, sym, ap, ◌∙◌, arith}
-use Rattle.std.specs.Prelude.{⊤, if◌then◌else◌}
-use Rattle.std.proofs.lemmas.Bool.{cases_Bool, eqb-true, eq-eqb, or_from, or_left, or_right, true≢false}
+use Rattle.std.proofs.Common.{◌≡◌, inl, inr, ℕ, ◌+◌, ◌≤◌, ◌==◌, true, false, ◌||◌, eqb, List, [], ◌∷◌, length, refl, sym, ap, ◌∙◌, arith}
+use Rattle.std.specs.Prelude.{if◌then◌else◌}
+use Rattle.std.specs.Cmp.{nat_eq_equiv}
+use Rattle.std.specs.List.{AllByRecursion, IsDistinct}
+use Rattle.std.proofs.lemmas.Bool.{cases_Bool, eqb-true, eq-eqb, or_from, or_left, or_parts, or_right, true≢false}
+use Rattle.std.proofs.lemmas.Map.Keys.{IsDistinct-head, IsDistinct-tail, IsDistinct-cons}
 use Rattle.simulator_policies.specs.Policies.{is_in, without}
 use Rattle.simulator_policies.proofs.Stamping.{without-absent}
-use Rattle.simulator_policies.proofs.Flushing.{differ_back}
 
--- the keys of a list differ from one another
-abbrev pub AreDifferent : List ℕ → Type 0
-AreDifferent [] = ⊤
-AreDifferent (key ∷ keys) = (is_in key keys ≡ false) × AreDifferent keys
+-- Distinct keys: the first isn't among the others.
+
+pub distinct_none : IsDistinct eqb []
+unfolding IsDistinct
+distinct_none = tt
+
+pub distinct_first : (key : ℕ) (keys : List ℕ) → IsDistinct eqb (key ∷ keys) → is_in key keys ≡ false
+distinct_first key keys distinct = absent keys (IsDistinct-head eqb key keys distinct) where
+  absent : (keys : List ℕ) → AllByRecursion (λ other. eqb key other ≡ false) keys → is_in key keys ≡ false
+  absent [] differ = refl
+  absent (first ∷ keys) differ = or_from (first == key) (is_in key keys) (nat_eq_equiv.symm first key ∙ differ.0) (absent keys differ.1)
+
+pub distinct_more : (key : ℕ) (keys : List ℕ) → is_in key keys ≡ false → IsDistinct eqb keys → IsDistinct eqb (key ∷ keys)
+distinct_more key keys absent distinct = IsDistinct-cons eqb key keys (differ keys absent) distinct where
+  differ : (keys : List ℕ) → is_in key keys ≡ false → AllByRecursion (λ other. eqb key other ≡ false) keys
+  differ [] absent = tt
+  differ (first ∷ keys) absent =
+      let parts = or_parts (first == key) (is_in key keys) absent in
+      (nat_eq_equiv.symm key first ∙ parts.0, differ keys parts.1)
 
 -- each key of a list once
 abbrev pub different : List ℕ → List ℕ
@@ -46,28 +63,30 @@ left_without key other keys left = elim (cases_Bool (key == other)) [
   | inr apart ↦ (apart, sym (others_without key other keys apart) ∙ left)
 ]
 
-pub different_without : (key : ℕ) (keys : List ℕ) → AreDifferent keys → AreDifferent (without key keys)
-different_without key [] differ = tt
-different_without key (first ∷ keys) differ = elim (cases_Bool (first == key)) [
-  | inl same ↦ rw same (different_without key keys differ.1)
-  | inr apart ↦ rw apart (others_without key first keys (differ_back first key apart) ∙ differ.0, different_without key keys differ.1)
-]
+pub different_without : (key : ℕ) (keys : List ℕ) → IsDistinct eqb keys → IsDistinct eqb (without key keys)
+different_without key [] differ = distinct_none
+different_without key (first ∷ keys) differ =
+    let rest = different_without key keys (IsDistinct-tail eqb first keys differ) in
+    elim (cases_Bool (first == key)) [
+      | inl same ↦ rw same rest
+      | inr apart ↦ rw apart (distinct_more first (without key keys) (others_without key first keys (nat_eq_equiv.symm key first ∙ apart) ∙ distinct_first first keys differ) rest)
+    ]
 
 -- at most one key is removed
-pub length_without : (key : ℕ) (keys : List ℕ) → AreDifferent keys → length keys ≤ 1 + length (without key keys)
+pub length_without : (key : ℕ) (keys : List ℕ) → IsDistinct eqb keys → length keys ≤ 1 + length (without key keys)
 length_without key [] differ = omega arith
 length_without key (first ∷ keys) differ = elim (cases_Bool (first == key)) [
   | inl same ↦
-      let absent : is_in key keys ≡ false = ap (λ k. is_in k keys) (sym (eqb-true first key same)) ∙ differ.0 in
+      let absent : is_in key keys ≡ false = ap (λ k. is_in k keys) (sym (eqb-true first key same)) ∙ distinct_first first keys differ in
       rw same (omega (arith, ap length (without-absent key keys absent)))
-  | inr apart ↦ rw apart (omega (arith, length_without key keys differ.1))
+  | inr apart ↦ rw apart (omega (arith, length_without key keys (IsDistinct-tail eqb first keys differ)))
 ]
 
 -- Each key once.
 
-pub different_are : (keys : List ℕ) → AreDifferent (different keys)
-different_are [] = tt
-different_are (key ∷ keys) = (absent_without key (different keys), different_without key (different keys) (different_are keys))
+pub different_are : (keys : List ℕ) → IsDistinct eqb (different keys)
+different_are [] = distinct_none
+different_are (key ∷ keys) = distinct_more key (without key (different keys)) (absent_without key (different keys)) (different_without key (different keys) (different_are keys))
 
 pub in_different : (key : ℕ) (keys : List ℕ) → is_in key (different keys) ≡ is_in key keys
 in_different key [] = refl
@@ -104,34 +123,34 @@ shared_within (key ∷ keys) held = elim (cases_Bool (is_in key held)) [
 ]
 
 -- a held key among different ones counts once
-pub shared_without : (key : ℕ) (keys held : List ℕ) → AreDifferent keys → is_in key held ≡ true
+pub shared_without : (key : ℕ) (keys held : List ℕ) → IsDistinct eqb keys → is_in key held ≡ true
     → shared keys held ≡ (if is_in key keys then 1 else 0) + shared (without key keys) held
 shared_without key [] held differ is = refl
 shared_without key (first ∷ keys) held differ is = elim (cases_Bool (first == key)) [
   | inl same ↦
       let here : first ≡ key = eqb-true first key same in
-      let absent : is_in key keys ≡ false = ap (λ k. is_in k keys) (sym here) ∙ differ.0 in
+      let absent : is_in key keys ≡ false = ap (λ k. is_in k keys) (sym here) ∙ distinct_first first keys differ in
       let first_is : is_in first held ≡ true = ap (λ k. is_in k held) here ∙ is in
       rw same (rw first_is (rw (without-absent key keys absent) refl))
-  | inr apart ↦ rw apart (omega (arith, shared_without key keys held differ.1 is))
+  | inr apart ↦ rw apart (omega (arith, shared_without key keys held (IsDistinct-tail eqb first keys differ) is))
 ]
 
 -- one more key is at most one more shared
-shared_first : (keys : List ℕ) (first : ℕ) (held : List ℕ) → AreDifferent keys → shared keys (first ∷ held) ≤ (if is_in first keys then 1 else 0) + shared keys held
+shared_first : (keys : List ℕ) (first : ℕ) (held : List ℕ) → IsDistinct eqb keys → shared keys (first ∷ held) ≤ (if is_in first keys then 1 else 0) + shared keys held
 shared_first [] first held differ = omega arith
 shared_first (key ∷ keys) first held differ =
-    let rest : shared keys (first ∷ held) ≤ (if is_in first keys then 1 else 0) + shared keys held = shared_first keys first held differ.1 in
+    let rest : shared keys (first ∷ held) ≤ (if is_in first keys then 1 else 0) + shared keys held = shared_first keys first held (IsDistinct-tail eqb key keys differ) in
     elim (cases_Bool (key == first)) [
       | inl same ↦
           let here : key ≡ first = eqb-true key first same in
-          let absent : is_in first keys ≡ false = ap (λ k. is_in k keys) (sym here) ∙ differ.0 in
+          let absent : is_in first keys ≡ false = ap (λ k. is_in k keys) (sym here) ∙ distinct_first key keys differ in
           let found : (first == key) ≡ true = eq-eqb first key (sym here) in
           rw same (rw found (omega (arith, rw absent at rest)))
-      | inr apart ↦ rw apart (rw (differ_back key first apart) (omega (arith, rest)))
+      | inr apart ↦ rw apart (rw (nat_eq_equiv.symm first key ∙ apart) (omega (arith, rest)))
     ]
 
 -- different keys share at most as many with a list as the list with them
-pub shared_turned : (keys held : List ℕ) → AreDifferent keys → shared keys held ≤ shared held keys
+pub shared_turned : (keys held : List ℕ) → IsDistinct eqb keys → shared keys held ≤ shared held keys
 shared_turned keys [] differ = nothing keys where
   nothing : (keys : List ℕ) → shared keys [] ≤ 0
   nothing [] = omega arith

@@ -1,13 +1,16 @@
 -- A key hits in LRU if and only if its stack distance is below the capacity: LRU holds the keys accessed most recently.
 use Rattle.std.proofs.Common.{◌≡◌, ℕ, zero, suc, ◌+◌, ◌<◌, refl, sym, ap, ◌∙◌, arith, inl, inr, true, false, eqb, ltb, List, [], ◌∷◌, ◌++◌, length, take, get_or}
-use Rattle.std.specs.Prelude.{⊤, Option, None, Some}
-use Rattle.std.proofs.lemmas.Bool.{cases_Bool, cases_eq, cases_lt, eqb-true, eq-eqb, ne_eqb, lt-ltb, le-ltb, and_parts, or_from, or_parts, false_from_ne_true}
+use Rattle.std.specs.Prelude.{Option, None, Some}
+use Rattle.std.specs.List.{IsDistinct}
+use Rattle.std.proofs.lemmas.Bool.{cases_Bool, cases_eq, cases_lt, eqb-true, eq-eqb, ne_eqb, lt-ltb, le-ltb, and_parts, or_parts, false_from_ne_true}
 use Rattle.std.proofs.lemmas.List.{take-take}
+use Rattle.std.proofs.lemmas.Map.Keys.{IsDistinct-tail}
 use Rattle.simulator_policies.specs.declared.plain.PlainPolicy.TheVariants.{LeastRecentlyUsed}
 use Rattle.simulator_policies.specs.Policies.{is_in, without, plain_after, plain_after_all}
 use Rattle.simulator_policies.specs.Stamps.{held_at, is_newest}
 use Rattle.simulator_policies.specs.StackDistances.{recent_after, recent_after_all, one_more, stack_distance, is_below}
 use Rattle.simulator_policies.proofs.Stamping.{without-absent, absent-taken, in_stamped}
+use Rattle.simulator_policies.proofs.Sharing.{distinct_none, distinct_first, distinct_more, absent_without, different_without}
 
 -- The keys below a distance.
 
@@ -64,13 +67,8 @@ distance-within key n (first ∷ recent) is = elim (cases_Bool (eqb first key)) 
 
 -- What LRU holds.
 
--- each key of a list is there once
-abbrev pub AreApart : List ℕ → Type 0
-AreApart [] = ⊤
-AreApart (first ∷ recent) = (is_in first recent ≡ false) × AreApart recent
-
 -- a key that is removed from the first of a list
-without-taken : (n key : ℕ) (recent : List ℕ) → AreApart recent → is_in key (take (suc n) recent) ≡ true → without key (take (suc n) recent) ≡ take n (without key recent)
+without-taken : (n key : ℕ) (recent : List ℕ) → IsDistinct eqb recent → is_in key (take (suc n) recent) ≡ true → without key (take (suc n) recent) ≡ take n (without key recent)
 without-taken n key [] apart there = absurd (cc)
 without-taken zero key (first ∷ recent) apart there = elim (cases_eq first key) [
   | inl same ↦ rw (eq-eqb first key same) refl
@@ -80,9 +78,9 @@ without-taken zero key (first ∷ recent) apart there = elim (cases_eq first key
 ]
 without-taken (suc n) key (first ∷ recent) apart there = elim (cases_eq first key) [
   | inl same ↦
-      let absent : is_in key recent ≡ false = sym (ap (λ k. is_in k recent) same) ∙ apart.0 in
+      let absent : is_in key recent ≡ false = sym (ap (λ k. is_in k recent) same) ∙ distinct_first first recent apart in
       rw (eq-eqb first key same) (without-absent key (take (suc n) recent) (absent-taken key (suc n) recent absent) ∙ sym (ap (take (suc n)) (without-absent key recent absent)))
-  | inr other ↦ rw (ne_eqb first key other) (ap (λ rest. first ∷ rest) (without-taken n key recent apart.1 (rw (ne_eqb first key other) at there)))
+  | inr other ↦ rw (ne_eqb first key other) (ap (λ rest. first ∷ rest) (without-taken n key recent (IsDistinct-tail eqb first recent apart) (rw (ne_eqb first key other) at there)))
 ]
 
 -- and one that isn't among them
@@ -94,7 +92,7 @@ taken-without (suc n) key (first ∷ recent) absent =
     rw parts.0 (ap (λ rest. first ∷ rest) (taken-without n key recent parts.1))
 
 -- LRU holds the first of the keys accessed so far
-pub lru_holds_recent : (capacity key : ℕ) (recent : List ℕ) → 0 < capacity → AreApart recent →
+pub lru_holds_recent : (capacity key : ℕ) (recent : List ℕ) → 0 < capacity → IsDistinct eqb recent →
     plain_after LeastRecentlyUsed capacity key (take capacity recent) ≡ take capacity (recent_after key recent)
 lru_holds_recent zero key recent some apart = absurd (omega arith)
 lru_holds_recent (suc n) key recent some apart = elim (cases_Bool (is_in key (take (suc n) recent))) [
@@ -106,33 +104,10 @@ lru_holds_recent (suc n) key recent some apart = elim (cases_Bool (is_in key (ta
 ]
 
 -- each of these is there once
-absent-without : (key other : ℕ) (recent : List ℕ) → is_in other recent ≡ false → is_in other (without key recent) ≡ false
-absent-without key other [] absent = refl
-absent-without key other (first ∷ recent) absent =
-    let parts = or_parts (eqb first other) (is_in other recent) absent in
-    elim (cases_Bool (eqb first key)) [
-      | inl same ↦ rw same (absent-without key other recent parts.1)
-      | inr apart ↦ rw apart (or_from (eqb first other) (is_in other (without key recent)) parts.0 (absent-without key other recent parts.1))
-    ]
+pub recent-apart : (key : ℕ) (recent : List ℕ) → IsDistinct eqb recent → IsDistinct eqb (recent_after key recent)
+recent-apart key recent apart = distinct_more key (without key recent) (absent_without key recent) (different_without key recent apart)
 
-gone-without : (key : ℕ) (recent : List ℕ) → is_in key (without key recent) ≡ false
-gone-without key [] = refl
-gone-without key (first ∷ recent) = elim (cases_Bool (eqb first key)) [
-  | inl same ↦ rw same (gone-without key recent)
-  | inr other ↦ rw other (or_from (eqb first key) (is_in key (without key recent)) other (gone-without key recent))
-]
-
-apart-without : (key : ℕ) (recent : List ℕ) → AreApart recent → AreApart (without key recent)
-apart-without key [] apart = tt
-apart-without key (first ∷ recent) apart = elim (cases_Bool (eqb first key)) [
-  | inl same ↦ rw same (apart-without key recent apart.1)
-  | inr other ↦ rw other (absent-without key first recent apart.0, apart-without key recent apart.1)
-]
-
-pub recent-apart : (key : ℕ) (recent : List ℕ) → AreApart recent → AreApart (recent_after key recent)
-recent-apart key recent apart = (gone-without key recent, apart-without key recent apart)
-
-lru_holds_recent_on : (capacity : ℕ) (trace recent : List ℕ) → 0 < capacity → AreApart recent
+lru_holds_recent_on : (capacity : ℕ) (trace recent : List ℕ) → 0 < capacity → IsDistinct eqb recent
     → plain_after_all LeastRecentlyUsed capacity trace (take capacity recent) ≡ take capacity (recent_after_all trace recent)
 lru_holds_recent_on capacity [] recent some apart = refl
 lru_holds_recent_on capacity (key ∷ trace) recent some apart =
@@ -148,12 +123,12 @@ pub hits_below_distance : (capacity key : ℕ) (trace : List ℕ) → 0 < capaci
     → is_in key (plain_after_all LeastRecentlyUsed capacity trace []) ≡ is_below capacity (stack_distance key (recent_after_all trace []))
 hits_below_distance capacity key trace some =
     ap (λ held. is_in key (plain_after_all LeastRecentlyUsed capacity trace held)) (sym (none-taken capacity))
-    ∙ ap (is_in key) (lru_holds_recent_on capacity trace [] some tt)
+    ∙ ap (is_in key) (lru_holds_recent_on capacity trace [] some distinct_none)
     ∙ near capacity key (recent_after_all trace [])
 
 -- and so is each of the keys given by stamps
-pub held-apart : (trace stamps : List ℕ) (left at : ℕ) → AreApart (held_at trace stamps left at)
-held-apart trace stamps left zero = tt
+pub held-apart : (trace stamps : List ℕ) (left at : ℕ) → IsDistinct eqb (held_at trace stamps left at)
+held-apart trace stamps left zero = distinct_none
 held-apart trace stamps left (suc index) = elim (cases_Bool (is_newest trace stamps left index)) [
   | inl newest ↦
       let key = get_or trace index 0 in
@@ -161,6 +136,6 @@ held-apart trace stamps left (suc index) = elim (cases_Bool (is_newest trace sta
       let absent : is_in key (held_at trace stamps left index) ≡ false =
       false_from_ne_true (is_in key (held_at trace stamps left index))
       (λ is. omega (arith, stamp, (in_stamped trace stamps left key index is).1)) in
-      rw newest (absent, held-apart trace stamps left index)
+      rw newest (distinct_more key (held_at trace stamps left index) absent (held-apart trace stamps left index))
   | inr old ↦ rw old (held-apart trace stamps left index)
 ]

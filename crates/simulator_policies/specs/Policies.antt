@@ -1,5 +1,6 @@
 -- What a cache of each policy holds after a key of a trace, and how many keys of a trace hit.
-use Rattle.std.specs.Prelude.{⊤, ◌≡◌, ℕ, ◌+◌, ◌<◌, Bool, false, ◌||◌, ◌==◌, if◌then◌else◌, List, [], ◌∷◌, get_or, length, take}
+use Rattle.std.specs.Prelude.{◌≡◌, ℕ, ◌+◌, ◌<◌, Bool, false, ◌||◌, ◌==◌, nat_eq, if◌then◌else◌, List, [], ◌∷◌, get_or, length, take}
+use Rattle.std.specs.List.{AllByRecursion, IsDistinct}
 use Rattle.simulator_policies.specs.declared.plain.PlainPolicy.{PlainPolicy}
 use Rattle.simulator_policies.specs.declared.plain.PlainPolicy.TheVariants.{LeastRecentlyUsed, FirstInFirstOut}
 
@@ -59,5 +60,4 @@ plain_after_all policy capacity (key ∷ trace) held = plain_after_all policy ca
 
 -- the keys of a trace differ from one another, and none of them is held
 abbrev pub AreNew : List ℕ → List ℕ → Type 0
-AreNew [] held = ⊤
-AreNew (key ∷ trace) held = (is_in key held ≡ false) × ((is_in key trace ≡ false) × AreNew trace held)
+AreNew trace held = IsDistinct nat_eq trace × AllByRecursion (λ key. is_in key held ≡ false) trace

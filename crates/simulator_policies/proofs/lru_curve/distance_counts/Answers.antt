@@ -1,10 +1,11 @@
-use Rattle.std.proofs.Common.{◌≡◌, ℕ, ◌+◌, ◌<◌, suc, refl, sym, ap, ◌∙◌, arith, false, cond, ltb, [], ◌∷◌, length, length-set, length-append, get_or}
+use Rattle.std.proofs.Common.{◌≡◌, ℕ, ◌+◌, ◌<◌, suc, refl, sym, ap, ◌∙◌, arith, false, cond, eqb, ltb, [], ◌∷◌, length, length-set, length-append, get_or}
+use Rattle.std.specs.List.{IsDistinct}
 use Rattle.std.proofs.lemmas.List.{get_or_default}
 use Rattle.simulator_policies.specs.declared.plain.PlainPolicy.TheVariants.{LeastRecentlyUsed}
 use Rattle.simulator_policies.specs.Policies.{plain_hits}
 use Rattle.simulator_policies.specs.StackDistances.{recent_after, is_below}
 use Rattle.simulator_policies.specs.LastAccesses.{recent_by}
-use Rattle.simulator_policies.proofs.StackDistances.{AreApart, held-apart, distance-within}
+use Rattle.simulator_policies.proofs.StackDistances.{held-apart, distance-within}
 use Rattle.simulator_policies.proofs.Curve.{sum_to, sum-counted-read, sum-pushed, at-most-one, long-again, long-new, hits-further, nothing-counted, hits-at-first}
 use Rattle.simulator_policies.proofs.lru_curve.distance_counts.Goals.{in-Some, in-None+in_ok-push-in-None}
 use Rattle.simulator_policies.proofs.lru_curve.distance_counts.Goals as goal
@@ -38,7 +39,7 @@ overflow_add-index_mut g c =
 
 pub loop-at-preserved : goal.loop-at-preserved
 loop-at-preserved g c =
-    let apart : AreApart (recent_by c.args.trace.now c.loop-at.at c.loop-at.accesses) = held-apart c.args.trace.now c.loop-at.accesses.stamps.items 0 c.loop-at.at in
+    let apart : IsDistinct eqb (recent_by c.args.trace.now c.loop-at.at c.loop-at.accesses) = held-apart c.args.trace.now c.loop-at.accesses.stamps.items 0 c.loop-at.at in
     let longer : length c.match-access.counts.items ≡
     length (recent_after (get_or c.args.trace.now c.loop-at.at 0)
     (recent_by c.args.trace.now c.loop-at.at c.loop-at.accesses)) = elim c.match-access.branch [
