@@ -13,3 +13,7 @@ pub mod Scans
 pub mod Turnover
 pub mod Loops
 pub mod Lifetimes
+pub mod Hits
+pub mod MachineHits
+pub mod SecondChance
+pub mod Optimum

@@ -19,5 +19,7 @@
 //! which shares fit together. `proofs/` proves that it is an invariant (`MachineInvariant`), what a
 //! caller relies on (`Laws`), the bound on the hand's inspections (`Clock`, `Linear`), which key
 //! leaves (`SecondChance`, `Remembered`, `Victims`), which keys a scan evicts (`Scanned`), how long
-//! a key stays (`Lifetimes`), and runs worked out by hand (`WorkedRuns` and its neighbours).
+//! a key stays (`Lifetimes`), that without Small it is CLOCK (`WithoutSmall`), that it hits no more
+//! than Belady's optimum (`MachineOptimum`), and runs worked out by hand (`WorkedRuns` and its
+//! neighbours).
 #![tactic(auto)]

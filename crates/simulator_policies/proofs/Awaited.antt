@@ -5,12 +5,11 @@ use Rattle.std.specs.List.{IsDistinct}
 use Rattle.std.proofs.lemmas.Bool.{cases_Bool, cases_eq, cases_lt, eqb-true, eq-eqb, ne_eqb, lt-ltb, le-ltb, or_cases, or_left, or_right, or_parts, true≢false}
 use Rattle.std.proofs.lemmas.List.{get_or-drop, length-drop}
 use Rattle.std.proofs.lemmas.Map.Keys.{IsDistinct-tail}
-use Rattle.simulator_policies.specs.Policies.{is_in, without}
-use Rattle.simulator_policies.specs.Optimum.{next_use, farthest, without_farthest}
+use Rattle.clock2q_machine.specs.Hits.{is_in, without}
+use Rattle.clock2q_machine.specs.Optimum.{next_use, farthest, without_farthest}
+use Rattle.clock2q_machine.proofs.Sharing.{without-absent, distinct_first, left_without, others_without}
+use Rattle.clock2q_machine.proofs.Optimum.{farthest_is}
 use Rattle.simulator_policies.specs.Awaited.{use_from, used_from, IsWaiting}
-use Rattle.simulator_policies.proofs.Stamping.{without-absent}
-use Rattle.simulator_policies.proofs.Sharing.{distinct_first, left_without, others_without}
-use Rattle.simulator_policies.proofs.Optimum.{farthest_is}
 use Rattle.simulator_policies.proofs.DemandPolicies.{farthest_in}
 
 -- The next use of a key.

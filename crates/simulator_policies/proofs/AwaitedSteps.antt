@@ -5,12 +5,11 @@ use Rattle.std.specs.Prelude.{nat_lt, if◌then◌else◌}
 use Rattle.std.specs.List.{IsDistinct}
 use Rattle.std.proofs.lemmas.Bool.{cases_Bool, cases_eq, eq-eqb, ne_eqb, ltb-false, le-ltb, true≢false}
 use Rattle.std.proofs.lemmas.List.{append_assoc, get_or_default}
-use Rattle.simulator_policies.specs.Policies.{is_in, without}
-use Rattle.simulator_policies.specs.Optimum.{farthest, without_farthest, optimal_after, optimal_hits_from, optimal_outcomes_from}
+use Rattle.clock2q_machine.specs.Hits.{is_in, without}
+use Rattle.clock2q_machine.specs.Optimum.{farthest, without_farthest, optimal_after, optimal_hits_from, optimal_outcomes_from}
+use Rattle.clock2q_machine.proofs.Sharing.{without-absent, distinct_none, absent_without, left_without}
+use Rattle.clock2q_machine.proofs.Optimum.{optimal_comes, optimal_differ}
 use Rattle.simulator_policies.specs.Awaited.{optimal_at, use_from, IsWaiting}
-use Rattle.simulator_policies.proofs.Stamping.{without-absent}
-use Rattle.simulator_policies.proofs.Sharing.{distinct_none, absent_without, left_without}
-use Rattle.simulator_policies.proofs.Optimum.{optimal_comes, optimal_differ}
 use Rattle.simulator_policies.proofs.DemandPolicies.{without_shorter, optimal_fits}
 use Rattle.simulator_policies.proofs.Awaited.{use_now, use_passed, used_few, left_one, passed, joined_one, joined_unused, evicts, evicts_some, evicts_unused}
 

@@ -3,12 +3,13 @@ use Rattle.std.proofs.Common.{◌≡◌, ◌≢◌, ℕ, suc, ◌+◌, ◌-◌, 
 use Rattle.std.proofs.Common.{map, get_or, set, get_or-set_same, get_or-set_other}
 use Rattle.std.proofs.lemmas.Bool.{cases_eq, cases_lt, eq-eqb, ne_eqb, le-leb, lt-leb, le-ltb, ltb-false, or_parts}
 use Rattle.std.proofs.lemmas.List.{get_or_default, map-append}
+use Rattle.clock2q_machine.specs.Hits.{is_in, without}
+use Rattle.clock2q_machine.proofs.Sharing.{without-absent}
 use Rattle.simulator_policies.specs.declared.byte_caches.ByteResidents.{ByteResidents}
 use Rattle.simulator_policies.specs.ByteCaches.{Entry, entry_of, fitting, holds, others, total}
 use Rattle.simulator_policies.specs.ByteResidents.{entries_at, entries_by, entry, IsByteHolding}
-use Rattle.simulator_policies.specs.Policies.{is_in, without}
 use Rattle.simulator_policies.specs.Stamps.{held_at, AreStamps, AreStamped}
-use Rattle.simulator_policies.proofs.Stamping.{without-absent, once, stamped-front, unstamped, stamps-later, stamps-set, is_in-stamp, held-oldest, held-stale, held-none}
+use Rattle.simulator_policies.proofs.Stamping.{once, stamped-front, unstamped, stamps-later, stamps-set, is_in-stamp, held-oldest, held-stale, held-none}
 
 -- The entries of keys.
 module _ (sizes : List ℕ) (key : ℕ) where

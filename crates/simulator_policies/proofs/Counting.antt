@@ -1,6 +1,6 @@
 -- The hits of a trace with one more key.
 use Rattle.std.proofs.Common.{◌≡◌, ℕ, ◌+◌, ◌<◌, ap, arith, add-one, Bool, cond, List, length, drop, drop-cons, get_or}
-use Rattle.simulator_policies.specs.Policies.{hits}
+use Rattle.clock2q_machine.specs.Hits.{hits}
 
 pub counted : {Cache : Type 0} (holds : ℕ → Cache → Bool) (after : ℕ → Cache → Cache) (trace : List ℕ) (i before now total : ℕ) (cache : Cache) → i < length trace
     → before + hits holds after (drop i trace) cache ≡ total → now ≡ before + cond (holds (get_or trace i 0) cache) 1 0 →

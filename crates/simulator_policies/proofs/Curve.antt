@@ -6,13 +6,13 @@ use Rattle.std.specs.List.{IsDistinct}
 use Rattle.std.proofs.lemmas.Bool.{cases_eq, cases_lt, eq-eqb, ne_eqb, lt-ltb, le-ltb}
 use Rattle.std.proofs.lemmas.List.{take_all, take_more, map-append, get_or_default}
 use Rattle.std.proofs.lemmas.Map.Keys.{IsDistinct-tail}
+use Rattle.clock2q_machine.specs.Hits.{hits, is_in, without}
+use Rattle.clock2q_machine.proofs.Sharing.{without-absent, distinct_first}
 use Rattle.simulator_policies.specs.declared.plain.PlainPolicy.TheVariants.{LeastRecentlyUsed}
-use Rattle.simulator_policies.specs.Policies.{hits, is_in, without, plain_after, plain_hits}
+use Rattle.simulator_policies.specs.Policies.{plain_after, plain_hits}
 use Rattle.simulator_policies.specs.CountTree.{sum_in}
 use Rattle.simulator_policies.specs.StackDistances.{recent_after, stack_distance, is_below}
 use Rattle.simulator_policies.proofs.Counting.{counted}
-use Rattle.simulator_policies.proofs.Stamping.{without-absent}
-use Rattle.simulator_policies.proofs.Sharing.{distinct_first}
 use Rattle.simulator_policies.proofs.Sums.{sum_same, sum_none, sum_more}
 use Rattle.simulator_policies.proofs.StackDistances.{near, none-taken, distance-within, lru_holds_recent}
 

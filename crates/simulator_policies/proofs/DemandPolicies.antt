@@ -6,13 +6,14 @@ use Rattle.std.specs.Prelude.{nat_lt, if◌then◌else◌}
 use Rattle.std.specs.Cmp.{nat_eq_equiv}
 use Rattle.std.proofs.lemmas.Bool.{cases_Bool, eqb-true, eq-eqb, ltb-true, ltb-false, or_cases, or_left, or_right}
 use Rattle.std.proofs.lemmas.List.{length-map}
+use Rattle.clock2q_machine.specs.Hits.{hits, hit_count, is_in, without}
+use Rattle.clock2q_machine.specs.SecondChance.{Ring, is_on, marked, moved_on, joined, clock_after, clock_hits}
+use Rattle.clock2q_machine.specs.Optimum.{next_use, later, farthest, without_farthest, optimal_after, optimal_hits_from, optimal_hits, optimal_outcomes_from, optimal_outcomes, IsDemandPolicy}
+use Rattle.clock2q_machine.proofs.Sharing.{left_without}
+use Rattle.clock2q_machine.proofs.Optimum.{optimum, optimum_first, optimal_comes}
 use Rattle.simulator_policies.specs.declared.plain.PlainPolicy.{PlainPolicy}
 use Rattle.simulator_policies.specs.declared.plain.PlainPolicy.TheVariants.{LeastRecentlyUsed, FirstInFirstOut}
-use Rattle.simulator_policies.specs.Policies.{hits, hit_count, is_in, without, after_hit, plain_after, plain_hits}
-use Rattle.simulator_policies.specs.SecondChance.{Ring, is_on, marked, moved_on, joined, clock_after, clock_hits}
-use Rattle.simulator_policies.specs.Optimum.{next_use, later, farthest, without_farthest, optimal_after, optimal_hits_from, optimal_hits, optimal_outcomes_from, optimal_outcomes, IsDemandPolicy}
-use Rattle.simulator_policies.proofs.Sharing.{left_without}
-use Rattle.simulator_policies.proofs.Optimum.{optimum, optimum_first, optimal_comes}
+use Rattle.simulator_policies.specs.Policies.{after_hit, plain_after, plain_hits}
 
 -- removing a key makes a list no longer, and shorter if the key was in it
 without_no_longer : (key : ℕ) (held : List ℕ) → length (without key held) ≤ length held

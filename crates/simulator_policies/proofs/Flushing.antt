@@ -6,9 +6,10 @@ use Rattle.std.specs.Cmp.{nat_eq_equiv}
 use Rattle.std.specs.List.{AllByRecursion}
 use Rattle.std.proofs.lemmas.List.{take-append-le}
 use Rattle.std.proofs.lemmas.Map.Keys.{IsDistinct-tail}
+use Rattle.clock2q_machine.specs.Hits.{is_in}
+use Rattle.clock2q_machine.proofs.Sharing.{distinct_first}
 use Rattle.simulator_policies.specs.declared.plain.PlainPolicy.{PlainPolicy}
-use Rattle.simulator_policies.specs.Policies.{is_in, after_hit, brought, plain_after, plain_after_all, AreNew}
-use Rattle.simulator_policies.proofs.Sharing.{distinct_first}
+use Rattle.simulator_policies.specs.Policies.{after_hit, brought, plain_after, plain_after_all, AreNew}
 
 -- Two tests that both fail.
 

@@ -1,11 +1,13 @@
 -- The stamps of a plain cache when a key of a trace is accessed.
 use Rattle.std.proofs.Common.{◌≡◌, ℕ, ◌+◌, ◌-◌, ◌<◌, ◌≤◌, refl, sym, ap, ◌∙◌, subst, arith, add-one, true, false, ltb, List, ◌∷◌, length, length-set, length-take, take, get_or, set}
 use Rattle.std.proofs.lemmas.List.{get_or_default}
+use Rattle.clock2q_machine.specs.Hits.{is_in, without}
+use Rattle.clock2q_machine.proofs.Sharing.{without-absent}
 use Rattle.simulator_policies.specs.declared.plain.Residents.{Residents}
-use Rattle.simulator_policies.specs.Policies.{is_in, without, brought}
+use Rattle.simulator_policies.specs.Policies.{brought}
 use Rattle.simulator_policies.specs.Stamps.{held_at, AreStamps}
 use Rattle.simulator_policies.specs.Residents.{held_by, IsHolding}
-use Rattle.simulator_policies.proofs.Stamping.{without-absent, absent-taken, once, stamped-front, unstamped, stamps-later, stamps-set, brought-room, brought-full, is_in-stamp}
+use Rattle.simulator_policies.proofs.Stamping.{absent-taken, once, stamped-front, unstamped, stamps-later, stamps-set, brought-room, brought-full, is_in-stamp}
 
 length-taken : (n : ℕ) (held : List ℕ) → n ≤ length held → length (take n held) ≡ n
 length-taken n held within = omega (arith, length-take n held)

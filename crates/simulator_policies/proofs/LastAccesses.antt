@@ -3,7 +3,7 @@ use Rattle.std.proofs.Common.{◌≡◌, ◌≢◌, ℕ, zero, suc, ◌+◌, ◌
 use Rattle.std.proofs.Common.{append_assoc, length, set, get_or, get_or-set_same, get_or-set_other}
 use Rattle.std.specs.Prelude.{None, Some}
 use Rattle.std.proofs.lemmas.Bool.{cases_Bool, cases_eq, cases_lt, eq-eqb, ne_eqb, lt-ltb, false_from_ne_true}
-use Rattle.simulator_policies.specs.Policies.{is_in}
+use Rattle.clock2q_machine.specs.Hits.{is_in}
 use Rattle.simulator_policies.specs.Stamps.{held_at, is_newest, AreStamps}
 use Rattle.simulator_policies.specs.declared.count_tree.CountTree.{CountTree}
 use Rattle.simulator_policies.specs.declared.last_accesses.LastAccesses.{LastAccesses}

@@ -2,8 +2,8 @@
 use Rattle.std.proofs.Common.{◌≡◌, ℕ, zero, suc, ◌+◌, ◌<◌, ◌≤◌, Bool, true, false, cond, List, [], ◌∷◌, ◌++◌, length, take, drop, drop-cons, get_or, refl, sym, ap, ◌∙◌, arith, add-one}
 use Rattle.std.specs.Prelude.{if◌then◌else◌}
 use Rattle.std.proofs.lemmas.List.{append_assoc}
-use Rattle.simulator_policies.specs.Policies.{hits, outcomes, hit_count}
-use Rattle.simulator_policies.specs.Optimum.{optimal_after, optimal_outcomes_from}
+use Rattle.clock2q_machine.specs.Hits.{hits, outcomes, hit_count}
+use Rattle.clock2q_machine.specs.Optimum.{optimal_after, optimal_outcomes_from}
 
 module _ {Cache : Type 0} (holds : ℕ → Cache → Bool) (after : ℕ → Cache → Cache) where
   -- there is one for each access

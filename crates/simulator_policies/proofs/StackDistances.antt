@@ -5,12 +5,13 @@ use Rattle.std.specs.List.{IsDistinct}
 use Rattle.std.proofs.lemmas.Bool.{cases_Bool, cases_eq, cases_lt, eqb-true, eq-eqb, ne_eqb, lt-ltb, le-ltb, and_parts, or_parts, false_from_ne_true}
 use Rattle.std.proofs.lemmas.List.{take-take}
 use Rattle.std.proofs.lemmas.Map.Keys.{IsDistinct-tail}
+use Rattle.clock2q_machine.specs.Hits.{is_in, without}
+use Rattle.clock2q_machine.proofs.Sharing.{without-absent, distinct_none, distinct_first, distinct_more, absent_without, different_without}
 use Rattle.simulator_policies.specs.declared.plain.PlainPolicy.TheVariants.{LeastRecentlyUsed}
-use Rattle.simulator_policies.specs.Policies.{is_in, without, plain_after, plain_after_all}
+use Rattle.simulator_policies.specs.Policies.{plain_after, plain_after_all}
 use Rattle.simulator_policies.specs.Stamps.{held_at, is_newest}
 use Rattle.simulator_policies.specs.StackDistances.{recent_after, recent_after_all, one_more, stack_distance, is_below}
-use Rattle.simulator_policies.proofs.Stamping.{without-absent, absent-taken, in_stamped}
-use Rattle.simulator_policies.proofs.Sharing.{distinct_none, distinct_first, distinct_more, absent_without, different_without}
+use Rattle.simulator_policies.proofs.Stamping.{absent-taken, in_stamped}
 
 -- The keys below a distance.
 

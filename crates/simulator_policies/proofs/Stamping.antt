@@ -3,15 +3,10 @@ use Rattle.std.proofs.Common.{◌≡◌, ◌≢◌, ℕ, zero, suc, ◌-◌, ◌
 use Rattle.std.proofs.Common.{length-append, take, get_or, set, get_or-set_same, get_or-set_other}
 use Rattle.std.proofs.lemmas.Bool.{cases_Bool, cases_eq, cases_lt, eqb-true, ltb-true, eq-eqb, ne_eqb, lt-ltb, le-ltb, and_parts, and_from, and_left, and_right, or_left, or_from, or_cases}
 use Rattle.std.proofs.lemmas.Bool.{or_parts, or_right, false_from_ne_true}
-use Rattle.simulator_policies.specs.Policies.{is_in, without, brought}
+use Rattle.clock2q_machine.specs.Hits.{is_in, without}
+use Rattle.clock2q_machine.proofs.Sharing.{without-absent}
+use Rattle.simulator_policies.specs.Policies.{brought}
 use Rattle.simulator_policies.specs.Stamps.{is_newest, held_at, AreStamps}
-
--- removing a key that isn't in a list changes nothing
-pub without-absent : (key : ℕ) (held : List ℕ) → is_in key held ≡ false → without key held ≡ held
-without-absent key [] absent = refl
-without-absent key (first ∷ held) absent =
-    let parts = or_parts (eqb first key) (is_in key held) absent in
-    rw parts.0 (ap (λ rest. first ∷ rest) (without-absent key held parts.1))
 
 module _ (trace stamps : List ℕ) (left : ℕ) where
   abbrev key_at : ℕ → ℕ

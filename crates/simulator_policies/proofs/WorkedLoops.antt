@@ -7,9 +7,10 @@ use Rattle.clock2q_machine.specs.Shares.{usual_shares}
 use Rattle.clock2q_machine.specs.Machine.{empty}
 use Rattle.clock2q_machine.specs.Steps.{after_all}
 use Rattle.clock2q_machine.specs.Loops.{rounds}
+use Rattle.clock2q_machine.specs.Hits.{hits, is_in}
+use Rattle.clock2q_machine.specs.MachineHits.{machine_holds, machine_after}
 use Rattle.simulator_policies.specs.declared.plain.PlainPolicy.TheVariants.{LeastRecentlyUsed}
-use Rattle.simulator_policies.specs.Policies.{hits, is_in, plain_after, plain_after_all}
-use Rattle.simulator_policies.specs.MachineHits.{machine_holds, machine_after}
+use Rattle.simulator_policies.specs.Policies.{plain_after, plain_after_all}
 
 abbrev loop : List ℕ
 loop = range_with_len 101 61

@@ -1,8 +1,8 @@
 -- What the optimum holds, given by the indices of the next uses.
 use Rattle.std.specs.Prelude.{◌≡◌, ℕ, zero, suc, ◌+◌, ◌<◌, ◌≤◌, Bool, true, nat_lt, if◌then◌else◌, List, [], ◌∷◌, length, get_or, drop}
+use Rattle.clock2q_machine.specs.Hits.{is_in}
+use Rattle.clock2q_machine.specs.Optimum.{next_use, optimal_after}
 use Rattle.simulator_policies.specs.declared.optimal.Awaited.{Awaited}
-use Rattle.simulator_policies.specs.Policies.{is_in}
-use Rattle.simulator_policies.specs.Optimum.{next_use, optimal_after}
 use Rattle.simulator_policies.specs.Indices.{AreLevels, bound_of, contains}
 
 -- what the optimum holds after this many keys of a trace

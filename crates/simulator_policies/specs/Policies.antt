@@ -1,35 +1,11 @@
--- What a cache of each policy holds after a key of a trace, and how many keys of a trace hit.
-use Rattle.std.specs.Prelude.{◌≡◌, ℕ, ◌+◌, ◌<◌, Bool, false, ◌||◌, ◌==◌, nat_eq, if◌then◌else◌, List, [], ◌∷◌, get_or, length, take}
+-- What a cache of each plain policy holds after a key of a trace, and how many keys of a trace hit.
+use Rattle.std.specs.Prelude.{◌≡◌, ℕ, ◌<◌, Bool, false, nat_eq, if◌then◌else◌, List, [], ◌∷◌, get_or, length, take}
 use Rattle.std.specs.List.{AllByRecursion, IsDistinct}
+use Rattle.clock2q_machine.specs.Hits.{hits, outcomes, is_in, without}
 use Rattle.simulator_policies.specs.declared.plain.PlainPolicy.{PlainPolicy}
 use Rattle.simulator_policies.specs.declared.plain.PlainPolicy.TheVariants.{LeastRecentlyUsed, FirstInFirstOut}
 
--- the number of accesses of a trace that hit, one after another
-module _ {Cache : Type 0} (holds : ℕ → Cache → Bool) (after : ℕ → Cache → Cache) where
-  abbrev pub hits : List ℕ → Cache → ℕ
-  hits [] cache = 0
-  hits (key ∷ trace) cache = (if holds key cache then 1 else 0) + hits trace (after key cache)
-
-  -- and for each access whether it hits
-  abbrev pub outcomes : List ℕ → Cache → List Bool
-  outcomes [] cache = []
-  outcomes (key ∷ trace) cache = holds key cache ∷ outcomes trace (after key cache)
-
--- the number of outcomes that are hits
-abbrev pub hit_count : List Bool → ℕ
-hit_count [] = 0
-hit_count (hit ∷ outcomes) = (if hit then 1 else 0) + hit_count outcomes
-
--- the plain policies are lists of keys, of which the last is evicted
-abbrev pub is_in : ℕ → List ℕ → Bool
-is_in key [] = false
-is_in key (first ∷ held) = (first == key) || is_in key held
-
-abbrev pub without : ℕ → List ℕ → List ℕ
-without key [] = []
-without key (first ∷ held) = if first == key then without key held else first ∷ without key held
-
--- a key that isn't held is added at the front
+-- the plain policies are lists of keys, of which the last is evicted: a key that isn't held is added at the front
 abbrev pub brought : ℕ → ℕ → List ℕ → List ℕ
 brought capacity key held = take capacity (key ∷ held)
 

@@ -1,6 +1,6 @@
 -- How long ago a key was accessed: the number of other keys accessed since.
 use Rattle.std.specs.Prelude.{ℕ, ◌+◌, Bool, false, ◌==◌, nat_lt, if◌then◌else◌, List, [], ◌∷◌, Option, None, Some}
-use Rattle.simulator_policies.specs.Policies.{without}
+use Rattle.clock2q_machine.specs.Hits.{without}
 
 -- all keys accessed so far, most recent first
 abbrev pub recent_after : ℕ → List ℕ → List ℕ

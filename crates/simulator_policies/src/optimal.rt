@@ -1,8 +1,9 @@
 //! Belady's optimum.
 ghost use Rattle.std.specs.Prelude.{◌≡◌, ℕ, ◌+◌, ◌<◌, ◌≤◌, ◌^◌, IfOk, false, length, map, slice_index};
 ghost use Rattle.std.specs.NonZero.{non_zero_usize_get};
-ghost use Rattle.simulator_policies.specs.Policies.{is_in, without, AreBelow};
-ghost use Rattle.simulator_policies.specs.Optimum.{optimal_hits, optimal_outcomes};
+ghost use Rattle.clock2q_machine.specs.Hits.{is_in, without};
+ghost use Rattle.clock2q_machine.specs.Optimum.{optimal_hits, optimal_outcomes};
+ghost use Rattle.simulator_policies.specs.Policies.{AreBelow};
 ghost use Rattle.simulator_policies.specs.Indices.{AreLevels, bound_of, contains};
 ghost use Rattle.simulator_policies.specs.Awaited.{optimal_at, AreNextUses, IsAwaiting};
 

@@ -1,7 +1,8 @@
 //! The plain policies that Clock2Q+ is compared with.
 ghost use Rattle.std.specs.Prelude.{◌≡◌, ◌+◌, ◌-◌, ◌<◌, ◌≤◌, IfOk, false, true, length, take, slice_index};
 ghost use Rattle.std.specs.NonZero.{non_zero_usize_get};
-ghost use Rattle.simulator_policies.specs.Policies.{is_in, after_hit, brought, plain_after, plain_hits, plain_outcomes, AreBelow};
+ghost use Rattle.clock2q_machine.specs.Hits.{is_in};
+ghost use Rattle.simulator_policies.specs.Policies.{after_hit, brought, plain_after, plain_hits, plain_outcomes, AreBelow};
 ghost use Rattle.simulator_policies.specs.Stamps.{held_at, AreStamped};
 ghost use Rattle.simulator_policies.specs.Residents.{held_by, IsHolding};
 

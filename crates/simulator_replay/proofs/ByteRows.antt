@@ -4,9 +4,9 @@ use Rattle.std.specs.List.{filter}
 use Rattle.std.specs.Option.{is_some}
 use Rattle.std.proofs.lemmas.List.{map-append, take_all, take_min}
 use Rattle.std.proofs.lemmas.List.Elements.{filter_more}
+use Rattle.clock2q_machine.specs.Hits.{hit_count}
 use Rattle.simulator_policies.specs.declared.plain.PlainPolicy.{PlainPolicy}
 use Rattle.simulator_policies.specs.ByteCaches.{Entry, byte_after, byte_outcomes, byte_outcomes_from}
-use Rattle.simulator_policies.specs.Policies.{hit_count}
 use Rattle.simulator_io.specs.declared.policy.Policy.{Policy}
 use Rattle.simulator_io.specs.declared.policy.Policy.TheVariants.{Clock2Q, Sieve, S3Fifo, LeastRecentlyUsed, Optimal, FirstInFirstOut, Clock, Arc, TwoQ, Lirs, Lru2, WTinyLfu}
 use Rattle.simulator_io.specs.declared.row.Hits.{Hits}

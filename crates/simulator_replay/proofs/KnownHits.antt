@@ -1,9 +1,9 @@
 -- Hits that are known are those of a replay.
 use Rattle.std.proofs.Common.{◌≡◌, ℕ, Bool, List, take, Option, Some, None, refl, sym, subst}
 use Rattle.std.specs.Prelude.{IfSome}
+use Rattle.clock2q_machine.specs.Optimum.{optimal_hits, optimal_outcomes}
 use Rattle.simulator_policies.specs.declared.plain.PlainPolicy.TheVariants as plain
 use Rattle.simulator_policies.specs.Policies.{plain_hits, plain_outcomes}
-use Rattle.simulator_policies.specs.Optimum.{optimal_hits, optimal_outcomes}
 use Rattle.simulator_replay.specs.KnownHits.{AreKnown, known_of}
 use Rattle.simulator_replay.specs.Rows.{AreHitsAfter, IsReplay}
 use Rattle.simulator_replay.specs.declared.known_hits.KnownHits.{KnownHits}

@@ -4,9 +4,10 @@ use Rattle.std.specs.List.{All}
 use Rattle.std.specs.NonZero.{non_zero_usize_get}
 use Rattle.std.proofs.lemmas.List.{take_all, take_min, take_more, take-take, length-take-le, map-append}
 use Rattle.clock2q_machine.specs.Machine.{empty}
+use Rattle.clock2q_machine.specs.Hits.{hit_count, is_in}
+use Rattle.clock2q_machine.specs.SecondChance.{is_on, clock_after}
 use Rattle.simulator_policies.specs.declared.plain.PlainPolicy.TheVariants as plain
-use Rattle.simulator_policies.specs.Policies.{hit_count, is_in, plain_after}
-use Rattle.simulator_policies.specs.SecondChance.{is_on, clock_after}
+use Rattle.simulator_policies.specs.Policies.{plain_after}
 use Rattle.simulator_policies.proofs.DemandPolicies.{first_optimal_hits}
 use Rattle.simulator_policies.proofs.Outcomes.{first_hits, one_each, one_optimal_each}
 use Rattle.simulator_io.specs.declared.policy.Policy.{Policy}

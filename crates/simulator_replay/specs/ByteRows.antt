@@ -3,10 +3,10 @@ use Rattle.std.specs.Prelude.{◌≡◌, ℕ, ◌-◌, Bool, false, true, List, 
 use Rattle.std.specs.List.{All, filter}
 use Rattle.std.specs.NonZero.{non_zero_usize_get}
 use Rattle.std.specs.declared.num.NonZeroUsize.{NonZeroUsize}
+use Rattle.clock2q_machine.specs.Hits.{hit_count}
 use Rattle.simulator_policies.specs.declared.plain.PlainPolicy.{PlainPolicy}
 use Rattle.simulator_policies.specs.declared.plain.PlainPolicy.TheVariants as plain
 use Rattle.simulator_policies.specs.ByteCaches.{byte_outcomes}
-use Rattle.simulator_policies.specs.Policies.{hit_count}
 use Rattle.simulator_io.specs.declared.policy.Policy.{Policy}
 use Rattle.simulator_io.specs.declared.policy.Policy.TheVariants.{LeastRecentlyUsed, FirstInFirstOut}
 use Rattle.simulator_io.specs.declared.row.Row.{Row}

@@ -2,9 +2,9 @@
 use Rattle.std.specs.Prelude.{◌≡◌, ℕ, ◌-◌, ◌<◌, List, get_or, length, map, take}
 use Rattle.std.specs.NonZero.{non_zero_usize_get}
 use Rattle.std.specs.declared.num.NonZeroUsize.{NonZeroUsize}
+use Rattle.clock2q_machine.specs.Optimum.{optimal_hits}
 use Rattle.simulator_policies.specs.declared.plain.PlainPolicy.TheVariants as plain
 use Rattle.simulator_policies.specs.Policies.{plain_hits}
-use Rattle.simulator_policies.specs.Optimum.{optimal_hits}
 use Rattle.simulator_replay.specs.declared.curve.Curve.{Curve}
 use Rattle.simulator_replay.specs.declared.curve.Curve.TheVariants.{LeastRecentlyUsed, Optimal}
 

@@ -3,7 +3,7 @@ use Rattle.std.specs.Prelude.{ℕ, Bool, ◌==◌, List, is_some}
 use Rattle.clock2q_machine.specs.Machine.{Machine, value_of, empty}
 use Rattle.clock2q_machine.specs.Shares.{Shares}
 use Rattle.clock2q_machine.specs.Steps.{put}
-use Rattle.simulator_policies.specs.Policies.{hits, outcomes}
+use Rattle.clock2q_machine.specs.Hits.{hits, outcomes}
 
 -- every key is put
 abbrev pub machine_holds : ℕ → Machine ℕ (Unit {0}) → Bool

@@ -2,10 +2,10 @@
 use Rattle.std.specs.Prelude.{◌≡◌, ℕ, ◌-◌, Bool, List, Option, length, map, take}
 use Rattle.std.specs.List.{All}
 use Rattle.std.specs.NonZero.{non_zero_usize_get}
+use Rattle.clock2q_machine.specs.SecondChance.{clock_hits, clock_outcomes}
+use Rattle.clock2q_machine.specs.Optimum.{optimal_hits, optimal_outcomes}
 use Rattle.simulator_policies.specs.declared.plain.PlainPolicy.TheVariants as plain
 use Rattle.simulator_policies.specs.Policies.{plain_hits, plain_outcomes}
-use Rattle.simulator_policies.specs.SecondChance.{clock_hits, clock_outcomes}
-use Rattle.simulator_policies.specs.Optimum.{optimal_hits, optimal_outcomes}
 use Rattle.simulator_io.specs.declared.policy.Policy.{Policy}
 use Rattle.simulator_io.specs.declared.policy.Policy.TheVariants.{Clock2Q, Sieve, S3Fifo, LeastRecentlyUsed, Optimal, FirstInFirstOut, Clock, Arc, TwoQ, Lirs, Lru2, WTinyLfu}
 use Rattle.simulator_io.specs.declared.row.Row.{Row}

@@ -3,8 +3,8 @@ use Rattle.std.specs.Prelude.{◌≡◌, ℕ, ◌+◌, ◌-◌, ◌<◌, min, Li
 use Rattle.std.specs.List.{All}
 use Rattle.std.specs.NonZero.{non_zero_usize_get}
 use Rattle.std.specs.declared.num.NonZeroUsize.{NonZeroUsize}
+use Rattle.clock2q_machine.specs.Hits.{hit_count}
 use Rattle.simulator_io.specs.declared.policy.Policy.{Policy}
-use Rattle.simulator_policies.specs.Policies.{hit_count}
 use Rattle.simulator_io.specs.declared.row.Hits.{Hits}
 use Rattle.simulator_io.specs.declared.row.Row.{Row}
 use Rattle.simulator_io.specs.declared.shares.ChosenShares.{ChosenShares}

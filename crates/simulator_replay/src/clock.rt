@@ -3,8 +3,8 @@ ghost use Rattle.std.specs.Prelude.{◌≡◌, ◌≢◌, ◌<◌, ◌≤◌, �
 ghost use Rattle.std.specs.NonZero.{non_zero_usize_get};
 ghost use Rattle.clock2q_machine.specs.Machine.{empty};
 ghost use Rattle.clock2q_machine.specs.Policies.{IsPolicy};
-ghost use Rattle.simulator_policies.specs.Policies.{outcomes};
-ghost use Rattle.simulator_policies.specs.SecondChance.{clock_outcomes};
+ghost use Rattle.clock2q_machine.specs.Hits.{outcomes};
+ghost use Rattle.clock2q_machine.specs.SecondChance.{clock_outcomes};
 ghost use Rattle.simulator_io.specs.ChosenShares.{shares_for};
 ghost use Rattle.simulator_replay.specs.MachineHits.{machine_after, machine_holds, machine_outcomes};
 

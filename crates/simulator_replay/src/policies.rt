@@ -2,7 +2,7 @@
 ghost use Rattle.std.specs.Prelude.{◌≡◌, ◌≤◌, ◌^◌, IfErr, IfOk};
 ghost use Rattle.std.specs.NonZero.{non_zero_usize_get};
 ghost use Rattle.simulator_policies.specs.Policies.{AreBelow};
-ghost use Rattle.simulator_policies.specs.SecondChance.{clock_outcomes};
+ghost use Rattle.clock2q_machine.specs.SecondChance.{clock_outcomes};
 ghost use Rattle.simulator_io.specs.ChosenShares.{shares_for};
 ghost use Rattle.simulator_io.specs.SimulationError.{IsOfNoDevice};
 ghost use Rattle.simulator_replay.specs.CacheRefusals.{of_cache};

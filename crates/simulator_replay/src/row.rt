@@ -1,7 +1,7 @@
 //! A trace replayed at one capacity.
 ghost use Rattle.std.specs.Prelude.{◌≡◌, ◌+◌, ◌-◌, ◌≤◌, IfErr, IfOk, length, take};
 ghost use Rattle.std.specs.NonZero.{non_zero_usize_get};
-ghost use Rattle.simulator_policies.specs.Policies.{hit_count};
+ghost use Rattle.clock2q_machine.specs.Hits.{hit_count};
 ghost use Rattle.simulator_io.specs.SimulationError.{IsOfNoDevice};
 ghost use Rattle.simulator_io.specs.Trace.{sizes_of};
 ghost use Rattle.simulator_replay.specs.KnownHits.{AreKnown};

@@ -1,7 +1,8 @@
 -- The accesses so far are counted by their distances, and with the hits to come those of each capacity are all hits.
 use Rattle.std.proofs.Common.{◌≡◌, ℕ, ◌+◌, ◌<◌, ◌≤◌, length, take, drop}
+use Rattle.clock2q_machine.specs.Hits.{hits, is_in}
 use Rattle.simulator_policies.specs.declared.plain.PlainPolicy.TheVariants.{LeastRecentlyUsed}
-use Rattle.simulator_policies.specs.Policies.{hits, is_in, plain_after, plain_hits}
+use Rattle.simulator_policies.specs.Policies.{plain_after, plain_hits}
 use Rattle.simulator_policies.specs.LastAccesses.{recent_by, IsCounting}
 use Rattle.simulator_policies.proofs.Curve.{sum_to}
 use Rattle.simulator_policies.proofs.lru_curve.distance_counts.Given as goal

@@ -1,7 +1,7 @@
 use Rattle.std.proofs.Common.{◌≡◌, ◌∙◌, ◌+◌, sym, arith, add-one, cond, get_or}
 use Rattle.std.specs.NonZero.{non_zero_usize_get}
-use Rattle.simulator_policies.specs.Policies.{is_in}
-use Rattle.simulator_policies.specs.Optimum.{optimal_hits}
+use Rattle.clock2q_machine.specs.Hits.{is_in}
+use Rattle.clock2q_machine.specs.Optimum.{optimal_hits}
 use Rattle.simulator_policies.specs.Awaited.{optimal_at}
 use Rattle.simulator_policies.proofs.AwaitedSteps.{hits_on}
 use Rattle.simulator_policies.proofs.optimal.hits_by.Goals.{then-access, else-access}

@@ -1,7 +1,7 @@
 -- The hits so far plus those to come are all hits.
 use Rattle.std.proofs.Common.{◌≡◌, ◌+◌, ◌≤◌, drop}
 use Rattle.std.specs.NonZero.{non_zero_usize_get}
-use Rattle.simulator_policies.specs.Optimum.{optimal_hits_from, optimal_hits}
+use Rattle.clock2q_machine.specs.Optimum.{optimal_hits_from, optimal_hits}
 use Rattle.simulator_policies.specs.Awaited.{optimal_at, IsAwaiting}
 use Rattle.simulator_policies.proofs.optimal.hits_by.Given as goal
 

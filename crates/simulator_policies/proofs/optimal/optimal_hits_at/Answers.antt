@@ -1,6 +1,6 @@
 use Rattle.std.proofs.Common.{ap, ◌∙◌, [], ◌∷◌, ◌++◌}
 use Rattle.std.specs.NonZero.{non_zero_usize_get}
-use Rattle.simulator_policies.specs.Optimum.{optimal_hits}
+use Rattle.clock2q_machine.specs.Optimum.{optimal_hits}
 use Rattle.simulator_policies.proofs.Curve.{map-further}
 use Rattle.simulator_policies.proofs.optimal.optimal_hits_at.Goals as goal
 

@@ -1,6 +1,6 @@
 use Rattle.std.proofs.Common.{◌∙◌, ◌++◌, ◌∷◌, [], ap, arith, add-one}
 use Rattle.std.specs.NonZero.{non_zero_usize_get}
-use Rattle.simulator_policies.specs.Optimum.{optimal_outcomes}
+use Rattle.clock2q_machine.specs.Optimum.{optimal_outcomes}
 use Rattle.simulator_policies.proofs.AwaitedSteps.{outcomes_on}
 use Rattle.simulator_policies.proofs.optimal.optimal_outcomes.Goals as goal
 

@@ -1,7 +1,7 @@
 -- The outcomes so far, followed by those to come, are all outcomes.
 use Rattle.std.proofs.Common.{◌≡◌, ◌+◌, ◌-◌, ◌≤◌, ◌++◌, length, drop, vec_len, vec_capacity}
 use Rattle.std.specs.NonZero.{non_zero_usize_get}
-use Rattle.simulator_policies.specs.Optimum.{optimal_outcomes_from, optimal_outcomes}
+use Rattle.clock2q_machine.specs.Optimum.{optimal_outcomes_from, optimal_outcomes}
 use Rattle.simulator_policies.specs.Awaited.{optimal_at, IsAwaiting}
 use Rattle.simulator_policies.proofs.optimal.optimal_outcomes.Given as goal
 

@@ -1,7 +1,8 @@
 -- The hits so far plus those to come are all hits.
 use Rattle.std.proofs.Common.{◌≡◌, ◌+◌, ◌≤◌, drop}
 use Rattle.std.specs.NonZero.{non_zero_usize_get}
-use Rattle.simulator_policies.specs.Policies.{hits, is_in, plain_after, plain_hits}
+use Rattle.clock2q_machine.specs.Hits.{hits, is_in}
+use Rattle.simulator_policies.specs.Policies.{plain_after, plain_hits}
 use Rattle.simulator_policies.specs.Residents.{held_by, IsHolding}
 use Rattle.simulator_policies.proofs.plain.plain_hits.Given as goal
 

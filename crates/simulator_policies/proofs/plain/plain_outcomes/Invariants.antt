@@ -1,7 +1,8 @@
 -- The outcomes so far, followed by those to come, are all outcomes.
 use Rattle.std.proofs.Common.{◌≡◌, ◌+◌, ◌-◌, ◌≤◌, ◌++◌, length, drop, vec_len, vec_capacity}
 use Rattle.std.specs.NonZero.{non_zero_usize_get}
-use Rattle.simulator_policies.specs.Policies.{outcomes, is_in, plain_after, plain_outcomes}
+use Rattle.clock2q_machine.specs.Hits.{outcomes, is_in}
+use Rattle.simulator_policies.specs.Policies.{plain_after, plain_outcomes}
 use Rattle.simulator_policies.specs.Residents.{held_by, IsHolding}
 use Rattle.simulator_policies.proofs.plain.plain_outcomes.Given as goal
 

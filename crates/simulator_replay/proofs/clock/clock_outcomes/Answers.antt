@@ -1,8 +1,8 @@
 use Rattle.std.proofs.Common.{◌≡◌, ◌∙◌, ap, arith, subst}
 use Rattle.std.specs.Prelude.{IfOk}
 use Rattle.std.specs.NonZero.{non_zero_usize_get}
-use Rattle.simulator_policies.specs.Policies.{outcomes}
-use Rattle.simulator_policies.proofs.WithoutSmall.{clock_outcomes_without_small}
+use Rattle.clock2q_machine.specs.Hits.{outcomes}
+use Rattle.clock2q_machine.proofs.WithoutSmall.{clock_outcomes_without_small}
 use Rattle.simulator_replay.specs.MachineHits.{machine_after, machine_holds}
 use Rattle.simulator_replay.proofs.clock.clock_outcomes.Goals as goal
 

@@ -1,6 +1,6 @@
 -- The outcomes so far, followed by those to come, are all outcomes.
 use Rattle.std.proofs.Common.{◌≡◌, ◌+◌, ◌-◌, ◌≤◌, ◌++◌, length, drop, vec_len, vec_capacity}
-use Rattle.simulator_policies.specs.Policies.{outcomes}
+use Rattle.clock2q_machine.specs.Hits.{outcomes}
 use Rattle.simulator_replay.specs.MachineHits.{machine_holds, machine_after}
 use Rattle.simulator_replay.proofs.clock.outcomes_in.Given as goal
 

@@ -1,6 +1,6 @@
 -- The hits so far are those after the first accesses.
 use Rattle.std.proofs.Common.{◌≡◌, ◌+◌, ◌≤◌, take}
-use Rattle.simulator_policies.specs.Policies.{hit_count}
+use Rattle.clock2q_machine.specs.Hits.{hit_count}
 use Rattle.simulator_replay.proofs.row.hits_in_block.Given as goal
 
 abbrev pub invariant-loop-index : goal.invariant-loop-index

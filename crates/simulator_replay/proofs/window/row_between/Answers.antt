@@ -1,5 +1,5 @@
 use Rattle.std.proofs.Common.{◌≡◌, ◌-◌, ◌≤◌, ◌∙◌, ◌++◌, ◌∷◌, [], ap, sym, subst, arith, length, take}
-use Rattle.simulator_policies.specs.Policies.{hit_count}
+use Rattle.clock2q_machine.specs.Hits.{hit_count}
 use Rattle.simulator_io.specs.Bytes.{hit_between}
 use Rattle.simulator_replay.specs.Windows.{counted}
 use Rattle.simulator_replay.proofs.Replaying.{mapped-more, hits_of}

@@ -1,6 +1,6 @@
 use Rattle.std.proofs.Common.{◌≡◌, true, false, get_or, sym, ◌∙◌}
 use Rattle.std.proofs.lemmas.Bool.{lt-ltb, le-ltb}
-use Rattle.simulator_policies.specs.Policies.{is_in}
+use Rattle.clock2q_machine.specs.Hits.{is_in}
 use Rattle.simulator_policies.specs.Residents.{held_by}
 use Rattle.simulator_policies.proofs.Holding.{held-iff}
 use Rattle.simulator_policies.proofs.plain.Residents.access.Goals as goal

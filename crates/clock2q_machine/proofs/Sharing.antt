@@ -5,8 +5,7 @@ use Rattle.std.specs.Cmp.{nat_eq_equiv}
 use Rattle.std.specs.List.{AllByRecursion, IsDistinct}
 use Rattle.std.proofs.lemmas.Bool.{cases_Bool, eqb-true, eq-eqb, or_from, or_left, or_parts, or_right, true≢false}
 use Rattle.std.proofs.lemmas.Map.Keys.{IsDistinct-head, IsDistinct-tail, IsDistinct-cons}
-use Rattle.simulator_policies.specs.Policies.{is_in, without}
-use Rattle.simulator_policies.proofs.Stamping.{without-absent}
+use Rattle.clock2q_machine.specs.Hits.{is_in, without}
 
 -- Distinct keys: the first isn't among the others.
 
@@ -39,6 +38,13 @@ shared [] held = 0
 shared (key ∷ keys) held = (if is_in key held then 1 else 0) + shared keys held
 
 -- A key that is removed.
+
+-- removing a key that isn't in a list changes nothing
+pub without-absent : (key : ℕ) (held : List ℕ) → is_in key held ≡ false → without key held ≡ held
+without-absent key [] absent = refl
+without-absent key (first ∷ held) absent =
+    let parts = or_parts (first == key) (is_in key held) absent in
+    rw parts.0 (ap (λ rest. first ∷ rest) (without-absent key held parts.1))
 
 pub absent_without : (key : ℕ) (keys : List ℕ) → is_in key (without key keys) ≡ false
 absent_without key [] = refl

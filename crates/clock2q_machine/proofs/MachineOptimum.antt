@@ -11,14 +11,14 @@ use Rattle.clock2q_machine.specs.Shares.{Shares}
 use Rattle.clock2q_machine.specs.Calls.{Put}
 use Rattle.clock2q_machine.specs.Machine.{Machine, empty, residents, slot_of, value_of}
 use Rattle.clock2q_machine.specs.Whole.{IsWhole}
+use Rattle.clock2q_machine.specs.Hits.{hits, is_in}
+use Rattle.clock2q_machine.specs.MachineHits.{machine_holds, machine_after}
+use Rattle.clock2q_machine.specs.Optimum.{optimal_hits, IsDemandPolicy}
 use Rattle.clock2q_machine.proofs.MachineInvariant.{lasting-after, lasting-empty, resident_made}
 use Rattle.clock2q_machine.proofs.Standing.{get-within}
 use Rattle.clock2q_machine.proofs.Laws.{put_there, others_had}
 use Rattle.clock2q_machine.proofs.NewKeys.{put_shares}
-use Rattle.simulator_policies.specs.Policies.{hits, is_in}
-use Rattle.simulator_policies.specs.MachineHits.{machine_holds, machine_after}
-use Rattle.simulator_policies.specs.Optimum.{optimal_hits, IsDemandPolicy}
-use Rattle.simulator_policies.proofs.Optimum.{optimum}
+use Rattle.clock2q_machine.proofs.Optimum.{optimum}
 
 abbrev resident_keys : Machine ℕ (Unit {0}) → List ℕ
 resident_keys m = map (λ r. r.0) (residents m)

@@ -14,16 +14,16 @@ use Rattle.clock2q_machine.specs.Leaving.{leaver}
 use Rattle.clock2q_machine.specs.Machine.{Machine, empty, hit, stored, inserted, replacing_victim, joining_main, slot_of, value_of, vacant_slot}
 use Rattle.clock2q_machine.specs.Steps.{replaced_at, after_all}
 use Rattle.clock2q_machine.specs.Whole.{IsWhole}
+use Rattle.clock2q_machine.specs.Hits.{hits, outcomes}
+use Rattle.clock2q_machine.specs.MachineHits.{machine_holds, machine_after}
+use Rattle.clock2q_machine.specs.SecondChance.{is_on, marked, moved_on, joined, clock_after, clock_hits, clock_outcomes, first_key, clock_victim, passed, rotated, frames_after}
+use Rattle.clock2q_machine.specs.SecondChance.{clock_ring_from, clock_frames_from, clock_ring, clock_frames}
 use Rattle.clock2q_machine.proofs.Whole.{none_is, some_is}
 use Rattle.clock2q_machine.proofs.Weights.{length-from_victim}
 use Rattle.clock2q_machine.proofs.Residents.{slot_among}
 use Rattle.clock2q_machine.proofs.MachineInvariant.{lasting-after, lasting-empty, resident_made}
 use Rattle.clock2q_machine.proofs.Standing.{get-within}
-use Rattle.simulator_policies.specs.Policies.{hits, outcomes}
-use Rattle.simulator_policies.specs.MachineHits.{machine_holds, machine_after}
-use Rattle.simulator_policies.specs.SecondChance.{is_on, marked, moved_on, joined, clock_after, clock_hits, clock_outcomes, first_key, clock_victim, passed, turned, frames_after}
-use Rattle.simulator_policies.specs.SecondChance.{clock_ring_from, clock_frames_from, clock_ring, clock_frames}
-use Rattle.simulator_policies.proofs.Rings.{entry_of, ring_of, frames_of, victim_alike, frames_turned, frames_hit, first_alike, marked_alike, found_alike}
+use Rattle.clock2q_machine.proofs.Rings.{entry_of, ring_of, frames_of, victim_alike, frames_rotated, frames_hit, first_alike, marked_alike, found_alike}
 
 module _ (capacity : ℕ) where
   abbrev without_small : Shares
@@ -60,7 +60,7 @@ module _ (capacity : ℕ) where
 
     -- the frames if the key isn't there
     abbrev added : List ℕ
-    added = if nat_lt (length (ring_of main)) capacity then frames_of main ++ length (frames_of main) ∷ [] else turned 1 (turned (passed (ring_of main)) (frames_of main))
+    added = if nat_lt (length (ring_of main)) capacity then frames_of main ++ length (frames_of main) ∷ [] else rotated 1 (rotated (passed (ring_of main)) (frames_of main))
 
     hit_alike : (slot : ℕ) → slot_of is_key (cache_of main values) ≡ Some slot → GoesOn key main (stored slot tt (hit is_key (cache_of main values)))
     hit_alike slot found = record {
@@ -96,8 +96,8 @@ module _ (capacity : ℕ) where
               ∙ ap (λ b. if b then marked key (ring_of main) else joined capacity key (ring_of main)) (sym (missed absent));
           is_frames =
               map-append (λ (e : MainEntry ℕ). e.slot) others (record { key = key; slot = victim.slot; bit = false } ∷ [])
-              ∙ ap (turned 1) (sym (ap frames_of choice) ∙ frames_turned main)
-              ∙ ap (λ b. if b then frames_of main ++ length (frames_of main) ∷ [] else turned 1 (turned (passed (ring_of main)) (frames_of main))) (sym no_room)
+              ∙ ap (rotated 1) (sym (ap frames_of choice) ∙ frames_rotated main)
+              ∙ ap (λ b. if b then frames_of main ++ length (frames_of main) ∷ [] else rotated 1 (rotated (passed (ring_of main)) (frames_of main))) (sym no_room)
               ∙ ap (λ b. if b then frames_of main else added) (sym (missed absent));
         }
 
@@ -131,7 +131,7 @@ module _ (capacity : ℕ) where
           is_frames =
               map-append (λ (e : MainEntry ℕ). e.slot) main (record { key = key; slot = slot; bit = false } ∷ [])
               ∙ ap (λ s. frames_of main ++ s ∷ []) (next_slot slot room vacant)
-              ∙ ap (λ b. if b then frames_of main ++ length (frames_of main) ∷ [] else turned 1 (turned (passed (ring_of main)) (frames_of main))) (sym has_room)
+              ∙ ap (λ b. if b then frames_of main ++ length (frames_of main) ∷ [] else rotated 1 (rotated (passed (ring_of main)) (frames_of main))) (sym has_room)
               ∙ ap (λ b. if b then frames_of main else added) (sym (missed absent));
         }
 

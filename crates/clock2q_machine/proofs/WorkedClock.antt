@@ -1,7 +1,7 @@
 -- CLOCK on traces worked out by hand: the ring from the hand, the keys that hit and leave, and the frames.
 use Rattle.std.proofs.Common.{◌≡◌, false, [], ◌∷◌, refl}
 use Rattle.std.specs.Prelude.{None, Some}
-use Rattle.simulator_policies.specs.SecondChance.{clock_hits, clock_victim, clock_ring, clock_frames}
+use Rattle.clock2q_machine.specs.SecondChance.{clock_hits, clock_victim, clock_ring, clock_frames}
 
 -- key 1 was hit, so the hand goes on to key 2, which is evicted for key 4
 second_chance : (clock_ring 3 (1 ∷ 2 ∷ 3 ∷ 1 ∷ 4 ∷ []) ≡ (3, false) ∷ (1, false) ∷ (4, false) ∷ []) × (clock_hits 3 (1 ∷ 2 ∷ 3 ∷ 1 ∷ 4 ∷ 1 ∷ 2 ∷ []) ≡ 2)

@@ -1,8 +1,8 @@
--- CLOCK: a ring of keys, each with a mark that a hit sets. The hand gives a marked key a second chance, and clears its
--- mark; the first one without a mark is evicted. Each key has a frame of memory.
+-- CLOCK whose keys come unmarked: a ring of keys, and the mark of each is clear until the key is hit. The hand gives a
+-- marked key a second chance, and clears its mark; the first one without a mark is evicted. Each key has a frame of memory.
 use Rattle.std.specs.Prelude.{ℕ, zero, suc, Bool, true, false, ◌==◌, nat_lt, if◌then◌else◌, List, [], ◌∷◌, ◌++◌, map, length, take, drop, Option, Some, None}
 use Rattle.std.specs.List.{list_any, prefix_len}
-use Rattle.simulator_policies.specs.Policies.{hits, outcomes}
+use Rattle.clock2q_machine.specs.Hits.{hits, outcomes}
 
 -- the keys from the hand on, each with its mark
 abbrev pub Ring : Type 0
@@ -50,14 +50,14 @@ abbrev pub passed : Ring → ℕ
 passed ring = prefix_len (λ e. e.1) ring
 
 -- as many frames go behind the others
-abbrev pub turned : ℕ → List ℕ → List ℕ
-turned n frames = drop n frames ++ take n frames
+abbrev pub rotated : ℕ → List ℕ → List ℕ
+rotated n frames = drop n frames ++ take n frames
 
 -- the frames of the keys from the hand on: while there is room, a key gets the next frame that was never used, otherwise
 -- that of the key that leaves
 abbrev pub frames_after : ℕ → ℕ → Ring → List ℕ → List ℕ
 frames_after capacity key ring frames =
-    if is_on key ring then frames else (if nat_lt (length ring) capacity then frames ++ length frames ∷ [] else turned 1 (turned (passed ring) frames))
+    if is_on key ring then frames else (if nat_lt (length ring) capacity then frames ++ length frames ∷ [] else rotated 1 (rotated (passed ring) frames))
 
 -- the ring and the frames of a new cache after a trace
 abbrev pub clock_ring_from : ℕ → List ℕ → Ring → Ring

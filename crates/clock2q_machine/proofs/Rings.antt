@@ -5,8 +5,8 @@ use Rattle.std.specs.List.{find}
 use Rattle.std.specs.Option.{option_map}
 use Rattle.std.proofs.lemmas.List.{map-append, append_assoc}
 use Rattle.clock2q_machine.specs.Entries.{MainEntry, main_hit, first_of, from_victim, set_front, with_bit}
+use Rattle.clock2q_machine.specs.SecondChance.{Ring, is_on, marked, moved_on, first_key, passed, rotated}
 use Rattle.clock2q_machine.proofs.Residents.{slot_in_main}
-use Rattle.simulator_policies.specs.SecondChance.{Ring, is_on, marked, moved_on, first_key, passed, turned}
 
 abbrev pub entry_of : MainEntry ℕ → ℕ × Bool
 entry_of e = (e.key, e.bit)
@@ -73,13 +73,13 @@ take_frames zero main = refl
 take_frames (suc n) [] = refl
 take_frames (suc n) (e ∷ main) = ap (λ rest. e.slot ∷ rest) (take_frames n main)
 
-pub frames_turned : (main : List (MainEntry ℕ)) → frames_of (from_victim main) ≡ turned (passed (ring_of main)) (frames_of main)
-frames_turned main =
+pub frames_rotated : (main : List (MainEntry ℕ)) → frames_of (from_victim main) ≡ rotated (passed (ring_of main)) (frames_of main)
+frames_rotated main =
     let n = set_front main in
     map-append (λ (e : MainEntry ℕ). e.slot) (drop n main) (map (λ e. with_bit e false) (take n main))
     ∙ ap (λ xs. xs ++ frames_of (map (λ e. with_bit e false) (take n main))) (drop_frames n main)
     ∙ ap (λ xs. drop n (frames_of main) ++ xs) (take_frames n main)
-    ∙ ap (λ k. turned k (frames_of main)) (sym (front_alike main))
+    ∙ ap (λ k. rotated k (frames_of main)) (sym (front_alike main))
 
 pub frames_hit : (is : ℕ → Bool) (main : List (MainEntry ℕ)) → frames_of (main_hit is main) ≡ frames_of main
 frames_hit is [] = refl

@@ -1,6 +1,6 @@
 -- Belady's optimum: on a miss in a full cache, it evicts the key whose next use is farthest away.
 use Rattle.std.specs.Prelude.{◌≡◌, ℕ, ◌+◌, ◌≤◌, ◌⊎◌, Bool, true, ◌==◌, nat_lt, if◌then◌else◌, List, [], ◌∷◌, length}
-use Rattle.simulator_policies.specs.Policies.{is_in, without}
+use Rattle.clock2q_machine.specs.Hits.{is_in, without}
 
 -- the number of keys of a trace before the next use of a key: all of them, if it isn't used again
 abbrev pub next_use : ℕ → List ℕ → ℕ

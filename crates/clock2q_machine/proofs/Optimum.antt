@@ -3,10 +3,10 @@ use Rattle.std.proofs.Common.{◌≡◌, ◌⊎◌, inl, inr, ℕ, zero, suc, �
 use Rattle.std.specs.Prelude.{nat_lt, if◌then◌else◌}
 use Rattle.std.specs.List.{IsDistinct}
 use Rattle.std.proofs.lemmas.Bool.{cases_Bool, eqb-true, eq-eqb, ltb-true, ltb-false, or_cases, or_left, or_right, true≢false}
-use Rattle.simulator_policies.specs.Policies.{hits, hit_count, is_in, without}
-use Rattle.simulator_policies.specs.Optimum.{next_use, later, farthest, without_farthest, optimal_after, optimal_hits_from, optimal_hits, optimal_outcomes_from, optimal_outcomes, IsDemandPolicy}
-use Rattle.simulator_policies.proofs.Sharing.{distinct_none, distinct_more, different, shared, absent_without, left_without, others_without, different_without, length_without, different_are, in_different}
-use Rattle.simulator_policies.proofs.Sharing.{shared_more, shared_all, shared_within, shared_without, shared_turned}
+use Rattle.clock2q_machine.specs.Hits.{hits, hit_count, is_in, without}
+use Rattle.clock2q_machine.specs.Optimum.{next_use, later, farthest, without_farthest, optimal_after, optimal_hits_from, optimal_hits, optimal_outcomes_from, optimal_outcomes, IsDemandPolicy}
+use Rattle.clock2q_machine.proofs.Sharing.{distinct_none, distinct_more, different, shared, absent_without, left_without, others_without, different_without, length_without, different_are, in_different}
+use Rattle.clock2q_machine.proofs.Sharing.{shared_more, shared_all, shared_within, shared_without, shared_turned}
 
 -- The farthest next use.
 

@@ -1,10 +1,9 @@
 -- The optimum on traces worked out by hand: the next uses, the evicted keys, and the keys that hit.
 use Rattle.std.proofs.Common.{◌≡◌, ℕ, List, [], ◌∷◌, refl}
-use Rattle.simulator_policies.specs.declared.plain.PlainPolicy.TheVariants.{LeastRecentlyUsed, FirstInFirstOut}
 use Rattle.std.specs.Prelude.{length, nat_lt, if◌then◌else◌}
-use Rattle.simulator_policies.specs.Policies.{hits, is_in, plain_hits}
-use Rattle.simulator_policies.specs.SecondChance.{clock_hits}
-use Rattle.simulator_policies.specs.Optimum.{next_use, farthest, optimal_after, optimal_hits}
+use Rattle.clock2q_machine.specs.Hits.{hits, is_in}
+use Rattle.clock2q_machine.specs.SecondChance.{clock_hits}
+use Rattle.clock2q_machine.specs.Optimum.{next_use, farthest, optimal_after, optimal_hits}
 
 -- key 2 comes after two others, and key 4 never
 uses : (next_use 2 (1 ∷ 3 ∷ 2 ∷ 1 ∷ []) ≡ 2) × (next_use 4 (1 ∷ 3 ∷ 2 ∷ 1 ∷ []) ≡ 4) × (farthest (1 ∷ 3 ∷ 2 ∷ 1 ∷ []) 1 (2 ∷ 3 ∷ []) ≡ 2)
@@ -19,18 +18,15 @@ leaves = (refl, refl)
 abbrev textbook : List ℕ
 textbook = 1 ∷ 2 ∷ 3 ∷ 4 ∷ 1 ∷ 2 ∷ 5 ∷ 1 ∷ 2 ∷ 3 ∷ 4 ∷ 5 ∷ []
 
-room_for_three : (optimal_hits 3 textbook ≡ 5) × (plain_hits FirstInFirstOut 3 textbook ≡ 3) × (plain_hits LeastRecentlyUsed 3 textbook ≡ 2)
-room_for_three = (refl, refl, refl)
+more_room : (optimal_hits 3 textbook ≡ 5) × (optimal_hits 4 textbook ≡ 6)
+more_room = (refl, refl)
 
-room_for_four : (optimal_hits 4 textbook ≡ 6) × (plain_hits FirstInFirstOut 4 textbook ≡ 2) × (plain_hits LeastRecentlyUsed 4 textbook ≡ 4)
-room_for_four = (refl, refl, refl)
-
--- a loop one key longer than the cache, which never hits under LRU or CLOCK
+-- a loop one key longer than the cache, which never hits under CLOCK
 abbrev loop : List ℕ
 loop = 1 ∷ 2 ∷ 3 ∷ 1 ∷ 2 ∷ 3 ∷ 1 ∷ 2 ∷ 3 ∷ []
 
-a_loop : (optimal_hits 2 loop ≡ 3) × (plain_hits LeastRecentlyUsed 2 loop ≡ 0) × (clock_hits 2 loop ≡ 0)
-a_loop = (refl, refl, refl)
+a_loop : (optimal_hits 2 loop ≡ 3) × (clock_hits 2 loop ≡ 0)
+a_loop = (refl, refl)
 
 -- a policy that may reject a key can hit more: with room for one key, this one keeps the first
 abbrev keeping_first : ℕ → List ℕ → List ℕ
