@@ -253,12 +253,13 @@ class Lru2:
 
 
 class Counters:
-    """Four rows of counters up to 15, which are halved after ten accesses for each key that the cache can hold."""
+    """Four rows of counters up to 15, each with four for a key of the room, which is rounded up to a power of two. They
+    are halved after ten accesses for each key that the cache can hold."""
 
     FACTORS = (0x9E3779B97F4A7C15, 0xBF58476D1CE4E5B9, 0x94D049BB133111EB, 0xD6E8FEB86659FD93)
 
     def __init__(self, room):
-        self.width, self.most, self.added = 1 << (room - 1).bit_length(), 10 * room, 0
+        self.width, self.most, self.added = 4 << (room - 1).bit_length(), 10 * room, 0
         self.rows = [[0] * self.width for _ in self.FACTORS]
 
     def places(self, key):

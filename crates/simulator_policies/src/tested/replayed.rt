@@ -164,7 +164,7 @@ pub fn lirs_outcomes<A: Allocator + Copy>(
 /// # Cost
 ///
 /// Time in proportion to the trace and to `keys`. Memory for a byte an access, 12 bytes a key, and
-/// 4 to 8 bytes a key of the capacity.
+/// 8 to 16 bytes a key of the capacity.
 pub fn w_tiny_lfu_outcomes<A: Allocator + Copy>(
     alloc: A,
     capacity: NonZeroUsize,
