@@ -19,7 +19,7 @@ use Rattle.simulator_io.specs.declared.shares.ChosenShares.{ChosenShares}
 use Rattle.simulator_io.specs.Bytes.{asked_between, hit_between}
 use Rattle.simulator_replay.specs.RowBytes.{AreBytes, HasBytes}
 use Rattle.simulator_io.specs.ChosenShares.{shares_for}
-use Rattle.simulator_replay.specs.MachineHits.{machine_holds, machine_after}
+use Rattle.clock2q_machine.specs.MachineHits.{machine_holds, machine_after}
 use Rattle.simulator_replay.specs.Rows.{AreHits, AreOutcomes, AreHitsAfter, IsReplay, IsRow}
 use Rattle.simulator_replay.specs.Windows.{counted, AreReplays}
 

@@ -3,7 +3,7 @@ use Rattle.std.specs.Prelude.{IfOk}
 use Rattle.std.specs.NonZero.{non_zero_usize_get}
 use Rattle.clock2q_machine.specs.Hits.{outcomes}
 use Rattle.clock2q_machine.proofs.WithoutSmall.{clock_outcomes_without_small}
-use Rattle.simulator_replay.specs.MachineHits.{machine_after, machine_holds}
+use Rattle.clock2q_machine.specs.MachineHits.{machine_after, machine_holds}
 use Rattle.simulator_replay.proofs.clock.clock_outcomes.Goals as goal
 
 pub returns-clause-outcomes : goal.returns-clause-outcomes

@@ -1,7 +1,7 @@
 use Rattle.std.proofs.Common.{◌≡◌, ◌++◌, ◌∷◌, [], ap, ◌∙◌, arith, get_or}
 use Rattle.std.specs.Option.{is_some}
 use Rattle.simulator_policies.proofs.Outcomes.{one_further}
-use Rattle.simulator_replay.specs.MachineHits.{machine_holds, machine_after}
+use Rattle.clock2q_machine.specs.MachineHits.{machine_holds, machine_after}
 use Rattle.simulator_replay.proofs.clock.outcomes_in.Goals as goal
 
 pub loop-key-preserved : goal.loop-key-preserved

@@ -1,7 +1,7 @@
 -- The outcomes so far, followed by those to come, are all outcomes.
 use Rattle.std.proofs.Common.{◌≡◌, ◌+◌, ◌-◌, ◌≤◌, ◌++◌, length, drop, vec_len, vec_capacity}
 use Rattle.clock2q_machine.specs.Hits.{outcomes}
-use Rattle.simulator_replay.specs.MachineHits.{machine_holds, machine_after}
+use Rattle.clock2q_machine.specs.MachineHits.{machine_holds, machine_after}
 use Rattle.simulator_replay.proofs.clock.outcomes_in.Given as goal
 
 abbrev pub invariant-loop-key : goal.invariant-loop-key
