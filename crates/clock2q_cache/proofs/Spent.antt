@@ -1,6 +1,6 @@
 -- What the parts of a call cost.
 use Rattle.std.proofs.Common.{◌-◌, ◌≡◌, ℕ, ◌+◌, ◌*◌, ◌≤◌, Bool, true, false, List, length, Some, None, ap, ◌∙◌, arith}
-use Rattle.clock2q_cache.proofs.Names.{HashMembers, candidates, KeyPlaces, comparisons_of, Remembered, QueueState, comparisons-most, inspections_for, inspections_of, accesses_for, alike, Call, Put, Get, GetAt, Set, Remove, Retain, Prefill, counts_of, Places, CacheState, Counts, residents_in, Spends, Reaches, Costs, Becomes, most_accesses, most_comparisons, most_slots, walked, hash_of, looked_for, slot_of, hit, put, stored, prefilled, vacated, removed_at, then_some, is_at, after, hit_at, retained, replaced, hit-absent}
+use Rattle.clock2q_cache.proofs.Names.{if◌then◌else◌, HashMembers, candidates, KeyPlaces, comparisons_of, Remembered, QueueState, comparisons-most, inspections_for, inspections_of, accesses_for, alike, Call, Put, Get, GetAt, Set, Remove, Retain, Prefill, counts_of, Places, CacheState, Counts, residents_in, Spends, Reaches, Costs, Becomes, most_accesses, most_comparisons, most_slots, walked, hash_of, looked_for, slot_of, hit, put, stored, prefilled, vacated, removed_at, then_some, is_at, after, hit_at, retained, replaced, hit-absent}
 use Rattle.std.specs.declared.hash.Hasher as hasher
 use Rattle.std.specs.declared.hash.BuildHasher as builder
 use Rattle.clock2q_machine.specs.Calls.{SlotFor}
@@ -13,6 +13,11 @@ spends-both before after looks links keys = grind (arith, before, after)
 -- a cost within a larger bound
 pub spends-more : {i l k l' k' : ℕ} {a b : Counts} → Spends i l k a b → l ≤ l' → k ≤ k' → Spends i l' k' a b
 spends-more spent links keys = grind arith
+
+-- a key was erased from the history, if it was there
+pub erased-spends : (known : Bool) {a b : Counts} → Spends 0 (if known then 7 else 0) 0 a b → Spends 0 7 0 a b
+erased-spends true spent = spent
+erased-spends false spent = spends-more spent (omega arith) (omega arith)
 
 module _ {K V : Type 0} (q : QueueState) (h : Remembered K) (keys keys' : KeyPlaces K V) where
   -- a lookup makes at most as many comparisons as there are places

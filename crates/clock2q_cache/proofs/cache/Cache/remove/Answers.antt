@@ -4,7 +4,7 @@ use Rattle.clock2q_cache.proofs.Names.{slot_of}
 use Rattle.clock2q_cache.proofs.Finding.{no-slot}
 use Rattle.clock2q_cache.proofs.Vacated.{found-resident}
 use Rattle.clock2q_cache.proofs.Reaching.{reaches-discarded, reaches-left}
-use Rattle.clock2q_cache.proofs.Spent.{costs-of, spends-both, remove-costs}
+use Rattle.clock2q_cache.proofs.Spent.{costs-of, erased-spends, spends-both, remove-costs}
 use Rattle.clock2q_cache.proofs.cache.Cache.remove.Goals as goal
 
 pub vacate-requires : goal.vacate-requires
@@ -31,7 +31,7 @@ returns-in_default-clause-costs g c =
     (record { eq = g.K.PartialEq.eq; hash_input = g.K.Hash.hash_input }) g.S.BuildHasher g.S.Hasher.Hasher c.args.key.now
     c.lookup-found.ensures.within c.hash-hash.result c.hash-hash.ensures
     (rw c.lookup-found.ensures.kept at c.forget.ensures.places))
-    (spends-both c.lookup-found.ensures.counts c.forget.ensures.counts (omega arith) (omega arith) (omega arith))
+    (spends-both c.lookup-found.ensures.counts (erased-spends c.forget.result c.forget.ensures.counts) (omega arith) (omega arith) (omega arith))
 
 pub returns-clause-costs : goal.returns-clause-costs
 returns-clause-costs g c =
