@@ -12,4 +12,5 @@ pub mod RecordByRecord
 mod Sampling
 mod WorkedAmounts
 mod WorkedFormats
+mod WorkedShares
 pub mod Zipped

@@ -130,15 +130,31 @@ share_of amount = if is_share amount.unit amount.number then Some amount else No
 abbrev pub share_in : List ℕ → List ℕ → Option Amount
 share_in name word = if has_byte is_equals word && bytes_eq (before_first is_equals word) name then option_and_then share_of (amount_in (after_first is_equals word)) else None
 
--- both shares, with a comma between them, in either order
-abbrev pub both_in : List ℕ → List ℕ → Option ChosenShares
-both_in first second = option_and_then (λ small. option_map (λ window. record { small = small; window = window }) (share_in (codes "window") second)) (share_in (codes "small") first)
+-- Small's share and the window's, beside the history's, if there is one
+abbrev pub both_in : Option Amount → List ℕ → List ℕ → Option ChosenShares
+both_in history first second =
+    option_and_then (λ small. option_map (λ window. record { small = small; window = window; history = history }) (share_in (codes "window") second))
+    (share_in (codes "small") first)
+
+-- in either order
+abbrev pub either_in : Option Amount → List ℕ → List ℕ → Option ChosenShares
+either_in history first second = option_or (both_in history first second) (both_in history second first)
+
+-- beside a word with the history's share
+abbrev pub beside_history : List ℕ → List ℕ → List ℕ → Option ChosenShares
+beside_history history first second = option_and_then (λ share. either_in (Some share) first second) (share_in (codes "history") history)
+
+-- three shares, in any order
+abbrev pub three_in : List ℕ → List ℕ → List ℕ → Option ChosenShares
+three_in first second third =
+    option_or (beside_history third first second) (option_or (beside_history second first third) (beside_history first second third))
+
+-- shares with commas between them, in any order: three, or two without the history's
+abbrev pub shares_after : List ℕ → List ℕ → Option ChosenShares
+shares_after first rest = if has_byte is_comma rest then three_in first (before_first is_comma rest) (after_first is_comma rest) else either_in None first rest
 
 abbrev pub shares_in : List ℕ → Option ChosenShares
-shares_in word =
-    if has_byte is_comma word
-    then option_or (both_in (before_first is_comma word) (after_first is_comma word)) (both_in (after_first is_comma word) (before_first is_comma word))
-    else None
+shares_in word = if has_byte is_comma word then shares_after (before_first is_comma word) (after_first is_comma word) else None
 
 -- the byte that a word spells: its only one, which is no quote and ends no line, or that of a tab
 abbrev pub is_separator : ℕ → Bool

@@ -1,7 +1,7 @@
 -- The shares of a cache that arguments choose.
 use Rattle.std.specs.Prelude.{ℕ, min, Option, Some, None}
-use Rattle.clock2q_machine.specs.Shares.{Shares, usual_shares}
-use Rattle.clock2q_machine.specs.Policies.{IsPolicy, shares_of}
+use Rattle.clock2q_machine.specs.Shares.{Shares, usual_history, usual_shares}
+use Rattle.clock2q_machine.specs.Policies.{IsPolicy, shares_with}
 use Rattle.simulator_io.specs.declared.amount.Amount.{Amount}
 use Rattle.simulator_io.specs.declared.amount.Unit.{Unit as Counted}
 use Rattle.simulator_io.specs.declared.amount.Unit.TheVariants.{Keys, Millionths}
@@ -16,10 +16,18 @@ small_of chosen capacity = keys_of chosen.small capacity
 abbrev pub window_of : ChosenShares → ℕ → ℕ
 window_of chosen capacity = keys_of chosen.window (min (small_of chosen capacity) capacity)
 
+-- the history's share of a capacity, or the usual one if none is chosen
+abbrev pub history_by : Option Amount → ℕ → ℕ
+history_by None capacity = usual_history capacity
+history_by (Some history) capacity = keys_of history capacity
+
+abbrev pub history_of : ChosenShares → ℕ → ℕ
+history_of chosen capacity = history_by chosen.history capacity
+
 -- the shares of a cache for this number of keys: the chosen ones, or the usual ones
 abbrev pub shares_for : Option ChosenShares → ℕ → Shares
 shares_for None capacity = usual_shares capacity
-shares_for (Some chosen) capacity = shares_of capacity (small_of chosen capacity) (window_of chosen capacity)
+shares_for (Some chosen) capacity = shares_with capacity (small_of chosen capacity) (window_of chosen capacity) (history_of chosen capacity)
 
 -- shares fit together in a cache for this number of keys; the keys in a percentage are known only with the trace
 abbrev pub FitsBy : Option ChosenShares → Counted → ℕ → Type 0

@@ -78,11 +78,15 @@ scaled (Some sample) capacity = scaled_by capacity.unit sample capacity.number
 abbrev pub scaled_share : Option Sample → Amount → Amount
 scaled_share sample share = if share.number == 0 then share else scaled sample share
 
-abbrev pub scaled_both : Option Sample → ChosenShares → ChosenShares
-scaled_both sample shares = record { small = scaled_share sample shares.small; window = scaled_share sample shares.window }
+abbrev pub scaled_each : Option Sample → ChosenShares → ChosenShares
+scaled_each sample shares = record {
+  small = scaled_share sample shares.small;
+  window = scaled_share sample shares.window;
+  history = option_map (scaled_share sample) shares.history;
+}
 
 abbrev pub scaled_shares : Option Sample → Option ChosenShares → Option ChosenShares
-scaled_shares sample shares = option_map (scaled_both sample) shares
+scaled_shares sample shares = option_map (scaled_each sample) shares
 
 -- the capacity for all keys that a capacity for the keys of a sample is, rounded down
 abbrev pub unscaled : Option Sample → ℕ → ℕ

@@ -38,10 +38,11 @@ pub enum ArgumentError {
     /// It contains a name twice.
     #[error("policy named twice")]
     RepeatedPolicy,
-    /// It isn't two shares.
+    /// It isn't two shares, or three with the history's.
     #[error("not shares (small and window, as small=20%,window=50% or small=30,window=10)")]
     NotShares,
-    /// Small's share is all of it, the window is longer than Small, or one of them alone is 0.
+    /// Small's share is all of it, the window is longer than Small, one of them alone is 0, or the
+    /// history remembers more keys than it.
     #[error("shares that fit no capacity")]
     UnfitShares,
     /// The option is given twice.

@@ -23,8 +23,8 @@ sizes, a capacity in bytes, as 64kB, 64MiB or 1GB, is for lru and fifo.
   --format=FORMAT   reads lines, csv or oracleGeneral (--help formats)
   --column=N        takes the keys of csv from this column, 1 for the first
   --size-column=N   takes their sizes in bytes from this one (--help formats)
-  --shares=SHARES   gives Clock2Q+ other shares than small=10%,window=50%
-  --best-shares     prints the shares that hit most of 18 tried, and their gain
+  --shares=SHARES   gives Clock2Q+ others than small=10%,window=50%,history=50%
+  --best-shares     prints the shares that hit most of 24 tried, and their gain
   --sample=0.01     replays this part of the keys, in caches as much smaller
   --skip=COUNT      counts no hits in this many accesses at a trace's beginning
   --window=COUNT    counts the hits of each COUNT accesses, in rows or a picture
@@ -70,8 +70,10 @@ The policies, for --policies, with the titles and years of their papers. The
 first five are the default.
 
   clock2q    Clock2Q+: a small queue, a main ring, and a history of evicted keys.
-             Of --shares small is the small queue's share of the capacity, and
-             window the share of that queue in which a key is young
+             Of --shares small is the small queue's share of the capacity, window
+             the share of that queue in which a key is young, and history, which
+             may be left out, the history's share of the capacity. --best-shares
+             tries small=1% to 50%, and at 1% and 10% history=0, 25% and 90% too
   sieve      SIEVE is Simpler than LRU: an Efficient Turn-Key Eviction Algorithm
              for Web Caches (2024)
   s3fifo     FIFO Queues are All You Need for Cache Eviction (2023); a full main

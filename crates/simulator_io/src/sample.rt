@@ -1,5 +1,6 @@
 //! A part of all keys, chosen by their hashes: a cache as much smaller hits about as often on it.
 ghost use Rattle.std.specs.List.{fold};
+ghost use Rattle.std.specs.Option.{option_map};
 ghost use Rattle.std.specs.Prelude.{◌≡◌, ◌<◌, ◌≤◌, ◌^◌, IfOk, IfSome, Some, map};
 ghost use Rattle.simulator_io.specs.Amounts.{amount};
 ghost use Rattle.simulator_io.specs.declared.amount.Unit.TheVariants.{Millionths};
@@ -154,7 +155,18 @@ pub fn scaled_shares(sample: Option<Sample>, shares: Option<ChosenShares>) -> Op
         Some(shares) => Some(ChosenShares {
             small: scaled_share(sample, shares.small),
             window: scaled_share(sample, shares.window),
+            history: scaled_history(sample, shares.history),
         }),
+        None => None,
+    }
+}
+
+/// Returns the history's share that one of a cache for all keys becomes, if there is one.
+fn scaled_history(sample: Option<Sample>, history: Option<Amount>) -> Option<Amount>
+    ensures scaled { result ≡ option_map (scaled_share sample) history }
+{
+    match history {
+        Some(history) => Some(scaled_share(sample, history)),
         None => None,
     }
 }

@@ -3,14 +3,15 @@ ghost use Rattle.std.specs.List.{All};
 ghost use Rattle.std.specs.Prelude.{◌≡◌, ◌≤◌, ◌^◌, ◌↔◌, IsTrue, OnOk, Some};
 ghost use Rattle.clock2q_machine.specs.Policies.{IsPolicy};
 ghost use Rattle.simulator_io.specs.Amounts.{IsCapacity};
-ghost use Rattle.simulator_io.specs.AskedOptions.{both_in, is_share, share_in, shares_in};
-ghost use Rattle.simulator_io.specs.ChosenShares.{Fits, shares_for, small_of, window_of};
+ghost use Rattle.simulator_io.specs.AskedOptions.{beside_history, both_in, either_in, is_share, share_in, shares_after, shares_in, three_in};
+ghost use Rattle.simulator_io.specs.ChosenShares.{Fits, history_of, shares_for, small_of, window_of};
 
 use crate::amount::{Amount, Unit};
 use crate::error::SimulationError;
 use std::fmt;
 
-/// Shares for caches of any capacity: how large Small is, and how long a key is young.
+/// Shares for caches of any capacity: how large Small is, how long a key is young, and how many
+/// evicted keys the history remembers.
 ///
 /// # Example
 ///
@@ -18,6 +19,7 @@ use std::fmt;
 /// let usual = ChosenShares::written("small=10%,window=50%").ok_or("no shares")?;
 /// assert_eq!(rt; usual.small(200), 20);
 /// assert_eq!(rt; usual.window(200), 10);
+/// assert_eq!(rt; usual.history(200), 100);
 /// ```
 #[derive(Clone, Copy, Debug, PartialEq, Eq)]
 pub struct ChosenShares {
@@ -25,15 +27,18 @@ pub struct ChosenShares {
     pub small: Amount,
     /// The window's share of Small.
     pub window: Amount,
+    /// The history's share of the capacity, unless it is half of it.
+    pub history: Option<Amount>,
 }
 
 impl ChosenShares {
-    /// Returns the shares that a word spells, such as `small=20%,window=10`, in either order.
+    /// Returns the shares that a word spells, such as `small=20%,window=10` or
+    /// `small=10%,window=50%,history=90%`, in any order. The history's may be left out.
     pub fn written(word: &str) -> Option<ChosenShares>
         ensures shares { result ≡ shares_in word.now }
     {
-        let (first, second) = word.split_once(',')?;
-        both_named(first, second).or(both_named(second, first))
+        let (first, rest) = word.split_once(',')?;
+        shares_after(first, rest)
     }
 
     /// Returns the number of slots of Small in a cache of a capacity.
@@ -52,14 +57,27 @@ impl ChosenShares {
         self.window.of(self.small.of(capacity).min(capacity))
     }
 
+    /// Returns the number of evicted keys that the history of a cache of a capacity remembers.
+    pub fn history(self, capacity: usize) -> usize
+        requires few { capacity ≤ 2 ^ 32 }
+        ensures history { result ≡ history_of self capacity }
+    {
+        match self.history {
+            Some(history) => history.of(capacity),
+            None => capacity / 2,
+        }
+    }
+
     /// Returns true if the shares fit together in a cache of a capacity: Small leaves Main a slot,
-    /// the window is no longer than Small, and both are 0 or neither is.
+    /// the window is no longer than Small, both are 0 or neither is, and the history remembers no
+    /// more keys than the cache holds.
     pub fn fit(self, capacity: usize) -> bool
         requires few { capacity ≤ 2 ^ 32 }
         ensures fit { IsTrue result ↔ IsPolicy (shares_for (Some self) capacity) }
     {
         let (small, window) = (self.small(capacity), self.window(capacity));
-        small < capacity && (small == 0) == (window == 0) && window <= small
+        let history = self.history(capacity);
+        small < capacity && (small == 0) == (window == 0) && window <= small && history <= capacity
     }
 
     /// Returns true if the shares fit together in a cache of a capacity. A percentage is assumed to
@@ -91,17 +109,56 @@ impl ChosenShares {
 
 impl fmt::Display for ChosenShares {
     fn fmt<W: fmt::Write>(&self, f: &mut fmt::Formatter<W>) -> fmt::Result {
-        write!(f, "small={},window={}", self.small, self.window)
+        write!(f, "small={},window={}", self.small, self.window)?;
+        match self.history {
+            Some(history) => write!(f, ",history={history}"),
+            None => Ok(()),
+        }
     }
 }
 
-/// Returns the shares that two words spell, Small's first.
-fn both_named(small: &str, window: &str) -> Option<ChosenShares>
-    ensures both { result ≡ both_in small.now window.now }
+/// Returns the shares that a word and those after it spell: two, or three with the history's.
+fn shares_after(first: &str, rest: &str) -> Option<ChosenShares>
+    ensures shares { result ≡ shares_after first.now rest.now }
+{
+    match rest.split_once(',') {
+        Some((second, third)) => three_named(first, second, third),
+        None => either_named(first, rest, None),
+    }
+}
+
+/// Returns the shares that three words spell, in any order.
+fn three_named(first: &str, second: &str, third: &str) -> Option<ChosenShares>
+    ensures three { result ≡ three_in first.now second.now third.now }
+{
+    let history_first = beside_history(first, second, third);
+    let history_second = beside_history(second, first, third);
+    beside_history(third, first, second).or(history_second.or(history_first))
+}
+
+/// Returns the shares that a word with the history's and two others spell.
+fn beside_history(history: &str, first: &str, second: &str) -> Option<ChosenShares>
+    ensures beside { result ≡ beside_history history.now first.now second.now }
+{
+    let history = share_named(history, "history")?;
+    either_named(first, second, Some(history))
+}
+
+/// Returns the shares that two words spell, in either order, beside the history's.
+fn either_named(first: &str, second: &str, history: Option<Amount>) -> Option<ChosenShares>
+    ensures either { result ≡ either_in history first.now second.now }
+{
+    both_named(first, second, history).or(both_named(second, first, history))
+}
+
+/// Returns the shares that two words spell, Small's first, beside the history's.
+fn both_named(small: &str, window: &str, history: Option<Amount>) -> Option<ChosenShares>
+    ensures both { result ≡ both_in history small.now window.now }
 {
     Some(ChosenShares {
         small: share_named(small, "small")?,
         window: share_named(window, "window")?,
+        history,
     })
 }
 

@@ -132,7 +132,7 @@ fn write_headings<A: Allocator>(page: &mut Page<A>, options: &Options<A>, has_na
         page.add("     best     gain  shares");
     }
     if options.best_shares && has_names {
-        page.add("               ");
+        page.add("                          ");
     }
     if has_names {
         page.add("  trace");
@@ -171,7 +171,7 @@ fn write_plain_rows<A: Allocator>(
     outcome: &Outcome<'_, A>,
     name: Option<&str>,
 ) {
-    let width = if name.is_some() { 21 } else { 0 };
+    let width = if name.is_some() { 32 } else { 0 };
     for (index, row) in outcome.rows.iter().enumerate() {
         page.add_right(outcome.capacity_at(index), 8);
         write_all_percents(page, row, outcome.is_sized);

@@ -12,7 +12,9 @@ use std::alloc::Allocator;
 use std::num::NonZeroUsize;
 
 /// The shares that are tried beside the usual ones: Small has from 1 to 50 percent of the capacity,
-/// and the window is a quarter of Small, half of it, or all of it.
+/// and the window is a quarter of Small, half of it, or all of it. If Small has 1 or 10 percent and
+/// the window is half of it, then also with no history, and with one of a quarter or nine tenths of
+/// the capacity in place of half.
 ///
 /// # Example
 ///
@@ -20,80 +22,134 @@ use std::num::NonZeroUsize;
 /// let first = ChosenShares::written("small=1%,window=25%");
 /// assert_eq!(rt; TRIED_SHARES.first().copied(), first);
 /// ```
-pub const TRIED_SHARES: [ChosenShares; 18] = [
+pub const TRIED_SHARES: [ChosenShares; 24] = [
     ChosenShares {
         small: ONE,
         window: QUARTER,
+        history: None,
     },
     ChosenShares {
         small: ONE,
         window: HALF,
+        history: None,
     },
     ChosenShares {
         small: ONE,
         window: ALL,
+        history: None,
     },
     ChosenShares {
         small: TWO,
         window: QUARTER,
+        history: None,
     },
     ChosenShares {
         small: TWO,
         window: HALF,
+        history: None,
     },
     ChosenShares {
         small: TWO,
         window: ALL,
+        history: None,
     },
     ChosenShares {
         small: FIVE,
         window: QUARTER,
+        history: None,
     },
     ChosenShares {
         small: FIVE,
         window: HALF,
+        history: None,
     },
     ChosenShares {
         small: FIVE,
         window: ALL,
+        history: None,
     },
     ChosenShares {
         small: TEN,
         window: QUARTER,
+        history: None,
     },
     ChosenShares {
         small: TEN,
         window: HALF,
+        history: None,
     },
     ChosenShares {
         small: TEN,
         window: ALL,
+        history: None,
     },
     ChosenShares {
         small: TWENTY,
         window: QUARTER,
+        history: None,
     },
     ChosenShares {
         small: TWENTY,
         window: HALF,
+        history: None,
     },
     ChosenShares {
         small: TWENTY,
         window: ALL,
+        history: None,
     },
     ChosenShares {
         small: HALF,
         window: QUARTER,
+        history: None,
     },
     ChosenShares {
         small: HALF,
         window: HALF,
+        history: None,
     },
     ChosenShares {
         small: HALF,
         window: ALL,
+        history: None,
+    },
+    ChosenShares {
+        small: ONE,
+        window: HALF,
+        history: Some(NO_KEYS),
+    },
+    ChosenShares {
+        small: ONE,
+        window: HALF,
+        history: Some(QUARTER),
+    },
+    ChosenShares {
+        small: ONE,
+        window: HALF,
+        history: Some(NINE_TENTHS),
+    },
+    ChosenShares {
+        small: TEN,
+        window: HALF,
+        history: Some(NO_KEYS),
+    },
+    ChosenShares {
+        small: TEN,
+        window: HALF,
+        history: Some(QUARTER),
+    },
+    ChosenShares {
+        small: TEN,
+        window: HALF,
+        history: Some(NINE_TENTHS),
     },
 ];
+
+/// No keys.
+const NO_KEYS: Amount = Amount {
+    number: 0,
+    unit: Unit::Keys,
+};
 
 /// One percent.
 const ONE: Amount = Amount {
@@ -134,6 +190,12 @@ const QUARTER: Amount = Amount {
 /// A half.
 const HALF: Amount = Amount {
     number: 500_000,
+    unit: Unit::Millionths,
+};
+
+/// Nine tenths.
+const NINE_TENTHS: Amount = Amount {
+    number: 900_000,
     unit: Unit::Millionths,
 };
 

@@ -100,5 +100,7 @@ fn new_cache<A: Allocator + Copy>(
         return Err(CacheError::Capacity);
     }
     let (small, window) = (shares.small(capacity.get()), shares.window(capacity.get()));
-    Cache::with_policy(alloc, capacity, small, window, DefaultHashBuilder::new())
+    let history = shares.history(capacity.get());
+    let hasher = DefaultHashBuilder::new();
+    Cache::with_history(alloc, capacity, small, window, history, hasher)
 }

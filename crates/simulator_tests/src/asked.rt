@@ -194,10 +194,13 @@ fn policies_in(alloc: Global, options: &Options<Global>) -> Result<String, Alloc
     Ok(text)
 }
 
-/// Returns the shares of Small and of the window in a cache for 400 keys.
+/// Returns the shares of Small, of the window and of the history in a cache for 400 keys.
 fn shares_in(alloc: Global, options: &Options<Global>) -> Result<String, AllocError> {
     match options.shares {
-        Some(shares) => listed(alloc, &[shares.small(400), shares.window(400)]),
+        Some(shares) => {
+            let (small, window) = (shares.small(400), shares.window(400));
+            listed(alloc, &[small, window, shares.history(400)])
+        }
         None => String::from_str(alloc, "none"),
     }
 }

@@ -9,13 +9,14 @@ use std::test::Fail;
 use testing::same_at;
 
 /// Shares that don't fit together at some capacity.
-const UNFIT: [(&str, usize); 6] = [
+const UNFIT: [(&str, usize); 7] = [
     ("small=4,window=1", 4),
     ("small=2,window=3", 4),
     ("small=0,window=1", 4),
     ("small=1,window=0", 4),
     ("small=100%,window=1%", 4),
     ("small=10%,window=50%", 1),
+    ("history=5,small=1,window=1", 4),
 ];
 
 /// Replays with shares that don't fit together.

@@ -66,7 +66,7 @@ fn push_lines(
 }
 
 /// Arguments of a sample of a fourth of the keys, and those of caches as much smaller.
-const SCALED: [(&str, &str); 4] = [
+const SCALED: [(&str, &str); 6] = [
     ("--json --sample=0.25 40", "--json 10"),
     (
         "--json --sample=0.25 40 --shares=small=20,window=9",
@@ -79,6 +79,14 @@ const SCALED: [(&str, &str); 4] = [
     (
         "--json --sample=0.25 40 --shares=small=0,window=0",
         "--json 10 --shares=small=0,window=0",
+    ),
+    (
+        "--json --sample=0.25 40 --shares=small=20,window=9,history=30",
+        "--json 10 --shares=small=5,window=2,history=7",
+    ),
+    (
+        "--json --sample=0.25 40 --shares=history=0,small=10%,window=50%",
+        "--json 10 --shares=history=0,small=10%,window=50%",
     ),
 ];
 

@@ -1,5 +1,6 @@
 use Rattle.std.proofs.Common.{◌≤◌, ◌+◌, ◌∙◌, take, get_or, subst, sym, arith, rules}
 use Rattle.std.specs.Option.{IfSome}
+use Rattle.std.specs.Prelude.{None}
 use Rattle.std.proofs.lemmas.Option.{slice_get-get_or}
 use Rattle.std.specs.List.{All}
 use Rattle.std.specs.NonZero.{non_zero_usize_get}
@@ -14,7 +15,7 @@ use Rattle.simulator_replay.proofs.best_shares.best_shares_of.Goals.{then-most-h
 use Rattle.simulator_replay.proofs.best_shares.best_shares_of.Goals as goal
 
 abbrev no_shares : ChosenShares
-no_shares = record { small = amount Keys 0; window = amount Keys 0 }
+no_shares = record { small = amount Keys 0; window = amount Keys 0; history = None }
 
 pub loop-shares-preserved : goal.loop-shares-preserved
 loop-shares-preserved g c =

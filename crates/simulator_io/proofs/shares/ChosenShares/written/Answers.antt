@@ -1,4 +1,4 @@
-use Rattle.std.proofs.Common.{◌≡◌, true, refl, arith}
+use Rattle.std.proofs.Common.{◌≡◌, true, arith}
 use Rattle.std.proofs.lemmas.Str.Pattern.{split_once_first}
 use Rattle.std.proofs.lemmas.Bool.{lt-ltb}
 use Rattle.simulator_io.specs.AskedOptions.{has_byte, is_comma}
@@ -9,4 +9,4 @@ returns c =
     let word = c.args.word.now in
     let parts = rw c.in_ok-first.was at (split_once_first 44 word c.split_once.result c.split_once.ensures.cases (omega arith)) in
     let has : has_byte is_comma word ≡ true = lt-ltb _ _ parts.0 in
-    record { shares = rw (c.or.ensures, c.both_named.ensures.both, c.both_named-2.ensures.both, has, parts.1, parts.2) refl }
+    record { shares = rw (has, ← parts.1, ← parts.2) c.shares_after.ensures.shares }
