@@ -220,14 +220,14 @@ def refusing(log, crate):
         if found := re.match(r"note: `([\w-]+)` of proofs/(\S+)/\w+\.antt must prove: record (.*)", line):
             records[found[2], found[1]] = re.findall(r"[{;,]\s*(\w+) :", found[3])
     for line in log:
-        if found := re.match(r"\./proofs/(\S+)/\w+\.antt:(\d+):(\d+): error: `([^`]+)`", line):
+        if found := re.match(r"\./proofs/(\S+)/(?:Answers|Invariants|Proof)\.antt:(\d+):(\d+): error: `([^`]+)`", line):
             file = crate / line[2:].partition(":")[0]
             lines = file.read_text(encoding="utf-8").split("\n")
             number = int(found[2])
             before = "\n".join(["", *lines[: number - 1], lines[number - 1][: int(found[3])]])
             at = found[1].replace("/", "::"), clause_of(found[4], before)
             (gone if GONE.search(line) else refused_at).append(at)
-        elif found := re.match(r"\./proofs/(\w+)\.antt:\d+:\d+: error: `([^`]+)`", line):
+        elif found := re.match(r"\./proofs/(?:\S+/)?(\w+)\.antt:\d+:\d+: error: `([^`]+)`", line):
             # a law, which its file and its name say
             (gone if GONE.search(line) else refused_at).append((found[1], found[2]))
         elif found := re.search(r"expected answers in \./proofs/(\S+)/\w+\.antt; .*did not prove (.*)", line):
