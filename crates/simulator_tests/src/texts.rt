@@ -60,8 +60,8 @@ fn writes_with<S: BuildHasher + Drop>(
 /// A trace that others are written for, too.
 pub(crate) const TRACE: &[u8] = b"a\nb\na\nc\nb\nd\na\nb\n";
 
-/// Two traces with their names.
-const TRACES: [(&str, &[u8]); 2] = [("a \"b\"", TRACE), ("c", b"x")];
+/// Two traces with their names, of which one has quotes, and one a control character.
+const TRACES: [(&str, &[u8]); 2] = [("a \"b\"", TRACE), ("c\x1F", b"x")];
 
 /// Returns what is written for two traces in place of what a line says, if it is something else.
 pub(crate) fn other_text_of_two(
