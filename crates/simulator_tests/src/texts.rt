@@ -8,7 +8,7 @@ use simulator_replay::replay_source;
 use std::alloc::Global;
 use std::hash::{BuildHasher, RandomState};
 use std::test::Fail;
-use testing::{LinearHashBuilder, SpellingError, same, spelled};
+use testing::{LinearHashBuilder, SpellingError, other_than, same};
 
 /// Returns what a simulation with these arguments writes.
 pub(crate) fn written(
@@ -69,9 +69,7 @@ pub(crate) fn other_text_of_two(
     line: &str,
 ) -> Result<Option<Vec<u8>>, SpellingError> {
     let (words, wanted) = line.split_once('|').unwrap_or((line, "no bar"));
-    let wanted = spelled(alloc, wanted)?;
-    let text = text_of_two(alloc, words)?;
-    Ok(if text == wanted { None } else { Some(text) })
+    other_than(alloc, wanted, text_of_two(alloc, words)?)
 }
 
 /// Returns what is written for two traces, or nothing if that is refused.

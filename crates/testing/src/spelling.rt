@@ -76,6 +76,27 @@ fn push_lines(bytes: &mut Vec<u8>, plain: &[u8]) -> Result<(), AllocError> {
     Ok(())
 }
 
+/// Returns bytes if a part of a line spells others.
+///
+/// # Errors
+///
+/// An error if the part spells nothing, or if there is no memory for its bytes.
+///
+/// # Example
+///
+/// ```
+/// let gave = Vec::from_slice(rt.alloc(), b"ok\nnone\n")?;
+/// assert!(rt; other_than(rt.alloc(), "ok;none;", gave)?.is_none());
+/// ```
+pub fn other_than(
+    alloc: Global,
+    wanted: &str,
+    bytes: Vec<u8>,
+) -> Result<Option<Vec<u8>>, SpellingError> {
+    let wanted = spelled(alloc, wanted)?;
+    Ok(if bytes == wanted { None } else { Some(bytes) })
+}
+
 /// Returns a part of a line that spells the bytes.
 ///
 /// # Errors

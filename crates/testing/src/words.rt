@@ -33,3 +33,20 @@ pub fn two_numbers(text: &str) -> (u64, u64) {
     let (first, second) = two_words(text);
     (number_of(first), number_of(second))
 }
+
+/// Returns what has this name in a table. Other functions only match the result, since a comparison
+/// of words is proved anew with all that is in scope.
+///
+/// # Example
+///
+/// ```
+/// same(named_in(&[("on", true), ("off", false)], "on"), Some(true))?;
+/// ```
+pub fn named_in<T: Copy>(table: &[(&str, T)], name: &str) -> Option<T> {
+    for (word, named) in table {
+        if *word == name {
+            return Some(*named);
+        }
+    }
+    None
+}

@@ -9,7 +9,8 @@ use clock2q_cache::DefaultHashBuilder;
 use std::alloc::{AllocError, Global};
 use std::hash::BuildHasher;
 use testing::{
-    Counts, LinearHashBuilder, Refusing, SpellingError, number_of, spelled, two_numbers, two_words,
+    Counts, LinearHashBuilder, Refusing, SpellingError, number_of, other_than, two_numbers,
+    two_words,
 };
 
 /// A hash of its own for each key, and one hash for all keys.
@@ -40,13 +41,7 @@ pub(crate) const SPREADS: [LinearHashBuilder; 4] = [
 /// Returns what a line gives in place of what it should, if it does.
 pub(crate) fn other_replies(alloc: Global, line: &str) -> Result<Option<Vec<u8>>, SpellingError> {
     let (calls, wanted) = line.split_once('|').unwrap_or((line, "no bar"));
-    let wanted = spelled(alloc, wanted)?;
-    let replies = replies_to(alloc, calls)?.into_bytes();
-    Ok(if replies == wanted {
-        None
-    } else {
-        Some(replies)
-    })
+    other_than(alloc, wanted, replies_to(alloc, calls)?.into_bytes())
 }
 
 /// Returns the replies to calls, each with a line end. What is kept after them is said too.

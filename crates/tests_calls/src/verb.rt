@@ -1,5 +1,7 @@
 //! The words that name calls and questions.
 
+use testing::named_in;
+
 /// A call of a cache, or a question about its run.
 #[derive(Clone, Copy)]
 pub(crate) enum Verb {
@@ -159,15 +161,4 @@ impl Kind {
     pub(crate) fn named(name: &str) -> Option<Kind> {
         named_in(KINDS, name)
     }
-}
-
-/// Returns what has this name in a table. A function with a cache in scope only matches the result,
-/// since a comparison of words is proved anew with all that is in scope.
-fn named_in<T: Copy>(table: &[(&str, T)], name: &str) -> Option<T> {
-    for (word, named) in table {
-        if *word == name {
-            return Some(*named);
-        }
-    }
-    None
 }

@@ -9,7 +9,7 @@ use crate::seen::{Notes, Seen};
 use crate::verb::{Change, Grant, Look, Order, Question, Verb};
 use clock2q_handles::{TableError, partition};
 use std::alloc::{AllocError, Global};
-use testing::{Refusing, SpellingError, number_of, spelled, two_words};
+use testing::{Refusing, SpellingError, number_of, other_than, two_words};
 
 /// The fingerprints of the hashes in runs that are worked out by hand.
 const FINGERPRINTS: [u64; 3] = [0, 0xAB, 0xCD];
@@ -17,13 +17,7 @@ const FINGERPRINTS: [u64; 3] = [0, 0xAB, 0xCD];
 /// Returns what a line gives in place of what it should, if it does.
 pub(crate) fn other_replies(alloc: Global, line: &str) -> Result<Option<Vec<u8>>, SpellingError> {
     let (calls, wanted) = line.split_once('|').unwrap_or((line, "no bar"));
-    let wanted = spelled(alloc, wanted)?;
-    let replies = replies_to(alloc, calls)?.into_bytes();
-    Ok(if replies == wanted {
-        None
-    } else {
-        Some(replies)
-    })
+    other_than(alloc, wanted, replies_to(alloc, calls)?.into_bytes())
 }
 
 /// Returns the replies to calls, each with a line end.

@@ -1,5 +1,7 @@
 //! The words that name calls and questions.
 
+use testing::named_in;
+
 /// A call of a table, or a question about it.
 #[derive(Clone, Copy)]
 pub(crate) enum Verb {
@@ -105,15 +107,4 @@ impl Verb {
     pub(crate) fn named(name: &str) -> Option<Verb> {
         named_in(VERBS, name)
     }
-}
-
-/// Returns what has this name in a table. Other functions match the result, since a comparison of words
-/// is proved anew with all that is in scope.
-fn named_in(table: &[(&str, Verb)], name: &str) -> Option<Verb> {
-    for (word, verb) in table {
-        if *word == name {
-            return Some(*verb);
-        }
-    }
-    None
 }
