@@ -24,6 +24,23 @@ install_scripts() {
     [ ! -s "$state/calls" ]
 }
 
+# Prints a help text of the program as its source has it.
+text_of() {
+    sed -n "/^pub const $1: /,/^\";\$/p" "$top/crates/simulator_io/src/help.rt" | sed '1d;$d; s/\\\\/\\/g; s/\\"/"/g'
+}
+
+@test "the help before a build is the program's" {
+    path=${tools}_without_rt
+    for pair in formats:FORMATS_HELP policies:POLICIES_HELP; do
+        start 0 clock2q-simulate --help "${pair%:*}"
+        [ "${output//.\/clock2q-simulate/clock2q-simulate}" = "$(text_of "${pair#*:}")" ]
+    done
+    start 0 clock2q-simulate --help
+    while IFS= read -r line; do
+        [[ $output == *"$line"* ]]
+    done < <(text_of HELP | grep '^  --')
+}
+
 @test "the version comes before a build" {
     path=${tools}_without_rt
     for script in clock2q clock2q-simulate; do
