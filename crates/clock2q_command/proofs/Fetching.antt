@@ -68,7 +68,7 @@ module _ {K V S H : Type 0} (key : HashMembers K) (build : builder.Ghosts S H) (
   resident_costs : (slot : ℕ) (o : Option V) → slot_of (key.eq k) old.machine ≡ Some slot → Costs key build hash (Try k o) old new
   resident_costs slot None e =
       let looks : inspections_for (key.eq k) old.machine ≡ 0 = ap (λ z. if is_some z then 0 else (if takes_victim (key.eq k) old.machine then inspections old.machine.main else 0)) e in
-      let links : accesses_for (key.eq k) old.machine ≡ 0 = ap (λ z. if is_some z then 0 else inspections_for (key.eq k) old.machine + 36) e in
+      let links : accesses_for (key.eq k) old.machine ≡ 0 = ap (λ z. if is_some z then 0 else inspections_for (key.eq k) old.machine + 29) e in
       let victims : victims_for (key.eq k) old.machine ≡ 0 = ap (λ z. if is_some z then 0 else (if takes_victim (key.eq k) old.machine then 1 else 0)) e in
       let slots : slots_for key build hash k old ≡ walked key build hash old k = rw e (omega arith) in
       record {
