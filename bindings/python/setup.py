@@ -1,6 +1,7 @@
 """Builds clock2q._extension over libclock2q.a, which is linked in: that of the folder CLOCK2Q_LIB_DIR, or else
 that which pkg-config finds, or else one that cargo builds of the proved text without its contracts. That text is in a
-source distribution, and beside this folder in the repository. pyproject.toml has the rest."""
+source distribution, and beside this folder in the repository. With CLOCK2Q_LIMITED_API=1 the extension is for all
+Pythons from 3.12 on, and not only for the one that builds it. pyproject.toml has the rest."""
 
 import os
 import shlex
@@ -80,17 +81,21 @@ class BuildOverLibrary(build_ext):
         super().build_extension(extension)
 
 
+IS_LIMITED = os.environ.get("CLOCK2Q_LIMITED_API") == "1"
+
 setup(
     cmdclass={"build_ext": BuildOverLibrary, "sdist": SourcesWithNative},
+    options={"bdist_wheel": {"py_limited_api": "cp312"}} if IS_LIMITED else {},
     ext_modules=[
-        # Not for the limited API: calls of `cached` are vectorcalls, which it has from Python 3.12 on.
         Extension(
             "clock2q._extension",
             sources=[f"extension/{name}.c" for name in (
                 "module", "making", "pairs", "evicting", "growing", "expiring", "leaving", "cache", "cached", "flights",
                 "decorator", "pages",
             )],
-            depends=["extension/pairs.h", "extension/cached.h"],
+            depends=["extension/pairs.h", "extension/cached.h", "extension/limited.h"],
+            py_limited_api=IS_LIMITED,
+            define_macros=[("Py_LIMITED_API", "0x030C0000")] if IS_LIMITED else [],
             extra_compile_args=["-std=c11", "-fvisibility=hidden"],
             extra_link_args=["-Wl,--exclude-libs,ALL"],
         )

@@ -2,7 +2,7 @@
 #include "pairs.h"
 
 static int cache_traverse(Cache *self, visitproc visit, void *arg) {
-    Py_VISIT(Py_TYPE(self));
+    Py_VISIT(Py_TYPE((PyObject *)self));
     Py_VISIT(self->weigher);
     Py_VISIT(self->timer);
     Py_VISIT(self->listener);
@@ -27,14 +27,12 @@ static int cache_tp_clear(Cache *self) {
 
 static void cache_dealloc(Cache *self) {
     PyObject_GC_UnTrack(self);
-    Py_TRASHCAN_BEGIN(self, cache_dealloc)
+    BEGIN_NESTED(self, cache_dealloc)
     if (self->weak_references != NULL) PyObject_ClearWeakRefs((PyObject *)self);
     clock2q_tokens_free(&self->slots);
     cache_tp_clear(self);
-    PyTypeObject *type = Py_TYPE(self);
-    type->tp_free(self);
-    Py_DECREF(type);
-    Py_TRASHCAN_END
+    free_object((PyObject *)self);
+    END_NESTED
 }
 
 static Py_ssize_t cache_length(Cache *self) {
@@ -103,11 +101,11 @@ static int cache_contains(Cache *self, PyObject *key) {
 /* Reads the arguments `key` and `default` of a method, of which some are named or too many or too few. */
 Py_NO_INLINE static PyObject *named_key_and_default(const char *name, PyObject *const *args, Py_ssize_t count,
                                                     PyObject *names, PyObject **otherwise) {
-    Py_ssize_t named = names == NULL ? 0 : PyTuple_GET_SIZE(names);
+    Py_ssize_t named = names == NULL ? 0 : tuple_size(names);
     PyObject *given[2] = {count > 0 ? args[0] : NULL, count > 1 ? args[1] : NULL};
     int is_wrong = count + named > 2;
     for (Py_ssize_t i = 0; i < named && !is_wrong; i++) {
-        PyObject *word = PyTuple_GET_ITEM(names, i);
+        PyObject *word = tuple_item(names, i);
         int at = PyUnicode_CompareWithASCIIString(word, "key") == 0 ? 0 : 1;
         is_wrong = given[at] != NULL || (at == 1 && PyUnicode_CompareWithASCIIString(word, "default") != 0);
         given[at] = args[count + i];
@@ -192,7 +190,9 @@ static PyObject *cache_resize(Cache *self, PyObject *number) {
 /* As of a dict: without the keys and values. */
 static PyObject *cache_sizeof(Cache *self, PyObject *unused) {
     (void)unused;
-    size_t size = (size_t)Py_TYPE(self)->tp_basicsize + self->slots_size;
+    Py_ssize_t own = basic_size((PyObject *)self);
+    if (own < 0) return NULL;
+    size_t size = (size_t)own + self->slots_size;
     if (self->pairs != NULL) size += self->capacity * sizeof *self->pairs;
     if (self->weights != NULL) size += self->capacity * sizeof *self->weights;
     if (self->deadlines != NULL) size += self->capacity * sizeof *self->deadlines;
@@ -235,12 +235,12 @@ static PyObject *cache_pairs(Cache *self, PyObject *unused) {
     (void)unused;
     PyObject *flat = list_pairs(self, 1);
     if (flat == NULL) return NULL;
-    Py_ssize_t length = PyList_GET_SIZE(flat) / 2;
+    Py_ssize_t length = PyList_Size(flat) / 2;
     PyObject *list = PyList_New(length);
     for (Py_ssize_t i = 0; list != NULL && i < length; i++) {
-        PyObject *item = PyTuple_Pack(2, PyList_GET_ITEM(flat, 2 * i), PyList_GET_ITEM(flat, 2 * i + 1));
+        PyObject *item = PyTuple_Pack(2, PyList_GetItem(flat, 2 * i), PyList_GetItem(flat, 2 * i + 1));
         if (item == NULL) Py_CLEAR(list);
-        else PyList_SET_ITEM(list, i, item);
+        else PyList_SetItem(list, i, item);
     }
     Py_DECREF(flat);
     return list;

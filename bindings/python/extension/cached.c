@@ -9,18 +9,18 @@ static inline int is_own_key(PyObject *const *args, Py_ssize_t count) {
 /* Makes the key of a call as functools does: that argument, or else a tuple of the arguments, the mark, the names and
  * values of the keyword arguments, and, if typed, all their types. */
 static inline PyObject *key_of(Cached *self, PyObject *const *args, Py_ssize_t count, PyObject *names) {
-    Py_ssize_t named = names == NULL ? 0 : PyTuple_GET_SIZE(names), at = 0;
+    Py_ssize_t named = names == NULL ? 0 : tuple_size(names), at = 0;
     if (!self->is_typed && named == 0 && is_own_key(args, count)) return Py_NewRef(args[0]);
     PyObject *key = PyTuple_New(count + (named ? 1 + 2 * named : 0) + (self->is_typed ? count + named : 0));
     if (key == NULL) return NULL;
-    for (Py_ssize_t i = 0; i < count; i++) PyTuple_SET_ITEM(key, at++, Py_NewRef(args[i]));
-    if (named) PyTuple_SET_ITEM(key, at++, Py_NewRef(self->keyword_mark));
+    for (Py_ssize_t i = 0; i < count; i++) set_tuple_item(key, at++, Py_NewRef(args[i]));
+    if (named) set_tuple_item(key, at++, Py_NewRef(self->keyword_mark));
     for (Py_ssize_t i = 0; i < named; i++) {
-        PyTuple_SET_ITEM(key, at++, Py_NewRef(PyTuple_GET_ITEM(names, i)));
-        PyTuple_SET_ITEM(key, at++, Py_NewRef(args[count + i]));
+        set_tuple_item(key, at++, Py_NewRef(tuple_item(names, i)));
+        set_tuple_item(key, at++, Py_NewRef(args[count + i]));
     }
     for (Py_ssize_t i = 0; self->is_typed && i < count + named; i++)
-        PyTuple_SET_ITEM(key, at++, Py_NewRef((PyObject *)Py_TYPE(args[i])));
+        set_tuple_item(key, at++, Py_NewRef((PyObject *)Py_TYPE(args[i])));
     return key;
 }
 
@@ -75,9 +75,9 @@ static inline int hash_of_all(PyObject *const *args, Py_ssize_t count, uint64_t 
 
 /* Whether a key is a tuple of these arguments and no others, each the same object. */
 static inline int is_same(PyObject *key, PyObject *const *args, Py_ssize_t count) {
-    if (!PyTuple_CheckExact(key) || PyTuple_GET_SIZE(key) != count) return 0;
+    if (!PyTuple_CheckExact(key) || tuple_size(key) != count) return 0;
     for (Py_ssize_t i = 0; i < count; i++)
-        if (PyTuple_GET_ITEM(key, i) != args[i]) return 0;
+        if (tuple_item(key, i) != args[i]) return 0;
     return 1;
 }
 
@@ -114,7 +114,7 @@ static inline PyObject *call_by_arguments(Cached *self, PyObject *const *args, P
 static PyObject *call_kept(PyObject *object, PyObject *const *args, size_t flags, PyObject *names) {
     Cached *self = (Cached *)object;
     Py_ssize_t count = PyVectorcall_NARGS(flags);
-    int is_plain = !self->is_typed && (names == NULL || PyTuple_GET_SIZE(names) == 0);
+    int is_plain = !self->is_typed && (names == NULL || tuple_size(names) == 0);
     if (is_plain && !is_own_key(args, count)) return call_by_arguments(self, args, count);
     PyObject *key = key_of(self, args, count, names), *value = NULL;
     uint64_t hash;

@@ -22,7 +22,7 @@ static PyObject *cached_new(PyTypeObject *type, PyObject *args, PyObject *keywor
     if (!PyArg_ParseTuple(args, "OOpOOp:Cached", &function, &maxsize, &is_typed, &info_type, &key_function, &is_locked))
         return NULL;
     module_state *state = PyType_GetModuleState(type);
-    Cached *self = state == NULL ? NULL : (Cached *)type->tp_alloc(type, 0);
+    Cached *self = state == NULL ? NULL : (Cached *)PyType_GenericAlloc(type, 0);
     if (self == NULL) return NULL;
     self->maxsize = Py_NewRef(maxsize);
     self->function = Py_NewRef(function);
@@ -37,7 +37,7 @@ static PyObject *cached_new(PyTypeObject *type, PyObject *args, PyObject *keywor
 }
 
 static int cached_traverse(Cached *self, visitproc visit, void *arg) {
-    Py_VISIT(Py_TYPE(self));
+    Py_VISIT(Py_TYPE((PyObject *)self));
     Py_VISIT(self->cache);
     Py_VISIT(self->results);
     Py_VISIT(self->maxsize);
@@ -61,10 +61,9 @@ static int cached_tp_clear(Cached *self) {
 }
 
 static void cached_dealloc(Cached *self) {
-    PyTypeObject *type = Py_TYPE(self);
     PyObject_GC_UnTrack(self);
     if (self->weak_references != NULL) PyObject_ClearWeakRefs((PyObject *)self);
-    Py_XDECREF(self->cache);
+    Py_XDECREF((PyObject *)self->cache);
     Py_XDECREF(self->results);
     Py_XDECREF(self->maxsize);
     Py_XDECREF(self->function);
@@ -72,17 +71,18 @@ static void cached_dealloc(Cached *self) {
     Py_XDECREF(self->info_type);
     Py_XDECREF(self->keyword_mark);
     Py_XDECREF(self->attributes);
-    type->tp_free(self);
-    Py_DECREF(type);
+    free_object((PyObject *)self);
 }
 
 static PyObject *cached_get(PyObject *self, PyObject *object, PyObject *type) {
     (void)type;
-    return object == NULL || object == Py_None ? Py_NewRef(self) : PyMethod_New(self, object);
+    if (object == NULL || object == Py_None) return Py_NewRef(self);
+    module_state *state = PyType_GetModuleState(Py_TYPE(self));
+    return state == NULL ? NULL : PyObject_CallFunctionObjArgs(state->method_type, self, object, NULL);
 }
 
 static Py_ssize_t cached_length(Cached *self) {
-    if (self->results != NULL) return PyDict_GET_SIZE(self->results);
+    if (self->results != NULL) return PyDict_Size(self->results);
     return self->cache == NULL ? 0 : length_of(self->cache);
 }
 
@@ -140,7 +140,7 @@ static PyObject *cached_keep(Cached *self, PyObject *const *args, Py_ssize_t cou
 
 static PyObject *cached_sizeof(Cached *self, PyObject *unused) {
     (void)unused;
-    PyObject *own = PyLong_FromSsize_t(Py_TYPE(self)->tp_basicsize);
+    PyObject *own = PyLong_FromSsize_t((Py_ssize_t)sizeof(Cached));
     PyObject *held = self->results != NULL ? self->results : (PyObject *)self->cache;
     if (own == NULL || held == NULL) return own;
     PyObject *size = PyObject_CallMethod(held, "__sizeof__", NULL);

@@ -33,8 +33,8 @@ PyObject *cache_popitem(Cache *self, PyObject *unused) {
         Py_DECREF(item);
         return nothing_to_pop();
     }
-    PyTuple_SET_ITEM(item, 0, left.key);
-    PyTuple_SET_ITEM(item, 1, left.value);
+    set_tuple_item(item, 0, left.key);
+    set_tuple_item(item, 1, left.value);
     if (self->listener != NULL) call_listener(self, left, EVICTED);
     return item;
 }
@@ -52,8 +52,8 @@ PyObject *cache_next_victim(Cache *self, PyObject *unused) {
         Py_DECREF(item);
         Py_RETURN_NONE;
     }
-    PyTuple_SET_ITEM(item, 0, Py_NewRef(self->pairs[next.slot].key));
-    PyTuple_SET_ITEM(item, 1, Py_NewRef(self->pairs[next.slot].value));
+    set_tuple_item(item, 0, Py_NewRef(self->pairs[next.slot].key));
+    set_tuple_item(item, 1, Py_NewRef(self->pairs[next.slot].value));
     return item;
 }
 

@@ -51,20 +51,20 @@ static int take_expired(Cache *cache, double now, PyObject *list) {
 
 /* Returns a list of the pairs in a list of what left, as tuples. */
 static PyObject *as_tuples(PyObject *left) {
-    Py_ssize_t count = PyList_GET_SIZE(left) / 3;
+    Py_ssize_t count = PyList_Size(left) / 3;
     PyObject *list = PyList_New(count);
     for (Py_ssize_t i = 0; list != NULL && i < count; i++) {
-        PyObject *item = PyTuple_Pack(2, PyList_GET_ITEM(left, 3 * i), PyList_GET_ITEM(left, 3 * i + 1));
+        PyObject *item = PyTuple_Pack(2, PyList_GetItem(left, 3 * i), PyList_GetItem(left, 3 * i + 1));
         if (item == NULL) Py_CLEAR(list);
-        else PyList_SET_ITEM(list, i, item);
+        else PyList_SetItem(list, i, item);
     }
     return list;
 }
 
 PyObject *cache_expire(Cache *self, PyObject *const *args, Py_ssize_t count, PyObject *names) {
-    int is_named = names != NULL && PyTuple_GET_SIZE(names) == 1 && count == 0 &&
-                   PyUnicode_CompareWithASCIIString(PyTuple_GET_ITEM(names, 0), "time") == 0;
-    if (count + (names == NULL ? 0 : PyTuple_GET_SIZE(names)) > 1 || (names != NULL && PyTuple_GET_SIZE(names) > 0 && !is_named))
+    int is_named = names != NULL && tuple_size(names) == 1 && count == 0 &&
+                   PyUnicode_CompareWithASCIIString(tuple_item(names, 0), "time") == 0;
+    if (count + (names == NULL ? 0 : tuple_size(names)) > 1 || (names != NULL && tuple_size(names) > 0 && !is_named))
         return PyErr_Format(PyExc_TypeError, "expire() takes at most a time");
     int is_given = (count == 1 || is_named) && args[0] != Py_None;
     double now = is_given ? PyFloat_AsDouble(args[0]) : 0;

@@ -53,9 +53,9 @@ int add_left(PyObject *list, pair left, reason why) {
 
 /* Adds the pairs of a list to those of which the listener hears later, and returns true, if that is postponed. */
 static int are_postponed(Cache *cache, PyObject *list) {
-    if (cache->listener == NULL || cache->postponing == 0 || PyList_GET_SIZE(list) == 0) return 0;
+    if (cache->listener == NULL || cache->postponing == 0 || PyList_Size(list) == 0) return 0;
     int failed = !can_postpone(cache);
-    Py_ssize_t end = failed ? 0 : PyList_GET_SIZE(cache->postponed);
+    Py_ssize_t end = failed ? 0 : PyList_Size(cache->postponed);
     if (failed || PyList_SetSlice(cache->postponed, end, end, list) < 0) PyErr_WriteUnraisable(cache->listener);
     return 1;
 }
@@ -64,8 +64,8 @@ void drop_pairs(Cache *cache, PyObject *list) {
     PyObject *type, *error, *traceback;
     PyErr_Fetch(&type, &error, &traceback);
     if (!are_postponed(cache, list)) {
-        for (Py_ssize_t at = 0; cache->listener != NULL && at + 2 < PyList_GET_SIZE(list); at += 3)
-            call_with_word(cache, PyList_GET_ITEM(list, at), PyList_GET_ITEM(list, at + 1), PyList_GET_ITEM(list, at + 2));
+        for (Py_ssize_t at = 0; cache->listener != NULL && at + 2 < PyList_Size(list); at += 3)
+            call_with_word(cache, PyList_GetItem(list, at), PyList_GetItem(list, at + 1), PyList_GetItem(list, at + 2));
     }
     Py_DECREF(list);
     PyErr_Restore(type, error, traceback);

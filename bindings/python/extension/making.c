@@ -4,7 +4,7 @@
 /* The name is interned, or else the interpreter's cache of attributes would keep a name for each cache. */
 PyObject *missing_of_type(Cache *self) {
     PyObject *name = PyUnicode_InternFromString("__missing__");
-    PyObject *method = name == NULL ? NULL : PyObject_GetAttr((PyObject *)Py_TYPE(self), name);
+    PyObject *method = name == NULL ? NULL : PyObject_GetAttr((PyObject *)Py_TYPE((PyObject *)self), name);
     Py_XDECREF(name);
     return method;
 }

@@ -26,14 +26,17 @@ static int module_exec(PyObject *module) {
     module_state *state = PyModule_GetState(module);
     if (draw_secret() < 0) return -1;
     state->keyword_mark = PyObject_CallNoArgs((PyObject *)&PyBaseObject_Type);
+    PyObject *types = PyImport_ImportModule("types");
+    state->method_type = types == NULL ? NULL : PyObject_GetAttrString(types, "MethodType");
+    Py_XDECREF(types);
     state->cache_type = add_type(module, &cache_spec);
     state->place_type = PyStructSequence_NewType(&place_description);
-    if (state->keyword_mark == NULL || state->cache_type == NULL || state->place_type == NULL) return -1;
+    if (state->method_type == NULL || state->keyword_mark == NULL || state->cache_type == NULL || state->place_type == NULL) return -1;
     if (PyModule_AddType(module, state->place_type) < 0) return -1;
     PyTypeObject *cached = add_type(module, &cached_spec), *pages = add_type(module, &pages_spec);
     int failed = cached == NULL || pages == NULL;
-    Py_XDECREF(cached);
-    Py_XDECREF(pages);
+    Py_XDECREF((PyObject *)cached);
+    Py_XDECREF((PyObject *)pages);
     if (failed || PyModule_AddIntConstant(module, "MAX_CAPACITY", CLOCK2Q_MAX_CAPACITY) < 0) return -1;
     uint32_t version = clock2q_version();
     PyObject *text = PyUnicode_FromFormat("%u.%u.%u", version / 10000, version / 100 % 100, version % 100);
@@ -47,6 +50,7 @@ static int module_traverse(PyObject *module, visitproc visit, void *arg) {
     Py_VISIT(state->cache_type);
     Py_VISIT(state->place_type);
     Py_VISIT(state->keyword_mark);
+    Py_VISIT(state->method_type);
     return 0;
 }
 
@@ -55,6 +59,7 @@ static int module_clear(PyObject *module) {
     Py_CLEAR(state->cache_type);
     Py_CLEAR(state->place_type);
     Py_CLEAR(state->keyword_mark);
+    Py_CLEAR(state->method_type);
     return 0;
 }
 

@@ -28,11 +28,9 @@ static int pages_init(Pages *self, PyObject *args, PyObject *keywords) {
 }
 
 static void pages_dealloc(Pages *self) {
-    PyTypeObject *type = Py_TYPE(self);
     if (self->weak_references != NULL) PyObject_ClearWeakRefs((PyObject *)self);
     clock2q_free(&self->slots);
-    type->tp_free(self);
-    Py_DECREF(type);
+    free_object((PyObject *)self);
 }
 
 /* Returns true if there is a cache, and false with an exception if not. */
@@ -67,8 +65,8 @@ static PyObject *pages_enter(Pages *self, PyTypeObject *owner, PyObject *const *
     clock2q_enter(&self->slots, key, &place);
     PyObject *slot = PyLong_FromSize_t(place.slot);
     PyObject *last = place.has_last ? PyLong_FromUnsignedLongLong(place.last) : Py_NewRef(Py_None);
-    PyStructSequence_SET_ITEM(result, 0, slot);
-    PyStructSequence_SET_ITEM(result, 1, last);
+    PyStructSequence_SetItem(result, 0, slot);
+    PyStructSequence_SetItem(result, 1, last);
     if (slot == NULL || last == NULL) Py_CLEAR(result);
     return result;
 }

@@ -49,12 +49,12 @@ static size_t counted;
 
 static void *count_and_take(size_t size) {
     counted += size;
-    return PyMem_RawMalloc(size);
+    return PyMem_Malloc(size);
 }
 
 clock2q_memory begin_count(void) {
     counted = 0;
-    return clock2q_use_memory(&(clock2q_memory){count_and_take, PyMem_RawFree});
+    return clock2q_use_memory(&(clock2q_memory){count_and_take, PyMem_Free});
 }
 
 size_t end_count(clock2q_memory before) {
@@ -194,5 +194,8 @@ void set_key_error(PyObject *key) {
 
 PyObject *refuse_copy(PyObject *self, PyObject *unused) {
     (void)unused;
-    return PyErr_Format(PyExc_TypeError, "a %s can't be pickled or copied", Py_TYPE(self)->tp_name);
+    PyObject *name = PyObject_GetAttrString((PyObject *)Py_TYPE(self), "__name__");
+    if (name != NULL) PyErr_Format(PyExc_TypeError, "a %U can't be pickled or copied", name);
+    Py_XDECREF(name);
+    return NULL;
 }

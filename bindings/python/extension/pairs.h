@@ -13,6 +13,8 @@
 #include <clock2q.h>
 #include <structmember.h>
 
+#include "limited.h"
+
 #ifndef Py_NO_INLINE /* before Python 3.11 */
 #define Py_NO_INLINE __attribute__((noinline))
 #endif
@@ -86,7 +88,7 @@ static inline uint64_t spread(uint64_t hash) {
 
 /* Writes a key's hash. Returns -1 with an exception if it has none. */
 static inline int hash_of(PyObject *key, uint64_t *hash) {
-    Py_hash_t value = PyUnicode_CheckExact(key) ? ((PyASCIIObject *)key)->hash : -1; /* -1 before it is first asked for */
+    Py_hash_t value = kept_hash(key);
     if (value == -1) value = PyObject_Hash(key);
     *hash = (uint64_t)value;
     return value == -1 ? -1 : 0;
@@ -268,6 +270,7 @@ PyObject *refuse_copy(PyObject *self, PyObject *unused);
 /* What belongs to the module. */
 typedef struct {
     PyTypeObject *cache_type, *place_type;
+    PyObject *method_type;
     PyObject *keyword_mark; /* comes before the keyword arguments in a key of `cached` */
 } module_state;
 
