@@ -46,8 +46,23 @@ edits_end() {
         printf '#!/bin/sh\necho %s000000000\n' "${pair#*:}" >"$copy/.bin/memory"
         start_ci 0 run
         if [ "${pair%:*}" -ge 2 ] && [ "${pair%:*}" -le "$(nproc)" ]; then lanes=${pair%:*}; else lanes='as rt chooses'; fi
-        [[ $output == *"lanes: $lanes"* ]]
+        [[ $output == *"lanes: $lanes
+"* ]]
     done
+}
+
+@test "the gate proves the chain of the cache first, beside what needs no cache, if there is room" {
+    make_parts
+    [ "$(nproc)" -ge 4 ] || skip
+    printf '#!/bin/sh\necho 20000000000\n' >"$copy/.bin/memory"
+    start_ci 0 run
+    [[ $output == *"lanes: as rt chooses, of clock2q_cache
+"*"lanes: $(($(nproc) / 2)), of static low
+"* ]]
+    [ "${lines[-1]}" = '10 passed, 0 failed' ]
+    printf '#!/bin/sh\necho 9000000000\n' >"$copy/.bin/memory"
+    start_ci 0 run
+    [[ $output != *clock2q_cache* ]]
 }
 
 @test "the gate goes to its own folder if CDPATH is exported" {
