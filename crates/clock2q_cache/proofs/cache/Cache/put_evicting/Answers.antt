@@ -1,5 +1,5 @@
 -- The key is resident with its value, and what it replaces or evicts comes back.
-use Rattle.std.proofs.Common.{sym, ap, ◌∙◌, arith, rules}
+use Rattle.std.proofs.Common.{refl, sym, ap, ◌∙◌, arith, rules}
 use Rattle.clock2q_cache.proofs.Names.{none_is, CacheState}
 use Rattle.clock2q_machine.proofs.Laws.{put_there}
 use Rattle.clock2q_cache.proofs.Finding.{gap-found, no-slot}
@@ -16,14 +16,17 @@ pub returns-clause-machine : goal.returns-clause-machine
 returns-clause-machine g c = search rules
 
 pub returns-in_default-clause-replaced : goal.returns-in_default-clause-replaced
-returns-in_default-clause-replaced g c = grind (arith, none-had, no-slot, c.lookup-found.ensures.slot)
+returns-in_default-clause-replaced g c =
+    none-had (g.K.PartialEq.eq c.args.key) c.args.self.now.machine _ (sym (no-slot c.lookup-found.result c.in_default.not-Resident ∙ c.lookup-found.ensures.slot))
 
 pub returns-clause-replaced : goal.returns-clause-replaced
 returns-clause-replaced g c =
-    grind (arith, had-before, c.in-Resident.ensures.slot, c.record_hit.ensures.machine, c.lookup-found.ensures.machine, c.replace_value.ensures.value)
+    had-before (g.K.PartialEq.eq c.args.key) c.args.self.now.machine _ (sym c.in-Resident.ensures.slot)
+    (rw (c.record_hit.ensures.machine, c.lookup-found.ensures.machine) at c.replace_value.ensures.value) refl
 
 pub returns-in_default-clause-evicted : goal.returns-in_default-clause-evicted
-returns-in_default-clause-evicted g c absent = grind (arith, c.lookup-found.ensures.machine, c.insert_evicting.ensures.evicted, victim-handed)
+returns-in_default-clause-evicted g c absent =
+    rw c.lookup-found.ensures.machine at c.insert_evicting.ensures.evicted ∙ victim-handed g.K.PartialEq.eq c.args.self.now.machine c.args.key c.args.value absent
 
 pub returns-clause-evicted : goal.returns-clause-evicted
 returns-clause-evicted g c absent = absurd (none_is c.in-Resident.slot (sym absent ∙ sym c.in-Resident.ensures.slot))
@@ -43,7 +46,9 @@ returns-in_default-clause-known g c =
     rw (← (none ∙ c.lookup-found.ensures.slot)) (rw (c.lookup-found.ensures.kept, gap) at c.insert_evicting.ensures.known)
 
 pub returns-clause-known : goal.returns-clause-known
-returns-clause-known g c = grind (arith, c.in-Resident.ensures.slot, c.replace_value.ensures.kept, c.record_hit.ensures.kept, c.lookup-found.ensures.kept)
+returns-clause-known g c =
+    rw (← c.in-Resident.ensures.slot) (ap (λ (z : CacheState _ _ _). z.known) c.replace_value.ensures.kept ∙ ap (λ (z : CacheState _ _ _). z.known) c.record_hit.ensures.kept
+    ∙ ap (λ (z : CacheState _ _ _). z.known) c.lookup-found.ensures.kept)
 
 pub returns-in_default-clause-costs : goal.returns-in_default-clause-costs
 returns-in_default-clause-costs g c =
