@@ -63,6 +63,13 @@ class Text:
             self.refuse(start, 'a ghost form that something comes after')
         self.cut(start, end + rest.end())
 
+    def cut_clause(self, start, end):
+        """Cuts the lines of a clause, but for a semicolon after it: there ends what a trait asks for."""
+        if self.source[end:end + 1] == ';':
+            self.cut(self.source.rfind('\n', 0, start) + 1, end)
+        else:
+            self.cut_lines(start, end)
+
     def comments_before(self, at):
         """The start of the comments right before a line, and of an empty line before those."""
         while comment := re.search(r'\n[ \t]*//[^\n]*\n\Z', self.source[:at]):
@@ -94,6 +101,7 @@ class Text:
         left = ''.join(parts) + self.source[at:]
         left = re.sub(r'\n(?:[ \t]*\n){2,}', '\n\n', left)
         left = re.sub(r'\{\n\n+(?=[ \t]*\S)', '{\n', left)
+        left = re.sub(r'\n[ \t]*;$', ';', left, flags=re.M)
         left = re.sub(r'^([^\n/]*[^,\n/])\n[ \t]*\{\n', r'\1 {\n', left, flags=re.M)
         left = re.sub(r'\n\n+([ \t]*\})', r'\n\1', left)
         return left.strip('\n') + '\n'

@@ -2,8 +2,8 @@
 use Rattle.std.proofs.Common.{◌≡◌, ℕ, ◌+◌, ◌<◌, false, cond, eqb, List, length, set, inl, inr, refl, sym, ap, ◌∙◌}
 use Rattle.std.proofs.lemmas.Bool.{cases_Bool, eqb-true}
 use Rattle.std.proofs.lemmas.List.{length-set}
-use Rattle.clock2q_queues.specs.declared.links.Record.{Record}
-use Rattle.clock2q_queues.specs.declared.links.Location.{Location}
+use Rattle.clock2q_queues.specs.declared.entries.Record.{Record}
+use Rattle.clock2q_queues.specs.declared.entries.Location.{Location}
 use Rattle.clock2q_queues.specs.Cells.{cells_state}
 use Rattle.clock2q_queues.specs.Links.{Attaches, Detaches, next_at, previous_at, record_at, vacant}
 use Rattle.clock2q_queues.proofs.Records.{changed}

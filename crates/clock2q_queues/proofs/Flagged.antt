@@ -1,12 +1,13 @@
 -- The flags of the slots agree with the records after a write to both.
 use Rattle.std.proofs.Common.{◌≡◌, ℕ, zero, suc, ◌∷◌, ◌+◌, ◌<◌, ◌≤◌, ◌^◌, Bool, true, false, None, eqb, Option, List, map, length, get_or, set, replicate, inl, inr, refl, sym, ap, ◌∙◌, arith, true≢false}
 use Rattle.std.proofs.lemmas.Bool.{cases_Bool, eqb-true}
-use Rattle.std.proofs.lemmas.List.{length-map, length-replicate, length-set, map-set}
-use Rattle.clock2q_queues.specs.declared.links.Record.{Record}
-use Rattle.clock2q_queues.specs.declared.links.Flag.{Flag}
-use Rattle.clock2q_queues.specs.declared.links.Location.{Location}
+use Rattle.std.proofs.lemmas.List.{get_or-map, length-map, length-replicate, length-set, map-set}
+use Rattle.clock2q_queues.specs.declared.entries.Record.{Record}
+use Rattle.clock2q_queues.specs.declared.links.flags.Flag.{Flag}
+use Rattle.clock2q_queues.specs.declared.entries.Location.{Location}
 use Rattle.clock2q_queues.specs.Cells.{CellsState, cells_state}
-use Rattle.clock2q_queues.specs.Links.{SlotRecords, SetsBit, fresh, made_below, Attaches, Detaches, location_at, vacant}
+use Rattle.clock2q_queues.specs.Links.{SetsBit, fresh, made_below, Attaches, Detaches, location_at, vacant}
+use Rattle.clock2q_queues.specs.Ring.{RingState, ring_state}
 use Rattle.clock2q_queues.proofs.AllRecords.{linked_within}
 use Rattle.clock2q_queues.proofs.Records.{changed, get_or-same}
 use Rattle.clock2q_queues.proofs.Rings.{eqb_self}
@@ -21,10 +22,10 @@ mapped-same says zero f = refl
 mapped-same says (suc n) f = ap (λ z. says f ∷ z) (mapped-same says n f)
 
 -- no slot is in a queue
-pub are_fresh : (n : ℕ) (records : SlotRecords) (window : List (Option ℕ)) → records.cells.items ≡ replicate n vacant → records.flags ≡ replicate n Flag.Free
-    → length window < 2 ^ 32 → AreLinks records window
-are_fresh n records window empty free countable =
-    let nowhere : (t : ℕ) → is_linked (location_at records.cells.items t) ≡ false = λ t. rw empty (ap (λ (r : Record). is_linked r.location) (get_or-same n t vacant)) in
+pub are_fresh : (n : ℕ) (ring : RingState) (flags : List Flag) (window : List (Option ℕ)) → ring.cells.items ≡ replicate n vacant → flags ≡ replicate n Flag.Free
+    → length window < 2 ^ 32 → AreLinks ring flags window
+are_fresh n ring flags window empty free countable =
+    let nowhere : (t : ℕ) → is_linked (location_at ring.cells.items t) ≡ false = λ t. rw empty (ap (λ (r : Record). is_linked r.location) (get_or-same n t vacant)) in
     record {
       as_many = rw (empty, free) (length-replicate n Flag.Free ∙ sym (length-replicate n vacant));
       agree = λ t. rw (free, mapped-same says_linked n Flag.Free) (get_or-same n t false) ∙ sym (nowhere t);
@@ -32,15 +33,21 @@ are_fresh n records window empty free countable =
       countable_positions = countable;
     }
 
+-- the flag of a slot that is in a queue says so
+pub flag_linked : (ring : RingState) (flags : List Flag) (window : List (Option ℕ)) (slot : ℕ) → AreLinks ring flags window → is_linked (location_at ring.cells.items slot) ≡ true
+    → says_linked (get_or flags slot Flag.Free) ≡ true
+flag_linked ring flags window slot were linked =
+    sym (get_or-map says_linked flags slot Flag.Free false (rw were.as_many (linked_within ring.cells.items slot linked))) ∙ were.agree slot ∙ linked
+
 -- the flag of a slot was written, and its record perhaps: they still agree if they do at this slot
-flags_written : (old new : SlotRecords) (window : List (Option ℕ)) (slot : ℕ) (f : Flag) → AreLinks old window → slot < length old.cells.items → new.flags ≡ set old.flags slot f
+flags_written : (old new : RingState) (flags flags' : List Flag) (window : List (Option ℕ)) (slot : ℕ) (f : Flag) → AreLinks old flags window → slot < length old.cells.items → flags' ≡ set flags slot f
     → length new.cells.items ≡ length old.cells.items → says_linked f ≡ is_linked (location_at new.cells.items slot)
     → ((t : ℕ) → eqb t slot ≡ false → is_linked (location_at new.cells.items t) ≡ is_linked (location_at old.cells.items t))
-    → old.made ≤ new.made → (is_linked (location_at new.cells.items slot) ≡ true → slot < new.made) → AreLinks new window
-flags_written old new window slot f were within flagged as_many here elsewhere more made = record {
-  as_many = rw flagged (length-set old.flags slot f) ∙ were.as_many ∙ sym as_many;
-  agree = λ t. ap (λ z. get_or (map says_linked z) t false) flagged ∙ ap (λ z. get_or z t false) (mapped-set says_linked old.flags slot f (says_linked f) refl)
-      ∙ changed (λ b. b) (map says_linked old.flags) slot (says_linked f) false t (rw (length-map old.flags says_linked, were.as_many) within)
+    → old.made ≤ new.made → (is_linked (location_at new.cells.items slot) ≡ true → slot < new.made) → AreLinks new flags' window
+flags_written old new flags flags' window slot f were within flagged as_many here elsewhere more made = record {
+  as_many = rw flagged (length-set flags slot f) ∙ were.as_many ∙ sym as_many;
+  agree = λ t. ap (λ z. get_or (map says_linked z) t false) flagged ∙ ap (λ z. get_or z t false) (mapped-set says_linked flags slot f (says_linked f) refl)
+      ∙ changed (λ b. b) (map says_linked flags) slot (says_linked f) false t (rw (length-map flags says_linked, were.as_many) within)
       ∙ elim (cases_Bool (eqb t slot)) [
         | inl e ↦ rw e (here ∙ ap (λ z. is_linked (location_at new.cells.items z)) (sym (eqb-true t slot e)))
         | inr e ↦ rw e (were.agree t ∙ sym (elsewhere t e))
@@ -52,43 +59,40 @@ flags_written old new window slot f were within flagged as_many here elsewhere m
   countable_positions = were.countable_positions;
 }
 
-module _ (old new : SlotRecords) (window : List (Option ℕ)) (slot : ℕ) (f : Flag) (were : AreLinks old window) (flagged : new.flags ≡ set old.flags slot f) where
+module _ (old : RingState) (flags flags' : List Flag) (window : List (Option ℕ)) (slot : ℕ) (f : Flag) (were : AreLinks old flags window) (flagged : flags' ≡ set flags slot f) where
   -- its record stays
-  pub flags_changed : is_linked (location_at old.cells.items slot) ≡ true → says_linked f ≡ true → new.cells ≡ old.cells → new.made ≡ old.made → AreLinks new window
-  flags_changed linked says same as_made =
-      let own : is_linked (location_at new.cells.items slot) ≡ true = rw same linked in
-      flags_written old new window slot f were (linked_within old.cells.items slot linked) flagged (ap (λ (z : CellsState Record). length z.items) same) (says ∙ sym own)
-      (λ t other. ap (λ (z : CellsState Record). is_linked (location_at z.items t)) same) (omega (arith, as_made)) (λ _. rw as_made (were.made slot linked))
+  pub flags_changed : is_linked (location_at old.cells.items slot) ≡ true → says_linked f ≡ true → AreLinks old flags' window
+  flags_changed linked says =
+      flags_written old old flags flags' window slot f were (linked_within old.cells.items slot linked) flagged refl (says ∙ sym linked) (λ t other. refl) (omega arith) (were.made slot)
 
   -- its record is written
-  pub record_written : (r : Record) → slot < length old.cells.items → says_linked f ≡ is_linked r.location → new.cells.items ≡ set old.cells.items slot r
-      → old.made ≤ new.made → slot < new.made → AreLinks new window
-  record_written r within here written more made =
+  pub record_written : (new : RingState) (r : Record) → slot < length old.cells.items → says_linked f ≡ is_linked r.location → new.cells.items ≡ set old.cells.items slot r
+      → old.made ≤ new.made → slot < new.made → AreLinks new flags' window
+  record_written new r within here written more made =
       let is = (λ (t : ℕ). ap (λ z. is_linked (location_at z t)) written ∙ changed (λ (x : Record). is_linked x.location) old.cells.items slot r vacant t within) in
-      flags_written old new window slot f were within flagged (ap length written ∙ length-set old.cells.items slot r) (here ∙ sym (is slot ∙ rw (eqb_self slot) refl))
+      flags_written old new flags flags' window slot f were within flagged (ap length written ∙ length-set old.cells.items slot r) (here ∙ sym (is slot ∙ rw (eqb_self slot) refl))
       (λ t other. is t ∙ rw other refl) more (λ _. made)
 
   -- it is put before another
-  pub slot_attached : {before : ℕ} {location : Location} {cost : ℕ} → slot < length old.cells.items → Attaches slot before location cost old.cells new.cells
-      → says_linked f ≡ is_linked location → new.made ≡ made_below (slot + 1) old.made → AreLinks new window
-  slot_attached within attached here made =
-      flags_written old new window slot f were within flagged attached.as_many (here ∙ sym (ap is_linked (attached.locations slot) ∙ rw (eqb_self slot) refl))
+  pub slot_attached : {before : ℕ} {location : Location} {cost : ℕ} (new : RingState) → slot < length old.cells.items → Attaches slot before location cost old.cells new.cells
+      → says_linked f ≡ is_linked location → new.made ≡ made_below (slot + 1) old.made → AreLinks new flags' window
+  slot_attached new within attached here made =
+      flags_written old new flags flags' window slot f were within flagged attached.as_many (here ∙ sym (ap is_linked (attached.locations slot) ∙ rw (eqb_self slot) refl))
       (λ t other. ap is_linked (attached.locations t) ∙ rw other refl) (omega (arith, made)) (λ _. omega (arith, made))
 
   -- it is taken out
-  pub slot_detached : is_linked (location_at old.cells.items slot) ≡ true → Detaches slot old.cells new.cells → says_linked f ≡ false → new.made ≡ old.made → AreLinks new window
-  slot_detached linked detached here made =
-      flags_written old new window slot f were (linked_within old.cells.items slot linked) flagged detached.as_many
+  pub slot_detached : (new : RingState) → is_linked (location_at old.cells.items slot) ≡ true → Detaches slot old.cells new.cells → says_linked f ≡ false → new.made ≡ old.made → AreLinks new flags' window
+  slot_detached new linked detached here made =
+      flags_written old new flags flags' window slot f were (linked_within old.cells.items slot linked) flagged detached.as_many
       (here ∙ sym (ap (λ (r : Record). is_linked r.location) detached.freed))
       (λ t other. ap is_linked (detached.locations t other)) (omega (arith, made)) (λ _. rw made (were.made slot linked))
 
-module _ (old new : SlotRecords) (window : CellsState (Option ℕ)) (inspections slot : ℕ) (f : Flag) where
+module _ (ring : RingState) (flags flags' : List Flag) (window : CellsState (Option ℕ)) (inspections slot : ℕ) (f : Flag) (bit : Bool) where
   -- the bit of a slot is this one now
-  pub bit_set : (bit : Bool) → slot < length old.flags → is_set f ≡ bit → new.flags ≡ set old.flags slot f
-      → SetsBit slot bit (links_shown old window inspections) (links_shown (record new { cells = old.cells; made = old.made }) window inspections)
-  bit_set bit within e flagged = record {
-    bits = λ t. ap (λ z. get_or (map is_set z) t false) flagged ∙ ap (λ z. get_or z t false) (mapped-set is_set old.flags slot f bit e)
-        ∙ changed (λ b. b) (map is_set old.flags) slot bit false t (rw (length-map old.flags is_set) within);
+  pub bit_set : slot < length flags → is_set f ≡ bit → flags' ≡ set flags slot f → SetsBit slot bit (links_shown ring flags window inspections) (links_shown ring flags' window inspections)
+  bit_set within e flagged = record {
+    bits = λ t. ap (λ z. get_or (map is_set z) t false) flagged ∙ ap (λ z. get_or z t false) (mapped-set is_set flags slot f bit e)
+        ∙ changed (λ b. b) (map is_set flags) slot bit false t (rw (length-map flags is_set) within);
     records = refl;
     made = refl;
     window = refl;
@@ -96,7 +100,7 @@ module _ (old new : SlotRecords) (window : CellsState (Option ℕ)) (inspections
   }
 
 -- new links
-pub shown_fresh : (slots window : ℕ) {inspections : ℕ} {records : SlotRecords} {positions : CellsState (Option ℕ)}
-    → records ≡ record { cells = cells_state (replicate slots vacant) 0; made = 0; flags = replicate slots Flag.Free } → positions ≡ cells_state (replicate window None) 0 → inspections ≡ 0
-    → links_shown records positions inspections ≡ fresh slots window
-shown_fresh slots window blank none unseen = rw (blank, none, unseen, mapped-same is_set slots Flag.Free) refl
+pub shown_fresh : (slots window : ℕ) {inspections : ℕ} {ring : RingState} {flags : List Flag} {positions : CellsState (Option ℕ)}
+    → ring ≡ ring_state (cells_state (replicate slots vacant) 0) 0 → flags ≡ replicate slots Flag.Free → positions ≡ cells_state (replicate window None) 0 → inspections ≡ 0
+    → links_shown ring flags positions inspections ≡ fresh slots window
+shown_fresh slots window blank free none unseen = rw (blank, free, none, unseen, mapped-same is_set slots Flag.Free) refl

@@ -10,8 +10,8 @@ use Rattle.std.proofs.lemmas.List.Elements.{filter-append}
 use Rattle.std.proofs.lemmas.Map.Steps.{length-le_from_distinct_below}
 use Rattle.std.proofs.lemmas.List.Folds.{list_any-append}
 use Rattle.clock2q_machine.proofs.Whole.{last_some}
-use Rattle.clock2q_queues.specs.declared.links.Record.{Record}
-use Rattle.clock2q_queues.specs.declared.links.Location.{Location}
+use Rattle.clock2q_queues.specs.declared.entries.Record.{Record}
+use Rattle.clock2q_queues.specs.declared.entries.Location.{Location}
 use Rattle.clock2q_queues.specs.Rings.{without, Joins, IsRing}
 use Rattle.clock2q_queues.specs.Cells.{CellsState}
 use Rattle.clock2q_queues.specs.Links.{IsLinked, IsQueue, Attaches, Detaches, end_of, slots_from, record_at, next_at, previous_at, location_at, vacant}

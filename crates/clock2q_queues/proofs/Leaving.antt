@@ -4,9 +4,9 @@ use Rattle.std.specs.List.{filter, list_any}
 use Rattle.std.proofs.lemmas.Bool.{eqb-true, eq-eqb, ne_eqb, both_ways, cases_Bool, cases_lt}
 use Rattle.std.proofs.lemmas.List.{length-set, get_or_past, set_past}
 use Rattle.clock2q_machine.specs.Ages.{Age}
-use Rattle.clock2q_queues.specs.declared.links.Record.{Record}
-use Rattle.clock2q_queues.specs.declared.links.Location.{Location}
-use Rattle.clock2q_queues.specs.declared.links.Location.TheVariants.{Free, SmallYoung, SmallOld, Main}
+use Rattle.clock2q_queues.specs.declared.entries.Record.{Record}
+use Rattle.clock2q_queues.specs.declared.entries.Location.{Location}
+use Rattle.clock2q_queues.specs.declared.entries.Location.TheVariants.{Free, SmallYoung, SmallOld, Main}
 use Rattle.clock2q_queues.specs.declared.small.Small.{Small}
 use Rattle.clock2q_queues.specs.Cells.{CellsState, HitBits, bit_in}
 use Rattle.clock2q_queues.specs.Rings.{without}

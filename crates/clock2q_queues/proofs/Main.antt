@@ -5,7 +5,7 @@ use Rattle.std.proofs.lemmas.Bool.{both_ways, or_cases}
 use Rattle.std.proofs.lemmas.List.{map-append, length_push}
 use Rattle.std.proofs.lemmas.List.Folds.{list_any-append}
 use Rattle.clock2q_queues.specs.declared.main_ring.MainRing.{MainRing}
-use Rattle.clock2q_queues.specs.declared.links.Location.TheVariants.{Free, Main}
+use Rattle.clock2q_queues.specs.declared.entries.Location.TheVariants.{Free, Main}
 use Rattle.clock2q_queues.specs.Rings.{without}
 use Rattle.clock2q_queues.specs.Links.{LinkState, IsSameBut, SetsBit, Attaches, Detaches, record_at, location_at, bit_at}
 use Rattle.clock2q_queues.specs.MainRing.{IsMain, IsMainRing, main_slots, main_entries}

@@ -1,17 +1,17 @@
 -- How each call changes the order of the history's places and the chain of the free ones.
 use Rattle.std.proofs.Common.{◌≡◌, ℕ, zero, suc, ◌+◌, ◌-◌, ◌^◌, ◌<◌, ◌≤◌, Bool, true, false, ◌||◌, eqb, Option, Some}
-use Rattle.std.proofs.Common.{None, slice_get, List, [], ◌∷◌, ◌++◌, length, take, drop, inl, inr, refl, sym, ap, ◌∙◌, subst, arith}
+use Rattle.std.proofs.Common.{None, slice_get, List, [], ◌∷◌, ◌++◌, length, set, take, drop, inl, inr, refl, sym, ap, ◌∙◌, subst, arith}
 use Rattle.std.specs.List.{last_or, list_any, AllByRecursion, IsDistinct}
 use Rattle.std.proofs.lemmas.Bool.{eqb-true, both_ways, cases_Bool}
 use Rattle.std.proofs.lemmas.List.{length-append, length-set}
 use Rattle.std.proofs.lemmas.List.Folds.{list_any-append}
-use Rattle.clock2q_queues.specs.declared.links.Record.{Record}
-use Rattle.clock2q_queues.specs.declared.links.Location.TheVariants.{Free}
+use Rattle.clock2q_queues.specs.declared.entries.Record.{Record}
+use Rattle.clock2q_queues.specs.declared.entries.Location.TheVariants.{Free}
 use Rattle.clock2q_queues.specs.declared.order.Chain.{Chain}
 use Rattle.clock2q_queues.specs.Rings.{without, around}
-use Rattle.clock2q_queues.specs.Cells.{CellsState, accessed, written}
+use Rattle.clock2q_queues.specs.Cells.{CellsState, Rises, accessed, cells_state, written}
 use Rattle.clock2q_queues.specs.Links.{IsLinked, Attaches, Detaches, end_of, made_below, slots_from, record_at, next_at, previous_at, vacant}
-use Rattle.clock2q_queues.specs.Neighbours.{PlaceRecords, place_records}
+use Rattle.clock2q_queues.specs.Ring.{RingState, ring_state}
 use Rattle.clock2q_queues.specs.Order.{PlaceOrder, IsOrderOf, IsOrder, IsWholeOrder, free_places, order_shown, place_for}
 use Rattle.clock2q_queues.proofs.Records.{changed}
 use Rattle.clock2q_queues.proofs.Rings.{eqb_self, among_first, among_later, IsDistinct-left, IsDistinct-right, IsDistinct-append, distinct_first, distinct_rest, distinct_more, distinct_none}
@@ -106,20 +106,20 @@ or_swap false false h = h
 
 -- Orders
 
-pub IsOrder-from : {rs : PlaceRecords} {newest : Option ℕ} {len : ℕ} {chain : Chain} {ps fs : List ℕ} → IsOrderOf rs newest len chain ps fs → IsOrder rs newest len chain
+pub IsOrder-from : {rs : RingState} {newest : Option ℕ} {len : ℕ} {chain : Chain} {ps fs : List ℕ} → IsOrderOf rs newest len chain ps fs → IsOrder rs newest len chain
 IsOrder-from {rs} {newest} {len} {chain} {ps} {fs} o =
     subst (λ z. IsOrderOf rs newest len chain z (free_places rs.cells.items chain)) (sym (slots_from-is rs.cells.items newest len ps o.queue))
     (subst (λ z. IsOrderOf rs newest len chain ps z) (sym o.chained) o)
 
-pub whole_order : (l : PlaceRecords) (newest : Option ℕ) (len : ℕ) (chain : Chain) → IsOrder l newest len chain → IsWholeOrder (order_shown l newest len chain)
+pub whole_order : (l : RingState) (newest : Option ℕ) (len : ℕ) (chain : Chain) → IsOrder l newest len chain → IsWholeOrder (order_shown l newest len chain)
 whole_order l newest len chain o = record { apart = o.apart; below = o.below; within = o.within; countable = o.queue.countable }
 
 -- no place was used
-pub empty_order : (l : PlaceRecords) → l.made ≡ 0 → length l.cells.items < 2 ^ 32 → IsOrder l None 0 (record { head = 0; len = 0 })
+pub empty_order : (l : RingState) → l.made ≡ 0 → length l.cells.items < 2 ^ 32 → IsOrder l None 0 (record { head = 0; len = 0 })
 empty_order l m h = grind (arith, distinct_none eqb)
 
 -- the view of an order of these places and a chain of those
-pub order_shown-is : (l : PlaceRecords) {newest : Option ℕ} {len : ℕ} {chain : Chain} {ps fs : List ℕ} → IsOrderOf l newest len chain ps fs
+pub order_shown-is : (l : RingState) {newest : Option ℕ} {len : ℕ} {chain : Chain} {ps fs : List ℕ} → IsOrderOf l newest len chain ps fs
     → order_shown l newest len chain ≡ record { places = ps; free = fs; limit = length l.cells.items; accesses = l.cells.accesses }
 order_shown-is l {newest} {len} {chain} {ps} {fs} o =
     ap (λ z. record { places = z; free = free_places l.cells.items chain; limit = length l.cells.items; accesses = l.cells.accesses }) (slots_from-is l.cells.items newest len ps o.queue)
@@ -144,14 +144,14 @@ chain-put old new chain place r e next fits absent =
     ∙ ap (λ z. place ∷ around (next_at new.items) z chain.len) to_head
     ∙ ap (λ zs. place ∷ zs) (around-kept (next_at old.items) (next_at new.items) chain.head chain.len other)
 
-pub head_made : (l : PlaceRecords) (newest : Option ℕ) (len : ℕ) (chain : Chain) → IsOrder l newest len chain → 0 < chain.len → chain.head < l.made
+pub head_made : (l : RingState) (newest : Option ℕ) (len : ℕ) (chain : Chain) → IsOrder l newest len chain → 0 < chain.len → chain.head < l.made
 head_made l newest len chain o some =
     let places = slots_from l.cells.items newest len in
     let free = free_places l.cells.items chain in
     let count = length places + length free in
     grind (arith, among_first, below_of count free (AllByRecursion-right count places free o.below) chain.head)
 
-module _ (l : PlaceRecords) (newest : Option ℕ) (len : ℕ) (chain : Chain) (o : IsOrder l newest len chain) where
+module _ (l : RingState) (newest : Option ℕ) (len : ℕ) (chain : Chain) (o : IsOrder l newest len chain) where
   abbrev pub places_now : List ℕ
   places_now = slots_from l.cells.items newest len
 
@@ -177,30 +177,32 @@ module _ (l : PlaceRecords) (newest : Option ℕ) (len : ℕ) (chain : Chain) (o
   next_fits h = FitsNext-from (length l.cells.items) places_now free_now o.apart o.below o.within h
 
   -- the place was taken from the chain, if it had one
-  pub record Chooses (mid : PlaceRecords) (newest' len' : ℕ) (chain' : Chain) (place : ℕ) : Type 0 where
+  pub record Chooses (mid : RingState) (newest' len' : ℕ) (chain' : Chain) (place : ℕ) : Type 0 where
     pub slots : mid.cells.items ≡ l.cells.items
     pub made : mid.made ≡ l.made
     pub first : end_of len' newest' ≡ newest
     pub count : len' ≡ len
     pub rest : free_places mid.cells.items chain' ≡ drop 1 free_now
+    pub counted : Rises 0 1 l.cells.accesses mid.cells.accesses
     pub is : place ≡ place_for (length places_now) free_now
 
   module _ (newest' : ℕ) (first : end_of len newest' ≡ newest) where
-    pub takes_head : 0 < chain.len → (mid : PlaceRecords) → mid ≡ place_records (accessed l.cells) l.made → (next : ℕ) → next ≡ next_at l.cells.items chain.head
+    pub takes_head : 0 < chain.len → (mid : RingState) → mid ≡ ring_state (accessed l.cells) l.made → (next : ℕ) → next ≡ next_at l.cells.items chain.head
         → Chooses mid newest' len (record { head = next; len = chain.len - 1 }) chain.head
     takes_head some mid read next e = grind (arith)
 
     pub takes_unused : chain.len ≡ 0 → Chooses l newest' len chain len
     takes_unused none =
         let parts : free_now ≡ [] = ap (λ z. around (next_at l.cells.items) chain.head z) none in
-        record { slots = refl; made = refl; first = first; count = refl; rest = parts ∙ sym (ap (λ (z : List ℕ). drop 1 z) parts); is = o.queue.counted ∙ sym (ap (λ z. place_for (length places_now) z) parts) }
+        record { slots = refl; made = refl; first = first; count = refl; rest = parts ∙ sym (ap (λ (z : List ℕ). drop 1 z) parts); counted = (omega arith, omega arith); is = o.queue.counted ∙ sym (ap (λ z. place_for (length places_now) z) parts) }
 
   -- the order after a place was put at the front
-  pub record Pushed (place len' : ℕ) (chain' : Chain) (new : PlaceRecords) : Type 0 where
+  pub record Pushed (place len' : ℕ) (chain' : Chain) (new : RingState) : Type 0 where
     pub order : IsOrderOf new (end_of (len' + 1) place) (len' + 1) chain' (place ∷ places_now) (drop 1 free_now)
     pub as_many : length new.cells.items ≡ length l.cells.items
+    pub counted : Rises 1 7 l.cells.accesses new.cells.accesses
 
-  module _ {mid : PlaceRecords} {newest' len' : ℕ} {chain' : Chain} {place : ℕ} (k : Chooses mid newest' len' chain' place) (h : length places_now < length l.cells.items) where
+  module _ {mid : RingState} {newest' len' : ℕ} {chain' : Chain} {place : ℕ} (k : Chooses mid newest' len' chain' place) (h : length places_now < length l.cells.items) where
     pub fits : FitsNext (length l.cells.items) place places_now free_now
     fits = subst (λ z. FitsNext (length l.cells.items) z places_now free_now) (sym k.is) (next_fits h)
 
@@ -221,8 +223,8 @@ module _ (l : PlaceRecords) (newest : Option ℕ) (len : ℕ) (chain : Chain) (o
         let f = place_made newest' (first_in places_now newest' (starts some)) in
         rw (k.made, k.slots) (f.0, f.2)
 
-    pushes : (new : PlaceRecords) → new.made ≡ made_below (place + 1) mid.made → Inserts place Free places_now mid.cells.items new.cells.items → Pushed place len' chain' new
-    pushes new m i =
+    pushes : (new : RingState) → new.made ≡ made_below (place + 1) mid.made → Inserts place Free places_now mid.cells.items new.cells.items → Rises 1 6 mid.cells.accesses new.cells.accesses → Pushed place len' chain' new
+    pushes new m i n =
         let as_many : length new.cells.items ≡ length l.cells.items = i.as_many ∙ ap (λ (z : List Record). length z) k.slots in
         let elsewhere = (λ (t : ℕ) (g : list_any (eqb t) (free_places mid.cells.items chain') ≡ true).
         let apart : list_any (eqb t) (place ∷ places_now) ≡ false = apart_back (place ∷ places_now) (drop 1 free_now) fits.apart t (subst (λ zs. list_any (eqb t) zs ≡ true) k.rest g) in
@@ -242,20 +244,24 @@ module _ (l : PlaceRecords) (newest : Option ℕ) (len : ℕ) (chain : Chain) (o
             made = m ∙ rw (k.made, o.made) fits.makes;
           };
           as_many = as_many;
+          counted = (omega (arith, n.0, k.counted.0), omega (arith, n.1, k.counted.1));
         }
 
-    pub pushes-attached : (new : PlaceRecords) → 0 < len' → Attaches place newest' Free 6 mid.cells new.cells → new.made ≡ made_below (place + 1) mid.made → Pushed place len' chain' new
+    pub pushes-attached : (new : RingState) → 0 < len' → Attaches place newest' Free (place - mid.made + 6) mid.cells new.cells → new.made ≡ made_below (place + 1) mid.made → Pushed place len' chain' new
     pushes-attached new some a m = pushes new m (Inserts-before mid.cells new.cells places_now place Free newest' linked_mid (starts some) fits.absent place_in a)
+        (omega (arith, a.accesses), omega (arith, a.accesses, place_next))
 
-    pub pushes-alone : (new : PlaceRecords) → len' ≡ 0 → new.cells ≡ written place (record { previous = place; next = place; location = Free }) mid.cells → new.made ≡ made_below (place + 1) mid.made → Pushed place len' chain' new
+    pub pushes-alone : (new : RingState) → len' ≡ 0 → new.cells ≡ cells_state (set mid.cells.items place (record { previous = place; next = place; location = Free })) (mid.cells.accesses + (place - mid.made) + 1)
+        → new.made ≡ made_below (place + 1) mid.made → Pushed place len' chain' new
     pushes-alone new none w m =
         let first : None ≡ slice_get places_now 0 = ap (λ n. end_of n newest') (sym none) ∙ k.first ∙ o.queue.starts in
-        pushes new m (Inserts-first mid.cells.items new.cells.items places_now place Free first place_in (ap (λ (z : CellsState Record). z.items) w))
+        let n = ap (λ (z : CellsState Record). z.accesses) w in
+        pushes new m (Inserts-first mid.cells.items new.cells.items places_now place Free first place_in (ap (λ (z : CellsState Record). z.items) w)) (omega (arith, n), omega (arith, n, place_next))
 
   -- The last place moved to the front
 
   -- this place was the last of the order, and is now the first
-  pub record Reuses (new : PlaceRecords) (oldest : ℕ) : Type 0 where
+  pub record Reuses (new : RingState) (oldest : ℕ) : Type 0 where
     pub oldest_was : last_or None places_now ≡ Some oldest
     pub order : IsOrderOf new (end_of len oldest) len chain (oldest ∷ take (length places_now - 1) places_now) free_now
 
@@ -269,7 +275,7 @@ module _ (l : PlaceRecords) (newest : Option ℕ) (len : ℕ) (chain : Chain) (o
   ends_in [] x e = absurd (cc)
   ends_in (s ∷ ss) x e = split_last ss s x e
 
-  pub reuses : (new : PlaceRecords) (first oldest : ℕ) → new ≡ place_records (accessed l.cells) l.made → 0 < length places_now → end_of len first ≡ newest → oldest ≡ previous_at l.cells.items first → Reuses new oldest
+  pub reuses : (new : RingState) (first oldest : ℕ) → new ≡ ring_state (accessed l.cells) l.made → 0 < length places_now → end_of len first ≡ newest → oldest ≡ previous_at l.cells.items first → Reuses new oldest
   reuses new first oldest w some is e =
       let occupied : 0 < len = omega (arith, some, o.queue.counted) in
       let was : last_or None places_now ≡ Some oldest = last_of first places_now o.queue.linked (sym (end_some len first occupied) ∙ is ∙ o.queue.starts) ∙ ap (λ z. Some z) (sym e) in
@@ -283,7 +289,7 @@ module _ (l : PlaceRecords) (newest : Option ℕ) (len : ℕ) (chain : Chain) (o
       record {
         oldest_was = was;
         order = subst (λ z. IsOrderOf new (end_of len oldest) len chain (oldest ∷ z) free_now) (sym front)
-            (subst (λ (z : PlaceRecords). IsOrderOf z (end_of len oldest) len chain (oldest ∷ xs) free_now) (sym w) (record {
+            (subst (λ (z : RingState). IsOrderOf z (end_of len oldest) len chain (oldest ∷ xs) free_now) (sym w) (record {
               queue = record { linked = linked; starts = end_some len oldest occupied; counted = o.queue.counted ∙ count; countable = o.queue.countable };
               chained = refl;
               apart = apart-turned places_now (oldest ∷ xs) free_now linked.apart same o.apart;
@@ -299,7 +305,7 @@ module _ (l : PlaceRecords) (newest : Option ℕ) (len : ℕ) (chain : Chain) (o
     pub place_fits : place < length l.cells.items
     place_fits = below_of (length l.cells.items) places_now o.queue.linked.below place there
 
-    module _ (mid : PlaceRecords) (d : Detaches place l.cells mid.cells) where
+    module _ (mid : RingState) (d : Detaches place l.cells mid.cells) where
       removed : Removes place places_now l.cells.items mid.cells.items
       removed = Removes-detached l.cells mid.cells places_now place o.queue.linked there d
 
@@ -315,7 +321,7 @@ module _ (l : PlaceRecords) (newest : Option ℕ) (len : ℕ) (chain : Chain) (o
           let some : 0 < length places_now = omega (arith, length-without place places_now o.queue.linked.apart there) in
           omega (arith, some, o.within, chain_counted, o.queue.countable)
 
-      pub Unlinks : (new : PlaceRecords) (r : Record) (newest' : Option ℕ) (chain' : Chain) → new.cells ≡ written place r mid.cells → new.made ≡ l.made → free_places new.cells.items chain' ≡ place ∷ free_places mid.cells.items chain
+      pub Unlinks : (new : RingState) (r : Record) (newest' : Option ℕ) (chain' : Chain) → new.cells ≡ written place r mid.cells → new.made ≡ l.made → free_places new.cells.items chain' ≡ place ∷ free_places mid.cells.items chain
           → newest' ≡ slice_get (without place places_now) 0 → IsOrderOf new newest' (len - 1) chain' (without place places_now) (place ∷ free_now)
       Unlinks new r newest' chain' w m c starts =
           let as_many : length new.cells.items ≡ length l.cells.items = ap (λ (z : CellsState Record). length z.items) w ∙ length-set mid.cells.items place r ∙ removed.as_many in

@@ -6,8 +6,8 @@ use Rattle.std.proofs.lemmas.List.{length-map, length-replicate}
 use Rattle.std.proofs.lemmas.List.Folds.{list_any-append}
 use Rattle.clock2q_machine.specs.Ages.{Age, grown_older}
 use Rattle.clock2q_queues.specs.Cells.{CellsState, accessed, cells_state}
-use Rattle.clock2q_queues.specs.declared.links.Record.{Record}
-use Rattle.clock2q_queues.specs.declared.links.Location.TheVariants.{Free}
+use Rattle.clock2q_queues.specs.declared.entries.Record.{Record}
+use Rattle.clock2q_queues.specs.declared.entries.Location.TheVariants.{Free}
 use Rattle.clock2q_queues.specs.declared.main_ring.MainRing.{MainRing}
 use Rattle.clock2q_queues.specs.declared.small.Small.{Small}
 use Rattle.clock2q_queues.specs.Rings.{without}

@@ -4,9 +4,9 @@ use Rattle.std.specs.List.{filter, last_or, list_any, IsDistinct, AllByRecursion
 use Rattle.std.proofs.lemmas.Bool.{cases_Bool, eqb-true}
 use Rattle.std.proofs.lemmas.List.{append-nil, length-set}
 use Rattle.std.proofs.lemmas.List.Folds.{list_any-append}
-use Rattle.clock2q_queues.specs.declared.links.Record.{Record}
-use Rattle.clock2q_queues.specs.declared.links.Location.{Location}
-use Rattle.clock2q_queues.specs.declared.links.Location.TheVariants.{SmallYoung}
+use Rattle.clock2q_queues.specs.declared.entries.Record.{Record}
+use Rattle.clock2q_queues.specs.declared.entries.Location.{Location}
+use Rattle.clock2q_queues.specs.declared.entries.Location.TheVariants.{SmallYoung}
 use Rattle.clock2q_queues.specs.declared.small.Small.{Small}
 use Rattle.clock2q_queues.specs.Cells.{CellsState, HitBits, accessed, bit_in, written}
 use Rattle.clock2q_queues.specs.Rings.{without}

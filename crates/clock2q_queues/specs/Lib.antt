@@ -4,7 +4,7 @@ pub mod Link
 pub mod Links
 pub mod Flags
 pub mod MainRing
-pub mod Neighbours
+pub mod Ring
 pub mod Rings
 pub mod Small
 pub mod Queues

@@ -1,13 +1,12 @@
 -- What the links hold, and how it changes.
-use Rattle.std.specs.Prelude.{◌≡◌, ℕ, ◌+◌, ◌-◌, ◌^◌, ◌<◌, ◌≤◌, ◌==◌, nat_lt, Bool, true, false, List, [], ◌++◌, length, Option, Some, None, slice_get, slice_index_or, replicate, if◌then◌else◌, nat_eq}
+use Rattle.std.specs.Prelude.{◌≡◌, ℕ, ◌+◌, ◌-◌, ◌^◌, ◌<◌, ◌==◌, nat_lt, Bool, true, false, List, [], ◌++◌, length, Option, Some, None, slice_get, slice_index_or, replicate, if◌then◌else◌, nat_eq}
 use Rattle.std.specs.Bool.{then_some}
 use Rattle.std.specs.List.{list_any, AllByRecursion, IsDistinct}
 use Rattle.clock2q_queues.specs.Cells.{CellsState, HitBits, cells_state, hit_bits, written, bit_in}
 use Rattle.clock2q_queues.specs.Rings.{IsRing, around}
-use Rattle.clock2q_queues.specs.declared.links.Record.{Record}
-use Rattle.clock2q_queues.specs.declared.links.Flag.{Flag}
-use Rattle.clock2q_queues.specs.declared.links.Location.{Location}
-use Rattle.clock2q_queues.specs.declared.links.Location.TheVariants.{Free, SmallYoung, SmallOld, Main}
+use Rattle.clock2q_queues.specs.declared.entries.Record.{Record}
+use Rattle.clock2q_queues.specs.declared.entries.Location.{Location}
+use Rattle.clock2q_queues.specs.declared.entries.Location.TheVariants.{Free, SmallYoung, SmallOld, Main}
 
 -- Records by slot number
 
@@ -61,28 +60,6 @@ pub record IsQueue (rs : List Record) (first : Option ℕ) (count : ℕ) (slots 
 abbrev pub slots_from : List Record → Option ℕ → ℕ → List ℕ
 slots_from rs None count = []
 slots_from rs (Some first) count = around (next_at rs) first count
-
--- the records by slot, the number of slots, from 0 on, that were made, and the flags by slot: a slot gets its record and its
--- flag when it is first in a queue
-pub record SlotRecords : Type 0 where
-  pub cells : CellsState Record
-  pub made : ℕ
-  pub flags : List Flag
-
--- the flags of all slots, of which the first are in memory and the others say that a slot is in no queue
-abbrev pub all_flags : List Flag → ℕ → List Flag
-all_flags flags slots = flags ++ replicate (slots - length flags) Flag.Free
-
--- what these records and flags in memory say of so many slots, with this number of accesses
-abbrev pub slot_records : List Record → List Flag → ℕ → ℕ → SlotRecords
-slot_records rs flags slots accesses = record { cells = cells_state (all_records rs slots) accesses; made = length rs; flags = all_flags flags slots }
-
--- as many flags as records are in memory, those of the slots that were made, and there is memory for those of all slots
-pub record AreRecords (records flags slots room flag_room : ℕ) : Type 0 where
-  pub within : records ≤ slots
-  pub as_many : flags ≡ records
-  pub enough : slots ≤ room
-  pub enough_flags : slots ≤ flag_room
 
 -- the number of records made after those below a bound were, of which none is made twice
 abbrev pub made_below : ℕ → ℕ → ℕ

@@ -3,7 +3,7 @@ use Rattle.std.specs.Prelude.{◌≡◌, ℕ, Bool, true, false, List, map, ◌=
 use Rattle.std.specs.List.{list_any}
 use Rattle.clock2q_machine.specs.Hand as hand
 use Rattle.clock2q_queues.specs.Links.{LinkState, IsQueue, slots_from, location_at, bit_at}
-use Rattle.clock2q_queues.specs.declared.links.Location.TheVariants.{Main}
+use Rattle.clock2q_queues.specs.declared.entries.Location.TheVariants.{Main}
 use Rattle.clock2q_queues.specs.declared.main_ring.MainRing.{MainRing}
 
 -- the slots of Main, from the hand

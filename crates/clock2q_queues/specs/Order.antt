@@ -2,9 +2,9 @@
 use Rattle.std.specs.Prelude.{◌≡◌, ℕ, ◌+◌, ◌^◌, ◌<◌, ◌≤◌, List, [], ◌∷◌, ◌++◌, length, Option, nat_eq}
 use Rattle.std.specs.List.{AllByRecursion, IsDistinct}
 use Rattle.clock2q_queues.specs.Rings.{around}
-use Rattle.clock2q_queues.specs.declared.links.Record.{Record}
+use Rattle.clock2q_queues.specs.declared.entries.Record.{Record}
 use Rattle.clock2q_queues.specs.Links.{IsQueue, slots_from, next_at}
-use Rattle.clock2q_queues.specs.Neighbours.{PlaceRecords}
+use Rattle.clock2q_queues.specs.Ring.{RingState}
 use Rattle.clock2q_queues.specs.declared.order.Chain.{Chain}
 
 -- the places that hold a key, the newest key's first, the free ones that were used before, the number of places in all,
@@ -37,7 +37,7 @@ free_places rs chain = around (next_at rs) chain.head chain.len
 
 -- the order consists of `places`, and the chain of `free`: together the places that were used, each of them once, and
 -- these alone have neighbours
-pub record IsOrderOf (rs : PlaceRecords) (newest : Option ℕ) (len : ℕ) (chain : Chain) (places free : List ℕ) : Type 0 where
+pub record IsOrderOf (rs : RingState) (newest : Option ℕ) (len : ℕ) (chain : Chain) (places free : List ℕ) : Type 0 where
   pub queue : IsQueue rs.cells.items newest len places
   pub chained : free_places rs.cells.items chain ≡ free
   pub apart : IsDistinct nat_eq (places ++ free)
@@ -46,11 +46,11 @@ pub record IsOrderOf (rs : PlaceRecords) (newest : Option ℕ) (len : ℕ) (chai
   pub made : rs.made ≡ length places + length free
 
 -- the records represent the order and the chain
-abbrev pub IsOrder : PlaceRecords → Option ℕ → ℕ → Chain → Type 0
+abbrev pub IsOrder : RingState → Option ℕ → ℕ → Chain → Type 0
 IsOrder rs newest len chain = IsOrderOf rs newest len chain (slots_from rs.cells.items newest len) (free_places rs.cells.items chain)
 
 -- the order and the chain, as the records hold them
-abbrev pub order_shown : PlaceRecords → Option ℕ → ℕ → Chain → PlaceOrder
+abbrev pub order_shown : RingState → Option ℕ → ℕ → Chain → PlaceOrder
 order_shown rs newest len chain = record { places = slots_from rs.cells.items newest len; free = free_places rs.cells.items chain; limit = length rs.cells.items; accesses = rs.cells.accesses }
 
 -- what callers may rely on: no place occurs twice, each was used, and no more were used than there are

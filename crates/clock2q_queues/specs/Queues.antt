@@ -5,8 +5,8 @@ use Rattle.clock2q_machine.specs.Ages.{Age, is_promoted}
 use Rattle.clock2q_queues.specs.Links.{LinkState, accesses_of, location_at}
 use Rattle.clock2q_queues.specs.Small.{IsSmallQueue, small_slots, small_entries}
 use Rattle.clock2q_queues.specs.MainRing.{IsMainRing, main_slots, main_entries, inspections}
-use Rattle.clock2q_queues.specs.declared.links.Location.{Location}
-use Rattle.clock2q_queues.specs.declared.links.Location.TheVariants as at
+use Rattle.clock2q_queues.specs.declared.entries.Location.{Location}
+use Rattle.clock2q_queues.specs.declared.entries.Location.TheVariants as at
 use Rattle.clock2q_queues.specs.declared.main_ring.MainRing.{MainRing}
 use Rattle.clock2q_queues.specs.declared.small.Small.{Small}
 

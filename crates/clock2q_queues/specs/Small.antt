@@ -4,8 +4,8 @@ use Rattle.std.specs.List.{last_or, list_any}
 use Rattle.clock2q_machine.specs.Ages as ages
 use Rattle.clock2q_machine.specs.Ages.{Age, grown_older, touched}
 use Rattle.clock2q_queues.specs.Links.{LinkState, IsQueue, end_of, slots_from, next_at, previous_at, location_at, bit_at, young_at}
-use Rattle.clock2q_queues.specs.declared.links.Location.{Location}
-use Rattle.clock2q_queues.specs.declared.links.Location.TheVariants.{Free, SmallYoung, SmallOld, Main}
+use Rattle.clock2q_queues.specs.declared.entries.Location.{Location}
+use Rattle.clock2q_queues.specs.declared.entries.Location.TheVariants.{Free, SmallYoung, SmallOld, Main}
 use Rattle.clock2q_queues.specs.declared.small.Small.{Small}
 
 -- the position after the cursor's: the next one, or the first one after the last

@@ -8,10 +8,11 @@
 //! there are. Constructors take all the memory that will ever be needed, and no later call can fail.
 #![tactic(auto)]
 
+mod entries;
 mod link;
 mod links;
 mod main_ring;
-mod neighbours;
 pub mod order;
 pub mod queues;
+mod ring;
 mod small;

@@ -9,61 +9,22 @@ ghost use Rattle.clock2q_queues.specs.Links.{LinkState, accesses_of, vacant, is_
 ghost use Rattle.clock2q_queues.specs.Small.{GrowsOld, next_cursor};
 
 mod cells;
-mod records;
+mod flags;
 
+use crate::entries::{Linked, Location, Record};
 use crate::link::{Link, NOWHERE};
+use crate::ring::Ring;
 pub(crate) use cells::Cells;
 use clock2q_count::Count;
-use records::Records;
+use flags::{Flag, Flags};
 use std::alloc::{AllocError, Allocator, Global};
 use std::marker::Model;
-
-/// Where a slot is: the queue that it is in, if any, and in Small whether it is young.
-#[derive(Clone, Copy, Debug, PartialEq, Eq)]
-pub(crate) enum Location {
-    /// In neither queue.
-    Free,
-    /// In Small, young, with its position in the window.
-    SmallYoung(u32),
-    /// In Small, old.
-    SmallOld,
-    /// In Main.
-    Main,
-}
-
-/// The neighbours of a slot in its queue, and its location.
-#[derive(Clone, Copy, Debug)]
-pub(crate) struct Record {
-    pub(crate) previous: u32,
-    pub(crate) next: u32,
-    pub(crate) location: Location,
-}
-
-const _: () = prove!(size_of::<Record>() <= 16);
-
-/// The record of a slot that is in no queue.
-pub(crate) const VACANT: Record = Record {
-    previous: 0,
-    next: 0,
-    location: Location::Free,
-};
-
-/// Whether a slot is in a queue, as its record says too, and its hit bit. A slot in no queue has a
-/// clear bit.
-#[derive(Clone, Copy)]
-enum Flag {
-    /// In neither queue.
-    Free,
-    /// In a queue, with a clear bit.
-    Clear,
-    /// In a queue, with a set bit.
-    Hit,
-}
 
 /// The records and the hit bits of the slots, which both queues share, and the window's positions.
 #[derive(Drop)]
 pub(crate) struct Links<A: Allocator = Global> {
-    records: Records<A>,
+    pub(crate) ring: Ring<Record, A>,
+    flags: Flags<A>,
     window: Cells<Link, A>,
     inspections: Count,
 }
@@ -74,9 +35,9 @@ impl<A: Allocator> Model for Links<A> {
 
     ghost Value = { LinkState };
 
-    ghost view = { λ a. links_shown a.records a.window a.inspections.total };
+    ghost view = { λ a. links_shown a.ring a.flags.items a.window a.inspections.total };
 
-    ghost invariant = { λ a. AreLinks a.records a.window.items };
+    ghost invariant = { λ a. AreLinks a.ring a.flags.items a.window.items };
 }
 
 impl<A: Allocator> Links<A> {
@@ -86,33 +47,24 @@ impl<A: Allocator> Links<A> {
         A: Clone,
         ensures { IfOk result (λ l. l ≡ fresh slots window) }
     {
-        let records = Records::new(alloc.clone()?, slots)?;
+        let ring = Ring::new(alloc.clone()?, slots)?;
+        let flags = Flags::new(alloc.clone()?, slots)?;
         let positions = Vec::from_elem(alloc, NOWHERE, window as usize)?;
         Ok(Links {
-            records,
+            ring,
+            flags,
             window: Cells::new(positions),
             inspections: Count::new(),
         })
     }
 
-    /// Raises the count of accesses by an amount that the proof of the call picks.
-    pub(crate) fn charge(&mut self)
-        ghost more: { ℕ }
-        ensures { self.new ≡ record self.old {
-          records = cells_state self.old.records.items
-              (self.old.records.accesses + more);
-        } }
-    {
-        self.records.charge();
-    }
-
-    /// Returns the record of a slot that is in a queue.
-    pub(crate) fn read(&mut self, slot: u32) -> Record
+    /// Returns the slot after one that is in a queue.
+    pub(crate) fn next(&mut self, slot: u32) -> u32
         requires { is_linked (location_at self.old.records.items slot) ≡ true }
-        ensures value { result ≡ record_at self.old.records.items slot }
+        ensures value { result ≡ next_at self.old.records.items slot }
         ensures counted { self.new ≡ record self.old { records = accessed self.old.records } }
     {
-        self.records.read(slot)
+        self.ring.read(slot).next
     }
 
     /// Returns where a slot is.
@@ -120,7 +72,7 @@ impl<A: Allocator> Links<A> {
         ensures value { result ≡ location_at self.old.records.items slot }
         ensures counted { self.new ≡ record self.old { records = accessed self.old.records } }
     {
-        self.records.read_any(slot).location
+        self.ring.read_any(slot).location
     }
 
     /// Puts a slot, with a clear bit, into an empty queue: it is its own neighbour on both sides.
@@ -140,7 +92,8 @@ impl<A: Allocator> Links<A> {
             next: slot,
             location,
         };
-        self.records.write(slot, alone);
+        self.flags.write(slot, Flag::Clear);
+        self.ring.write(slot, alone);
     }
 
     /// Makes the records and the flags of the slots below a bound that have none yet.
@@ -152,19 +105,8 @@ impl<A: Allocator> Links<A> {
           made = made_below bound self.old.made;
         } }
     {
-        self.records.make_below(bound);
-    }
-
-    /// Writes the location of a slot that stays in a queue. It doesn't touch the slot's flags.
-    pub(crate) fn set_location(&mut self, slot: u32, location: Location)
-        requires was { is_linked (location_at self.old.records.items slot) ≡ true }
-        requires stays { is_linked location ≡ true }
-        ensures { self.new ≡ record self.old {
-          records = accessed
-              (with_location slot location self.old.records);
-        } }
-    {
-        self.records.set_location(slot, location);
+        self.ring.make_below(bound);
+        self.flags.make_below(bound);
     }
 
     /// Puts a slot, with a clear bit, just before another.
@@ -180,7 +122,12 @@ impl<A: Allocator> Links<A> {
         ensures cleared { SetsBit slot false self.old
             (record self.new { records = self.old.records; made = self.old.made }) }
     {
-        self.records.attach(slot, before, location);
+        self.flags.write(slot, Flag::Clear);
+        let entry = Record {
+            location,
+            ..Record::vacant()
+        };
+        self.ring.attach(slot, before, entry);
     }
 
     /// Removes a slot from between its neighbours, clears its bit, and returns the record that it had.
@@ -195,7 +142,8 @@ impl<A: Allocator> Links<A> {
         ensures cleared { SetsBit slot false self.old
             (record self.new { records = self.old.records }) }
     {
-        self.records.detach(slot)
+        self.flags.replace(slot, Flag::Free);
+        self.ring.detach(slot)
     }
 
     /// Makes a slot that is in a queue old, with a clear bit.
@@ -206,8 +154,20 @@ impl<A: Allocator> Links<A> {
         ensures cleared { SetsBit slot false self.old
             (record self.new { records = self.old.records }) }
     {
-        self.records.set_flag(slot, Flag::Clear);
-        self.records.set_location(slot, Location::SmallOld);
+        self.flags.replace(slot, Flag::Clear);
+        self.ring.set_location(slot, Location::SmallOld);
+    }
+
+    /// Makes a slot that is in a queue young, at a position. Its bit, which nothing reads until the slot
+    /// is old, stays.
+    pub(crate) fn make_young(&mut self, slot: u32, position: u32)
+        requires { is_linked (location_at self.old.records.items slot) ≡ true }
+        ensures { self.new ≡ record self.old {
+          records = accessed
+              (with_location slot (Location.SmallYoung position) self.old.records);
+        } }
+    {
+        self.ring.set_location(slot, Location::SmallYoung(position));
     }
 
     /// Puts a slot at the cursor, and returns the position after it, or the first one after the last.
@@ -247,11 +207,27 @@ impl<A: Allocator> Links<A> {
         }
     }
 
+    /// Empties the position of a slot that is in a queue, if it is young, and returns the slot before
+    /// it.
+    pub(crate) fn leave_window(&mut self, slot: u32) -> u32
+        requires linked { is_linked (location_at self.old.records.items slot) ≡ true }
+        requires position { (position : ℕ)
+            → location_at self.old.records.items slot ≡ Location.SmallYoung position
+            → position < length self.old.window.items }
+        ensures previous { result ≡ previous_at self.old.records.items slot }
+        ensures left { self.new ≡ position_freed (location_at self.old.records.items slot)
+            (record self.old { records = accessed self.old.records }) }
+    {
+        let record = self.ring.read(slot);
+        self.leave_position(record.location);
+        record.previous
+    }
+
     /// Returns true if a slot is in a queue. It reads the byte with the slot's bit, and no record.
     pub(crate) fn is_linked(&self, slot: usize) -> bool
         ensures { result ≡ is_linked (location_at self.now.records.items slot) }
     {
-        self.records.says_linked(slot)
+        !matches!(self.flags.read(slot), Flag::Free)
     }
 
     /// Sets the hit bit of a slot that is in a queue.
@@ -259,7 +235,7 @@ impl<A: Allocator> Links<A> {
         requires { is_linked (location_at self.old.records.items slot) ≡ true }
         ensures { SetsBit slot true self.old self.new }
     {
-        self.records.set_flag(slot, Flag::Hit);
+        self.flags.replace(slot, Flag::Hit);
     }
 
     /// Returns true if the bit of a slot in a queue was set, and clears it: the hand's inspection of a
@@ -272,9 +248,8 @@ impl<A: Allocator> Links<A> {
         ensures rest { self.new ≡ record self.old { bits = self.new.bits } }
         ensures counted { self.new.bits.inspections ≡ self.old.bits.inspections + 1 }
     {
-        let was = self.records.flag(slot, &mut self.inspections);
-        self.records.set_flag(slot, Flag::Clear);
-        matches!(was, Flag::Hit)
+        self.inspections.tick();
+        matches!(self.flags.replace(slot, Flag::Clear), Flag::Hit)
     }
 
     /// Reads the record of a slot that is in a queue, and returns true if the slot is old and its bit
@@ -285,8 +260,9 @@ impl<A: Allocator> Links<A> {
             ≡ (is_old (location_at self.old.records.items slot) && bit_at self.old slot) }
         ensures counted { self.new ≡ record self.old { records = accessed self.old.records } }
     {
-        let (record, flag) = self.records.read_flagged(slot);
-        matches!(record.location, Location::SmallOld) && matches!(flag, Flag::Hit)
+        let location = self.ring.read(slot).location;
+        matches!(location, Location::SmallOld)
+            && matches!(self.flags.read(slot as usize), Flag::Hit)
     }
 
     /// Reads the record of a slot that is in a queue, and returns the slot after it if its bit is set.
@@ -296,8 +272,8 @@ impl<A: Allocator> Links<A> {
             ≡ then_some (bit_at self.old slot) (next_at self.old.records.items slot) }
         ensures counted { self.new ≡ record self.old { records = accessed self.old.records } }
     {
-        let (record, flag) = self.records.read_flagged(slot);
-        matches!(flag, Flag::Hit).then_some(record.next)
+        let next = self.ring.read(slot).next;
+        matches!(self.flags.read(slot as usize), Flag::Hit).then_some(next)
     }
 
     /// Resets every record, every position and every bit to its initial state.
@@ -311,7 +287,8 @@ impl<A: Allocator> Links<A> {
         ensures positions_counted { self.new.window.accesses
             ≡ self.old.window.accesses + length self.old.window.items }
     {
-        self.records.clear();
+        self.ring.clear();
+        self.flags.clear();
         self.window.fill(NOWHERE);
     }
 }

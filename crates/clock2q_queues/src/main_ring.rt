@@ -5,7 +5,8 @@ ghost use Rattle.std.specs.Option.{option_map};
 ghost use Rattle.clock2q_queues.specs.Cells.{Rises, accessed, cells_state};
 ghost use Rattle.clock2q_queues.specs.Links.{LinkState, IsSameBut, location_at, made_below};
 
-use crate::links::{Links, Location};
+use crate::entries::Location;
+use crate::links::Links;
 use std::alloc::Allocator;
 
 /// A ring of slots. The hand is at the slot that it inspects next, and a new slot goes just before
@@ -94,7 +95,7 @@ impl MainRing {
         // a ring with an entry has a hand
         let mut hand = self.hand.unwrap();
         while links.inspect(hand) {
-            hand = links.read(hand).next;
+            hand = links.next(hand);
         }
         self.hand = Some(hand);
         hand
@@ -133,7 +134,7 @@ impl MainRing {
             ≡ drop 1 (main_entries links.old self.old) ++ (slot, false) ∷ [] }
         ensures links { links.new ≡ record links.old { records = accessed links.old.records } }
     {
-        self.hand = Some(links.read(slot).next);
+        self.hand = Some(links.next(slot));
     }
 
     /// Empties the ring. `Links::reset` resets the records.

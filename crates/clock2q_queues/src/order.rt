@@ -4,7 +4,8 @@ ghost use Rattle.std.specs.List.{last_or, list_any};
 ghost use Rattle.clock2q_queues.specs.Cells.{Rises};
 ghost use Rattle.clock2q_queues.specs.Rings.{without};
 
-use crate::neighbours::{Neighbourhoods, Neighbours};
+use crate::entries::{Linked, Neighbours};
+use crate::ring::Ring;
 use std::alloc::{AllocError, Allocator, Global};
 use std::marker::Model;
 
@@ -31,7 +32,7 @@ struct Chain {
 /// ```
 #[derive(Drop)]
 pub struct Order<A: Allocator = Global> {
-    records: Neighbourhoods<A>,
+    ring: Ring<Neighbours, A>,
     newest: u32,
     len: u32,
     chain: Chain,
@@ -43,9 +44,9 @@ impl<A: Allocator> Model for Order<A> {
 
     ghost Value = { PlaceOrder };
 
-    ghost view = { λ o. order_shown o.records (end_of o.len o.newest) o.len o.chain };
+    ghost view = { λ o. order_shown o.ring (end_of o.len o.newest) o.len o.chain };
 
-    ghost invariant = { λ o. IsOrder o.records (end_of o.len o.newest) o.len o.chain };
+    ghost invariant = { λ o. IsOrder o.ring (end_of o.len o.newest) o.len o.chain };
 }
 
 impl<A: Allocator> Order<A> {
@@ -62,7 +63,7 @@ impl<A: Allocator> Order<A> {
         ensures whole { IfOk result IsWholeOrder }
     {
         Ok(Order {
-            records: Neighbourhoods::new(alloc, limit)?,
+            ring: Ring::new(alloc, limit)?,
             newest: 0,
             len: 0,
             chain: Chain { head: 0, len: 0 },
@@ -81,7 +82,7 @@ impl<A: Allocator> Order<A> {
     pub fn limit(&self) -> u32
         ensures { result ≡ self.now.limit }
     {
-        self.records.places()
+        self.ring.places()
     }
 
     /// Puts a free place at the front, and returns it. It is the head of the chain, or the next
@@ -101,7 +102,7 @@ impl<A: Allocator> Order<A> {
         let mut place = self.len;
         if self.chain.len > 0 {
             place = self.chain.head;
-            self.chain.head = self.records.read(place).next;
+            self.chain.head = self.ring.read(place).next;
             self.chain.len -= 1;
         }
         if self.len == 0 {
@@ -109,9 +110,9 @@ impl<A: Allocator> Order<A> {
                 previous: place,
                 next: place,
             };
-            self.records.put(place, alone);
+            self.ring.write(place, alone);
         } else {
-            self.records.attach(place, self.newest);
+            self.ring.attach(place, self.newest, Neighbours::vacant());
         }
         self.newest = place;
         self.len += 1;
@@ -129,7 +130,7 @@ impl<A: Allocator> Order<A> {
               accesses = self.old.accesses + 1;
             } }
     {
-        let oldest = self.records.read(self.newest).previous;
+        let oldest = self.ring.read(self.newest).previous;
         self.newest = oldest;
         oldest
     }
@@ -145,12 +146,12 @@ impl<A: Allocator> Order<A> {
               accesses = self.old.accesses + 7;
             } }
     {
-        let was = self.records.detach(place);
+        let was = self.ring.detach(place);
         let before_head = Neighbours {
             previous: 0,
             next: self.chain.head,
         };
-        self.records.write(place, before_head);
+        self.ring.write(place, before_head);
         self.chain.head = place;
         self.chain.len += 1;
         self.len -= 1;
@@ -164,7 +165,7 @@ impl<A: Allocator> Order<A> {
         ensures whole { IsWholeOrder self.new }
         ensures order { self.new ≡ record self.old { places = []; free = [] } }
     {
-        self.records.clear();
+        self.ring.clear();
         self.len = 0;
         self.chain = Chain { head: 0, len: 0 };
     }

@@ -8,7 +8,8 @@ ghost use Rattle.clock2q_queues.specs.Small.{admitted, small_hit_at};
 ghost use Rattle.clock2q_queues.specs.MainRing.{inspections, from_victim, main_hit_at};
 ghost use Rattle.clock2q_queues.specs.Queues.{slots_of, without_slot, empty_queues, victim_leaves, looks_ahead, IsAt, IsWholeQueues, tail_promoted};
 
-use crate::links::{Links, Location};
+use crate::entries::Location;
+use crate::links::Links;
 use crate::main_ring::MainRing;
 use crate::small::Small;
 use std::alloc::{AllocError, Allocator, Global};
@@ -361,7 +362,7 @@ impl<A: Allocator> Queues<A> {
         ghost more: { ℕ }
         ensures charged { self.new ≡ record self.old { accesses = self.old.accesses + more } }
     {
-        self.links.charge();
+        self.links.ring.charge();
     }
 
     /// Removes every slot from both queues.

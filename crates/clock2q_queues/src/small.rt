@@ -4,7 +4,8 @@ ghost use Rattle.std.specs.List.{filter, last_or, list_any};
 ghost use Rattle.clock2q_queues.specs.Cells.{Rises};
 ghost use Rattle.clock2q_queues.specs.Links.{LinkState, IsBlank, IsSameBut, accesses_of, location_at, made_below};
 
-use crate::links::{Links, Location};
+use crate::entries::Location;
+use crate::links::Links;
 use std::alloc::Allocator;
 
 /// A queue of slots, newest first. The window's positions hold the young slots, and the cursor is
@@ -90,12 +91,10 @@ impl Small {
     {
         let slot = self.oldest;
         let cursor = self.cursor;
-        let record = links.read(slot);
-        links.leave_position(record.location);
+        self.oldest = links.leave_window(slot);
         self.cursor = links.take_position(cursor, slot);
-        links.set_location(slot, Location::SmallYoung(cursor));
+        links.make_young(slot, cursor);
         self.newest = slot;
-        self.oldest = record.previous;
         slot
     }
 

@@ -8,10 +8,11 @@
 //! They are linked lists whose links are numbers, so a step on one entry costs the same however many
 //! there are. Constructors take all the memory that will ever be needed, and no later call can fail.
 
+mod entries;
 mod link;
 mod links;
 mod main_ring;
-mod neighbours;
 pub mod order;
 pub mod queues;
+mod ring;
 mod small;

@@ -3,60 +3,21 @@
 //! positions of Small's window.
 
 mod cells;
-mod records;
+mod flags;
 
 use crate::proved::rattle::Vec;
+use crate::proved::queues::entries::{Linked, Location, Record};
 use crate::proved::queues::link::{Link, NOWHERE};
+use crate::proved::queues::ring::Ring;
 pub(crate) use cells::Cells;
 use crate::proved::count::Count;
-use records::Records;
+use flags::{Flag, Flags};
 use crate::proved::rattle::{AllocError, Allocator, Global};
-
-/// Where a slot is: the queue that it is in, if any, and in Small whether it is young.
-#[derive(Clone, Copy, Debug, PartialEq, Eq)]
-pub(crate) enum Location {
-    /// In neither queue.
-    Free,
-    /// In Small, young, with its position in the window.
-    SmallYoung(u32),
-    /// In Small, old.
-    SmallOld,
-    /// In Main.
-    Main,
-}
-
-/// The neighbours of a slot in its queue, and its location.
-#[derive(Clone, Copy, Debug)]
-pub(crate) struct Record {
-    pub(crate) previous: u32,
-    pub(crate) next: u32,
-    pub(crate) location: Location,
-}
-
-const _: () = assert!(core::mem::size_of::<Record>() <= 16);
-
-/// The record of a slot that is in no queue.
-pub(crate) const VACANT: Record = Record {
-    previous: 0,
-    next: 0,
-    location: Location::Free,
-};
-
-/// Whether a slot is in a queue, as its record says too, and its hit bit. A slot in no queue has a
-/// clear bit.
-#[derive(Clone, Copy)]
-enum Flag {
-    /// In neither queue.
-    Free,
-    /// In a queue, with a clear bit.
-    Clear,
-    /// In a queue, with a set bit.
-    Hit,
-}
 
 /// The records and the hit bits of the slots, which both queues share, and the window's positions.
 pub(crate) struct Links<A: Allocator = Global> {
-    records: Records<A>,
+    pub(crate) ring: Ring<Record, A>,
+    flags: Flags<A>,
     window: Cells<Link, A>,
     inspections: Count,
 }
@@ -68,31 +29,27 @@ impl<A: Allocator> Links<A> {
     where
         A: Clone,
     {
-        let records = Records::new(alloc.clone(), slots)?;
+        let ring = Ring::new(alloc.clone(), slots)?;
+        let flags = Flags::new(alloc.clone(), slots)?;
         let positions = Vec::from_elem(alloc, NOWHERE, window as usize)?;
         Ok(Links {
-            records,
+            ring,
+            flags,
             window: Cells::new(positions),
             inspections: Count::new(),
         })
     }
 
-    /// Raises the count of accesses by an amount that the proof of the call picks.
+    /// Returns the slot after one that is in a queue.
     #[inline]
-    pub(crate) fn charge(&mut self) {
-        self.records.charge();
-    }
-
-    /// Returns the record of a slot that is in a queue.
-    #[inline]
-    pub(crate) fn read(&mut self, slot: u32) -> Record {
-        self.records.read(slot)
+    pub(crate) fn next(&mut self, slot: u32) -> u32 {
+        self.ring.read(slot).next
     }
 
     /// Returns where a slot is.
     #[inline]
     pub(crate) fn location(&mut self, slot: u32) -> Location {
-        self.records.read_any(slot).location
+        self.ring.read_any(slot).location
     }
 
     /// Puts a slot, with a clear bit, into an empty queue: it is its own neighbour on both sides.
@@ -103,38 +60,47 @@ impl<A: Allocator> Links<A> {
             next: slot,
             location,
         };
-        self.records.write(slot, alone);
+        self.flags.write(slot, Flag::Clear);
+        self.ring.write(slot, alone);
     }
 
     /// Makes the records and the flags of the slots below a bound that have none yet.
     #[inline]
     pub(crate) fn make_below(&mut self, bound: u32) {
-        self.records.make_below(bound);
-    }
-
-    /// Writes the location of a slot that stays in a queue. It doesn't touch the slot's flags.
-    #[inline]
-    pub(crate) fn set_location(&mut self, slot: u32, location: Location) {
-        self.records.set_location(slot, location);
+        self.ring.make_below(bound);
+        self.flags.make_below(bound);
     }
 
     /// Puts a slot, with a clear bit, just before another.
     #[inline]
     pub(crate) fn attach(&mut self, slot: u32, before: u32, location: Location) {
-        self.records.attach(slot, before, location);
+        self.flags.write(slot, Flag::Clear);
+        let entry = Record {
+            location,
+            ..Record::vacant()
+        };
+        self.ring.attach(slot, before, entry);
     }
 
     /// Removes a slot from between its neighbours, clears its bit, and returns the record that it had.
     #[inline]
     pub(crate) fn detach(&mut self, slot: u32) -> Record {
-        self.records.detach(slot)
+        self.flags.replace(slot, Flag::Free);
+        self.ring.detach(slot)
     }
 
     /// Makes a slot that is in a queue old, with a clear bit.
     #[inline]
     fn make_old(&mut self, slot: u32) {
-        self.records.set_flag(slot, Flag::Clear);
-        self.records.set_location(slot, Location::SmallOld);
+        self.flags.replace(slot, Flag::Clear);
+        self.ring.set_location(slot, Location::SmallOld);
+    }
+
+    /// Makes a slot that is in a queue young, at a position. Its bit, which nothing reads until the slot
+    /// is old, stays.
+    #[inline]
+    pub(crate) fn make_young(&mut self, slot: u32, position: u32) {
+        self.ring.set_location(slot, Location::SmallYoung(position));
     }
 
     /// Puts a slot at the cursor, and returns the position after it, or the first one after the last.
@@ -161,46 +127,56 @@ impl<A: Allocator> Links<A> {
         }
     }
 
+    /// Empties the position of a slot that is in a queue, if it is young, and returns the slot before
+    /// it.
+    #[inline]
+    pub(crate) fn leave_window(&mut self, slot: u32) -> u32 {
+        let record = self.ring.read(slot);
+        self.leave_position(record.location);
+        record.previous
+    }
+
     /// Returns true if a slot is in a queue. It reads the byte with the slot's bit, and no record.
     #[inline]
     pub(crate) fn is_linked(&self, slot: usize) -> bool {
-        self.records.says_linked(slot)
+        !matches!(self.flags.read(slot), Flag::Free)
     }
 
     /// Sets the hit bit of a slot that is in a queue.
     #[inline]
     pub(crate) fn set_bit(&mut self, slot: u32) {
-        self.records.set_flag(slot, Flag::Hit);
+        self.flags.replace(slot, Flag::Hit);
     }
 
     /// Returns true if the bit of a slot in a queue was set, and clears it: the hand's inspection of a
     /// slot.
     #[inline]
     pub(crate) fn inspect(&mut self, slot: u32) -> bool {
-        let was = self.records.flag(slot, &mut self.inspections);
-        self.records.set_flag(slot, Flag::Clear);
-        matches!(was, Flag::Hit)
+        self.inspections.tick();
+        matches!(self.flags.replace(slot, Flag::Clear), Flag::Hit)
     }
 
     /// Reads the record of a slot that is in a queue, and returns true if the slot is old and its bit
     /// is set.
     #[inline]
     pub(crate) fn is_old_hit(&mut self, slot: u32) -> bool {
-        let (record, flag) = self.records.read_flagged(slot);
-        matches!(record.location, Location::SmallOld) && matches!(flag, Flag::Hit)
+        let location = self.ring.read(slot).location;
+        matches!(location, Location::SmallOld)
+            && matches!(self.flags.read(slot as usize), Flag::Hit)
     }
 
     /// Reads the record of a slot that is in a queue, and returns the slot after it if its bit is set.
     #[inline]
     pub(crate) fn next_if_hit(&mut self, slot: u32) -> Option<u32> {
-        let (record, flag) = self.records.read_flagged(slot);
-        matches!(flag, Flag::Hit).then_some(record.next)
+        let next = self.ring.read(slot).next;
+        matches!(self.flags.read(slot as usize), Flag::Hit).then_some(next)
     }
 
     /// Resets every record, every position and every bit to its initial state.
     #[inline]
     pub(crate) fn reset(&mut self) {
-        self.records.clear();
+        self.ring.clear();
+        self.flags.clear();
         self.window.fill(NOWHERE);
     }
 }

@@ -1,7 +1,8 @@
 // Written by bindings/rust/erase from crates/clock2q_queues/src/main_ring.rt; change that, and run erase.
 //! Main: a ring of slots with a hand, which looks for the slot to evict.
 
-use crate::proved::queues::links::{Links, Location};
+use crate::proved::queues::entries::Location;
+use crate::proved::queues::links::Links;
 use crate::proved::rattle::Allocator;
 
 /// A ring of slots. The hand is at the slot that it inspects next, and a new slot goes just before
@@ -48,7 +49,7 @@ impl MainRing {
         // a ring with an entry has a hand
         let mut hand = self.hand.unwrap();
         while links.inspect(hand) {
-            hand = links.read(hand).next;
+            hand = links.next(hand);
         }
         self.hand = Some(hand);
         hand
@@ -72,7 +73,7 @@ impl MainRing {
     /// Moves the hand on from its slot, whose bit is clear. That slot is then the last one.
     #[inline]
     pub(crate) fn advance<A: Allocator>(&mut self, links: &mut Links<A>, slot: u32) {
-        self.hand = Some(links.read(slot).next);
+        self.hand = Some(links.next(slot));
     }
 
     /// Empties the ring. `Links::reset` resets the records.

@@ -1,7 +1,8 @@
 // Written by bindings/rust/erase from crates/clock2q_queues/src/order.rt; change that, and run erase.
 //! Places that are reused, ordered newest first, and the chain of the free ones.
 
-use crate::proved::queues::neighbours::{Neighbourhoods, Neighbours};
+use crate::proved::queues::entries::{Linked, Neighbours};
+use crate::proved::queues::ring::Ring;
 use crate::proved::rattle::{AllocError, Allocator, Global};
 
 /// Places that were given up. The record of each links to the next.
@@ -29,7 +30,7 @@ struct Chain {
 /// # Ok::<(), Box<dyn std::error::Error>>(())
 /// ```
 pub struct Order<A: Allocator = Global> {
-    records: Neighbourhoods<A>,
+    ring: Ring<Neighbours, A>,
     newest: u32,
     len: u32,
     chain: Chain,
@@ -45,7 +46,7 @@ impl<A: Allocator> Order<A> {
     #[inline]
     pub fn new(alloc: A, limit: u32) -> Result<Self, AllocError> {
         Ok(Order {
-            records: Neighbourhoods::new(alloc, limit)?,
+            ring: Ring::new(alloc, limit)?,
             newest: 0,
             len: 0,
             chain: Chain { head: 0, len: 0 },
@@ -61,7 +62,7 @@ impl<A: Allocator> Order<A> {
     /// Returns the total number of places.
     #[inline]
     pub fn limit(&self) -> u32 {
-        self.records.places()
+        self.ring.places()
     }
 
     /// Puts a free place at the front, and returns it. It is the head of the chain, or the next
@@ -71,7 +72,7 @@ impl<A: Allocator> Order<A> {
         let mut place = self.len;
         if self.chain.len > 0 {
             place = self.chain.head;
-            self.chain.head = self.records.read(place).next;
+            self.chain.head = self.ring.read(place).next;
             self.chain.len -= 1;
         }
         if self.len == 0 {
@@ -79,9 +80,9 @@ impl<A: Allocator> Order<A> {
                 previous: place,
                 next: place,
             };
-            self.records.put(place, alone);
+            self.ring.write(place, alone);
         } else {
-            self.records.attach(place, self.newest);
+            self.ring.attach(place, self.newest, Neighbours::vacant());
         }
         self.newest = place;
         self.len += 1;
@@ -91,7 +92,7 @@ impl<A: Allocator> Order<A> {
     /// Moves the last place to the front, and returns it: a new key takes the oldest one's place.
     #[inline]
     pub fn reuse_oldest(&mut self) -> u32 {
-        let oldest = self.records.read(self.newest).previous;
+        let oldest = self.ring.read(self.newest).previous;
         self.newest = oldest;
         oldest
     }
@@ -99,12 +100,12 @@ impl<A: Allocator> Order<A> {
     /// Gives up a place, and puts it at the head of the chain.
     #[inline]
     pub fn unlink(&mut self, place: u32) {
-        let was = self.records.detach(place);
+        let was = self.ring.detach(place);
         let before_head = Neighbours {
             previous: 0,
             next: self.chain.head,
         };
-        self.records.write(place, before_head);
+        self.ring.write(place, before_head);
         self.chain.head = place;
         self.chain.len += 1;
         self.len -= 1;
@@ -116,7 +117,7 @@ impl<A: Allocator> Order<A> {
     /// Empties the order. Every place is unused again.
     #[inline]
     pub fn clear(&mut self) {
-        self.records.clear();
+        self.ring.clear();
         self.len = 0;
         self.chain = Chain { head: 0, len: 0 };
     }

@@ -1,7 +1,8 @@
 // Written by bindings/rust/erase from crates/clock2q_queues/src/queues.rt; change that, and run erase.
 //! The two queues of a cache's residents, Small and Main, over the links that they share.
 
-use crate::proved::queues::links::{Links, Location};
+use crate::proved::queues::entries::Location;
+use crate::proved::queues::links::Links;
 use crate::proved::queues::main_ring::MainRing;
 use crate::proved::queues::small::Small;
 use crate::proved::rattle::{AllocError, Allocator, Global};
@@ -227,7 +228,7 @@ impl<A: Allocator> Queues<A> {
     /// that has to state the count exactly raises it to its bound with this.
     #[inline]
     pub fn charge(&mut self) {
-        self.links.charge();
+        self.links.ring.charge();
     }
 
     /// Removes every slot from both queues.

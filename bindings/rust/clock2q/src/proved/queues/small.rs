@@ -1,7 +1,8 @@
 // Written by bindings/rust/erase from crates/clock2q_queues/src/small.rt; change that, and run erase.
 //! Small: the queue of the newest residents, of which the last admitted ones are young.
 
-use crate::proved::queues::links::{Links, Location};
+use crate::proved::queues::entries::Location;
+use crate::proved::queues::links::Links;
 use crate::proved::rattle::Allocator;
 
 /// A queue of slots, newest first. The window's positions hold the young slots, and the cursor is
@@ -52,12 +53,10 @@ impl Small {
     pub(crate) fn reuse_oldest<A: Allocator>(&mut self, links: &mut Links<A>) -> u32 {
         let slot = self.oldest;
         let cursor = self.cursor;
-        let record = links.read(slot);
-        links.leave_position(record.location);
+        self.oldest = links.leave_window(slot);
         self.cursor = links.take_position(cursor, slot);
-        links.set_location(slot, Location::SmallYoung(cursor));
+        links.make_young(slot, cursor);
         self.newest = slot;
-        self.oldest = record.previous;
         slot
     }
 

@@ -3,10 +3,10 @@ use Rattle.clock2q_queues.specs.Cells.{accessed}
 use Rattle.clock2q_queues.proofs.Hand.{front_linked, whole_passed, entries_passed}
 use Rattle.clock2q_queues.proofs.main_ring.MainRing.advance.Goals as goal
 
-pub read-requires : goal.read-requires
-read-requires g c =
+pub next-requires : goal.next-requires
+next-requires g c =
     let l = c.args.links.now in
     front_linked l (record l { records = accessed l.records }) c.args.self.now c.args.slot c.requires.whole c.requires.first refl
 
 pub returns : goal.returns
-returns g c = grind (arith, whole_passed, entries_passed, c.read.ensures.value, c.requires.whole, c.requires.first, c.read.ensures.counted)
+returns g c = grind (arith, whole_passed, entries_passed, c.next.ensures.value, c.requires.whole, c.requires.first, c.next.ensures.counted)

@@ -1,7 +1,7 @@
 use Rattle.std.proofs.Common.{◌<◌, ◌∷◌, length, drop, ap, subst, ◌∙◌, sym, arith}
 use Rattle.clock2q_queues.specs.Links.{end_of, slots_from}
 use Rattle.clock2q_queues.specs.Order.{PlaceOrder, free_places}
-use Rattle.clock2q_queues.proofs.Orders.{Chooses, Pushed, IsOrder-from, whole_order, order_shown-is, head_made, takes_head, takes_unused, place_in, place_next, first_made, pushes-attached, pushes-alone}
+use Rattle.clock2q_queues.proofs.Orders.{Chooses, Pushed, IsOrder-from, whole_order, order_shown-is, head_made, takes_head, takes_unused, place_in, first_made, pushes-attached, pushes-alone}
 use Rattle.clock2q_queues.proofs.order.Order.push.Given.{Over}
 use Rattle.clock2q_queues.proofs.order.Order.push.Goals.{Joined-self-gt0, Joined-self-eq0}
 use Rattle.clock2q_queues.proofs.order.Order.push.Goals as goal
@@ -10,33 +10,33 @@ use Rattle.clock2q_queues.proofs.order.Order.push.Goals.{then-self-gt0, else-sel
 pub read-requires : goal.read-requires
 read-requires g c =
     let i = c.self.inside in
-    head_made i.records (end_of i.len i.newest) i.len i.chain c.self.invariant (omega (arith, c.if-self-gt0.true))
+    head_made i.ring (end_of i.len i.newest) i.len i.chain c.self.invariant (omega (arith, c.if-self-gt0.true))
 
 -- the place is the head of the chain, or the first unused one
-chosen : (g : Over) (c : Joined-self-gt0 g) → Chooses c.self.inside.records (end_of c.self.inside.len c.self.inside.newest) c.self.inside.len c.self.inside.chain c.self.invariant
-    c.if-self-gt0.self-inside.records c.if-self-gt0.self-inside.newest c.if-self-gt0.self-inside.len c.if-self-gt0.self-inside.chain c.if-self-gt0.place
+chosen : (g : Over) (c : Joined-self-gt0 g) → Chooses c.self.inside.ring (end_of c.self.inside.len c.self.inside.newest) c.self.inside.len c.self.inside.chain c.self.invariant
+    c.if-self-gt0.self-inside.ring c.if-self-gt0.self-inside.newest c.if-self-gt0.self-inside.len c.if-self-gt0.self-inside.chain c.if-self-gt0.place
 chosen g c = grind (arith, takes_head, takes_unused, c.self.invariant)
 
 -- there is a place
-room : (g : Over) (c : Joined-self-gt0 g) → length (slots_from c.self.inside.records.cells.items (end_of c.self.inside.len c.self.inside.newest) c.self.inside.len) < length c.self.inside.records.cells.items
+room : (g : Over) (c : Joined-self-gt0 g) → length (slots_from c.self.inside.ring.cells.items (end_of c.self.inside.len c.self.inside.newest) c.self.inside.len) < length c.self.inside.ring.cells.items
 room g c = subst (λ (z : PlaceOrder). length z.places < z.limit) (sym c.self.view_is) c.requires
 
 pub attach-requires : goal.attach-requires
 attach-requires g c =
     let i = c.self.inside in
     let j = (goal.at.attach-requires g c).Joined-self-gt0 in
-    let first = first_made i.records (end_of i.len i.newest) i.len i.chain c.self.invariant (chosen g j) (room g j) (omega (arith, c.if-self-eq0.false)) in
-    record { place_in = place_in i.records (end_of i.len i.newest) i.len i.chain c.self.invariant (chosen g j) (room g j); made = place_next i.records (end_of i.len i.newest) i.len i.chain c.self.invariant (chosen g j) (room g j); before_in = first.0; previous_in = first.1 }
+    let first = first_made i.ring (end_of i.len i.newest) i.len i.chain c.self.invariant (chosen g j) (room g j) (omega (arith, c.if-self-eq0.false)) in
+    record { place_in = place_in i.ring (end_of i.len i.newest) i.len i.chain c.self.invariant (chosen g j) (room g j); before_in = first.0; previous_in = first.1 }
 
-pushed : (g : Over) (c : Joined-self-eq0 g) → Pushed c.self.inside.records (end_of c.self.inside.len c.self.inside.newest) c.self.inside.len c.self.inside.chain c.self.invariant
-    c.if-self-gt0.place c.if-self-eq0.self-inside.len c.if-self-eq0.self-inside.chain c.if-self-eq0.self-inside.records
+pushed : (g : Over) (c : Joined-self-eq0 g) → Pushed c.self.inside.ring (end_of c.self.inside.len c.self.inside.newest) c.self.inside.len c.self.inside.chain c.self.invariant
+    c.if-self-gt0.place c.if-self-eq0.self-inside.len c.if-self-eq0.self-inside.chain c.if-self-eq0.self-inside.ring
 pushed g c =
     let i = c.self.inside in
     let k = chosen g c.before in
     let r = room g c.before in
     elim c.if-self-eq0.branch [
-      | then-self-eq0 w ↦ rw w.self-inside-is (pushes-alone i.records (end_of i.len i.newest) i.len i.chain c.self.invariant k r w.put.new.self (omega (arith, w.if-self-eq0.true)) w.put.ensures.written w.put.ensures.made)
-      | else-self-eq0 w ↦ rw w.self-inside-is (pushes-attached i.records (end_of i.len i.newest) i.len i.chain c.self.invariant k r w.attach.new.self (omega (arith, w.if-self-eq0.false)) w.attach.ensures.attached w.attach.ensures.made)
+      | then-self-eq0 w ↦ rw w.self-inside-is (pushes-alone i.ring (end_of i.len i.newest) i.len i.chain c.self.invariant k r w.write.new.self (omega (arith, w.if-self-eq0.true)) w.write.ensures.written w.write.ensures.made)
+      | else-self-eq0 w ↦ rw w.self-inside-is (pushes-attached i.ring (end_of i.len i.newest) i.len i.chain c.self.invariant k r w.attach.new.self (omega (arith, w.if-self-eq0.false)) w.attach.ensures.attached w.attach.ensures.made)
     ]
 
 pub invariant_of-self : goal.invariant_of-self
@@ -55,8 +55,11 @@ returns-clause-order g c =
     rw (← c.self.view_is)
     (order_shown-is _ p.order
     ∙ ap (λ n. record {
-      places = c.if-self-gt0.place ∷ slots_from i.records.cells.items (end_of i.len i.newest) i.len;
-      free = drop 1 (free_places i.records.cells.items i.chain);
+      places = c.if-self-gt0.place ∷ slots_from i.ring.cells.items (end_of i.len i.newest) i.len;
+      free = drop 1 (free_places i.ring.cells.items i.chain);
       limit = n;
-      accesses = c.if-self-eq0.self-inside.records.cells.accesses;
+      accesses = c.if-self-eq0.self-inside.ring.cells.accesses;
     }) p.as_many)
+
+pub returns-clause-accesses : goal.returns-clause-accesses
+returns-clause-accesses g c = rw (← c.self.view_is) (pushed g (goal.at.returns-clause-accesses g c).Joined-self-eq0).counted

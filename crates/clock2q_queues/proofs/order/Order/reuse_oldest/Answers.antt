@@ -1,8 +1,8 @@
 use Rattle.std.proofs.Common.{◌∷◌, ◌-◌, ◌<◌, None, length, take, refl, ap, sym, subst, ◌∙◌}
 use Rattle.std.specs.List.{last_or}
 use Rattle.clock2q_queues.specs.Links.{end_of}
-use Rattle.clock2q_queues.specs.Neighbours.{PlaceRecords}
-use Rattle.clock2q_queues.specs.declared.links.Record.{Record}
+use Rattle.clock2q_queues.specs.Ring.{RingState}
+use Rattle.clock2q_queues.specs.declared.entries.Record.{Record}
 use Rattle.clock2q_queues.specs.Order.{PlaceOrder, order_shown}
 use Rattle.clock2q_queues.proofs.Orders.{IsOrder-from, whole_order, order_shown-is, reuses}
 use Rattle.clock2q_queues.proofs.order.Order.reuse_oldest.Goals as goal
@@ -10,21 +10,21 @@ use Rattle.clock2q_queues.proofs.order.Order.reuse_oldest.Goals as goal
 pub invariant_of-self : goal.invariant_of-self
 invariant_of-self g c =
     let i = c.self.inside in
-    IsOrder-from (reuses i.records (end_of i.len i.newest) i.len i.chain c.self.invariant c.read.new.self i.newest c.oldest.inside.previous c.read.ensures.counted
-    (subst (λ (z : PlaceOrder). 0 < length z.places) (sym c.self.view_is) c.requires) refl (ap (λ (z : Record). z.previous) (c.oldest.view_is ∙ c.read.ensures.value))).order
+    IsOrder-from (reuses i.ring (end_of i.len i.newest) i.len i.chain c.self.invariant c.read-oldest.new.self i.newest c.read-oldest.result.previous c.read-oldest.ensures.counted
+    (subst (λ (z : PlaceOrder). 0 < length z.places) (sym c.self.view_is) c.requires) refl (ap (λ (z : Record). z.previous) c.read-oldest.ensures.value)).order
 
 pub returns : goal.returns
 returns g c =
     let i = c.self.inside in
-    let oldest = c.oldest.inside.previous in
+    let oldest = c.read-oldest.result.previous in
     let r =
-    reuses i.records (end_of i.len i.newest) i.len i.chain c.self.invariant c.read.new.self i.newest oldest c.read.ensures.counted
-    (subst (λ (z : PlaceOrder). 0 < length z.places) (sym c.self.view_is) c.requires) refl (ap (λ (z : Record). z.previous) (c.oldest.view_is ∙ c.read.ensures.value)) in
-    let q = order_shown i.records (end_of i.len i.newest) i.len i.chain in
+    reuses i.ring (end_of i.len i.newest) i.len i.chain c.self.invariant c.read-oldest.new.self i.newest oldest c.read-oldest.ensures.counted
+    (subst (λ (z : PlaceOrder). 0 < length z.places) (sym c.self.view_is) c.requires) refl (ap (λ (z : Record). z.previous) c.read-oldest.ensures.value) in
+    let q = order_shown i.ring (end_of i.len i.newest) i.len i.chain in
     record {
       whole = whole_order _ _ _ _ (IsOrder-from r.order);
       oldest = ap (λ (z : PlaceOrder). last_or None z.places) (sym c.self.view_is) ∙ r.oldest_was;
       order = rw (← c.self.view_is) (order_shown-is _ r.order
-          ∙ ap (λ (z : PlaceRecords). record { places = oldest ∷ take (length q.places - 1) q.places; free = q.free; limit = length z.cells.items; accesses = z.cells.accesses })
-          c.read.ensures.counted);
+          ∙ ap (λ (z : RingState). record { places = oldest ∷ take (length q.places - 1) q.places; free = q.free; limit = length z.cells.items; accesses = z.cells.accesses })
+          c.read-oldest.ensures.counted);
     }

@@ -1,7 +1,9 @@
-use Rattle.std.proofs.Common.{◌≡◌, ℕ, Option, ◌+◌, ◌-◌, ◌∷◌, cond, eqb, refl, ap, ◌∙◌, arith}
+use Rattle.std.proofs.Common.{◌≡◌, ℕ, Option, ◌+◌, ◌-◌, ◌∷◌, cond, eqb, set, refl, ap, ◌∙◌, arith}
 use Rattle.std.proofs.lemmas.Bool.{eq-eqb, ne_eqb}
 use Rattle.std.specs.List.{list_any}
-use Rattle.clock2q_queues.specs.declared.links.Record.{Record}
+use Rattle.clock2q_queues.specs.declared.entries.Record.{Record}
+use Rattle.clock2q_queues.specs.declared.entries.Location.TheVariants.{Free}
+use Rattle.clock2q_queues.specs.Cells.{cells_state, written}
 use Rattle.clock2q_queues.specs.Rings.{without}
 use Rattle.clock2q_queues.specs.Links.{end_of, next_at, slots_from}
 use Rattle.clock2q_queues.specs.Order.{PlaceOrder, IsOrderOf, free_places, order_shown}
@@ -15,7 +17,7 @@ pub detach-was-requires : goal.detach-was-requires
 detach-was-requires g c =
     let i = c.self.inside in
     let there = ap (λ (z : PlaceOrder). list_any (eqb c.args.place) z.places) c.self.view_is ∙ c.requires in
-    let n = place_made i.records (end_of i.len i.newest) i.len i.chain c.self.invariant c.args.place there in
+    let n = place_made i.ring (end_of i.len i.newest) i.len i.chain c.self.invariant c.args.place there in
     record { place_in = n.0; next_in = n.1; previous_in = n.2 }
 
 pub write-requires : goal.write-requires
@@ -24,39 +26,50 @@ write-requires g c = grind (arith, place_made, c.self.view_is, c.requires, c.det
 pub overflow_add-self : goal.overflow_add-self
 overflow_add-self g c = grind (arith, chain_fits, c.self.view_is, c.requires, c.self.invariant, c.detach-was.ensures.detached)
 
+-- its neighbours were written, and none was made
+put : (g : Over) (c : After-write g) → (c.write.new.self.cells ≡ written c.args.place (record { previous = 0; next = c.self.inside.chain.head; location = Free }) c.detach-was.new.self.cells)
+    × (c.write.new.self.made ≡ c.self.inside.ring.made)
+put g c =
+    let i = c.self.inside in
+    let mid = c.detach-was.new.self.cells in
+    let there = ap (λ (z : PlaceOrder). list_any (eqb c.args.place) z.places) c.self.view_is ∙ c.requires in
+    let made = (place_made i.ring (end_of i.len i.newest) i.len i.chain c.self.invariant c.args.place there).0 in
+    let r : Record = record { previous = 0; next = i.chain.head; location = Free } in
+    (c.write.ensures.written ∙ ap (λ n. cells_state (set mid.items c.args.place r) n) (omega (arith, made, c.detach-was.ensures.made)), omega (arith, made, c.write.ensures.made, c.detach-was.ensures.made))
+
 module _ (g : Over) (c : After-write g) (newest : ℕ)
-    (is : newest ≡ cond (eqb c.self.inside.newest c.args.place) (next_at c.self.inside.records.cells.items c.args.place) c.self.inside.newest) where
+    (is : newest ≡ cond (eqb c.self.inside.newest c.args.place) (next_at c.self.inside.ring.cells.items c.args.place) c.self.inside.newest) where
   abbrev first : Option ℕ
   first = end_of c.self.inside.len c.self.inside.newest
 
   -- the other places are in order, and this one is at the head of the chain
   left : IsOrderOf c.write.new.self (end_of (c.self.inside.len - 1) newest) (c.self.inside.len - 1) (record { head = c.args.place; len = c.self.inside.chain.len + 1 })
-      (without c.args.place (slots_from c.self.inside.records.cells.items first c.self.inside.len)) (c.args.place ∷ free_places c.self.inside.records.cells.items c.self.inside.chain)
+      (without c.args.place (slots_from c.self.inside.ring.cells.items first c.self.inside.len)) (c.args.place ∷ free_places c.self.inside.ring.cells.items c.self.inside.chain)
   left =
       let i = c.self.inside in
       let place = c.args.place in
       let there = ap (λ (z : PlaceOrder). list_any (eqb place) z.places) c.self.view_is ∙ c.requires in
       let mid = c.detach-was.new.self in
       let d = c.detach-was.ensures.detached in
-      Unlinks i.records first i.len i.chain c.self.invariant place there mid d c.write.new.self _ (end_of (i.len - 1) newest) _ c.write.ensures.written (c.write.ensures.made ∙ c.detach-was.ensures.made)
-      (chain-put mid.cells c.write.new.self.cells i.chain place _ c.write.ensures.written refl (rw d.as_many (place_fits i.records first i.len i.chain c.self.invariant place there))
-      (not_free i.records first i.len i.chain c.self.invariant place there mid d))
-      (first_left i.records.cells.items i.len i.newest newest (slots_from i.records.cells.items first i.len) place c.self.invariant.queue there is)
+      Unlinks i.ring first i.len i.chain c.self.invariant place there mid d c.write.new.self _ (end_of (i.len - 1) newest) _ (put g c).0 (put g c).1
+      (chain-put mid.cells c.write.new.self.cells i.chain place _ (put g c).0 refl (rw d.as_many (place_fits i.ring first i.len i.chain c.self.invariant place there))
+      (not_free i.ring first i.len i.chain c.self.invariant place there mid d))
+      (first_left i.ring.cells.items i.len i.newest newest (slots_from i.ring.cells.items first i.len) place c.self.invariant.queue there is)
 
   order : order_shown c.write.new.self (end_of (c.self.inside.len - 1) newest) (c.self.inside.len - 1) (record { head = c.args.place; len = c.self.inside.chain.len + 1 })
       ≡ record c.args.self.now { places = without c.args.place c.args.self.now.places; free = c.args.place ∷ c.args.self.now.free; accesses = c.args.self.now.accesses + 7 }
   order =
       let i = c.self.inside in
       rw (← c.self.view_is)
-      (order_shown-is _ left ∙ unlinked_counts i.records.cells c.detach-was.new.self.cells c.write.new.self.cells c.args.place _
-      (without c.args.place (slots_from i.records.cells.items first i.len)) (c.args.place ∷ free_places i.records.cells.items i.chain) c.detach-was.ensures.detached c.write.ensures.written)
+      (order_shown-is _ left ∙ unlinked_counts i.ring.cells c.detach-was.new.self.cells c.write.new.self.cells c.args.place _
+      (without c.args.place (slots_from i.ring.cells.items first i.len)) (c.args.place ∷ free_places i.ring.cells.items i.chain) c.detach-was.ensures.detached (put g c).0)
 
 -- the place was the newest one
-next_is : (g : Over) (c : Then-self-place g) → c.was.inside.next ≡ cond (eqb c.self.inside.newest c.args.place) (next_at c.self.inside.records.cells.items c.args.place) c.self.inside.newest
-next_is g c = ap (λ (r : Record). r.next) (c.was.view_is ∙ c.detach-was.ensures.value) ∙ rw (eq-eqb c.self.inside.newest c.args.place c.if-self-place.true) refl
+next_is : (g : Over) (c : Then-self-place g) → c.detach-was.result.next ≡ cond (eqb c.self.inside.newest c.args.place) (next_at c.self.inside.ring.cells.items c.args.place) c.self.inside.newest
+next_is g c = ap (λ (r : Record). r.next) c.detach-was.ensures.value ∙ rw (eq-eqb c.self.inside.newest c.args.place c.if-self-place.true) refl
 
 -- it was another one
-stays : (g : Over) (c : Else-self-place g) → c.self.inside.newest ≡ cond (eqb c.self.inside.newest c.args.place) (next_at c.self.inside.records.cells.items c.args.place) c.self.inside.newest
+stays : (g : Over) (c : Else-self-place g) → c.self.inside.newest ≡ cond (eqb c.self.inside.newest c.args.place) (next_at c.self.inside.ring.cells.items c.args.place) c.self.inside.newest
 stays g c = rw (ne_eqb c.self.inside.newest c.args.place c.if-self-place.false) refl
 
 pub invariant_of-self : goal.invariant_of-self

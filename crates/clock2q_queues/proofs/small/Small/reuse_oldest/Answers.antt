@@ -1,60 +1,60 @@
-use Rattle.std.proofs.Common.{refl, sym, ap, ◌∙◌, rules, arith}
-use Rattle.clock2q_queues.specs.declared.links.Record.{Record}
+use Rattle.std.proofs.Common.{refl, rules, arith}
 use Rattle.clock2q_queues.specs.declared.small.Small.{Small}
-use Rattle.clock2q_queues.specs.Links.{LinkState}
+use Rattle.clock2q_queues.specs.Cells.{accessed}
+use Rattle.clock2q_queues.specs.Links.{location_at}
 use Rattle.clock2q_queues.proofs.InQueue.{small_linked}
 use Rattle.clock2q_queues.proofs.Window.{aged_before, position_taken}
 use Rattle.clock2q_queues.proofs.Turning.{Turns, Turns-from, oldest_is, slot_fits, there, others_linked, aged_linked}
 use Rattle.clock2q_queues.proofs.small.Small.reuse_oldest.Goals as goal
 
-pub read-record-requires : goal.read-record-requires
-read-record-requires g c =
+pub leave_window-self-requires : goal.leave_window-self-requires
+leave_window-self-requires g c =
     let m = c.requires.whole in
-    (small_linked c.args.links.now c.args.self.now m c.args.self.now.oldest (there c.args.self.now.oldest c.args.links.now c.args.self.now m (oldest_is m c.requires.some))).own
+    let here = there c.args.self.now.oldest c.args.links.now c.args.self.now m (oldest_is m c.requires.some) in
+    record {
+      linked = (small_linked c.args.links.now c.args.self.now m c.args.self.now.oldest here).own;
+      position = λ position e. (m.placed c.args.self.now.oldest position here e).0;
+    }
 
 -- the slot has a number that a link can hold
 pub take_position-self-requires-clause-countable : goal.take_position-self-requires-clause-countable
 take_position-self-requires-clause-countable g c =
     omega (arith, slot_fits c.args.self.now.oldest c.args.links.now c.args.self.now c.requires.whole (oldest_is c.requires.whole c.requires.some), c.requires.whole.queue.countable)
 
-pub leave_position-requires : goal.leave_position-requires
-leave_position-requires g c = λ position e.
-    let m = c.requires.whole in
-    let here = there c.args.self.now.oldest c.args.links.now c.args.self.now m (oldest_is m c.requires.some) in
-    let p = (m.placed c.args.self.now.oldest position here (ap (λ (r : Record). r.location) (sym c.read-record.ensures.value) ∙ e)).0 in
-    rw (ap (λ (l : LinkState). l.window) c.read-record.ensures.counted) p
-
 pub take_position-self-requires-clause-there : goal.take_position-self-requires-clause-there
 take_position-self-requires-clause-there g c =
+    let l = c.args.links.now in
     let m = c.requires.whole in
-    others_linked c.args.self.now.oldest c.args.links.now c.args.self.now m (oldest_is m c.requires.some) c.read-record.new.self c.leave_position.new.self
-    c.read-record.ensures.counted c.read-record.result.location (ap (λ (r : Record). r.location) c.read-record.ensures.value) c.leave_position.ensures
+    let slot = c.args.self.now.oldest in
+    others_linked slot l c.args.self.now m (oldest_is m c.requires.some) (record l { records = accessed l.records }) c.leave_window-self.new.self
+    refl (location_at l.records.items slot) refl c.leave_window-self.ensures.left
 
-pub set_location-requires-clause-was : goal.set_location-requires-clause-was
-set_location-requires-clause-was g c =
+pub make_young-requires : goal.make_young-requires
+make_young-requires g c =
+    let l = c.args.links.now in
     let m = c.requires.whole in
-    aged_linked c.args.self.now.oldest c.args.links.now c.args.self.now m (oldest_is m c.requires.some) c.read-record.new.self c.leave_position.new.self
-    c.read-record.ensures.counted c.read-record.result.location (ap (λ (r : Record). r.location) c.read-record.ensures.value) c.leave_position.ensures
-    (aged_before c.leave_position.new.self c.take_position-self.new.self)
-    c.take_position-self.new.self c.take_position-self.ensures.older (position_taken c.leave_position.new.self c.take_position-self.new.self c.args.self.now.cursor c.args.self.now.oldest
-    c.take_position-self.ensures.taken)
+    let slot = c.args.self.now.oldest in
+    let left = c.leave_window-self.new.self in
+    let aged = c.take_position-self in
+    aged_linked slot l c.args.self.now m (oldest_is m c.requires.some) (record l { records = accessed l.records }) left
+    refl (location_at l.records.items slot) refl c.leave_window-self.ensures.left
+    (aged_before left aged.new.self) aged.new.self aged.ensures.older (position_taken left aged.new.self c.args.self.now.cursor slot aged.ensures.taken)
 
 pub returns : goal.returns
 returns g c =
-    let old = c.args.links.now in
+    let l = c.args.links.now in
     let small = c.args.self.now in
     let slot = small.oldest in
-    let read = c.read-record in
-    let left = c.leave_position.new.self in
-    let aged = c.take_position-self.new.self in
-    let small' : Small = record { newest = slot; oldest = read.result.previous; len = small.len; cursor = c.take_position-self.result } in
+    let left = c.leave_window-self in
+    let aged = c.take_position-self in
+    let small' : Small = record { newest = slot; oldest = left.result; len = small.len; cursor = aged.result } in
     let is = oldest_is c.requires.whole c.requires.some in
-    let turned : Turns slot old small c.set_location.new.self small' =
-    Turns-from slot old small c.requires.whole is read.new.self left
-    read.ensures.counted read.result.location (ap (λ (r : Record). r.location) read.ensures.value) c.leave_position.ensures
-    (aged_before left aged) aged c.set_location.new.self small' c.requires.window
-    c.take_position-self.ensures.older (position_taken left aged small.cursor slot c.take_position-self.ensures.taken) c.set_location.ensures
-    refl (ap (λ (r : Record). r.previous) read.ensures.value) refl c.take_position-self.ensures.next in
+    let turned : Turns slot l small c.make_young.new.self small' =
+    Turns-from slot l small c.requires.whole is (record l { records = accessed l.records }) left.new.self
+    refl (location_at l.records.items slot) refl left.ensures.left
+    (aged_before left.new.self aged.new.self) aged.new.self c.make_young.new.self small' c.requires.window
+    aged.ensures.older (position_taken left.new.self aged.new.self small.cursor slot aged.ensures.taken) c.make_young.ensures
+    refl left.ensures.previous refl aged.ensures.next in
     record {
       oldest = is;
       whole = turned.whole;

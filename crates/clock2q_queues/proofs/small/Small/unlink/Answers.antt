@@ -1,6 +1,6 @@
 use Rattle.std.proofs.Common.{◌≡◌, ℕ, ◌-◌, cond, eqb, refl, sym, ap, ◌∙◌, rules}
 use Rattle.std.proofs.lemmas.Bool.{eq-eqb, ne_eqb}
-use Rattle.clock2q_queues.specs.declared.links.Record.{Record}
+use Rattle.clock2q_queues.specs.declared.entries.Record.{Record}
 use Rattle.clock2q_queues.specs.declared.small.Small.{Small}
 use Rattle.clock2q_queues.specs.Links.{next_at, previous_at}
 use Rattle.clock2q_queues.proofs.InQueue.{small_linked}

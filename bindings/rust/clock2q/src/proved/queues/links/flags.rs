@@ -1,0 +1,78 @@
+// Written by bindings/rust/erase from crates/clock2q_queues/src/links/flags.rt; change that, and run erase.
+//! What is known of a slot without its record: whether it is in a queue, and its hit bit.
+
+use crate::proved::rattle::{AllocError, Allocator, Global};
+
+/// Whether a slot is in a queue, as its record says too, and its hit bit. A slot in no queue has a
+/// clear bit.
+use crate::proved::rattle::Vec;
+#[derive(Clone, Copy)]
+pub(super) enum Flag {
+    /// In neither queue.
+    Free,
+    /// In a queue, with a clear bit.
+    Clear,
+    /// In a queue, with a set bit.
+    Hit,
+}
+
+/// The flag of each slot. Only the first ones are made: any other slot is free.
+pub(super) struct Flags<A: Allocator = Global> {
+    flags: Vec<Flag, A>,
+    slots: u32,
+}
+
+impl<A: Allocator> Flags<A> {
+    /// Returns the flags of `slots` free slots. It takes all the memory that they will ever need.
+    #[inline]
+    pub(super) fn new(alloc: A, slots: u32) -> Result<Self, AllocError> {
+        Ok(Flags {
+            flags: Vec::with_capacity(alloc, slots as usize)?,
+            slots,
+        })
+    }
+
+    /// Returns the flag of any slot. Who learns the bit from it counts the look.
+    #[inline]
+    pub(super) fn read(&self, slot: usize) -> Flag {
+        match self.flags.get(slot) {
+            Some(flag) => *flag,
+            None => Flag::Free,
+        }
+    }
+
+    /// Writes the flag of a slot that is in a queue, and returns the one that it had.
+    #[inline]
+    pub(super) fn replace(&mut self, slot: u32, flag: Flag) -> Flag {
+        let was = self.flags[slot as usize];
+        self.flags[slot as usize] = flag;
+        was
+    }
+
+    /// Writes the flag of a slot. If it isn't made yet, it is made, after those of the slots below it.
+    #[inline(always)]
+    pub(super) fn write(&mut self, slot: u32, flag: Flag) {
+        if (slot as usize) < self.flags.len() {
+            self.flags[slot as usize] = flag;
+            return;
+        }
+        if self.flags.len() < slot as usize {
+            self.make_below(slot);
+        }
+        self.flags.push_reserved(flag);
+    }
+
+    /// Makes the flags of the slots below a bound that have none yet.
+    #[inline(never)]
+    pub(super) fn make_below(&mut self, bound: u32) {
+        while self.flags.len() < bound as usize {
+            self.flags.push_reserved(Flag::Free);
+        }
+    }
+
+    /// Makes every slot free.
+    #[inline]
+    pub(super) fn clear(&mut self) {
+        self.flags.clear();
+    }
+}

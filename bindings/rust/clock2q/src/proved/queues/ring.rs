@@ -1,0 +1,135 @@
+// Written by bindings/rust/erase from crates/clock2q_queues/src/ring.rt; change that, and run erase.
+//! Entries that are linked by number, slots in their queues or places in their order.
+
+use crate::proved::rattle::Vec;
+use crate::proved::queues::entries::{Linked, Location, Record};
+use crate::proved::count::Count;
+use crate::proved::rattle::{AllocError, Allocator, Global};
+
+/// The entry of each place, with the number of reads and writes. Only the first ones are made, which
+/// takes one write each: any other place is vacant.
+pub(crate) struct Ring<E: Linked, A: Allocator = Global> {
+    entries: Vec<E, A>,
+    places: u32,
+    accesses: Count,
+}
+
+impl<E: Linked, A: Allocator> Ring<E, A> {
+    /// Returns a ring of `places` vacant places, with no read or write counted yet. It takes all the
+    /// memory that it will ever need.
+    #[inline]
+    pub(crate) fn new(alloc: A, places: u32) -> Result<Self, AllocError> {
+        Ok(Ring {
+            entries: Vec::with_capacity(alloc, places as usize)?,
+            places,
+            accesses: Count::new(),
+        })
+    }
+
+    /// Returns the number of places.
+    #[inline]
+    pub(crate) fn places(&self) -> u32 {
+        self.places
+    }
+
+    /// Returns the entry of a place that was made.
+    #[inline]
+    pub(crate) fn read(&mut self, place: u32) -> E {
+        self.accesses.tick();
+        self.entries[place as usize]
+    }
+
+    /// Returns the entry of any place.
+    #[inline]
+    pub(crate) fn read_any(&mut self, place: u32) -> E {
+        self.accesses.tick();
+        match self.entries.get(place as usize) {
+            Some(entry) => *entry,
+            None => E::vacant(),
+        }
+    }
+
+    /// Writes the entry of a place. If it isn't made yet, it is made, after those of the places below.
+    #[inline(always)]
+    pub(crate) fn write(&mut self, place: u32, entry: E) {
+        if (place as usize) < self.entries.len() {
+            self.accesses.tick();
+            self.entries[place as usize] = entry;
+            return;
+        }
+        if self.entries.len() < place as usize {
+            self.make_below(place);
+        }
+        self.accesses.tick();
+        self.entries.push_reserved(entry);
+    }
+
+    /// Makes the entries of the places below a bound that have none yet.
+    #[inline(never)]
+    pub(crate) fn make_below(&mut self, bound: u32) {
+        while self.entries.len() < bound as usize {
+            self.accesses.tick();
+            self.entries.push_reserved(E::vacant());
+        }
+    }
+
+    /// Writes the place after another. Changing one field counts as a read and a write of the entry.
+    #[inline(always)]
+    fn set_next(&mut self, place: u32, next: u32) {
+        self.accesses.tick();
+        self.accesses.tick();
+        self.entries[place as usize].set_next(next);
+    }
+
+    /// Writes the place before another, which counts as a read and a write too.
+    #[inline(always)]
+    fn set_previous(&mut self, place: u32, previous: u32) {
+        self.accesses.tick();
+        self.accesses.tick();
+        self.entries[place as usize].set_previous(previous);
+    }
+
+    /// Puts a place just before another. What its entry holds beside its links is the caller's.
+    #[inline(always)]
+    pub(crate) fn attach(&mut self, place: u32, before: u32, entry: E) {
+        let previous = self.read(before).previous();
+        let mut between = entry;
+        between.set_previous(previous);
+        between.set_next(before);
+        self.write(place, between);
+        self.set_next(previous, place);
+        self.set_previous(before, place);
+    }
+
+    /// Removes a place from between its neighbours, and returns the entry that it had.
+    #[inline]
+    pub(crate) fn detach(&mut self, place: u32) -> E {
+        let was = self.read(place);
+        self.set_next(was.previous(), was.next());
+        self.set_previous(was.next(), was.previous());
+        self.write(place, E::vacant());
+        was
+    }
+
+    /// Raises the count of accesses by an amount that the proof of the call picks.
+    #[inline]
+    pub(crate) fn charge(&mut self) {
+        self.accesses.raise(&());
+    }
+
+    /// Makes every place vacant. None is read or written.
+    #[inline]
+    pub(crate) fn clear(&mut self) {
+        self.entries.clear();
+    }
+}
+
+impl<A: Allocator> Ring<Record, A> {
+    /// Writes the location of a slot that was made, which counts as a read and a write.
+    #[inline]
+    pub(crate) fn set_location(&mut self, slot: u32, location: Location) {
+        self.accesses.tick();
+        self.accesses.tick();
+        self.entries[slot as usize].location = location;
+    }
+}

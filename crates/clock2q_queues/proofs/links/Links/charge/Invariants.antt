@@ -1,4 +1,0 @@
-use Rattle.clock2q_queues.proofs.links.Links.charge.Given as goal
-
-abbrev pub ghost-charge : goal.ghost-charge
-ghost-charge g a = g.more

@@ -1,0 +1,8 @@
+use Rattle.std.proofs.Common.{sym}
+use Rattle.clock2q_queues.proofs.AllRecords.{flags-in, flags-set}
+use Rattle.clock2q_queues.proofs.links.flags.Flags.replace.Goals as goal
+
+pub returns-clause-flags : goal.returns-clause-flags
+returns-clause-flags g c =
+    let fs = c.self.inside.flags.items in
+    rw (← c.self.view_is) (sym (flags-set fs c.self.inside.slots c.args.slot c.args.flag (flags-in fs c.self.inside.slots c.args.slot (rw (← c.self.view_is) at c.requires))))

@@ -1,0 +1,5 @@
+use Rattle.std.specs.Prelude.{◌+◌}
+use Rattle.clock2q_queues.proofs.ring.Ring.charge.Given as goal
+
+abbrev pub ghost-raise : goal.ghost-raise
+ghost-raise g a = a.self.now.total + g.more

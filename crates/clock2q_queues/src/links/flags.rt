@@ -1,0 +1,106 @@
+//! What is known of a slot without its record: whether it is in a queue, and its hit bit.
+ghost use Rattle.std.specs.Prelude.{◌≡◌, ◌+◌, ◌<◌, ◌≤◌, true, IfOk, length, replicate, slice_index_or, slice_set};
+ghost use Rattle.clock2q_queues.specs.Flags.{flag_state, says_linked};
+ghost use Rattle.clock2q_queues.specs.Links.{made_below};
+
+use std::alloc::{AllocError, Allocator, Global};
+use std::marker::Model;
+
+/// Whether a slot is in a queue, as its record says too, and its hit bit. A slot in no queue has a
+/// clear bit.
+#[derive(Clone, Copy)]
+pub(super) enum Flag {
+    /// In neither queue.
+    Free,
+    /// In a queue, with a clear bit.
+    Clear,
+    /// In a queue, with a set bit.
+    Hit,
+}
+
+/// The flag of each slot. Only the first ones are made: any other slot is free.
+#[derive(Drop)]
+pub(super) struct Flags<A: Allocator = Global> {
+    flags: Vec<Flag, A>,
+    slots: u32,
+}
+
+impl<A: Allocator> Model for Flags<A> {
+    ghost use Rattle.std.specs.Prelude.{◌≤◌, length, vec_capacity};
+    ghost use Rattle.clock2q_queues.specs.Flags.{FlagState, all_flags, flag_state};
+
+    ghost Value = { FlagState };
+
+    ghost view = { λ f. flag_state (all_flags f.flags.items f.slots) (length f.flags.items) };
+
+    ghost invariant = { λ f. (length f.flags.items ≤ f.slots) × (f.slots ≤ vec_capacity f.flags) };
+}
+
+impl<A: Allocator> Flags<A> {
+    /// Returns the flags of `slots` free slots. It takes all the memory that they will ever need.
+    pub(super) fn new(alloc: A, slots: u32) -> Result<Self, AllocError>
+        ensures { IfOk result (λ f. f ≡ flag_state (replicate slots Flag.Free) 0) }
+    {
+        Ok(Flags {
+            flags: Vec::with_capacity(alloc, slots as usize)?,
+            slots,
+        })
+    }
+
+    /// Returns the flag of any slot. Who learns the bit from it counts the look.
+    pub(super) fn read(&self, slot: usize) -> Flag
+        ensures { result ≡ slice_index_or self.now.items slot Flag.Free }
+    {
+        match self.flags.get(slot) {
+            Some(flag) => *flag,
+            None => Flag::Free,
+        }
+    }
+
+    /// Writes the flag of a slot that is in a queue, and returns the one that it had.
+    pub(super) fn replace(&mut self, slot: u32, flag: Flag) -> Flag
+        requires { says_linked (slice_index_or self.old.items slot Flag.Free) ≡ true }
+        ensures flags { self.new.items ≡ slice_set self.old.items slot flag }
+        ensures made { self.new.made ≡ self.old.made }
+        ensures value { result ≡ slice_index_or self.old.items slot Flag.Free }
+    {
+        let was = self.flags[slot as usize];
+        self.flags[slot as usize] = flag;
+        was
+    }
+
+    /// Writes the flag of a slot. If it isn't made yet, it is made, after those of the slots below it.
+    #[inline(always)]
+    pub(super) fn write(&mut self, slot: u32, flag: Flag)
+        requires { slot < length self.old.items }
+        ensures flags { self.new.items ≡ slice_set self.old.items slot flag }
+        ensures made { self.new.made ≡ made_below (slot + 1) self.old.made }
+    {
+        if (slot as usize) < self.flags.len() {
+            self.flags[slot as usize] = flag;
+            return;
+        }
+        if self.flags.len() < slot as usize {
+            self.make_below(slot);
+        }
+        self.flags.push_reserved(flag);
+    }
+
+    /// Makes the flags of the slots below a bound that have none yet.
+    #[inline(never)]
+    pub(super) fn make_below(&mut self, bound: u32)
+        requires { bound ≤ length self.old.items }
+        ensures { self.new ≡ flag_state self.old.items (made_below bound self.old.made) }
+    {
+        while self.flags.len() < bound as usize {
+            self.flags.push_reserved(Flag::Free);
+        }
+    }
+
+    /// Makes every slot free.
+    pub(super) fn clear(&mut self)
+        ensures { self.new ≡ flag_state (replicate (length self.old.items) Flag.Free) 0 }
+    {
+        self.flags.clear();
+    }
+}

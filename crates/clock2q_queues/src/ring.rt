@@ -1,0 +1,195 @@
+//! Entries that are linked by number, slots in their queues or places in their order.
+ghost use Rattle.std.specs.Prelude.{◌≡◌, ℕ, ◌+◌, ◌-◌, ◌<◌, ◌≤◌, IfOk, length, replicate, slice_set};
+ghost use Rattle.clock2q_queues.specs.Cells.{accessed, cells_state};
+ghost use Rattle.clock2q_queues.specs.Links.{Attaches, Detaches, made_below, next_at, previous_at, record_at, vacant, with_location, with_next, with_previous};
+ghost use Rattle.clock2q_queues.specs.Ring.{ring_state};
+
+use crate::entries::{Linked, Location, Record};
+use clock2q_count::Count;
+use std::alloc::{AllocError, Allocator, Global};
+use std::marker::Model;
+
+/// The entry of each place, with the number of reads and writes. Only the first ones are made, which
+/// takes one write each: any other place is vacant.
+#[derive(Drop)]
+pub(crate) struct Ring<E: Linked, A: Allocator = Global> {
+    entries: Vec<E, A>,
+    places: u32,
+    accesses: Count,
+}
+
+impl<E: Linked, A: Allocator> Model for Ring<E, A> {
+    ghost use Rattle.std.specs.Prelude.{◌≤◌, length, map, vec_capacity};
+    ghost use Rattle.clock2q_queues.specs.Ring.{RingState, ring_shown};
+
+    ghost Value = { RingState };
+
+    ghost view = { λ r. ring_shown (map E.record_of r.entries.items) r.places r.accesses.total };
+
+    ghost invariant = { λ r. (length r.entries.items ≤ r.places) × (r.places ≤ vec_capacity r.entries) };
+}
+
+impl<E: Linked, A: Allocator> Ring<E, A> {
+    /// Returns a ring of `places` vacant places, with no read or write counted yet. It takes all the
+    /// memory that it will ever need.
+    pub(crate) fn new(alloc: A, places: u32) -> Result<Self, AllocError>
+        ensures { IfOk result (λ r. r ≡ ring_state (cells_state (replicate places vacant) 0) 0) }
+    {
+        Ok(Ring {
+            entries: Vec::with_capacity(alloc, places as usize)?,
+            places,
+            accesses: Count::new(),
+        })
+    }
+
+    /// Returns the number of places.
+    pub(crate) fn places(&self) -> u32
+        ensures { result ≡ length self.now.cells.items }
+    {
+        self.places
+    }
+
+    /// Returns the entry of a place that was made.
+    pub(crate) fn read(&mut self, place: u32) -> E
+        requires { place < self.old.made }
+        ensures value { E.record_of result ≡ record_at self.old.cells.items place }
+        ensures counted { self.new ≡ ring_state (accessed self.old.cells) self.old.made }
+        ensures within { self.old.made ≤ length self.old.cells.items }
+    {
+        self.accesses.tick();
+        self.entries[place as usize]
+    }
+
+    /// Returns the entry of any place.
+    pub(crate) fn read_any(&mut self, place: u32) -> E
+        ensures value { E.record_of result ≡ record_at self.old.cells.items place }
+        ensures counted { self.new ≡ ring_state (accessed self.old.cells) self.old.made }
+    {
+        self.accesses.tick();
+        match self.entries.get(place as usize) {
+            Some(entry) => *entry,
+            None => E::vacant(),
+        }
+    }
+
+    /// Writes the entry of a place. If it isn't made yet, it is made, after those of the places below.
+    #[inline(always)]
+    pub(crate) fn write(&mut self, place: u32, entry: E)
+        requires { place < length self.old.cells.items }
+        ensures written { self.new.cells ≡ cells_state (slice_set self.old.cells.items place (E.record_of entry))
+            (self.old.cells.accesses + (place - self.old.made) + 1) }
+        ensures made { self.new.made ≡ made_below (place + 1) self.old.made }
+    {
+        if (place as usize) < self.entries.len() {
+            self.accesses.tick();
+            self.entries[place as usize] = entry;
+            return;
+        }
+        if self.entries.len() < place as usize {
+            self.make_below(place);
+        }
+        self.accesses.tick();
+        self.entries.push_reserved(entry);
+    }
+
+    /// Makes the entries of the places below a bound that have none yet.
+    #[inline(never)]
+    pub(crate) fn make_below(&mut self, bound: u32)
+        requires { bound ≤ length self.old.cells.items }
+        ensures { self.new ≡ ring_state
+            (cells_state self.old.cells.items (self.old.cells.accesses + (bound - self.old.made)))
+            (made_below bound self.old.made) }
+    {
+        while self.entries.len() < bound as usize {
+            self.accesses.tick();
+            self.entries.push_reserved(E::vacant());
+        }
+    }
+
+    /// Writes the place after another. Changing one field counts as a read and a write of the entry.
+    #[inline(always)]
+    fn set_next(&mut self, place: u32, next: u32)
+        requires { place < self.old.made }
+        ensures { self.new ≡ ring_state (accessed (with_next place next self.old.cells)) self.old.made }
+    {
+        self.accesses.tick();
+        self.accesses.tick();
+        self.entries[place as usize].set_next(next);
+    }
+
+    /// Writes the place before another, which counts as a read and a write too.
+    #[inline(always)]
+    fn set_previous(&mut self, place: u32, previous: u32)
+        requires { place < self.old.made }
+        ensures { self.new ≡ ring_state (accessed (with_previous place previous self.old.cells)) self.old.made }
+    {
+        self.accesses.tick();
+        self.accesses.tick();
+        self.entries[place as usize].set_previous(previous);
+    }
+
+    /// Puts a place just before another. What its entry holds beside its links is the caller's.
+    #[inline(always)]
+    pub(crate) fn attach(&mut self, place: u32, before: u32, entry: E)
+        requires place_in { place < length self.old.cells.items }
+        requires before_in { before < self.old.made }
+        requires previous_in { previous_at self.old.cells.items before < self.old.made }
+        ensures attached { Attaches place before (E.record_of entry).location (place - self.old.made + 6)
+            self.old.cells self.new.cells }
+        ensures made { self.new.made ≡ made_below (place + 1) self.old.made }
+    {
+        let previous = self.read(before).previous();
+        let mut between = entry;
+        between.set_previous(previous);
+        between.set_next(before);
+        self.write(place, between);
+        self.set_next(previous, place);
+        self.set_previous(before, place);
+    }
+
+    /// Removes a place from between its neighbours, and returns the entry that it had.
+    pub(crate) fn detach(&mut self, place: u32) -> E
+        requires place_in { place < self.old.made }
+        requires next_in { next_at self.old.cells.items place < self.old.made }
+        requires previous_in { previous_at self.old.cells.items place < self.old.made }
+        ensures detached { Detaches place self.old.cells self.new.cells }
+        ensures made { self.new.made ≡ self.old.made }
+        ensures value { E.record_of result ≡ record_at self.old.cells.items place }
+    {
+        let was = self.read(place);
+        self.set_next(was.previous(), was.next());
+        self.set_previous(was.next(), was.previous());
+        self.write(place, E::vacant());
+        was
+    }
+
+    /// Raises the count of accesses by an amount that the proof of the call picks.
+    pub(crate) fn charge(&mut self)
+        ghost more: { ℕ }
+        ensures { self.new ≡ ring_state
+            (cells_state self.old.cells.items (self.old.cells.accesses + more)) self.old.made }
+    {
+        self.accesses.raise(&());
+    }
+
+    /// Makes every place vacant. None is read or written.
+    pub(crate) fn clear(&mut self)
+        ensures { self.new ≡ ring_state
+            (cells_state (replicate (length self.old.cells.items) vacant) self.old.cells.accesses) 0 }
+    {
+        self.entries.clear();
+    }
+}
+
+impl<A: Allocator> Ring<Record, A> {
+    /// Writes the location of a slot that was made, which counts as a read and a write.
+    pub(crate) fn set_location(&mut self, slot: u32, location: Location)
+        requires { slot < self.old.made }
+        ensures { self.new ≡ ring_state
+            (accessed (with_location slot location self.old.cells)) self.old.made }
+    {
+        self.accesses.tick();
+        self.accesses.tick();
+        self.entries[slot as usize].location = location;
+    }
+}
