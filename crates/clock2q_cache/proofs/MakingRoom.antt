@@ -4,7 +4,7 @@ use Rattle.clock2q_cache.proofs.Names.{if◌then◌else◌, nat_lt, none_is, sli
 use Rattle.std.proofs.lemmas.List.{length-reverse}
 use Rattle.clock2q_queues.proofs.Joining.{length-without}
 use Rattle.clock2q_queues.specs.Cells.{Rises}
-use Rattle.clock2q_queues.specs.MainRing.{inspections}
+use Rattle.clock2q_queues.specs.Main.{inspections}
 use Rattle.clock2q_machine.specs.Entries as machine
 use Rattle.clock2q_machine.specs.Entries.{first_of, behind_hand}
 use Rattle.clock2q_machine.specs.Machine.{tail_evicted, victim_evicted, victim_leaves, keeps_tail, leaves_now}

@@ -20,7 +20,7 @@ pub use Rattle.clock2q_directory.specs.Index.{IndexState, is_shared, slots, left
 pub use Rattle.clock2q_directory.specs.Indexes.{IsIndex, HasHash, is_named, is_alike}
 pub use Rattle.clock2q_directory.specs.Keys.{KeyPlaces, entry, written, hash_at, key_at, with_value, hashed_at, entries_of, is_key_at, comparisons_of, with_key, IsValueFor, Writes}
 pub use Rattle.clock2q_queues.specs.Links.{made_below}
-pub use Rattle.clock2q_queues.specs.MainRing.{main_hit_at, inspections, set_front, from_victim}
+pub use Rattle.clock2q_queues.specs.Main.{main_hit_at, inspections, set_front, from_victim}
 pub use Rattle.clock2q_queues.specs.Queues.{QueueState, slots_of, tail_promoted, without_slot}
 pub use Rattle.clock2q_queues.specs.Rings.{without}
 pub use Rattle.clock2q_queues.specs.Small.{admitted, small_hit_at}

@@ -34,9 +34,9 @@ are_fresh n ring flags window empty free countable =
     }
 
 -- the flag of a slot that is in a queue says so
-pub flag_linked : (ring : RingState) (flags : List Flag) (window : List (Option ℕ)) (slot : ℕ) → AreLinks ring flags window → is_linked (location_at ring.cells.items slot) ≡ true
+pub flag_linked : {ring : RingState} {flags : List Flag} {window : List (Option ℕ)} → AreLinks ring flags window → (slot : ℕ) → is_linked (location_at ring.cells.items slot) ≡ true
     → says_linked (get_or flags slot Flag.Free) ≡ true
-flag_linked ring flags window slot were linked =
+flag_linked {ring} {flags} were slot linked =
     sym (get_or-map says_linked flags slot Flag.Free false (rw were.as_many (linked_within ring.cells.items slot linked))) ∙ were.agree slot ∙ linked
 
 -- the flag of a slot was written, and its record perhaps: they still agree if they do at this slot
@@ -59,7 +59,7 @@ flags_written old new flags flags' window slot f were within flagged as_many her
   countable_positions = were.countable_positions;
 }
 
-module _ (old : RingState) (flags flags' : List Flag) (window : List (Option ℕ)) (slot : ℕ) (f : Flag) (were : AreLinks old flags window) (flagged : flags' ≡ set flags slot f) where
+module _ {old : RingState} {flags flags' : List Flag} {window : List (Option ℕ)} (slot : ℕ) (f : Flag) (were : AreLinks old flags window) (flagged : flags' ≡ set flags slot f) where
   -- its record stays
   pub flags_changed : is_linked (location_at old.cells.items slot) ≡ true → says_linked f ≡ true → AreLinks old flags' window
   flags_changed linked says =
@@ -87,12 +87,12 @@ module _ (old : RingState) (flags flags' : List Flag) (window : List (Option ℕ
       (here ∙ sym (ap (λ (r : Record). is_linked r.location) detached.freed))
       (λ t other. ap is_linked (detached.locations t other)) (omega (arith, made)) (λ _. rw made (were.made slot linked))
 
-module _ (ring : RingState) (flags flags' : List Flag) (window : CellsState (Option ℕ)) (inspections slot : ℕ) (f : Flag) (bit : Bool) where
-  -- the bit of a slot is this one now
-  pub bit_set : slot < length flags → is_set f ≡ bit → flags' ≡ set flags slot f → SetsBit slot bit (links_shown ring flags window inspections) (links_shown ring flags' window inspections)
-  bit_set within e flagged = record {
+  -- its bit is this one now
+  pub bit_set : (positions : CellsState (Option ℕ)) (inspections : ℕ) (bit : Bool) → slot < length old.cells.items → is_set f ≡ bit
+      → SetsBit slot bit (links_shown old flags positions inspections) (links_shown old flags' positions inspections)
+  bit_set positions inspections bit within e = record {
     bits = λ t. ap (λ z. get_or (map is_set z) t false) flagged ∙ ap (λ z. get_or z t false) (mapped-set is_set flags slot f bit e)
-        ∙ changed (λ b. b) (map is_set flags) slot bit false t (rw (length-map flags is_set) within);
+        ∙ changed (λ b. b) (map is_set flags) slot bit false t (rw (length-map flags is_set, were.as_many) within);
     records = refl;
     made = refl;
     window = refl;

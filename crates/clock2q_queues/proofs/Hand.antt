@@ -6,16 +6,16 @@ use Rattle.std.proofs.lemmas.List.Sums.{prefix_len-le-length}
 use Rattle.std.specs.List.{list_any}
 use Rattle.std.proofs.lemmas.List.Folds.{list_any-append}
 use Rattle.clock2q_queues.specs.declared.entries.Record.{Record}
-use Rattle.clock2q_queues.specs.declared.main_ring.MainRing.{MainRing}
+use Rattle.clock2q_queues.specs.declared.main_queue.Main.{Main}
 use Rattle.clock2q_queues.specs.Rings.{IsRing}
 use Rattle.clock2q_queues.specs.Cells.{accessed}
 use Rattle.clock2q_queues.specs.Flags.{is_linked}
 use Rattle.clock2q_queues.specs.Links.{LinkState, IsLinked, IsSameBut, slot_at, record_at, location_at, next_at, previous_at, bit_at}
-use Rattle.clock2q_queues.specs.MainRing.{IsMain, IsMainRing, main_slots, main_entries, set_front, inspections, from_victim}
+use Rattle.clock2q_queues.specs.Main.{IsMain, IsMainQueue, main_slots, main_entries, set_front, inspections, from_victim}
 use Rattle.clock2q_queues.proofs.Rings.{eqb_self, among_first, among_later, differs, distinct_first}
 use Rattle.clock2q_queues.proofs.Joining.{map-agree, IsLinked-turned}
 use Rattle.clock2q_queues.proofs.Booleans.{or_left, or_parts, or_neither}
-use Rattle.clock2q_queues.proofs.Main.{main_slots-is, IsMainRing-from}
+use Rattle.clock2q_queues.proofs.Main.{main_slots-is, IsMainQueue-from}
 
 -- appending an entry with a clear bit doesn't change the number of set bits in front
 prefix_len-push : (es : List (ℕ × Bool)) (s : ℕ) → set_front (es ++ (s, false) ∷ []) ≡ set_front es
@@ -32,7 +32,7 @@ pub from_victim-chosen : (s : ℕ) (es : List (ℕ × Bool)) → from_victim ((s
 from_victim-chosen s es = append-nil ((s, false) ∷ es)
 
 -- Main with its hand at a slot
-abbrev pub with_hand : ℕ → MainRing → MainRing
+abbrev pub with_hand : ℕ → Main → Main
 with_hand hand main = record { hand = Some hand; len = main.len }
 
 pub first_of : (ss : List ℕ) (first : ℕ) → Some first ≡ slice_get ss 0 → (rest : List ℕ) × (ss ≡ first ∷ rest)
@@ -55,7 +55,7 @@ among-behind : (t hand : ℕ) (rest : List ℕ) → list_any (eqb t) (rest ++ ha
 among-behind t hand rest h = grind (arith, or_cases, list_any-append, among_later, or_left, both_ways)
 
 -- if no record changed, the hand may stay at a slot or move on from it
-module _ (now l : LinkState) (main : MainRing) (hand : ℕ) (rest : List ℕ) (items : l.records.items ≡ now.records.items) (m : IsMain now (with_hand hand main) (hand ∷ rest)) where
+module _ (now l : LinkState) (main : Main) (hand : ℕ) (rest : List ℕ) (items : l.records.items ≡ now.records.items) (m : IsMain now (with_hand hand main) (hand ∷ rest)) where
   linked : IsLinked l.records.items (hand ∷ rest)
   linked = subst (λ (z : List Record). IsLinked z (hand ∷ rest)) (sym items) m.queue.linked
 
@@ -77,7 +77,7 @@ module _ (now l : LinkState) (main : MainRing) (hand : ℕ) (rest : List ℕ) (i
   stayed = grind (arith, linked, as_many)
 
 -- an inspection of the hand's slot doesn't change the other bits
-module _ (now l : LinkState) (main : MainRing) (hand : ℕ) (rest : List ℕ) (k : Looks hand now l) (m : IsMain now (with_hand hand main) (hand ∷ rest)) where
+module _ (now l : LinkState) (main : Main) (hand : ℕ) (rest : List ℕ) (k : Looks hand now l) (m : IsMain now (with_hand hand main) (hand ∷ rest)) where
   others_kept : map {B = ℕ × Bool} (λ s. (s, bit_at l s)) rest ≡ map {B = ℕ × Bool} (λ s. (s, bit_at now s)) rest
   others_kept = map-agree {X = ℕ × Bool} (λ s. (s, bit_at l s)) (λ s. (s, bit_at now s)) rest (λ t h. ap (λ z. (t, z)) (k.bits t ∙ rw (differs t hand rest h (distinct_first eqb hand rest m.queue.linked.apart)) refl))
 
@@ -106,7 +106,7 @@ first_entry bits (s ∷ ss) slot e =
     (ss, (ap (λ z. z ∷ ss) p, subst (λ z. bits z ≡ false) p (ap (λ z. z.1) r)))
 
 -- the hand moves on from its slot, whose record is read
-module _ (now l : LinkState) (main : MainRing) (slot : ℕ) (m : IsMainRing now main) (first : slice_get (main_entries now main) 0 ≡ Some (slot, false))
+module _ (now l : LinkState) (main : Main) (slot : ℕ) (m : IsMainQueue now main) (first : slice_get (main_entries now main) 0 ≡ Some (slot, false))
     (read : l ≡ record now { records = accessed now.records }) where
   at_front : (rest : List ℕ) × ((main_slots now main ≡ slot ∷ rest) × (bit_at now slot ≡ false))
   at_front = first_entry (λ s. bit_at now s) (main_slots now main) slot first
@@ -125,8 +125,8 @@ module _ (now l : LinkState) (main : MainRing) (slot : ℕ) (m : IsMainRing now 
   passed : IsMain l (with_hand (next_at now.records.items slot) main) (behind ++ slot ∷ [])
   passed = turned now l main slot behind (ap (λ (z : LinkState). z.records.items) read) front
 
-  pub whole_passed : IsMainRing l (with_hand (next_at now.records.items slot) main)
-  whole_passed = IsMainRing-from l (with_hand (next_at now.records.items slot) main) (behind ++ slot ∷ []) passed
+  pub whole_passed : IsMainQueue l (with_hand (next_at now.records.items slot) main)
+  whole_passed = IsMainQueue-from l (with_hand (next_at now.records.items slot) main) (behind ++ slot ∷ []) passed
 
   pub entries_passed : main_entries l (with_hand (next_at now.records.items slot) main) ≡ drop 1 (main_entries now main) ++ (slot, false) ∷ []
   entries_passed =
@@ -137,8 +137,8 @@ module _ (now l : LinkState) (main : MainRing) (slot : ℕ) (m : IsMainRing now 
       ∙ ap (λ (z : List ℕ). drop 1 (map {B = ℕ × Bool} (λ s. (s, bit_at now s)) z) ++ (slot, false) ∷ []) (sym at_front.1.0)
 
 -- the hand has come as far as this slot: the choice and the number of inspections in all are the same from here
-pub record Swept (old : LinkState) (main : MainRing) (now : LinkState) (hand : ℕ) : Type 0 where
-  pub whole : IsMainRing now (with_hand hand main)
+pub record Swept (old : LinkState) (main : Main) (now : LinkState) (hand : ℕ) : Type 0 where
+  pub whole : IsMainQueue now (with_hand hand main)
   pub choice : from_victim (main_entries now (with_hand hand main)) ≡ from_victim (main_entries old main)
   pub looks : inspections (main_entries now (with_hand hand main)) + now.bits.inspections ≡ inspections (main_entries old main) + old.bits.inspections
   pub accesses : now.records.accesses + old.bits.inspections ≡ now.bits.inspections + old.records.accesses
@@ -147,10 +147,10 @@ pub record Swept (old : LinkState) (main : MainRing) (now : LinkState) (hand : �
   pub window : now.window ≡ old.window
   pub made : now.made ≡ old.made
 
-pub Swept-start : (old : LinkState) (hand len : ℕ) → IsMainRing old (record { hand = Some hand; len = len }) → Swept old (record { hand = Some hand; len = len }) old hand
+pub Swept-start : (old : LinkState) (hand len : ℕ) → IsMainQueue old (record { hand = Some hand; len = len }) → Swept old (record { hand = Some hand; len = len }) old hand
 Swept-start old hand len m = record { whole = m; choice = refl; looks = refl; accesses = omega arith; members = λ t h. h; same = record { others = λ t h. refl; as_many = refl }; window = refl; made = refl }
 
-module _ (old : LinkState) (main : MainRing) (now : LinkState) (hand : ℕ) (s : Swept old main now hand) where
+module _ (old : LinkState) (main : Main) (now : LinkState) (hand : ℕ) (s : Swept old main now hand) where
   rest_of : (rest : List ℕ) × (main_slots now (with_hand hand main) ≡ hand ∷ rest)
   rest_of = first_of (main_slots now (with_hand hand main)) hand s.whole.queue.starts
 
@@ -186,7 +186,7 @@ module _ (old : LinkState) (main : MainRing) (now : LinkState) (hand : ℕ) (s :
 
       Swept-passed : l.records.accesses ≡ now.records.accesses + 1 → Swept old main l (next_at now.records.items hand)
       Swept-passed a = record {
-        whole = IsMainRing-from l (with_hand (next_at now.records.items hand) main) (rest ++ hand ∷ []) (turned now l main hand rest k.items at_hand);
+        whole = IsMainQueue-from l (with_hand (next_at now.records.items hand) main) (rest ++ hand ∷ []) (turned now l main hand rest k.items at_hand);
         choice = ap from_victim after ∙ sym (from_victim-passed hand es) ∙ ap from_victim (sym (before true b)) ∙ s.choice;
         looks = let e = s.looks in let f = looks_left in let n = k.inspections in omega arith;
         accesses = let e = s.accesses in let n = k.inspections in omega arith;
@@ -203,8 +203,8 @@ module _ (old : LinkState) (main : MainRing) (now : LinkState) (hand : ℕ) (s :
       }
 
 -- the hand's choice
-pub record Selects (old : LinkState) (main : MainRing) (new : LinkState) (main' : MainRing) (victim : ℕ) : Type 0 where
-  pub whole : IsMainRing new main'
+pub record Selects (old : LinkState) (main : Main) (new : LinkState) (main' : Main) (victim : ℕ) : Type 0 where
+  pub whole : IsMainQueue new main'
   pub entries : main_entries new main' ≡ from_victim (main_entries old main)
   pub chosen : slice_get (main_entries new main') 0 ≡ Some (victim, false)
   pub others : IsSameBut (main_slots old main) old new
@@ -213,7 +213,7 @@ pub record Selects (old : LinkState) (main : MainRing) (new : LinkState) (main' 
   pub looks : new.bits.inspections ≡ old.bits.inspections + inspections (main_entries old main)
   pub accesses : new.records.accesses + 1 ≡ old.records.accesses + inspections (main_entries old main)
 
-module _ (old : LinkState) (main : MainRing) (now : LinkState) (hand : ℕ) (s : Swept old main now hand) (l : LinkState) (k : Looks hand now l)
+module _ (old : LinkState) (main : Main) (now : LinkState) (hand : ℕ) (s : Swept old main now hand) (l : LinkState) (k : Looks hand now l)
     (b : bit_at now hand ≡ false) (a : l.records.accesses ≡ now.records.accesses) where
   chosen_entries : main_entries l (with_hand hand main) ≡ (hand, false) ∷ es old main now hand s
   chosen_entries = grind (arith, main_slots-is, stayed, at_hand, entries_stayed)
@@ -226,7 +226,7 @@ module _ (old : LinkState) (main : MainRing) (now : LinkState) (hand : ℕ) (s :
       let was : main_entries now (with_hand hand main) ≡ (hand, false) ∷ zs = before old main now hand s false b in
       let one : inspections (main_entries now (with_hand hand main)) ≡ 1 = ap inspections was in
       record {
-        whole = IsMainRing-from l (with_hand hand main) (hand ∷ r) (stayed now l main hand r k.items m);
+        whole = IsMainQueue-from l (with_hand hand main) (hand ∷ r) (stayed now l main hand r k.items m);
         entries = chosen_entries ∙ sym (from_victim-chosen hand zs) ∙ ap from_victim (sym was) ∙ s.choice;
         chosen = ap (λ (z : List (ℕ × Bool)). slice_get z 0) chosen_entries;
         others = record {
@@ -240,7 +240,7 @@ module _ (old : LinkState) (main : MainRing) (now : LinkState) (hand : ℕ) (s :
       }
 
 -- the same from the states in between: after the inspection, and after the read of the record
-module _ (old : LinkState) (main : MainRing) (now : LinkState) (hand : ℕ) (s : Swept old main now hand) (mid : LinkState)
+module _ (old : LinkState) (main : Main) (now : LinkState) (hand : ℕ) (s : Swept old main now hand) (mid : LinkState)
     (bits : (t : ℕ) → bit_at mid t ≡ cond (eqb t hand) false (bit_at now t)) (looked : mid ≡ record now { bits = mid.bits }) (counted : mid.bits.inspections ≡ now.bits.inspections + 1) where
   pub hand_linked_still : is_linked (location_at mid.records.items hand) ≡ true
   hand_linked_still =

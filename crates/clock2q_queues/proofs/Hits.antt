@@ -6,11 +6,12 @@ use Rattle.clock2q_machine.specs.Ages.{touched}
 use Rattle.clock2q_queues.specs.Cells.{CellsState, HitBits, bit_in}
 use Rattle.clock2q_queues.specs.declared.entries.Record.{Record}
 use Rattle.clock2q_queues.specs.declared.entries.Location.{Location}
-use Rattle.clock2q_queues.specs.declared.entries.Location.TheVariants.{Free, SmallYoung, SmallOld, Main}
-use Rattle.clock2q_queues.specs.declared.main_ring.MainRing.{MainRing}
+use Rattle.clock2q_queues.specs.declared.entries.Location.TheVariants.{Free, SmallYoung, SmallOld}
+use Rattle.clock2q_queues.specs.declared.entries.Location.TheVariants as at
+use Rattle.clock2q_queues.specs.declared.main_queue.Main.{Main}
 use Rattle.clock2q_queues.specs.declared.small.Small.{Small}
 use Rattle.clock2q_queues.specs.Links.{LinkState, SetsBit, location_at, bit_at}
-use Rattle.clock2q_queues.specs.MainRing.{main_slots, main_entries, main_hit_at}
+use Rattle.clock2q_queues.specs.Main.{main_slots, main_entries, main_hit_at}
 use Rattle.clock2q_queues.specs.Small.{small_slots, small_entries, small_hit_at, age_of, age_at}
 use Rattle.clock2q_queues.specs.Queues.{AreQueues, QueueState, queues_shown, slots_of}
 use Rattle.clock2q_queues.specs.Flags.{is_linked}
@@ -35,9 +36,9 @@ age-hit : (window cursor : ℕ) (location : Location) (b : Bool) → age_of wind
 age-hit window cursor Free b = refl
 age-hit window cursor (SmallYoung position) b = refl
 age-hit window cursor SmallOld b = refl
-age-hit window cursor Main b = refl
+age-hit window cursor at.Main b = refl
 
-module _ (l : LinkState) (small : Small) (main : MainRing) (q : AreQueues l small main) (slot : ℕ) where
+module _ (l : LinkState) (small : Small) (main : Main) (q : AreQueues l small main) (slot : ℕ) where
   hit_bits : (b : HitBits) → ((t : ℕ) → bit_in b.items t ≡ cond (eqb t slot) true (bit_at l t)) → b.inspections ≡ l.bits.inspections
       → Becomes (record l { bits = b }) small main (record (queues_shown l small main) { small = small_hit_at slot (small_entries l small); main = main_hit_at slot (main_entries l main) })
   hit_bits b h i =

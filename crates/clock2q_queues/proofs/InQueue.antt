@@ -3,12 +3,13 @@ use Rattle.std.proofs.Common.{◌≡◌, ℕ, true, List, [], ◌∷◌, refl, a
 use Rattle.std.specs.List.{list_any}
 use Rattle.clock2q_queues.specs.declared.entries.Record.{Record}
 use Rattle.clock2q_queues.specs.declared.entries.Location.{Location}
-use Rattle.clock2q_queues.specs.declared.entries.Location.TheVariants.{Free, SmallYoung, SmallOld, Main}
-use Rattle.clock2q_queues.specs.declared.main_ring.MainRing.{MainRing}
+use Rattle.clock2q_queues.specs.declared.entries.Location.TheVariants.{Free, SmallYoung, SmallOld}
+use Rattle.clock2q_queues.specs.declared.entries.Location.TheVariants as at
+use Rattle.clock2q_queues.specs.declared.main_queue.Main.{Main}
 use Rattle.clock2q_queues.specs.declared.small.Small.{Small}
 use Rattle.clock2q_queues.specs.Flags.{is_linked}
 use Rattle.clock2q_queues.specs.Links.{LinkState, location_at, next_at, previous_at}
-use Rattle.clock2q_queues.specs.MainRing.{IsMainRing, main_slots}
+use Rattle.clock2q_queues.specs.Main.{IsMainQueue, main_slots}
 use Rattle.clock2q_queues.specs.Small.{IsInSmall, IsSmallQueue, small_slots}
 use Rattle.clock2q_queues.proofs.Joining.{next_in, previous_in}
 use Rattle.clock2q_queues.proofs.Rings.{among_first, among_later}
@@ -17,7 +18,7 @@ pub in_small_linked : (location : Location) → IsInSmall location → is_linked
 in_small_linked (SmallYoung position) i = refl
 in_small_linked SmallOld i = refl
 in_small_linked Free i = absurd i
-in_small_linked Main i = absurd i
+in_small_linked at.Main i = absurd i
 
 -- a slot is in a queue, and so are its neighbours
 pub record AreInQueue (l : LinkState) (slot : ℕ) : Type 0 where
@@ -35,7 +36,7 @@ small_linked l small m slot there =
       previous = each (previous_at rs slot) (previous_in rs (small_slots l small) slot m.queue.linked there);
     }
 
-pub main_linked : (l : LinkState) (main : MainRing) → IsMainRing l main → (slot : ℕ) → list_any (eqb slot) (main_slots l main) ≡ true → AreInQueue l slot
+pub main_linked : (l : LinkState) (main : Main) → IsMainQueue l main → (slot : ℕ) → list_any (eqb slot) (main_slots l main) ≡ true → AreInQueue l slot
 main_linked l main m slot there =
     let rs = l.records.items in
     record {

@@ -5,32 +5,33 @@ use Rattle.std.proofs.lemmas.Bool.{cases_Bool}
 use Rattle.std.proofs.lemmas.List.Folds.{list_any-append}
 use Rattle.clock2q_machine.specs.Ages.{is_promoted}
 use Rattle.clock2q_queues.specs.declared.entries.Location.{Location}
-use Rattle.clock2q_queues.specs.declared.entries.Location.TheVariants.{Free, SmallYoung, SmallOld, Main}
-use Rattle.clock2q_queues.specs.declared.main_ring.MainRing.{MainRing}
+use Rattle.clock2q_queues.specs.declared.entries.Location.TheVariants.{Free, SmallYoung, SmallOld}
+use Rattle.clock2q_queues.specs.declared.entries.Location.TheVariants as at
+use Rattle.clock2q_queues.specs.declared.main_queue.Main.{Main}
 use Rattle.clock2q_queues.specs.declared.small.Small.{Small}
 use Rattle.clock2q_queues.specs.Flags.{is_linked}
 use Rattle.clock2q_queues.specs.Links.{LinkState, location_at, bit_at, is_old}
-use Rattle.clock2q_queues.specs.MainRing.{main_slots, main_entries}
+use Rattle.clock2q_queues.specs.Main.{main_slots, main_entries}
 use Rattle.clock2q_queues.specs.Small.{IsInSmall, small_slots, small_entries, age_of, age_at}
 use Rattle.clock2q_queues.specs.Queues.{QueueState, AreQueues, IsAt, queues_shown, slots_of, without_slot, tail_promoted, keeps_tail}
 use Rattle.clock2q_queues.proofs.InQueue.{small_linked}
 use Rattle.clock2q_queues.proofs.Sharing.{small_slots-of, main_slots-of}
 use Rattle.clock2q_queues.proofs.SlotLists.{tail_among, tail_entry, no_entry, first_out, last_out, none_last}
 
-Free≢Main : Free ≢ Main
+Free≢Main : Free ≢ at.Main
 Free≢Main e = cc
 
-module _ (l : LinkState) (small : Small) (main : MainRing) (q : AreQueues l small main) (slot : ℕ) where
+module _ (l : LinkState) (small : Small) (main : Main) (q : AreQueues l small main) (slot : ℕ) where
   abbrev location : Location
   location = location_at l.records.items slot
 
   not_in_small : (IsInSmall location → ⊥) → list_any (eqb slot) (small_slots l small) ≡ false
   not_in_small n = elim (cases_Bool (list_any (eqb slot) (small_slots l small))) [ inl h ↦ absurd (n (q.small.location slot h)) | inr h ↦ h ]
 
-  not_in_main : location ≢ Main → list_any (eqb slot) (main_slots l main) ≡ false
+  not_in_main : location ≢ at.Main → list_any (eqb slot) (main_slots l main) ≡ false
   not_in_main n = elim (cases_Bool (list_any (eqb slot) (main_slots l main))) [ inl h ↦ absurd (n (q.main.location slot h)) | inr h ↦ h ]
 
-  is_in_small : location ≢ Main → location ≢ Free → list_any (eqb slot) (small_slots l small) ≡ true
+  is_in_small : location ≢ at.Main → location ≢ Free → list_any (eqb slot) (small_slots l small) ≡ true
   is_in_small n f = elim (cases_Bool (list_any (eqb slot) (small_slots l small))) [ inl h ↦ h | inr h ↦ absurd (f (q.elsewhere slot h (not_in_main n))) ]
 
   is_in_main : (IsInSmall location → ⊥) → location ≢ Free → list_any (eqb slot) (main_slots l main) ≡ true
@@ -45,12 +46,12 @@ module _ (l : LinkState) (small : Small) (main : MainRing) (q : AreQueues l smal
   at_free : Free ≡ location → IsAt Free slot (queues_shown l small main)
   at_free e = (of_small (not_in_small (λ i. subst (λ z. IsInSmall z) (sym e) i)), of_main (not_in_main (λ m. Free≢Main (e ∙ m))))
 
-  at_main : Main ≡ location → IsAt Main slot (queues_shown l small main)
+  at_main : at.Main ≡ location → IsAt at.Main slot (queues_shown l small main)
   at_main e =
       let n = (λ (i : IsInSmall location). subst (λ z. IsInSmall z) (sym e) i) in
       (of_small (not_in_small n), of_main (is_in_main n (λ f. Free≢Main (sym f ∙ sym e))))
 
-  at_small : location ≢ Main → location ≢ Free → IsAt SmallOld slot (queues_shown l small main)
+  at_small : location ≢ at.Main → location ≢ Free → IsAt SmallOld slot (queues_shown l small main)
   at_small n f = (of_small (is_in_small n f), of_main (not_in_main n))
 
   -- a slot is where its record says
@@ -58,22 +59,22 @@ module _ (l : LinkState) (small : Small) (main : MainRing) (q : AreQueues l smal
   is_at Free e = at_free e
   is_at (SmallYoung position) e = at_small (λ h. cc) (λ h. cc)
   is_at SmallOld e = at_small (λ h. cc) (λ h. cc)
-  is_at Main e = at_main e
+  is_at at.Main e = at_main e
 
   -- a slot is in one of the queues if its record says so, and only then
   pub linked_anywhere : is_linked location ≡ list_any (eqb slot) (slots_of (small_entries l small) ++ slots_of (main_entries l main))
   linked_anywhere = of location refl ∙ sym (list_any-append (eqb slot) (slots_of (small_entries l small)) (slots_of (main_entries l main)))
     where
       of : (m : Location) → m ≡ location → is_linked m ≡ (list_any (eqb slot) (slots_of (small_entries l small)) || list_any (eqb slot) (slots_of (main_entries l main)))
-      of Free e = let at = is_at Free e in rw (at.0, at.1) refl
-      of (SmallYoung position) e = let at = is_at (SmallYoung position) e in rw at.0 refl
-      of SmallOld e = let at = is_at SmallOld e in rw at.0 refl
-      of Main e = let at = is_at Main e in rw (at.0, at.1) refl
+      of Free e = let here = is_at Free e in rw (here.0, here.1) refl
+      of (SmallYoung position) e = let here = is_at (SmallYoung position) e in rw here.0 refl
+      of SmallOld e = let here = is_at SmallOld e in rw here.0 refl
+      of at.Main e = let here = is_at at.Main e in rw (here.0, here.1) refl
 
 -- a slot with such a location is in Small alone
 pub in_small_alone : (m : Location) (slot : ℕ) (q : QueueState) → ((position : ℕ) × (m ≡ SmallYoung position)) ⊎ (m ≡ SmallOld) → IsAt m slot q → IsAt SmallOld slot q
-in_small_alone m slot q (inl y) at = subst (λ z. IsAt z slot q) y.1 at
-in_small_alone m slot q (inr y) at = subst (λ z. IsAt z slot q) y at
+in_small_alone m slot q (inl y) here = subst (λ z. IsAt z slot q) y.1 here
+in_small_alone m slot q (inr y) here = subst (λ z. IsAt z slot q) y here
 
 -- The slots at the ends
 
@@ -81,9 +82,9 @@ promoted-is : (window cursor : ℕ) (m : Location) (bit : Bool) → IsInSmall m 
 promoted-is window cursor (SmallYoung position) bit s = refl
 promoted-is window cursor SmallOld bit s = refl
 promoted-is window cursor Free bit s = absurd s
-promoted-is window cursor Main bit s = absurd s
+promoted-is window cursor at.Main bit s = absurd s
 
-module _ (l : LinkState) (small : Small) (main : MainRing) (q : AreQueues l small main) where
+module _ (l : LinkState) (small : Small) (main : Main) (q : AreQueues l small main) where
   -- Small's oldest slot is in Small
   module _ (tail : ℕ) (is : last_or None (small_slots l small) ≡ Some tail) where
     pub tail_there : list_any (eqb tail) (small_slots l small) ≡ true

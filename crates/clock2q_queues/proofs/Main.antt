@@ -4,25 +4,26 @@ use Rattle.std.specs.List.{filter, list_any}
 use Rattle.std.proofs.lemmas.Bool.{both_ways, or_cases}
 use Rattle.std.proofs.lemmas.List.{map-append, length_push}
 use Rattle.std.proofs.lemmas.List.Folds.{list_any-append}
-use Rattle.clock2q_queues.specs.declared.main_ring.MainRing.{MainRing}
-use Rattle.clock2q_queues.specs.declared.entries.Location.TheVariants.{Free, Main}
+use Rattle.clock2q_queues.specs.declared.main_queue.Main.{Main}
+use Rattle.clock2q_queues.specs.declared.entries.Location.TheVariants.{Free}
+use Rattle.clock2q_queues.specs.declared.entries.Location.TheVariants as at
 use Rattle.clock2q_queues.specs.Rings.{without}
 use Rattle.clock2q_queues.specs.Links.{LinkState, IsSameBut, SetsBit, Attaches, Detaches, record_at, location_at, bit_at}
-use Rattle.clock2q_queues.specs.MainRing.{IsMain, IsMainRing, main_slots, main_entries}
+use Rattle.clock2q_queues.specs.Main.{IsMain, IsMainQueue, main_slots, main_entries}
 use Rattle.clock2q_queues.proofs.InQueue.{AreInQueue, main_linked}
 use Rattle.clock2q_queues.proofs.Rings.{eqb_self, eqb_swap, differs, among-without, distinct_none}
 use Rattle.clock2q_queues.proofs.Joining.{Inserts, Inserts-before, Inserts-first, first_in, Removes-detached, length-without, map-agree, slots_from-is, filter-entries}
 use Rattle.clock2q_queues.proofs.Booleans.{or_parts}
 
-pub main_slots-is : (l : LinkState) (main : MainRing) (ss : List ℕ) → IsMain l main ss → main_slots l main ≡ ss
+pub main_slots-is : (l : LinkState) (main : Main) (ss : List ℕ) → IsMain l main ss → main_slots l main ≡ ss
 main_slots-is l main ss m = slots_from-is l.records.items main.hand main.len ss m.queue
 
-pub IsMainRing-from : (l : LinkState) (main : MainRing) (ss : List ℕ) → IsMain l main ss → IsMainRing l main
-IsMainRing-from l main ss m = subst (λ z. IsMain l main z) (sym (main_slots-is l main ss m)) m
+pub IsMainQueue-from : (l : LinkState) (main : Main) (ss : List ℕ) → IsMain l main ss → IsMainQueue l main
+IsMainQueue-from l main ss m = subst (λ z. IsMain l main z) (sym (main_slots-is l main ss m)) m
 
 -- a ring with no slot, whatever the links hold
-pub IsMainRing-empty : (l : LinkState) → length l.records.items < 2 ^ 32 → IsMainRing l (record { hand = None; len = 0 })
-IsMainRing-empty l h = grind (arith, both_ways, distinct_none eqb)
+pub IsMainQueue-empty : (l : LinkState) → length l.records.items < 2 ^ 32 → IsMainQueue l (record { hand = None; len = 0 })
+IsMainQueue-empty l h = grind (arith, both_ways, distinct_none eqb)
 
 -- The hand after a slot was put in
 
@@ -35,41 +36,41 @@ slice_get-first [] slot e = refl
 slice_get-first (s ∷ ss) slot e = absurd (cc)
 
 -- a slot was put into Main
-pub record PushesMain (slot : ℕ) (old : LinkState) (main : MainRing) (new : LinkState) (main' : MainRing) : Type 0 where
-  pub whole : IsMainRing new main'
+pub record PushesMain (slot : ℕ) (old : LinkState) (main : Main) (new : LinkState) (main' : Main) : Type 0 where
+  pub whole : IsMainQueue new main'
   pub entries : main_entries new main' ≡ main_entries old main ++ (slot, false) ∷ []
   pub others : IsSameBut (slot ∷ main_slots old main) old new
 
-module _ (slot : ℕ) (old : LinkState) (main : MainRing) (new : LinkState) (main' : MainRing)
-    (m : IsMainRing old main) (b : slot < length old.records.items) (absent : list_any (eqb slot) (main_slots old main) ≡ false)
+module _ (slot : ℕ) (old : LinkState) (main : Main) (new : LinkState) (main' : Main)
+    (m : IsMainQueue old main) (b : slot < length old.records.items) (absent : list_any (eqb slot) (main_slots old main) ≡ false)
     (cleared : SetsBit slot false old (record new { records = old.records; made = old.made })) (n : main'.len ≡ main.len + 1) where
   bit_new : (t : ℕ) → bit_at new t ≡ cond (eqb t slot) false (bit_at old t)
   bit_new t = cleared.bits t
 
-  pushed : Inserts slot Main (main_slots old main) old.records.items new.records.items → main'.hand ≡ slice_get (main_slots old main ++ slot ∷ []) 0 → PushesMain slot old main new main'
-  pushed i h = grind (arith, length_push, or_cases, list_any-append, differs, both_ways, IsMainRing-from, main_slots-is, map-append, map-agree, bit_new, eqb_self, or_parts)
+  pushed : Inserts slot at.Main (main_slots old main) old.records.items new.records.items → main'.hand ≡ slice_get (main_slots old main ++ slot ∷ []) 0 → PushesMain slot old main new main'
+  pushed i h = grind (arith, length_push, or_cases, list_any-append, differs, both_ways, IsMainQueue-from, main_slots-is, map-append, map-agree, bit_new, eqb_self, or_parts)
 
-  pub PushesMain-attached : (cost hand : ℕ) → main.hand ≡ Some hand → Attaches slot hand Main cost old.records new.records → main'.hand ≡ Some hand → PushesMain slot old main new main'
+  pub PushesMain-attached : (cost hand : ℕ) → main.hand ≡ Some hand → Attaches slot hand at.Main cost old.records new.records → main'.hand ≡ Some hand → PushesMain slot old main new main'
   PushesMain-attached cost hand e a h =
       let starts = sym e ∙ m.queue.starts in
-      pushed (Inserts-before old.records new.records (main_slots old main) slot Main hand m.queue.linked starts absent b a) (h ∙ slice_get-push (main_slots old main) slot hand starts)
+      pushed (Inserts-before old.records new.records (main_slots old main) slot at.Main hand m.queue.linked starts absent b a) (h ∙ slice_get-push (main_slots old main) slot hand starts)
 
-  pub PushesMain-alone : main.hand ≡ None → new.records.items ≡ set old.records.items slot (record { previous = slot; next = slot; location = Main })
+  pub PushesMain-alone : main.hand ≡ None → new.records.items ≡ set old.records.items slot (record { previous = slot; next = slot; location = at.Main })
       → main'.hand ≡ Some slot → PushesMain slot old main new main'
   PushesMain-alone e w h = grind (arith, pushed, Inserts-first, slice_get-first)
 
 -- the hand's slot and its neighbours are in Main
-pub hand_linked : (l : LinkState) (main : MainRing) (hand : ℕ) → IsMainRing l main → main.hand ≡ Some hand → AreInQueue l hand
+pub hand_linked : (l : LinkState) (main : Main) (hand : ℕ) → IsMainQueue l main → main.hand ≡ Some hand → AreInQueue l hand
 hand_linked l main hand m h = main_linked l main m hand (first_in (main_slots l main) hand (sym h ∙ m.queue.starts))
 
 -- a slot was removed from Main
-pub record UnlinksMain (slot : ℕ) (old : LinkState) (main : MainRing) (new : LinkState) (main' : MainRing) : Type 0 where
-  pub whole : IsMainRing new main'
+pub record UnlinksMain (slot : ℕ) (old : LinkState) (main : Main) (new : LinkState) (main' : Main) : Type 0 where
+  pub whole : IsMainQueue new main'
   pub entries : main_entries new main' ≡ filter (λ e. not (eqb e.0 slot)) (main_entries old main)
   pub freed : location_at new.records.items slot ≡ Free
   pub others : IsSameBut (main_slots old main) old new
 
-pub UnlinksMain-from : (slot : ℕ) (old : LinkState) (main : MainRing) (new : LinkState) (main' : MainRing) → IsMainRing old main → list_any (eqb slot) (main_slots old main) ≡ true
+pub UnlinksMain-from : (slot : ℕ) (old : LinkState) (main : Main) (new : LinkState) (main' : Main) → IsMainQueue old main → list_any (eqb slot) (main_slots old main) ≡ true
     → Detaches slot old.records new.records → SetsBit slot false old (record new { records = old.records })
     → main'.hand ≡ slice_get (without slot (main_slots old main)) 0 → main'.len ≡ main.len - 1 → UnlinksMain slot old main new main'
 UnlinksMain-from slot old main new main' m h d cleared s n =
@@ -81,7 +82,7 @@ UnlinksMain-from slot old main new main' m h d cleared s n =
       location = λ t g. let w = among-without t slot ss g in r.locations t w.1 ∙ m.location t w.0;
     } in
     record {
-      whole = IsMainRing-from new main' (without slot ss) is;
+      whole = IsMainQueue-from new main' (without slot ss) is;
       entries =
           ap (λ z. map {B = ℕ × Bool} (λ s. (s, bit_at new s)) z) (main_slots-is new main' (without slot ss) is)
           ∙ map-agree {X = ℕ × Bool} (λ s. (s, bit_at new s)) (λ s. (s, bit_at old s)) (without slot ss) (λ t g. ap (λ z. (t, z)) (bit_left t (among-without t slot ss g).1))

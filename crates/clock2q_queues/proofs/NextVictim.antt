@@ -8,11 +8,11 @@ use Rattle.clock2q_machine.specs.Ages.{Age}
 use Rattle.clock2q_queues.specs.Queues.{QueueState, keeps_tail, tail_promoted, victim_leaves}
 use Rattle.clock2q_queues.specs.Small.{small_slots, small_entries, age_at}
 use Rattle.clock2q_queues.specs.declared.small.Small.{Small}
-use Rattle.clock2q_queues.specs.declared.main_ring.MainRing.{MainRing}
+use Rattle.clock2q_queues.specs.declared.main_queue.Main.{Main}
 use Rattle.clock2q_queues.specs.Rings.{around}
 use Rattle.clock2q_queues.specs.Flags.{is_linked}
 use Rattle.clock2q_queues.specs.Links.{LinkState, location_at, slots_from, next_at, bit_at}
-use Rattle.clock2q_queues.specs.MainRing.{IsMainRing, main_slots, main_entries, set_front, inspections, from_victim}
+use Rattle.clock2q_queues.specs.Main.{IsMainQueue, main_slots, main_entries, set_front, inspections, from_victim}
 use Rattle.clock2q_queues.proofs.InQueue.{AllLinked, all_linked, main_linked}
 use Rattle.clock2q_queues.proofs.Hand.{first_of, from_victim-chosen}
 
@@ -37,15 +37,15 @@ chosen hand true es =
     past_set ((hand, true) ∷ es) (map (λ e. (e.0, false)) (take (1 + set_front es) ((hand, true) ∷ es))) hand (rw e refl)
 
 -- a walk from the hand has come to this slot: the choice is among those that are left
-pub record Walks (l : LinkState) (main : MainRing) (hand slot passed : ℕ) : Type 0 where
+pub record Walks (l : LinkState) (main : Main) (hand slot passed : ℕ) : Type 0 where
   pub left : ℕ
   pub counted : passed + left ≡ main.len
   pub linked : AllLinked l.records.items (around (next_at l.records.items) slot left)
   pub choice : first_clear hand (map (λ s. (s, bit_at l s)) (around (next_at l.records.items) slot left)) ≡ first_clear hand (main_entries l main)
   pub ahead : passed + set_front (map (λ s. (s, bit_at l s)) (around (next_at l.records.items) slot left)) ≡ set_front (main_entries l main)
 
-module _ (l : LinkState) (main : MainRing) (hand : ℕ) where
-  module _ (whole : IsMainRing l main) (at : main.hand ≡ Some hand) where
+module _ (l : LinkState) (main : Main) (hand : ℕ) where
+  module _ (whole : IsMainQueue l main) (at : main.hand ≡ Some hand) where
     slots_are : main_slots l main ≡ around (next_at l.records.items) hand main.len
     slots_are = ap (λ h. slots_from l.records.items h main.len) at
 
@@ -98,7 +98,7 @@ module _ (l : LinkState) (main : MainRing) (hand : ℕ) where
     pub looked_here : bit_at l slot ≡ false → passed + 1 ≡ inspections (main_entries l main)
     looked_here clear = let e = ahead_from false clear in omega (arith, e)
 
-    pub Walks-here : IsMainRing l main → main.hand ≡ Some hand → bit_at l slot ≡ false → slice_get (from_victim (main_entries l main)) 0 ≡ Some (slot, false)
+    pub Walks-here : IsMainQueue l main → main.hand ≡ Some hand → bit_at l slot ≡ false → slice_get (from_victim (main_entries l main)) 0 ≡ Some (slot, false)
     Walks-here whole at clear = choice_is whole at slot (choice_from false clear)
 
 -- no slot comes after a slot whose bit is clear
@@ -106,7 +106,7 @@ pub none_clear : (bit : Bool) (next : ℕ) → None ≡ then_some bit next → b
 none_clear true next e = absurd (cc)
 none_clear false next e = refl
 
-pub length-entries : (l : LinkState) (main : MainRing) → length (main_entries l main) ≡ length (main_slots l main)
+pub length-entries : (l : LinkState) (main : Main) → length (main_entries l main) ≡ length (main_slots l main)
 length-entries l main = length-map {B = ℕ × Bool} (main_slots l main) (λ s. (s, bit_at l s))
 
 -- if Main has a slot, Small's oldest one decides

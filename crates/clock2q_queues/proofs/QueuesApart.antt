@@ -4,22 +4,22 @@ use Rattle.std.proofs.lemmas.Bool.{both_ways, cases_Bool}
 use Rattle.std.specs.List.{list_any}
 use Rattle.clock2q_machine.specs.Ages.{Age}
 use Rattle.clock2q_queues.specs.declared.entries.Record.{Record}
-use Rattle.clock2q_queues.specs.declared.main_ring.MainRing.{MainRing}
+use Rattle.clock2q_queues.specs.declared.main_queue.Main.{Main}
 use Rattle.clock2q_queues.specs.declared.small.Small.{Small}
 use Rattle.clock2q_queues.specs.Links.{LinkState, IsSameBut, location_at, bit_at}
-use Rattle.clock2q_queues.specs.MainRing.{IsMain, IsMainRing, main_slots, main_entries}
+use Rattle.clock2q_queues.specs.Main.{IsMain, IsMainQueue, main_slots, main_entries}
 use Rattle.clock2q_queues.specs.Small.{IsSmall, IsSmallQueue, IsInSmall, small_slots, small_entries, age_of, age_at}
 use Rattle.clock2q_queues.proofs.Joining.{IsLinked-kept, map-agree}
-use Rattle.clock2q_queues.proofs.Main.{main_slots-is, IsMainRing-from}
+use Rattle.clock2q_queues.proofs.Main.{main_slots-is, IsMainQueue-from}
 use Rattle.clock2q_queues.proofs.Window.{small_slots-is, IsSmallQueue-from}
 
 -- Main, if none of its slots changed
-pub record KeepsMain (old : LinkState) (main : MainRing) (new : LinkState) : Type 0 where
-  pub whole : IsMainRing new main
+pub record KeepsMain (old : LinkState) (main : Main) (new : LinkState) : Type 0 where
+  pub whole : IsMainQueue new main
   pub slots : main_slots new main ≡ main_slots old main
   pub entries : main_entries new main ≡ main_entries old main
 
-pub KeepsMain-from : (old : LinkState) (main : MainRing) (new : LinkState) (ss : List ℕ) → IsMainRing old main → IsSameBut ss old new
+pub KeepsMain-from : (old : LinkState) (main : Main) (new : LinkState) (ss : List ℕ) → IsMainQueue old main → IsSameBut ss old new
     → ((t : ℕ) → list_any (eqb t) (main_slots old main) ≡ true → list_any (eqb t) ss ≡ false) → KeepsMain old main new
 KeepsMain-from old main new ss m s d =
     let same = (λ (t : ℕ) (h : list_any (eqb t) (main_slots old main) ≡ true). s.others t (d t h)) in
@@ -34,7 +34,7 @@ KeepsMain-from old main new ss m s d =
     } in
     let e = main_slots-is new main (main_slots old main) is in
     record {
-      whole = IsMainRing-from new main (main_slots old main) is;
+      whole = IsMainQueue-from new main (main_slots old main) is;
       slots = e;
       entries = ap (λ z. map {B = ℕ × Bool} (λ s. (s, bit_at new s)) z) e
           ∙ map-agree {X = ℕ × Bool} (λ s. (s, bit_at new s)) (λ s. (s, bit_at old s)) (main_slots old main) (λ t h. ap (λ z. (t, z.1)) (same t h));
@@ -80,8 +80,8 @@ KeepsSmall-from old small new ss m s p d =
     }
 
 -- no slot is in both
-pub small_apart : (l : LinkState) (small : Small) (main : MainRing) → IsSmallQueue l small → IsMainRing l main → (t : ℕ) → list_any (eqb t) (small_slots l small) ≡ true → list_any (eqb t) (main_slots l main) ≡ false
+pub small_apart : (l : LinkState) (small : Small) (main : Main) → IsSmallQueue l small → IsMainQueue l main → (t : ℕ) → list_any (eqb t) (small_slots l small) ≡ true → list_any (eqb t) (main_slots l main) ≡ false
 small_apart l small main s m t h = grind (arith, cases_Bool)
 
-pub main_apart : (l : LinkState) (small : Small) (main : MainRing) → IsSmallQueue l small → IsMainRing l main → (t : ℕ) → list_any (eqb t) (main_slots l main) ≡ true → list_any (eqb t) (small_slots l small) ≡ false
+pub main_apart : (l : LinkState) (small : Small) (main : Main) → IsSmallQueue l small → IsMainQueue l main → (t : ℕ) → list_any (eqb t) (main_slots l main) ≡ true → list_any (eqb t) (small_slots l small) ≡ false
 main_apart l small main s m t h = grind (arith, cases_Bool, both_ways, small_apart)

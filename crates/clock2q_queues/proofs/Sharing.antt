@@ -8,11 +8,11 @@ use Rattle.clock2q_machine.specs.Ages.{Age, grown_older}
 use Rattle.clock2q_queues.specs.Cells.{CellsState, accessed, cells_state}
 use Rattle.clock2q_queues.specs.declared.entries.Record.{Record}
 use Rattle.clock2q_queues.specs.declared.entries.Location.TheVariants.{Free}
-use Rattle.clock2q_queues.specs.declared.main_ring.MainRing.{MainRing}
+use Rattle.clock2q_queues.specs.declared.main_queue.Main.{Main}
 use Rattle.clock2q_queues.specs.declared.small.Small.{Small}
 use Rattle.clock2q_queues.specs.Rings.{without}
 use Rattle.clock2q_queues.specs.Links.{LinkState, IsBlank, IsSameBut, vacant, accesses_of, location_at, made_below}
-use Rattle.clock2q_queues.specs.MainRing.{IsMainRing, main_slots, main_entries, from_victim}
+use Rattle.clock2q_queues.specs.Main.{IsMainQueue, main_slots, main_entries, from_victim}
 use Rattle.clock2q_queues.specs.Small.{IsSmallQueue, small_slots, small_entries, admitted, age_at}
 use Rattle.clock2q_queues.specs.Queues.{AreQueues, QueueState, IsWholeQueues, slots_of, without_slot, queues_shown}
 use Rattle.clock2q_queues.proofs.Rings.{differs, IsDistinct-append, AllByRecursion-append, among-without-back}
@@ -28,23 +28,23 @@ queues_equal x y s m n d w a i = grind (arith)
 pub small_slots-of : (l : LinkState) (small : Small) → slots_of (small_entries l small) ≡ small_slots l small
 small_slots-of l small = slots_of-entries _ (small_slots l small)
 
-pub main_slots-of : (l : LinkState) (main : MainRing) → slots_of (main_entries l main) ≡ main_slots l main
+pub main_slots-of : (l : LinkState) (main : Main) → slots_of (main_entries l main) ≡ main_slots l main
 main_slots-of l main = slots_of-entries _ (main_slots l main)
 
 -- What holds of the lists holds of the slots
 
-pub in_small : (l : LinkState) (small : Small) (main : MainRing) (shown : QueueState) (slot : ℕ) (b : Bool)
+pub in_small : (l : LinkState) (small : Small) (main : Main) (shown : QueueState) (slot : ℕ) (b : Bool)
     → queues_shown l small main ≡ shown → list_any (eqb slot) (slots_of shown.small) ≡ b → list_any (eqb slot) (small_slots l small) ≡ b
 in_small l small main shown slot b e h = ap (λ z. list_any (eqb slot) z) (sym (small_slots-of l small)) ∙ ap (λ (q : QueueState). list_any (eqb slot) (slots_of q.small)) e ∙ h
 
-pub some_small : (l : LinkState) (small : Small) (main : MainRing) (shown : QueueState) → queues_shown l small main ≡ shown → 0 < length shown.small → 0 < length (small_slots l small)
+pub some_small : (l : LinkState) (small : Small) (main : Main) (shown : QueueState) → queues_shown l small main ≡ shown → 0 < length shown.small → 0 < length (small_slots l small)
 some_small l small main shown e some = omega (arith, some, ap (λ (q : QueueState). length q.small) e, length-map {B = ℕ × Age} (small_slots l small) (λ s. (s, age_at l small.cursor s)))
 
-pub in_main : (l : LinkState) (small : Small) (main : MainRing) (shown : QueueState) (slot : ℕ) (b : Bool)
+pub in_main : (l : LinkState) (small : Small) (main : Main) (shown : QueueState) (slot : ℕ) (b : Bool)
     → queues_shown l small main ≡ shown → list_any (eqb slot) (slots_of shown.main) ≡ b → list_any (eqb slot) (main_slots l main) ≡ b
 in_main l small main shown slot b e h = ap (λ z. list_any (eqb slot) z) (sym (main_slots-of l main)) ∙ ap (λ (q : QueueState). list_any (eqb slot) (slots_of q.main)) e ∙ h
 
-pub IsWholeQueues-from : (l : LinkState) (small : Small) (main : MainRing) → AreQueues l small main → IsWholeQueues (queues_shown l small main)
+pub IsWholeQueues-from : (l : LinkState) (small : Small) (main : Main) → AreQueues l small main → IsWholeQueues (queues_shown l small main)
 IsWholeQueues-from l small main q = grind (arith, small_slots-of, main_slots-of, IsDistinct-append, small_apart, AllByRecursion-append)
 
 not_among : (t slot : ℕ) (ss : List ℕ) → eqb t slot ≡ false → list_any (eqb t) (without slot ss) ≡ false → list_any (eqb t) ss ≡ false
@@ -53,11 +53,11 @@ not_among t slot ss d h = grind (arith, cases_Bool, both_ways, among-without-bac
 -- An operation on one queue, seen over both
 
 -- both queues afterwards: they are whole, and this is their view
-pub record Becomes (new : LinkState) (small' : Small) (main' : MainRing) (shown : QueueState) : Type 0 where
+pub record Becomes (new : LinkState) (small' : Small) (main' : Main) (shown : QueueState) : Type 0 where
   pub queues : AreQueues new small' main'
   pub is : queues_shown new small' main' ≡ shown
 
-module _ (l : LinkState) (small : Small) (main : MainRing) (q : AreQueues l small main) where
+module _ (l : LinkState) (small : Small) (main : Main) (q : AreQueues l small main) where
   -- none of Main's slots is in Small, nor is it a slot that isn't in Main
   clear_of_main : (slot : ℕ) → list_any (eqb slot) (main_slots l main) ≡ false → (t : ℕ) → list_any (eqb t) (main_slots l main) ≡ true → list_any (eqb t) (slot ∷ small_slots l small) ≡ false
   clear_of_main slot n t h = or_neither (eqb t slot) (list_any (eqb t) (small_slots l small)) (differs t slot (main_slots l main) h n) (main_apart l small main q.small q.main t h)
@@ -89,8 +89,8 @@ module _ (l : LinkState) (small : Small) (main : MainRing) (q : AreQueues l smal
         is = queues_equal (queues_shown new small' main) (record (queues_shown l small main) { small = entries; made = made; accesses = accesses_of new }) e k.entries s.as_many d p refl i;
       }
 
-  main_changed : {new : LinkState} {main' : MainRing} {entries : List (ℕ × Bool)} {made : ℕ} (ss : List ℕ) → ((t : ℕ) → list_any (eqb t) (small_slots l small) ≡ true → list_any (eqb t) ss ≡ false)
-      → IsMainRing new main' → main_entries new main' ≡ entries → IsSameBut ss l new → new.made ≡ made → new.window ≡ l.window
+  main_changed : {new : LinkState} {main' : Main} {entries : List (ℕ × Bool)} {made : ℕ} (ss : List ℕ) → ((t : ℕ) → list_any (eqb t) (small_slots l small) ≡ true → list_any (eqb t) ss ≡ false)
+      → IsMainQueue new main' → main_entries new main' ≡ entries → IsSameBut ss l new → new.made ≡ made → new.window ≡ l.window
       → ((t : ℕ) → list_any (eqb t) (slots_of entries) ≡ false → ((list_any (eqb t) ss ≡ false) × (list_any (eqb t) (main_slots l main) ≡ false)) ⊎ (location_at new.records.items t ≡ Free))
       → Becomes new small main' (record (queues_shown l small main) { main = entries; made = made; accesses = accesses_of new; inspections = new.bits.inspections })
   main_changed {new} {main'} {entries} {made} ss clear w e s d p gone =
@@ -140,7 +140,7 @@ module _ (l : LinkState) (small : Small) (main : MainRing) (q : AreQueues l smal
       let n = not_among t slot (small_slots l small) b.0 b.1 in
       inl (n, n))
 
-  pub after_append : (new : LinkState) (main' : MainRing) (slot : ℕ) → list_any (eqb slot) (small_slots l small) ≡ false → IsMainRing new main'
+  pub after_append : (new : LinkState) (main' : Main) (slot : ℕ) → list_any (eqb slot) (small_slots l small) ≡ false → IsMainQueue new main'
       → main_entries new main' ≡ main_entries l main ++ (slot, false) ∷ [] → IsSameBut (slot ∷ main_slots l main) l new → new.made ≡ made_below (slot + 1) l.made → new.window ≡ l.window
       → Becomes new small main' (record (queues_shown l small main) { main = main_entries l main ++ (slot, false) ∷ []; made = made_below (slot + 1) l.made; accesses = accesses_of new; inspections = new.bits.inspections })
   after_append new main' slot n w e s d p = main_changed (slot ∷ main_slots l main) (clear_of_small slot n) w e s d p (λ t a.
@@ -148,14 +148,14 @@ module _ (l : LinkState) (small : Small) (main : MainRing) (q : AreQueues l smal
       let c = or_parts (list_any (eqb t) (main_slots l main)) (list_any (eqb t) (slot ∷ [])) (sym (list_any-append (eqb t) (main_slots l main) (slot ∷ [])) ∙ ap (λ z. list_any (eqb t) z) (sym slots) ∙ a) in
       inl (or_neither (eqb t slot) (list_any (eqb t) (main_slots l main)) (or_parts (eqb t slot) false c.1).0 c.0, c.0))
 
-  pub after_main_left : (new : LinkState) (main' : MainRing) (slot : ℕ) → IsMainRing new main' → location_at new.records.items slot ≡ Free
+  pub after_main_left : (new : LinkState) (main' : Main) (slot : ℕ) → IsMainQueue new main' → location_at new.records.items slot ≡ Free
       → main_entries new main' ≡ filter (λ e. not (eqb e.0 slot)) (main_entries l main) → IsSameBut (main_slots l main) l new → new.made ≡ l.made → new.window ≡ l.window
       → Becomes new small main' (record (queues_shown l small main) { main = without_slot slot (main_entries l main); accesses = accesses_of new; inspections = new.bits.inspections })
   after_main_left new main' slot w f e s d p = main_changed (main_slots l main) (small_apart l small main q.small q.main) w e s d p (λ t a.
       left_free new slot t (main_slots l main) f (ap (λ z. list_any (eqb t) z) (sym (slots_of-filter slot (main_entries l main) ∙ ap (λ z. without slot z) (main_slots-of l main))) ∙ a))
 
   -- the hand's choice
-  pub after_choice : (new : LinkState) (main' : MainRing) → IsMainRing new main' → main_entries new main' ≡ from_victim (main_entries l main)
+  pub after_choice : (new : LinkState) (main' : Main) → IsMainQueue new main' → main_entries new main' ≡ from_victim (main_entries l main)
       → IsSameBut (main_slots l main) l new → new.made ≡ l.made → new.window ≡ l.window
       → Becomes new small main' (record (queues_shown l small main) { main = from_victim (main_entries l main); accesses = accesses_of new; inspections = new.bits.inspections })
   after_choice new main' w e s d p = main_changed (main_slots l main) (small_apart l small main q.small q.main) w e s d p (λ t a.
@@ -163,7 +163,7 @@ module _ (l : LinkState) (small : Small) (main : MainRing) (q : AreQueues l smal
       inl (n, n))
 
   -- the hand moved on from the first slot of Main, which is then the last
-  pub after_pass : (new : LinkState) (main' : MainRing) (slot : ℕ) → without_slot slot (main_entries l main) ≡ drop 1 (main_entries l main) → IsMainRing new main'
+  pub after_pass : (new : LinkState) (main' : Main) (slot : ℕ) → without_slot slot (main_entries l main) ≡ drop 1 (main_entries l main) → IsMainQueue new main'
       → main_entries new main' ≡ drop 1 (main_entries l main) ++ (slot, false) ∷ [] → new ≡ record l { records = accessed l.records }
       → Becomes new small main' (record (queues_shown l small main) { main = drop 1 (main_entries l main) ++ (slot, false) ∷ []; accesses = accesses_of new; inspections = new.bits.inspections })
   after_pass new main' slot out w e r =
@@ -210,7 +210,7 @@ module _ (l : LinkState) (small : Small) (main : MainRing) (q : AreQueues l smal
       after_counting new (new.records.accesses - l.records.accesses) (e ∙ ap (λ n. record l { records = cells_state l.records.items n }) grown)
 
 -- links with no slot in a queue
-pub AreQueues-blank : (l : LinkState) (small : Small) (main : MainRing) → IsSmallQueue l small → IsMainRing l main → IsBlank l → AreQueues l small main
+pub AreQueues-blank : (l : LinkState) (small : Small) (main : Main) → IsSmallQueue l small → IsMainQueue l main → IsBlank l → AreQueues l small main
 AreQueues-blank l small main s m b = record { small = s; main = m; elsewhere = λ t a c. b.nowhere t }
 
 pub IsBlank-from : (l : LinkState) (slots window : ℕ) → l.records.items ≡ replicate slots vacant → l.window.items ≡ replicate window None → slots < 2 ^ 32 → window < 2 ^ 32 → IsBlank l

@@ -39,8 +39,6 @@ oldest_is {l} {small} m some = sym m.ends ∙ end_some small.len small.oldest (o
 pub gone : (slot : ℕ) (ss : List ℕ) → list_any (eqb slot) (without slot ss) ≡ false
 gone slot ss = among-without_test slot slot ss ∙ rw (eqb_self slot) (and_false (list_any (eqb slot) ss))
 
--- a slot of Small is in a queue
-
 -- the location of a slot was changed, and nothing else
 pub relocated : (rs : CellsState Record) (slot : ℕ) (location : Location) (t : ℕ) → slot < length rs.items
     → (next_at (with_location slot location rs).items t ≡ next_at rs.items t) × (previous_at (with_location slot location rs).items t ≡ previous_at rs.items t)
@@ -84,28 +82,22 @@ module _ (slot : ℕ) (old : LinkState) (small : Small) (m : IsSmallQueue old sm
   last_is : Some (previous_at old.records.items slot) ≡ last_or None (slot ∷ rest)
   last_is = sym (last_before (next_at old.records.items) (previous_at old.records.items) slot rest slot (IsLinked-turned old.records.items rest (slot ∷ []) linked_before).ring)
 
-  module _ (read left : LinkState) (r : read ≡ record old { records = accessed old.records })
-      (location : Location) (was : location ≡ location_at old.records.items slot) (e : left ≡ position_freed location read) where
-    kept : (t : ℕ) → eqb t slot ≡ false → location_at read.records.items t ≡ location_at old.records.items t
-    kept t g = ap (λ (l : LinkState). location_at l.records.items t) r
+  -- its record was read
+  abbrev pub read : LinkState
+  read = record old { records = accessed old.records }
 
-    as_many : length read.records.items ≡ length old.records.items
-    as_many = ap (λ (l : LinkState). length l.records.items) r
-
-    positions : read.window.items ≡ old.window.items
-    positions = ap (λ (l : LinkState). l.window.items) r
-
+  module _ (left : LinkState) (e : left ≡ position_freed (location_at old.records.items slot) read) where
     stay : AreStaying left small.cursor rest
-    stay = others_stay slot read m there kept as_many positions was e
+    stay = others_stay slot read m there (λ t g. refl) refl refl refl e
 
     pub window_left : length left.window.items ≡ length old.window.items
-    window_left = window_now slot read m there kept as_many positions was e
+    window_left = window_now slot read m there (λ t g. refl) refl refl refl e
 
     records_left : left.records.items ≡ old.records.items
-    records_left = records_now slot read m there kept as_many positions was e ∙ ap (λ (l : LinkState). l.records.items) r
+    records_left = records_now slot read m there (λ t g. refl) refl refl refl e
 
     bits_left : left.bits ≡ old.bits
-    bits_left = ap (λ (l : LinkState). l.bits) e ∙ bits-freed location read ∙ ap (λ (l : LinkState). l.bits) r
+    bits_left = ap (λ (l : LinkState). l.bits) e ∙ bits-freed (location_at old.records.items slot) read
 
     -- the position of the cursor holds another slot of Small, or none
     pub others_linked : IfSome (young_at left small.cursor) (λ t. is_linked (location_at left.records.items t) ≡ true)
@@ -154,7 +146,7 @@ module _ (slot : ℕ) (old : LinkState) (small : Small) (m : IsSmallQueue old sm
       Turns-from = record {
         whole = admits.whole;
         entries = admits.entries ∙ ap (λ z. admitted z slot (aged_slots left small.cursor rest)) window_left
-            ∙ ap (λ z. admitted (length old.window.items) slot z) (ages_kept slot read m there kept as_many positions was e (λ t other. ap (λ (l : LinkState). bit_at l t) r));
+            ∙ ap (λ z. admitted (length old.window.items) slot z) (ages_kept slot read m there (λ t g. refl) refl refl refl e (λ t other. refl));
         others = record {
           others = λ t h.
               let h' : list_any (eqb t) (slot ∷ rest) ≡ false = not_turned t h in

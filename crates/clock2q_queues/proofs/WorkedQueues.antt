@@ -2,7 +2,7 @@
 use Rattle.std.proofs.Common.{◌≡◌, ℕ, Bool, true, false, List, [], ◌∷◌, ◌++◌, map, refl}
 use Rattle.std.specs.List.{range_with_len}
 use Rattle.clock2q_machine.specs.Ages.{Age, Young, Old}
-use Rattle.clock2q_queues.specs.MainRing.{inspections, from_victim, main_hit_at}
+use Rattle.clock2q_queues.specs.Main.{inspections, from_victim, main_hit_at}
 use Rattle.clock2q_queues.specs.Small.{admitted, small_hit_at, next_cursor}
 use Rattle.clock2q_queues.specs.Queues.{without_slot}
 

@@ -3,7 +3,7 @@ pub mod Ends
 pub mod Link
 pub mod Links
 pub mod Flags
-pub mod MainRing
+pub mod Main
 pub mod Ring
 pub mod Rings
 pub mod Small

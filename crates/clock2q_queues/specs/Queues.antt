@@ -4,10 +4,10 @@ use Rattle.std.specs.List.{filter, last_or, list_any, AllByRecursion, IsDistinct
 use Rattle.clock2q_machine.specs.Ages.{Age, is_promoted}
 use Rattle.clock2q_queues.specs.Links.{LinkState, accesses_of, location_at}
 use Rattle.clock2q_queues.specs.Small.{IsSmallQueue, small_slots, small_entries}
-use Rattle.clock2q_queues.specs.MainRing.{IsMainRing, main_slots, main_entries, inspections}
+use Rattle.clock2q_queues.specs.Main.{IsMainQueue, main_slots, main_entries, inspections}
 use Rattle.clock2q_queues.specs.declared.entries.Location.{Location}
 use Rattle.clock2q_queues.specs.declared.entries.Location.TheVariants as at
-use Rattle.clock2q_queues.specs.declared.main_ring.MainRing.{MainRing}
+use Rattle.clock2q_queues.specs.declared.main_queue.Main.{Main}
 use Rattle.clock2q_queues.specs.declared.small.Small.{Small}
 
 -- Small newest first and Main from the hand, each slot with its age or its bit; the numbers of slots, of those from 0 on
@@ -22,7 +22,7 @@ pub record QueueState : Type 0 where
   pub inspections : ℕ
 
 -- both queues, as the links hold them
-abbrev pub queues_shown : LinkState → Small → MainRing → QueueState
+abbrev pub queues_shown : LinkState → Small → Main → QueueState
 queues_shown l small main = record {
   small = small_entries l small;
   main = main_entries l main;
@@ -34,9 +34,9 @@ queues_shown l small main = record {
 }
 
 -- the links represent both queues, and any other slot is free
-pub record AreQueues (l : LinkState) (s : Small) (m : MainRing) : Type 0 where
+pub record AreQueues (l : LinkState) (s : Small) (m : Main) : Type 0 where
   pub small : IsSmallQueue l s
-  pub main : IsMainRing l m
+  pub main : IsMainQueue l m
   pub elsewhere : (t : ℕ) → list_any (nat_eq t) (small_slots l s) ≡ false → list_any (nat_eq t) (main_slots l m) ≡ false → location_at l.records.items t ≡ at.Free
 
 -- the slots of a queue's entries

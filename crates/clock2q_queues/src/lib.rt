@@ -11,7 +11,7 @@
 mod entries;
 mod link;
 mod links;
-mod main_ring;
+mod main_queue;
 pub mod order;
 pub mod queues;
 mod ring;

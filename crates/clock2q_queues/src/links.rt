@@ -125,7 +125,7 @@ impl<A: Allocator> Links<A> {
         self.flags.write(slot, Flag::Clear);
         let entry = Record {
             location,
-            ..Record::vacant()
+            ..Record::VACANT
         };
         self.ring.attach(slot, before, entry);
     }

@@ -5,12 +5,12 @@ ghost use Rattle.std.specs.Option.{option_map};
 ghost use Rattle.clock2q_queues.specs.Cells.{Rises};
 ghost use Rattle.clock2q_queues.specs.Links.{made_below};
 ghost use Rattle.clock2q_queues.specs.Small.{admitted, small_hit_at};
-ghost use Rattle.clock2q_queues.specs.MainRing.{inspections, from_victim, main_hit_at};
+ghost use Rattle.clock2q_queues.specs.Main.{inspections, from_victim, main_hit_at};
 ghost use Rattle.clock2q_queues.specs.Queues.{slots_of, without_slot, empty_queues, victim_leaves, looks_ahead, IsAt, IsWholeQueues, tail_promoted};
 
 use crate::entries::Location;
 use crate::links::Links;
-use crate::main_ring::MainRing;
+use crate::main_queue::Main;
 use crate::small::Small;
 use std::alloc::{AllocError, Allocator, Global};
 use std::marker::Model;
@@ -39,7 +39,7 @@ use std::marker::Model;
 #[derive(Drop)]
 pub struct Queues<A: Allocator = Global> {
     links: Links<A>,
-    main: MainRing,
+    main: Main,
     small: Small,
 }
 
@@ -71,7 +71,7 @@ impl<A: Allocator> Queues<A> {
         Ok(Queues {
             links: Links::new(alloc, slots, window)?,
             small: Small::new(),
-            main: MainRing::new(),
+            main: Main::new(),
         })
     }
 

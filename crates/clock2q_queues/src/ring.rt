@@ -4,7 +4,7 @@ ghost use Rattle.clock2q_queues.specs.Cells.{accessed, cells_state};
 ghost use Rattle.clock2q_queues.specs.Links.{Attaches, Detaches, made_below, next_at, previous_at, record_at, vacant, with_location, with_next, with_previous};
 ghost use Rattle.clock2q_queues.specs.Ring.{ring_state};
 
-use crate::entries::{Linked, Location, Record};
+use crate::entries::{Linked, Location, Neighbours, Record};
 use clock2q_count::Count;
 use std::alloc::{AllocError, Allocator, Global};
 use std::marker::Model;
@@ -68,7 +68,7 @@ impl<E: Linked, A: Allocator> Ring<E, A> {
         self.accesses.tick();
         match self.entries.get(place as usize) {
             Some(entry) => *entry,
-            None => E::vacant(),
+            None => E::VACANT,
         }
     }
 
@@ -102,7 +102,7 @@ impl<E: Linked, A: Allocator> Ring<E, A> {
     {
         while self.entries.len() < bound as usize {
             self.accesses.tick();
-            self.entries.push_reserved(E::vacant());
+            self.entries.push_reserved(E::VACANT);
         }
     }
 
@@ -138,7 +138,7 @@ impl<E: Linked, A: Allocator> Ring<E, A> {
             self.old.cells self.new.cells }
         ensures made { self.new.made ≡ made_below (place + 1) self.old.made }
     {
-        let previous = self.read(before).previous();
+        let previous = self.read(before).neighbours().previous;
         let mut between = entry;
         between.set_previous(previous);
         between.set_next(before);
@@ -157,9 +157,10 @@ impl<E: Linked, A: Allocator> Ring<E, A> {
         ensures value { E.record_of result ≡ record_at self.old.cells.items place }
     {
         let was = self.read(place);
-        self.set_next(was.previous(), was.next());
-        self.set_previous(was.next(), was.previous());
-        self.write(place, E::vacant());
+        let Neighbours { previous, next } = was.neighbours();
+        self.set_next(previous, next);
+        self.set_previous(next, previous);
+        self.write(place, E::VACANT);
         was
     }
 

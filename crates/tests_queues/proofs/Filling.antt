@@ -3,7 +3,7 @@ use Rattle.std.proofs.Common.{◌≡◌, ℕ, zero, suc, ◌+◌, ◌≤◌, Boo
 use Rattle.std.specs.List.{range_with_len, list_any}
 use Rattle.std.proofs.lemmas.Bool.{cases_Bool, eq-eqb, eqb-true}
 use Rattle.std.proofs.lemmas.List.FromFn.{map-range_with_len_more}
-use Rattle.clock2q_queues.specs.MainRing.{main_hit_at}
+use Rattle.clock2q_queues.specs.Main.{main_hit_at}
 use Rattle.clock2q_queues.specs.Queues.{slots_of}
 use Rattle.clock2q_queues.proofs.Rings.{among_first, among_later}
 

@@ -1,7 +1,7 @@
 use Rattle.std.proofs.Common.{◌≡◌, ℕ, ◌+◌, ◌-◌, Bool, false, List, [], ◌∷◌, ◌++◌, inr, ap, ◌∙◌, arith, eqb}
 use Rattle.std.specs.List.{range_with_len, list_any}
 use Rattle.clock2q_machine.specs.Ages.{Age}
-use Rattle.clock2q_queues.specs.MainRing.{main_hit_at}
+use Rattle.clock2q_queues.specs.Main.{main_hit_at}
 use Rattle.clock2q_queues.specs.Small.{small_hit_at}
 use Rattle.clock2q_queues.specs.Queues.{QueueState, slots_of}
 use Rattle.tests_queues.proofs.Filling.{all_set, filled_more, not_there, put_there}

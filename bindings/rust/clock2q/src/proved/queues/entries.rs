@@ -14,24 +14,15 @@ pub(crate) enum Location {
     Main,
 }
 
-/// An entry of a [`Ring`](crate::proved::queues::ring::Ring): its two neighbours, and maybe more. In contracts it is a
-/// [`Record`].
-pub(crate) trait Linked: Copy {
-    /// Returns the entry of a number that is in no ring.
-    fn vacant() -> Self;
-
-    /// Returns the number before it.
-    fn previous(&self) -> u32;
-
-    /// Returns the number after it.
-    fn next(&self) -> u32;
-
-    /// Writes the number before it, and nothing else.
-    fn set_previous(&mut self, previous: u32);
-
-    /// Writes the number after it, and nothing else.
-    fn set_next(&mut self, next: u32);
+/// The neighbours of a place in an order. The places of an order are all in the same one, so in
+/// contracts they have the location of a free slot.
+#[derive(Clone, Copy)]
+pub(crate) struct Neighbours {
+    pub(crate) previous: u32,
+    pub(crate) next: u32,
 }
+
+const _: () = assert!(core::mem::size_of::<Neighbours>() == 8);
 
 /// The neighbours of a slot in its queue, and its location.
 #[derive(Clone, Copy, Debug)]
@@ -43,24 +34,35 @@ pub(crate) struct Record {
 
 const _: () = assert!(core::mem::size_of::<Record>() <= 16);
 
+/// An entry of a [`Ring`](crate::proved::queues::ring::Ring): its neighbours, and maybe more. In contracts it is a
+/// [`Record`].
+pub(crate) trait Linked: Copy {
+    /// The entry of a number that is in no ring.
+    const VACANT: Self;
+
+    /// Returns the numbers before and after it.
+    fn neighbours(&self) -> Neighbours;
+
+    /// Writes the number before it, and nothing else.
+    fn set_previous(&mut self, previous: u32);
+
+    /// Writes the number after it, and nothing else.
+    fn set_next(&mut self, next: u32);
+}
+
 impl Linked for Record {
+    const VACANT: Self = Record {
+        previous: 0,
+        next: 0,
+        location: Location::Free,
+    };
+
     #[inline]
-    fn vacant() -> Self {
-        Record {
-            previous: 0,
-            next: 0,
-            location: Location::Free,
+    fn neighbours(&self) -> Neighbours {
+        Neighbours {
+            previous: self.previous,
+            next: self.next,
         }
-    }
-
-    #[inline]
-    fn previous(&self) -> u32 {
-        self.previous
-    }
-
-    #[inline]
-    fn next(&self) -> u32 {
-        self.next
     }
 
     #[inline]
@@ -74,33 +76,15 @@ impl Linked for Record {
     }
 }
 
-/// The neighbours of a place in an order. The places of an order are all in the same one, so in
-/// contracts they have the location of a free slot.
-#[derive(Clone, Copy)]
-pub(crate) struct Neighbours {
-    pub(crate) previous: u32,
-    pub(crate) next: u32,
-}
-
-const _: () = assert!(core::mem::size_of::<Neighbours>() == 8);
-
 impl Linked for Neighbours {
-    #[inline]
-    fn vacant() -> Self {
-        Neighbours {
-            previous: 0,
-            next: 0,
-        }
-    }
+    const VACANT: Self = Neighbours {
+        previous: 0,
+        next: 0,
+    };
 
     #[inline]
-    fn previous(&self) -> u32 {
-        self.previous
-    }
-
-    #[inline]
-    fn next(&self) -> u32 {
-        self.next
+    fn neighbours(&self) -> Neighbours {
+        *self
     }
 
     #[inline]

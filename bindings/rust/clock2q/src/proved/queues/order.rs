@@ -82,7 +82,7 @@ impl<A: Allocator> Order<A> {
             };
             self.ring.write(place, alone);
         } else {
-            self.ring.attach(place, self.newest, Neighbours::vacant());
+            self.ring.attach(place, self.newest, Neighbours::VACANT);
         }
         self.newest = place;
         self.len += 1;

@@ -3,7 +3,7 @@
 
 use crate::proved::queues::entries::Location;
 use crate::proved::queues::links::Links;
-use crate::proved::queues::main_ring::MainRing;
+use crate::proved::queues::main_queue::Main;
 use crate::proved::queues::small::Small;
 use crate::proved::rattle::{AllocError, Allocator, Global};
 
@@ -34,7 +34,7 @@ use crate::proved::rattle::{AllocError, Allocator, Global};
 /// ```
 pub struct Queues<A: Allocator = Global> {
     links: Links<A>,
-    main: MainRing,
+    main: Main,
     small: Small,
 }
 
@@ -56,7 +56,7 @@ impl<A: Allocator> Queues<A> {
         Ok(Queues {
             links: Links::new(alloc, slots, window)?,
             small: Small::new(),
-            main: MainRing::new(),
+            main: Main::new(),
         })
     }
 

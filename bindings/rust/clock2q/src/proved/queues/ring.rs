@@ -2,7 +2,7 @@
 //! Entries that are linked by number, slots in their queues or places in their order.
 
 use crate::proved::rattle::Vec;
-use crate::proved::queues::entries::{Linked, Location, Record};
+use crate::proved::queues::entries::{Linked, Location, Neighbours, Record};
 use crate::proved::count::Count;
 use crate::proved::rattle::{AllocError, Allocator, Global};
 
@@ -45,7 +45,7 @@ impl<E: Linked, A: Allocator> Ring<E, A> {
         self.accesses.tick();
         match self.entries.get(place as usize) {
             Some(entry) => *entry,
-            None => E::vacant(),
+            None => E::VACANT,
         }
     }
 
@@ -69,7 +69,7 @@ impl<E: Linked, A: Allocator> Ring<E, A> {
     pub(crate) fn make_below(&mut self, bound: u32) {
         while self.entries.len() < bound as usize {
             self.accesses.tick();
-            self.entries.push_reserved(E::vacant());
+            self.entries.push_reserved(E::VACANT);
         }
     }
 
@@ -92,7 +92,7 @@ impl<E: Linked, A: Allocator> Ring<E, A> {
     /// Puts a place just before another. What its entry holds beside its links is the caller's.
     #[inline(always)]
     pub(crate) fn attach(&mut self, place: u32, before: u32, entry: E) {
-        let previous = self.read(before).previous();
+        let previous = self.read(before).neighbours().previous;
         let mut between = entry;
         between.set_previous(previous);
         between.set_next(before);
@@ -105,9 +105,10 @@ impl<E: Linked, A: Allocator> Ring<E, A> {
     #[inline]
     pub(crate) fn detach(&mut self, place: u32) -> E {
         let was = self.read(place);
-        self.set_next(was.previous(), was.next());
-        self.set_previous(was.next(), was.previous());
-        self.write(place, E::vacant());
+        let Neighbours { previous, next } = was.neighbours();
+        self.set_next(previous, next);
+        self.set_previous(next, previous);
+        self.write(place, E::VACANT);
         was
     }
 

@@ -1,24 +1,16 @@
-use Rattle.std.proofs.Common.{◌<◌, true, length, refl, ap, ◌∙◌}
-use Rattle.clock2q_queues.specs.declared.links.flags.Flag.{Flag}
-use Rattle.clock2q_queues.specs.Flags.{is_linked}
-use Rattle.clock2q_queues.specs.Links.{LinkState, location_at}
+use Rattle.std.proofs.Common.{true, refl}
 use Rattle.clock2q_queues.proofs.AllRecords.{linked_within}
 use Rattle.clock2q_queues.proofs.Flagged.{bit_set, flag_linked, flags_changed}
 use Rattle.clock2q_queues.proofs.links.Links.set_bit.Goals as goal
 
 pub replace-requires : goal.replace-requires
-replace-requires g c =
-    let i = c.self.inside in
-    flag_linked i.ring i.flags.items i.window.items c.args.slot c.self.invariant (ap (λ (l : LinkState). is_linked (location_at l.records.items c.args.slot)) c.self.view_is ∙ c.requires)
+replace-requires g c = flag_linked c.self.invariant c.args.slot (rw (← c.self.view_is) at c.requires)
 
 pub invariant_of-self : goal.invariant_of-self
-invariant_of-self g c =
-    let i = c.self.inside in
-    flags_changed i.ring i.flags.items c.replace.new.self.items i.window.items c.args.slot Flag.Hit c.self.invariant c.replace.ensures.flags
-    (ap (λ (l : LinkState). is_linked (location_at l.records.items c.args.slot)) c.self.view_is ∙ c.requires) refl
+invariant_of-self g c = flags_changed _ _ c.self.invariant c.replace.ensures.flags (rw (← c.self.view_is) at c.requires) refl
 
 pub returns : goal.returns
 returns g c =
     let i = c.self.inside in
-    let within : c.args.slot < length i.flags.items = rw (c.self.invariant.as_many, ap (λ (l : LinkState). l.records) c.self.view_is) (linked_within c.args.self.now.records.items c.args.slot c.requires) in
-    rw (← c.self.view_is) (bit_set i.ring i.flags.items c.replace.new.self.items i.window i.inspections.total c.args.slot Flag.Hit true within refl c.replace.ensures.flags)
+    let within = linked_within i.ring.cells.items c.args.slot (rw (← c.self.view_is) at c.requires) in
+    rw (← c.self.view_is) (bit_set _ _ c.self.invariant c.replace.ensures.flags i.window i.inspections.total true within refl)

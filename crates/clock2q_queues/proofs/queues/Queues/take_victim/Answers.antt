@@ -1,6 +1,6 @@
 use Rattle.std.proofs.Common.{arith, ℕ, Bool, false, List, drop, ap, ◌∙◌, rules}
 use Rattle.clock2q_queues.specs.Links.{accesses_of}
-use Rattle.clock2q_queues.specs.MainRing.{main_entries, from_victim}
+use Rattle.clock2q_queues.specs.Main.{main_entries, from_victim}
 use Rattle.clock2q_queues.specs.Queues.{QueueState, queues_shown}
 use Rattle.clock2q_queues.proofs.Sharing.{after_choice, after_main_left}
 use Rattle.clock2q_queues.proofs.Locations.{first_there}

@@ -12,7 +12,7 @@ returns-clause-attached g c =
     let before = c.args.before in
     let of = g.E.Linked.record_of in
     let within = c.read.ensures.within in
-    let previous : c.previous-previous.result ≡ previous_at rs before = c.previous-previous.ensures ∙ ap (λ (r : Record). r.previous) c.read.ensures.value in
+    let previous : c.neighbours-previous.result.previous ≡ previous_at rs before = c.neighbours-previous.ensures.previous ∙ ap (λ (r : Record). r.previous) c.read.ensures.value in
     let between : of c.set_next.new.self ≡ record { previous = previous_at rs before; next = before; location = (of c.args.entry).location } =
     c.set_next.ensures ∙ ap (next_is before) (c.set_previous.ensures ∙ ap (λ z. previous_is z (of c.args.entry)) previous) in
     rw (c.set_previous-2.ensures, c.set_next-2.ensures, c.write.ensures.written, between, previous, c.read.ensures.counted)

@@ -15,7 +15,7 @@ loop-self-preserved g c =
     let more : length es < c.args.bound = search rules in
     let below : length es < i.places = omega (arith, ap (λ (rs : List Record). length rs) k.same, length-all (map of es) i.places (omega (arith, counts, k.within)), c.requires, more) in
     record {
-      same = ap (λ xs. all_records (map of xs) i.places) c.push_reserved.ensures.items ∙ entry-vacant of es i.places c.vacant.result c.vacant.ensures below ∙ k.same;
+      same = ap (λ xs. all_records (map of xs) i.places) c.push_reserved.ensures.items ∙ entry-vacant of es i.places c.VACANT.result (ap of c.VACANT.ensures ∙ g.met.E.Linked.vacant) below ∙ k.same;
       more = search rules;
       fewest = search rules;
       counted = search rules;

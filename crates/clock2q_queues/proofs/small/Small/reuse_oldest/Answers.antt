@@ -1,7 +1,5 @@
 use Rattle.std.proofs.Common.{refl, rules, arith}
 use Rattle.clock2q_queues.specs.declared.small.Small.{Small}
-use Rattle.clock2q_queues.specs.Cells.{accessed}
-use Rattle.clock2q_queues.specs.Links.{location_at}
 use Rattle.clock2q_queues.proofs.InQueue.{small_linked}
 use Rattle.clock2q_queues.proofs.Window.{aged_before, position_taken}
 use Rattle.clock2q_queues.proofs.Turning.{Turns, Turns-from, oldest_is, slot_fits, there, others_linked, aged_linked}
@@ -23,21 +21,16 @@ take_position-self-requires-clause-countable g c =
 
 pub take_position-self-requires-clause-there : goal.take_position-self-requires-clause-there
 take_position-self-requires-clause-there g c =
-    let l = c.args.links.now in
     let m = c.requires.whole in
-    let slot = c.args.self.now.oldest in
-    others_linked slot l c.args.self.now m (oldest_is m c.requires.some) (record l { records = accessed l.records }) c.leave_window-self.new.self
-    refl (location_at l.records.items slot) refl c.leave_window-self.ensures.left
+    others_linked c.args.self.now.oldest c.args.links.now c.args.self.now m (oldest_is m c.requires.some) c.leave_window-self.new.self c.leave_window-self.ensures.left
 
 pub make_young-requires : goal.make_young-requires
 make_young-requires g c =
-    let l = c.args.links.now in
     let m = c.requires.whole in
     let slot = c.args.self.now.oldest in
     let left = c.leave_window-self.new.self in
     let aged = c.take_position-self in
-    aged_linked slot l c.args.self.now m (oldest_is m c.requires.some) (record l { records = accessed l.records }) left
-    refl (location_at l.records.items slot) refl c.leave_window-self.ensures.left
+    aged_linked slot c.args.links.now c.args.self.now m (oldest_is m c.requires.some) left c.leave_window-self.ensures.left
     (aged_before left aged.new.self) aged.new.self aged.ensures.older (position_taken left aged.new.self c.args.self.now.cursor slot aged.ensures.taken)
 
 pub returns : goal.returns
@@ -50,8 +43,7 @@ returns g c =
     let small' : Small = record { newest = slot; oldest = left.result; len = small.len; cursor = aged.result } in
     let is = oldest_is c.requires.whole c.requires.some in
     let turned : Turns slot l small c.make_young.new.self small' =
-    Turns-from slot l small c.requires.whole is (record l { records = accessed l.records }) left.new.self
-    refl (location_at l.records.items slot) refl left.ensures.left
+    Turns-from slot l small c.requires.whole is left.new.self left.ensures.left
     (aged_before left.new.self aged.new.self) aged.new.self c.make_young.new.self small' c.requires.window
     aged.ensures.older (position_taken left.new.self aged.new.self small.cursor slot aged.ensures.taken) c.make_young.ensures
     refl left.ensures.previous refl aged.ensures.next in

@@ -1,11 +1,11 @@
 use Rattle.std.proofs.Common.{ltb, ◌-◌, refl, ap, ◌∙◌, rules}
 use Rattle.std.specs.Bool.{then_some}
 use Rattle.clock2q_queues.specs.declared.entries.Record.{Record}
-use Rattle.clock2q_queues.specs.MainRing.{main_slots}
+use Rattle.clock2q_queues.specs.Main.{main_slots}
 use Rattle.clock2q_queues.proofs.InQueue.{main_linked}
 use Rattle.clock2q_queues.proofs.Joining.{is_first, not_first, first_gone, first_stays}
 use Rattle.clock2q_queues.proofs.Main.{UnlinksMain-from}
-use Rattle.clock2q_queues.proofs.main_ring.MainRing.unlink.Goals as goal
+use Rattle.clock2q_queues.proofs.main_queue.Main.unlink.Goals as goal
 
 pub detach-was-requires : goal.detach-was-requires
 detach-was-requires g c =

@@ -1,6 +1,6 @@
 use Rattle.std.proofs.Common.{arith}
 use Rattle.clock2q_queues.proofs.Hand.{Swept, Swept-start, Swept-step, Selects-at, fewer_left, hand_linked, hand_linked_still, with_hand}
-use Rattle.clock2q_queues.proofs.main_ring.MainRing.select.Goals as goal
+use Rattle.clock2q_queues.proofs.main_queue.Main.select.Goals as goal
 
 pub loop-links-init : goal.loop-links-init
 loop-links-init g c = grind (arith, with_hand, Swept, Swept-start, c.unwrap-hand.ensures, c.requires.whole)

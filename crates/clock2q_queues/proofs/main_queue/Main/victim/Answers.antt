@@ -2,7 +2,7 @@ use Rattle.std.proofs.Common.{sym, ap, ◌∙◌, arith}
 use Rattle.clock2q_queues.specs.Flags.{is_linked}
 use Rattle.clock2q_queues.specs.Links.{LinkState, bit_at, location_at}
 use Rattle.clock2q_queues.proofs.NextVictim.{Walks-start, Walks-here, none_clear, slot_linked}
-use Rattle.clock2q_queues.proofs.main_ring.MainRing.victim.Goals as goal
+use Rattle.clock2q_queues.proofs.main_queue.Main.victim.Goals as goal
 
 pub loop-init : goal.loop-init
 loop-init g c = grind (arith, Walks-start, c.requires, c.in_ok-hand.was)

@@ -1,6 +1,6 @@
-use Rattle.clock2q_queues.specs.MainRing.{main_entries, inspections}
+use Rattle.clock2q_queues.specs.Main.{main_entries, inspections}
 use Rattle.clock2q_queues.proofs.Hand.{Swept, with_hand}
-use Rattle.clock2q_queues.proofs.main_ring.MainRing.select.Given as goal
+use Rattle.clock2q_queues.proofs.main_queue.Main.select.Given as goal
 
 abbrev pub invariant-loop-links : goal.invariant-loop-links
 invariant-loop-links g l = Swept l.fn.links l.fn.self l.links l.hand

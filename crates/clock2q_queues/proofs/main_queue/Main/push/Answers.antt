@@ -1,9 +1,9 @@
 use Rattle.std.proofs.Common.{refl, ◌+◌, ◌-◌, ap, ◌∙◌, rules, arith}
-use Rattle.clock2q_queues.specs.declared.main_ring.MainRing.{MainRing}
+use Rattle.clock2q_queues.specs.declared.main_queue.Main.{Main}
 use Rattle.clock2q_queues.proofs.Joining.{count_fits}
 use Rattle.clock2q_queues.proofs.Main.{PushesMain, PushesMain-attached, PushesMain-alone, hand_linked}
-use Rattle.clock2q_queues.proofs.main_ring.MainRing.push.Goals as goal
-use Rattle.clock2q_queues.proofs.main_ring.MainRing.push.Goals.{in-None, in-Some}
+use Rattle.clock2q_queues.proofs.main_queue.Main.push.Goals as goal
+use Rattle.clock2q_queues.proofs.main_queue.Main.push.Goals.{in-None, in-Some}
 
 pub attach-requires : goal.attach-requires
 attach-requires g c =
@@ -17,16 +17,16 @@ pub returns : goal.returns
 returns g c =
     let l = c.args.links.now in
     let main = c.args.self.now in
-    let main' : MainRing = record { hand = c.match-self.self.hand; len = c.match-self.self.len + 1 } in
+    let main' : Main = record { hand = c.match-self.self.hand; len = c.match-self.self.len + 1 } in
     let pushed : PushesMain c.args.slot l main c.match-self.links main' =
     elim c.match-self.branch [
       | in-None w ↦
           PushesMain-alone c.args.slot l main c.match-self.links main' c.requires.whole c.requires.slot_in c.requires.absent (rw w.links-is w.attach_alone.ensures.cleared)
-          (ap (λ (m : MainRing). m.len + 1) w.self-is) w.in-None.is (rw w.links-is w.attach_alone.ensures.items) (ap (λ (m : MainRing). m.hand) w.self-is)
+          (ap (λ (m : Main). m.len + 1) w.self-is) w.in-None.is (rw w.links-is w.attach_alone.ensures.items) (ap (λ (m : Main). m.hand) w.self-is)
       | in-Some w ↦
           PushesMain-attached c.args.slot l main c.match-self.links main' c.requires.whole c.requires.slot_in c.requires.absent (rw w.links-is w.attach.ensures.cleared)
-          (ap (λ (m : MainRing). m.len + 1) w.self-is)
-          (c.args.slot - l.made + 6) w.in-Some.hand w.in-Some.is (rw w.links-is w.attach.ensures.attached) (ap (λ (m : MainRing). m.hand) w.self-is ∙ w.in-Some.is)
+          (ap (λ (m : Main). m.len + 1) w.self-is)
+          (c.args.slot - l.made + 6) w.in-Some.hand w.in-Some.is (rw w.links-is w.attach.ensures.attached) (ap (λ (m : Main). m.hand) w.self-is ∙ w.in-Some.is)
     ] in
     record {
       whole = pushed.whole;

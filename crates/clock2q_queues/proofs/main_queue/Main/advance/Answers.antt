@@ -1,7 +1,7 @@
 use Rattle.std.proofs.Common.{arith, refl}
 use Rattle.clock2q_queues.specs.Cells.{accessed}
 use Rattle.clock2q_queues.proofs.Hand.{front_linked, whole_passed, entries_passed}
-use Rattle.clock2q_queues.proofs.main_ring.MainRing.advance.Goals as goal
+use Rattle.clock2q_queues.proofs.main_queue.Main.advance.Goals as goal
 
 pub next-requires : goal.next-requires
 next-requires g c =

@@ -1,4 +1,4 @@
-// Written by bindings/rust/erase from crates/clock2q_queues/src/main_ring.rt; change that, and run erase.
+// Written by bindings/rust/erase from crates/clock2q_queues/src/main_queue.rt; change that, and run erase.
 //! Main: a ring of slots with a hand, which looks for the slot to evict.
 
 use crate::proved::queues::entries::Location;
@@ -7,16 +7,16 @@ use crate::proved::rattle::Allocator;
 
 /// A ring of slots. The hand is at the slot that it inspects next, and a new slot goes just before
 /// the hand.
-pub(crate) struct MainRing {
+pub(crate) struct Main {
     hand: Option<u32>,
     pub(crate) len: usize,
 }
 
-impl MainRing {
+impl Main {
     /// Returns an empty ring.
     #[inline]
     pub(crate) fn new() -> Self {
-        MainRing { hand: None, len: 0 }
+        Main { hand: None, len: 0 }
     }
 
     /// Puts a slot just before the hand, with a clear bit. In an empty ring, the hand goes to it.
@@ -55,7 +55,7 @@ impl MainRing {
         hand
     }
 
-    /// Returns the slot that [`select`](MainRing::select) would choose, or `None` if the ring is empty.
+    /// Returns the slot that [`select`](Main::select) would choose, or `None` if the ring is empty.
     /// The hand and the bits stay as they are. If every bit is set, the hand would come back to its slot.
     #[inline]
     pub(crate) fn victim<A: Allocator>(&self, links: &mut Links<A>) -> Option<u32> {
@@ -79,6 +79,6 @@ impl MainRing {
     /// Empties the ring. `Links::reset` resets the records.
     #[inline]
     pub(crate) fn clear(&mut self) {
-        *self = MainRing::new();
+        *self = Main::new();
     }
 }

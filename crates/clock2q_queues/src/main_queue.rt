@@ -12,29 +12,29 @@ use std::alloc::Allocator;
 /// A ring of slots. The hand is at the slot that it inspects next, and a new slot goes just before
 /// the hand.
 #[derive(Drop)]
-pub(crate) struct MainRing {
+pub(crate) struct Main {
     hand: Option<u32>,
     pub(crate) len: usize,
 }
 
-impl MainRing {
-    ghost use Rattle.clock2q_queues.specs.MainRing.{IsMainRing, main_slots, main_entries, inspections, from_victim};
+impl Main {
+    ghost use Rattle.clock2q_queues.specs.Main.{IsMainQueue, main_slots, main_entries, inspections, from_victim};
 
     /// Returns an empty ring.
     pub(crate) fn new() -> Self
         ensures empty { (l : LinkState) → main_entries l result ≡ [] }
-        ensures whole { (l : LinkState) → length l.records.items < 2 ^ 32 → IsMainRing l result }
+        ensures whole { (l : LinkState) → length l.records.items < 2 ^ 32 → IsMainQueue l result }
     {
-        MainRing { hand: None, len: 0 }
+        Main { hand: None, len: 0 }
     }
 
     /// Puts a slot just before the hand, with a clear bit. In an empty ring, the hand goes to it.
     #[inline(always)]
     pub(crate) fn push<A: Allocator>(&mut self, links: &mut Links<A>, slot: u32)
-        requires whole { IsMainRing links.old self.old }
+        requires whole { IsMainQueue links.old self.old }
         requires slot_in { slot < length links.old.records.items }
         requires absent { list_any (nat_eq slot) (main_slots links.old self.old) ≡ false }
-        ensures whole { IsMainRing links.new self.new }
+        ensures whole { IsMainQueue links.new self.new }
         ensures entries { main_entries links.new self.new
             ≡ main_entries links.old self.old ++ (slot, false) ∷ [] }
         ensures others { IsSameBut (slot ∷ main_slots links.old self.old) links.old links.new }
@@ -56,9 +56,9 @@ impl MainRing {
 
     /// Removes a slot. If the hand is at that slot, it moves on.
     pub(crate) fn unlink<A: Allocator>(&mut self, links: &mut Links<A>, slot: u32)
-        requires whole { IsMainRing links.old self.old }
+        requires whole { IsMainQueue links.old self.old }
         requires present { list_any (nat_eq slot) (main_slots links.old self.old) ≡ true }
-        ensures whole { IsMainRing links.new self.new }
+        ensures whole { IsMainQueue links.new self.new }
         ensures entries { main_entries links.new self.new
             ≡ filter (λ e. not (e.0 == slot)) (main_entries links.old self.old) }
         ensures freed { location_at links.new.records.items slot ≡ Location.Free }
@@ -78,9 +78,9 @@ impl MainRing {
     /// Moves the hand on to the slot to evict, and returns that slot. The hand passes each slot
     /// whose bit is set, and clears the bit.
     pub(crate) fn select<A: Allocator>(&mut self, links: &mut Links<A>) -> u32
-        requires whole { IsMainRing links.old self.old }
+        requires whole { IsMainQueue links.old self.old }
         requires occupied { 0 < length (main_slots links.old self.old) }
-        ensures whole { IsMainRing links.new self.new }
+        ensures whole { IsMainQueue links.new self.new }
         ensures entries { main_entries links.new self.new
             ≡ from_victim (main_entries links.old self.old) }
         ensures victim { slice_get (main_entries links.new self.new) 0 ≡ Some (result, false) }
@@ -101,10 +101,10 @@ impl MainRing {
         hand
     }
 
-    /// Returns the slot that [`select`](MainRing::select) would choose, or `None` if the ring is empty.
+    /// Returns the slot that [`select`](Main::select) would choose, or `None` if the ring is empty.
     /// The hand and the bits stay as they are. If every bit is set, the hand would come back to its slot.
     pub(crate) fn victim<A: Allocator>(&self, links: &mut Links<A>) -> Option<u32>
-        requires { IsMainRing links.old self.now }
+        requires { IsMainQueue links.old self.now }
         ensures victim { slice_get (from_victim (main_entries links.old self.now)) 0
             ≡ option_map (λ slot. (slot, false)) result }
         ensures links { links.new ≡ record links.old {
@@ -127,9 +127,9 @@ impl MainRing {
 
     /// Moves the hand on from its slot, whose bit is clear. That slot is then the last one.
     pub(crate) fn advance<A: Allocator>(&mut self, links: &mut Links<A>, slot: u32)
-        requires whole { IsMainRing links.old self.old }
+        requires whole { IsMainQueue links.old self.old }
         requires first { slice_get (main_entries links.old self.old) 0 ≡ Some (slot, false) }
-        ensures whole { IsMainRing links.new self.new }
+        ensures whole { IsMainQueue links.new self.new }
         ensures entries { main_entries links.new self.new
             ≡ drop 1 (main_entries links.old self.old) ++ (slot, false) ∷ [] }
         ensures links { links.new ≡ record links.old { records = accessed links.old.records } }
@@ -140,8 +140,8 @@ impl MainRing {
     /// Empties the ring. `Links::reset` resets the records.
     pub(crate) fn clear(&mut self)
         ensures empty { (l : LinkState) → main_entries l self.new ≡ [] }
-        ensures whole { (l : LinkState) → length l.records.items < 2 ^ 32 → IsMainRing l self.new }
+        ensures whole { (l : LinkState) → length l.records.items < 2 ^ 32 → IsMainQueue l self.new }
     {
-        *self = MainRing::new();
+        *self = Main::new();
     }
 }

@@ -1,7 +1,7 @@
 use Rattle.std.proofs.Common.{◌≡◌, ◌+◌}
 use Rattle.clock2q_queues.specs.Cells.{cells_state}
 use Rattle.clock2q_queues.proofs.NextVictim.{Walks}
-use Rattle.clock2q_queues.proofs.main_ring.MainRing.victim.Given as goal
+use Rattle.clock2q_queues.proofs.main_queue.Main.victim.Given as goal
 
 -- the bits of the slots that were passed are set, and each was one access
 abbrev pub invariant-loop : goal.invariant-loop
