@@ -227,7 +227,7 @@ impl<A: Allocator> Links<A> {
     pub(crate) fn is_linked(&self, slot: usize) -> bool
         ensures { result ≡ is_linked (location_at self.now.records.items slot) }
     {
-        !matches!(self.flags.read(slot), Flag::Free)
+        !matches!(self.flags.read_any(slot), Flag::Free)
     }
 
     /// Sets the hit bit of a slot that is in a queue.
@@ -261,8 +261,7 @@ impl<A: Allocator> Links<A> {
         ensures counted { self.new ≡ record self.old { records = accessed self.old.records } }
     {
         let location = self.ring.read(slot).location;
-        matches!(location, Location::SmallOld)
-            && matches!(self.flags.read(slot as usize), Flag::Hit)
+        matches!(location, Location::SmallOld) && matches!(self.flags.read(slot), Flag::Hit)
     }
 
     /// Reads the record of a slot that is in a queue, and returns the slot after it if its bit is set.
@@ -273,7 +272,7 @@ impl<A: Allocator> Links<A> {
         ensures counted { self.new ≡ record self.old { records = accessed self.old.records } }
     {
         let next = self.ring.read(slot).next;
-        matches!(self.flags.read(slot as usize), Flag::Hit).then_some(next)
+        matches!(self.flags.read(slot), Flag::Hit).then_some(next)
     }
 
     /// Resets every record, every position and every bit to its initial state.

@@ -47,8 +47,16 @@ impl<A: Allocator> Flags<A> {
         })
     }
 
-    /// Returns the flag of any slot. Who learns the bit from it counts the look.
-    pub(super) fn read(&self, slot: usize) -> Flag
+    /// Returns the flag of a slot that is in a queue. Who learns the bit from it counts the look.
+    pub(super) fn read(&self, slot: u32) -> Flag
+        requires { says_linked (slice_index_or self.now.items slot Flag.Free) ≡ true }
+        ensures { result ≡ slice_index_or self.now.items slot Flag.Free }
+    {
+        self.flags[slot as usize]
+    }
+
+    /// Returns the flag of any slot.
+    pub(super) fn read_any(&self, slot: usize) -> Flag
         ensures { result ≡ slice_index_or self.now.items slot Flag.Free }
     {
         match self.flags.get(slot) {

@@ -139,7 +139,7 @@ impl<A: Allocator> Links<A> {
     /// Returns true if a slot is in a queue. It reads the byte with the slot's bit, and no record.
     #[inline]
     pub(crate) fn is_linked(&self, slot: usize) -> bool {
-        !matches!(self.flags.read(slot), Flag::Free)
+        !matches!(self.flags.read_any(slot), Flag::Free)
     }
 
     /// Sets the hit bit of a slot that is in a queue.
@@ -161,15 +161,14 @@ impl<A: Allocator> Links<A> {
     #[inline]
     pub(crate) fn is_old_hit(&mut self, slot: u32) -> bool {
         let location = self.ring.read(slot).location;
-        matches!(location, Location::SmallOld)
-            && matches!(self.flags.read(slot as usize), Flag::Hit)
+        matches!(location, Location::SmallOld) && matches!(self.flags.read(slot), Flag::Hit)
     }
 
     /// Reads the record of a slot that is in a queue, and returns the slot after it if its bit is set.
     #[inline]
     pub(crate) fn next_if_hit(&mut self, slot: u32) -> Option<u32> {
         let next = self.ring.read(slot).next;
-        matches!(self.flags.read(slot as usize), Flag::Hit).then_some(next)
+        matches!(self.flags.read(slot), Flag::Hit).then_some(next)
     }
 
     /// Resets every record, every position and every bit to its initial state.

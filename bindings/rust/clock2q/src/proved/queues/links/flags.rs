@@ -32,9 +32,15 @@ impl<A: Allocator> Flags<A> {
         })
     }
 
-    /// Returns the flag of any slot. Who learns the bit from it counts the look.
+    /// Returns the flag of a slot that is in a queue. Who learns the bit from it counts the look.
     #[inline]
-    pub(super) fn read(&self, slot: usize) -> Flag {
+    pub(super) fn read(&self, slot: u32) -> Flag {
+        self.flags[slot as usize]
+    }
+
+    /// Returns the flag of any slot.
+    #[inline]
+    pub(super) fn read_any(&self, slot: usize) -> Flag {
         match self.flags.get(slot) {
             Some(flag) => *flag,
             None => Flag::Free,
