@@ -142,7 +142,7 @@ impl<A: Allocator> Links<A> {
         ensures cleared { SetsBit slot false self.old
             (record self.new { records = self.old.records }) }
     {
-        self.flags.replace(slot, Flag::Free);
+        self.flags.set(slot, Flag::Free);
         self.ring.detach(slot)
     }
 
@@ -154,7 +154,7 @@ impl<A: Allocator> Links<A> {
         ensures cleared { SetsBit slot false self.old
             (record self.new { records = self.old.records }) }
     {
-        self.flags.replace(slot, Flag::Clear);
+        self.flags.set(slot, Flag::Clear);
         self.ring.set_location(slot, Location::SmallOld);
     }
 
@@ -227,7 +227,7 @@ impl<A: Allocator> Links<A> {
     pub(crate) fn is_linked(&self, slot: usize) -> bool
         ensures { result ≡ is_linked (location_at self.now.records.items slot) }
     {
-        !matches!(self.flags.read_any(slot), Flag::Free)
+        self.flags.says_linked(slot)
     }
 
     /// Sets the hit bit of a slot that is in a queue.
@@ -235,7 +235,7 @@ impl<A: Allocator> Links<A> {
         requires { is_linked (location_at self.old.records.items slot) ≡ true }
         ensures { SetsBit slot true self.old self.new }
     {
-        self.flags.replace(slot, Flag::Hit);
+        self.flags.set(slot, Flag::Hit);
     }
 
     /// Returns true if the bit of a slot in a queue was set, and clears it: the hand's inspection of a
@@ -248,8 +248,9 @@ impl<A: Allocator> Links<A> {
         ensures rest { self.new ≡ record self.old { bits = self.new.bits } }
         ensures counted { self.new.bits.inspections ≡ self.old.bits.inspections + 1 }
     {
-        self.inspections.tick();
-        matches!(self.flags.replace(slot, Flag::Clear), Flag::Hit)
+        let was = self.flags.read(slot, &mut self.inspections);
+        self.flags.set(slot, Flag::Clear);
+        matches!(was, Flag::Hit)
     }
 
     /// Reads the record of a slot that is in a queue, and returns true if the slot is old and its bit
@@ -260,8 +261,8 @@ impl<A: Allocator> Links<A> {
             ≡ (is_old (location_at self.old.records.items slot) && bit_at self.old slot) }
         ensures counted { self.new ≡ record self.old { records = accessed self.old.records } }
     {
-        let location = self.ring.read(slot).location;
-        matches!(location, Location::SmallOld) && matches!(self.flags.read(slot), Flag::Hit)
+        let (record, flag) = self.flags.read_with(slot, &mut self.ring);
+        matches!(record.location, Location::SmallOld) && matches!(flag, Flag::Hit)
     }
 
     /// Reads the record of a slot that is in a queue, and returns the slot after it if its bit is set.
@@ -271,8 +272,8 @@ impl<A: Allocator> Links<A> {
             ≡ then_some (bit_at self.old slot) (next_at self.old.records.items slot) }
         ensures counted { self.new ≡ record self.old { records = accessed self.old.records } }
     {
-        let next = self.ring.read(slot).next;
-        matches!(self.flags.read(slot), Flag::Hit).then_some(next)
+        let (record, flag) = self.flags.read_with(slot, &mut self.ring);
+        matches!(flag, Flag::Hit).then_some(record.next)
     }
 
     /// Resets every record, every position and every bit to its initial state.

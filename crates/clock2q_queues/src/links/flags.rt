@@ -1,8 +1,13 @@
 //! What is known of a slot without its record: whether it is in a queue, and its hit bit.
 ghost use Rattle.std.specs.Prelude.{◌≡◌, ◌+◌, ◌<◌, ◌≤◌, true, IfOk, length, replicate, slice_index_or, slice_set};
 ghost use Rattle.clock2q_queues.specs.Flags.{flag_state, says_linked};
-ghost use Rattle.clock2q_queues.specs.Links.{made_below};
+ghost use Rattle.clock2q_queues.specs.Cells.{accessed};
+ghost use Rattle.clock2q_queues.specs.Links.{made_below, record_at};
+ghost use Rattle.clock2q_queues.specs.Ring.{ring_state};
 
+use crate::entries::Record;
+use crate::ring::Ring;
+use clock2q_count::Count;
 use std::alloc::{AllocError, Allocator, Global};
 use std::marker::Model;
 
@@ -47,34 +52,44 @@ impl<A: Allocator> Flags<A> {
         })
     }
 
-    /// Returns the flag of a slot that is in a queue. Who learns the bit from it counts the look.
-    pub(super) fn read(&self, slot: u32) -> Flag
+    /// Returns the flag of a slot that is in a queue. The look is counted in `looks`.
+    pub(super) fn read(&self, slot: u32, looks: &mut Count) -> Flag
         requires { says_linked (slice_index_or self.now.items slot Flag.Free) ≡ true }
-        ensures { result ≡ slice_index_or self.now.items slot Flag.Free }
+        ensures flag { result ≡ slice_index_or self.now.items slot Flag.Free }
+        ensures counted { looks.new.total ≡ looks.old.total + 1 }
     {
+        looks.tick();
         self.flags[slot as usize]
     }
 
-    /// Returns the flag of any slot.
-    pub(super) fn read_any(&self, slot: usize) -> Flag
-        ensures { result ≡ slice_index_or self.now.items slot Flag.Free }
+    /// Returns the record of a slot that is in a queue, and its flag. It is one access of the ring.
+    pub(super) fn read_with(&self, slot: u32, ring: &mut Ring<Record, A>) -> (Record, Flag)
+        requires made { slot < ring.old.made }
+        requires linked { says_linked (slice_index_or self.now.items slot Flag.Free) ≡ true }
+        ensures record { result.0 ≡ record_at ring.old.cells.items slot }
+        ensures flag { result.1 ≡ slice_index_or self.now.items slot Flag.Free }
+        ensures counted { ring.new ≡ ring_state (accessed ring.old.cells) ring.old.made }
+    {
+        (ring.read(slot), self.flags[slot as usize])
+    }
+
+    /// Returns true if a slot is in a queue. It doesn't say whether the slot's bit is set.
+    pub(super) fn says_linked(&self, slot: usize) -> bool
+        ensures { result ≡ says_linked (slice_index_or self.now.items slot Flag.Free) }
     {
         match self.flags.get(slot) {
-            Some(flag) => *flag,
-            None => Flag::Free,
+            Some(flag) => !matches!(flag, Flag::Free),
+            None => false,
         }
     }
 
-    /// Writes the flag of a slot that is in a queue, and returns the one that it had.
-    pub(super) fn replace(&mut self, slot: u32, flag: Flag) -> Flag
+    /// Writes the flag of a slot that is in a queue.
+    pub(super) fn set(&mut self, slot: u32, flag: Flag)
         requires { says_linked (slice_index_or self.old.items slot Flag.Free) ≡ true }
         ensures flags { self.new.items ≡ slice_set self.old.items slot flag }
         ensures made { self.new.made ≡ self.old.made }
-        ensures value { result ≡ slice_index_or self.old.items slot Flag.Free }
     {
-        let was = self.flags[slot as usize];
         self.flags[slot as usize] = flag;
-        was
     }
 
     /// Writes the flag of a slot. If it isn't made yet, it is made, after those of the slots below it.

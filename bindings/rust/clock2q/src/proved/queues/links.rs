@@ -85,14 +85,14 @@ impl<A: Allocator> Links<A> {
     /// Removes a slot from between its neighbours, clears its bit, and returns the record that it had.
     #[inline]
     pub(crate) fn detach(&mut self, slot: u32) -> Record {
-        self.flags.replace(slot, Flag::Free);
+        self.flags.set(slot, Flag::Free);
         self.ring.detach(slot)
     }
 
     /// Makes a slot that is in a queue old, with a clear bit.
     #[inline]
     fn make_old(&mut self, slot: u32) {
-        self.flags.replace(slot, Flag::Clear);
+        self.flags.set(slot, Flag::Clear);
         self.ring.set_location(slot, Location::SmallOld);
     }
 
@@ -139,36 +139,37 @@ impl<A: Allocator> Links<A> {
     /// Returns true if a slot is in a queue. It reads the byte with the slot's bit, and no record.
     #[inline]
     pub(crate) fn is_linked(&self, slot: usize) -> bool {
-        !matches!(self.flags.read_any(slot), Flag::Free)
+        self.flags.says_linked(slot)
     }
 
     /// Sets the hit bit of a slot that is in a queue.
     #[inline]
     pub(crate) fn set_bit(&mut self, slot: u32) {
-        self.flags.replace(slot, Flag::Hit);
+        self.flags.set(slot, Flag::Hit);
     }
 
     /// Returns true if the bit of a slot in a queue was set, and clears it: the hand's inspection of a
     /// slot.
     #[inline]
     pub(crate) fn inspect(&mut self, slot: u32) -> bool {
-        self.inspections.tick();
-        matches!(self.flags.replace(slot, Flag::Clear), Flag::Hit)
+        let was = self.flags.read(slot, &mut self.inspections);
+        self.flags.set(slot, Flag::Clear);
+        matches!(was, Flag::Hit)
     }
 
     /// Reads the record of a slot that is in a queue, and returns true if the slot is old and its bit
     /// is set.
     #[inline]
     pub(crate) fn is_old_hit(&mut self, slot: u32) -> bool {
-        let location = self.ring.read(slot).location;
-        matches!(location, Location::SmallOld) && matches!(self.flags.read(slot), Flag::Hit)
+        let (record, flag) = self.flags.read_with(slot, &mut self.ring);
+        matches!(record.location, Location::SmallOld) && matches!(flag, Flag::Hit)
     }
 
     /// Reads the record of a slot that is in a queue, and returns the slot after it if its bit is set.
     #[inline]
     pub(crate) fn next_if_hit(&mut self, slot: u32) -> Option<u32> {
-        let next = self.ring.read(slot).next;
-        matches!(self.flags.read(slot), Flag::Hit).then_some(next)
+        let (record, flag) = self.flags.read_with(slot, &mut self.ring);
+        matches!(flag, Flag::Hit).then_some(record.next)
     }
 
     /// Resets every record, every position and every bit to its initial state.

@@ -4,8 +4,8 @@ use Rattle.clock2q_queues.proofs.AllRecords.{linked_within}
 use Rattle.clock2q_queues.proofs.Flagged.{bit_set, flag_linked, slot_detached}
 use Rattle.clock2q_queues.proofs.links.Links.detach.Goals as goal
 
-pub replace-requires : goal.replace-requires
-replace-requires g c = flag_linked c.self.invariant c.args.slot (rw (← c.self.view_is) at c.requires.slot_in)
+pub set-requires : goal.set-requires
+set-requires g c = flag_linked c.self.invariant c.args.slot (rw (← c.self.view_is) at c.requires.slot_in)
 
 pub detach-requires : goal.detach-requires
 detach-requires g c =
@@ -18,10 +18,10 @@ detach-requires g c =
 
 pub invariant_of-self : goal.invariant_of-self
 invariant_of-self g c =
-    slot_detached _ _ c.self.invariant c.replace.ensures.flags c.detach.new.self (rw (← c.self.view_is) at c.requires.slot_in) c.detach.ensures.detached refl c.detach.ensures.made
+    slot_detached _ _ c.self.invariant c.set.ensures.flags c.detach.new.self (rw (← c.self.view_is) at c.requires.slot_in) c.detach.ensures.detached refl c.detach.ensures.made
 
 pub returns-clause-cleared : goal.returns-clause-cleared
 returns-clause-cleared g c =
     let i = c.self.inside in
     let within = linked_within i.ring.cells.items c.args.slot (rw (← c.self.view_is) at c.requires.slot_in) in
-    rw (← c.self.view_is, c.detach.ensures.made) (bit_set _ _ c.self.invariant c.replace.ensures.flags i.window i.inspections.total false within refl)
+    rw (← c.self.view_is, c.detach.ensures.made) (bit_set _ _ c.self.invariant c.set.ensures.flags i.window i.inspections.total false within refl)

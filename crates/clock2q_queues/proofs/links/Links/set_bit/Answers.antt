@@ -3,14 +3,14 @@ use Rattle.clock2q_queues.proofs.AllRecords.{linked_within}
 use Rattle.clock2q_queues.proofs.Flagged.{bit_set, flag_linked, flags_changed}
 use Rattle.clock2q_queues.proofs.links.Links.set_bit.Goals as goal
 
-pub replace-requires : goal.replace-requires
-replace-requires g c = flag_linked c.self.invariant c.args.slot (rw (← c.self.view_is) at c.requires)
+pub set-requires : goal.set-requires
+set-requires g c = flag_linked c.self.invariant c.args.slot (rw (← c.self.view_is) at c.requires)
 
 pub invariant_of-self : goal.invariant_of-self
-invariant_of-self g c = flags_changed _ _ c.self.invariant c.replace.ensures.flags (rw (← c.self.view_is) at c.requires) refl
+invariant_of-self g c = flags_changed _ _ c.self.invariant c.set.ensures.flags (rw (← c.self.view_is) at c.requires) refl
 
 pub returns : goal.returns
 returns g c =
     let i = c.self.inside in
     let within = linked_within i.ring.cells.items c.args.slot (rw (← c.self.view_is) at c.requires) in
-    rw (← c.self.view_is) (bit_set _ _ c.self.invariant c.replace.ensures.flags i.window i.inspections.total true within refl)
+    rw (← c.self.view_is) (bit_set _ _ c.self.invariant c.set.ensures.flags i.window i.inspections.total true within refl)

@@ -1,11 +1,14 @@
 // Written by bindings/rust/erase from crates/clock2q_queues/src/links/flags.rt; change that, and run erase.
 //! What is known of a slot without its record: whether it is in a queue, and its hit bit.
 
+use crate::proved::rattle::Vec;
+use crate::proved::queues::entries::Record;
+use crate::proved::queues::ring::Ring;
+use crate::proved::count::Count;
 use crate::proved::rattle::{AllocError, Allocator, Global};
 
 /// Whether a slot is in a queue, as its record says too, and its hit bit. A slot in no queue has a
 /// clear bit.
-use crate::proved::rattle::Vec;
 #[derive(Clone, Copy)]
 pub(super) enum Flag {
     /// In neither queue.
@@ -32,27 +35,32 @@ impl<A: Allocator> Flags<A> {
         })
     }
 
-    /// Returns the flag of a slot that is in a queue. Who learns the bit from it counts the look.
+    /// Returns the flag of a slot that is in a queue. The look is counted in `looks`.
     #[inline]
-    pub(super) fn read(&self, slot: u32) -> Flag {
+    pub(super) fn read(&self, slot: u32, looks: &mut Count) -> Flag {
+        looks.tick();
         self.flags[slot as usize]
     }
 
-    /// Returns the flag of any slot.
+    /// Returns the record of a slot that is in a queue, and its flag. It is one access of the ring.
     #[inline]
-    pub(super) fn read_any(&self, slot: usize) -> Flag {
+    pub(super) fn read_with(&self, slot: u32, ring: &mut Ring<Record, A>) -> (Record, Flag) {
+        (ring.read(slot), self.flags[slot as usize])
+    }
+
+    /// Returns true if a slot is in a queue. It doesn't say whether the slot's bit is set.
+    #[inline]
+    pub(super) fn says_linked(&self, slot: usize) -> bool {
         match self.flags.get(slot) {
-            Some(flag) => *flag,
-            None => Flag::Free,
+            Some(flag) => !matches!(flag, Flag::Free),
+            None => false,
         }
     }
 
-    /// Writes the flag of a slot that is in a queue, and returns the one that it had.
+    /// Writes the flag of a slot that is in a queue.
     #[inline]
-    pub(super) fn replace(&mut self, slot: u32, flag: Flag) -> Flag {
-        let was = self.flags[slot as usize];
+    pub(super) fn set(&mut self, slot: u32, flag: Flag) {
         self.flags[slot as usize] = flag;
-        was
     }
 
     /// Writes the flag of a slot. If it isn't made yet, it is made, after those of the slots below it.

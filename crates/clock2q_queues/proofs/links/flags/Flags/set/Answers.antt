@@ -1,6 +1,6 @@
 use Rattle.std.proofs.Common.{sym}
 use Rattle.clock2q_queues.proofs.AllRecords.{flags-in, flags-set}
-use Rattle.clock2q_queues.proofs.links.flags.Flags.replace.Goals as goal
+use Rattle.clock2q_queues.proofs.links.flags.Flags.set.Goals as goal
 
 pub returns-clause-flags : goal.returns-clause-flags
 returns-clause-flags g c =
