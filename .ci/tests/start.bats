@@ -26,7 +26,7 @@ install_scripts() {
 
 # Prints a help text of the program as its source has it.
 text_of() {
-    sed -n "/^pub const $1: /,/^\";\$/p" "$top/crates/simulator_io/src/help.rt" | sed '1d;$d; s/\\\\/\\/g; s/\\"/"/g'
+    sed -n "/^pub const $1: /,/^\";\$/p" "$top/crates/simulator_interface/src/help.rt" | sed '1d;$d; s/\\\\/\\/g; s/\\"/"/g'
 }
 
 @test "the help before a build is the program's" {

@@ -2,11 +2,12 @@
 #![tactic(auto)]
 
 use clock2q_ports::{Device, Source, send};
-use simulator_io::{
-    ErrorReport, KeyedHashBuilder, Options, Outcome, Progress, STANDARD_INPUT, SimulationError,
-    help_for, parse_options, write_outcomes,
+use simulator_interface::{
+    ErrorReport, Options, Outcome, Progress, STANDARD_INPUT, SimulationError, help_for,
+    parse_options, write_outcomes,
 };
 use simulator_replay::replay_source;
+use simulator_traces::KeyedHashBuilder;
 use std::alloc::Global;
 use std::env;
 use std::fs::File;

@@ -7,11 +7,11 @@ use Rattle.std.proofs.lemmas.List.Elements.{filter_more}
 use Rattle.clock2q_machine.specs.Hits.{hit_count}
 use Rattle.simulator_policies.specs.declared.plain.PlainPolicy.{PlainPolicy}
 use Rattle.simulator_policies.specs.ByteCaches.{Entry, byte_after, byte_outcomes, byte_outcomes_from}
-use Rattle.simulator_io.specs.declared.policy.Policy.{Policy}
-use Rattle.simulator_io.specs.declared.policy.Policy.TheVariants.{Clock2Q, Sieve, S3Fifo, LeastRecentlyUsed, Optimal, FirstInFirstOut, Clock, Arc, TwoQ, Lirs, Lru2, WTinyLfu}
-use Rattle.simulator_io.specs.declared.row.Hits.{Hits}
-use Rattle.simulator_io.specs.Bytes.{hit_between}
-use Rattle.simulator_io.specs.PolicyNames.{has_bytes}
+use Rattle.simulator_interface.specs.declared.policy.Policy.{Policy}
+use Rattle.simulator_interface.specs.declared.policy.Policy.TheVariants.{Clock2Q, Sieve, S3Fifo, LeastRecentlyUsed, Optimal, FirstInFirstOut, Clock, Arc, TwoQ, Lirs, Lru2, WTinyLfu}
+use Rattle.simulator_interface.specs.declared.row.Hits.{Hits}
+use Rattle.simulator_traces.specs.Bytes.{hit_between}
+use Rattle.simulator_interface.specs.PolicyNames.{has_bytes}
 use Rattle.simulator_replay.specs.ByteRows.{AreByteHits, in_bytes}
 
 -- there is an outcome for each access

@@ -7,9 +7,9 @@ use Rattle.simulator_policies.specs.Policies.{plain_hits, plain_outcomes}
 use Rattle.simulator_replay.specs.KnownHits.{AreKnown, known_of}
 use Rattle.simulator_replay.specs.Rows.{AreHitsAfter, IsReplay}
 use Rattle.simulator_replay.specs.declared.known_hits.KnownHits.{KnownHits}
-use Rattle.simulator_io.specs.declared.policy.Policy.{Policy}
-use Rattle.simulator_io.specs.declared.policy.Policy.TheVariants.{Clock2Q, Sieve, S3Fifo, LeastRecentlyUsed, Optimal, FirstInFirstOut, Clock, Arc, TwoQ, Lirs, Lru2, WTinyLfu}
-use Rattle.simulator_io.specs.declared.shares.ChosenShares.{ChosenShares}
+use Rattle.simulator_interface.specs.declared.policy.Policy.{Policy}
+use Rattle.simulator_interface.specs.declared.policy.Policy.TheVariants.{Clock2Q, Sieve, S3Fifo, LeastRecentlyUsed, Optimal, FirstInFirstOut, Clock, Arc, TwoQ, Lirs, Lru2, WTinyLfu}
+use Rattle.simulator_interface.specs.declared.shares.ChosenShares.{ChosenShares}
 use Rattle.simulator_replay.proofs.Replaying.{least_recent_is, optimal_is}
 
 none-some : {X : Type 0} (x : X) → Some x ≡ None → ⊥

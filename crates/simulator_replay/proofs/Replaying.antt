@@ -10,15 +10,15 @@ use Rattle.simulator_policies.specs.declared.plain.PlainPolicy.TheVariants as pl
 use Rattle.simulator_policies.specs.Policies.{plain_after}
 use Rattle.simulator_policies.proofs.DemandPolicies.{first_optimal_hits}
 use Rattle.simulator_policies.proofs.Outcomes.{first_hits, one_each, one_optimal_each}
-use Rattle.simulator_io.specs.declared.policy.Policy.{Policy}
-use Rattle.simulator_io.specs.declared.policy.Policy.TheVariants.{Clock2Q, Sieve, S3Fifo, LeastRecentlyUsed, Optimal, FirstInFirstOut, Clock, Arc, TwoQ, Lirs, Lru2, WTinyLfu}
-use Rattle.simulator_io.specs.declared.row.Hits.{Hits}
+use Rattle.simulator_interface.specs.declared.policy.Policy.{Policy}
+use Rattle.simulator_interface.specs.declared.policy.Policy.TheVariants.{Clock2Q, Sieve, S3Fifo, LeastRecentlyUsed, Optimal, FirstInFirstOut, Clock, Arc, TwoQ, Lirs, Lru2, WTinyLfu}
+use Rattle.simulator_interface.specs.declared.row.Hits.{Hits}
 use Rattle.simulator_replay.specs.declared.row.Replayed.{Replayed}
-use Rattle.simulator_io.specs.declared.row.Row.{Row}
-use Rattle.simulator_io.specs.declared.shares.ChosenShares.{ChosenShares}
-use Rattle.simulator_io.specs.Bytes.{asked_between, hit_between}
+use Rattle.simulator_interface.specs.declared.row.Row.{Row}
+use Rattle.simulator_interface.specs.declared.shares.ChosenShares.{ChosenShares}
+use Rattle.simulator_traces.specs.Bytes.{asked_between, hit_between}
 use Rattle.simulator_replay.specs.RowBytes.{AreBytes, HasBytes}
-use Rattle.simulator_io.specs.ChosenShares.{shares_for}
+use Rattle.simulator_interface.specs.ChosenShares.{shares_for}
 use Rattle.clock2q_machine.specs.MachineHits.{machine_holds, machine_after}
 use Rattle.simulator_replay.specs.Rows.{AreHits, AreOutcomes, AreHitsAfter, IsReplay, IsRow}
 use Rattle.simulator_replay.specs.Windows.{counted, AreReplays}

@@ -1,9 +1,9 @@
 -- The bytes of a replay.
 use Rattle.std.proofs.Common.{◌≡◌, ℕ, Bool, List, [], Option, length, sym, ap, ◌∙◌}
-use Rattle.simulator_io.specs.declared.policy.Policy.{Policy}
-use Rattle.simulator_io.specs.declared.shares.ChosenShares.{ChosenShares}
-use Rattle.simulator_io.specs.Bytes.{hit_between}
-use Rattle.simulator_io.proofs.Bytes.{no-bytes}
+use Rattle.simulator_interface.specs.declared.policy.Policy.{Policy}
+use Rattle.simulator_interface.specs.declared.shares.ChosenShares.{ChosenShares}
+use Rattle.simulator_traces.specs.Bytes.{hit_between}
+use Rattle.simulator_traces.proofs.Bytes.{no-bytes}
 use Rattle.simulator_replay.specs.RowBytes.{AreBytes}
 use Rattle.simulator_replay.specs.Rows.{IsReplay}
 

@@ -2,11 +2,11 @@
 use Rattle.std.proofs.Common.{◌≡◌, ℕ, ◌-◌, ◌<◌, ◌≤◌, List, ap, subst, ◌∙◌, arith}
 use Rattle.std.specs.Prelude.{Option}
 use Rattle.std.specs.List.{All}
-use Rattle.simulator_io.specs.declared.policy.Policy.{Policy}
-use Rattle.simulator_io.specs.declared.policy.Policy.TheVariants.{Clock2Q}
-use Rattle.simulator_io.specs.declared.shares.ChosenShares.{ChosenShares}
+use Rattle.simulator_interface.specs.declared.policy.Policy.{Policy}
+use Rattle.simulator_interface.specs.declared.policy.Policy.TheVariants.{Clock2Q}
+use Rattle.simulator_interface.specs.declared.shares.ChosenShares.{ChosenShares}
 use Rattle.simulator_replay.specs.BestShares.{HasFewer, HasNoMore, clock2q_hits_after}
-use Rattle.simulator_io.specs.ChosenShares.{shares_for}
+use Rattle.simulator_interface.specs.ChosenShares.{shares_for}
 use Rattle.simulator_replay.specs.MachineHits.{machine_hits}
 use Rattle.simulator_replay.specs.Rows.{AreHitsAfter}
 

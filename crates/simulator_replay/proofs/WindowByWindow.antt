@@ -2,12 +2,12 @@
 use Rattle.std.proofs.Common.{◌≡◌, ℕ, ◌+◌, ◌-◌, ◌<◌, ◌≤◌, List, [], ◌∷◌, ◌++◌, Option, length, take, min, sym, ap, ◌∙◌, subst, arith}
 use Rattle.std.specs.List.{All}
 use Rattle.std.proofs.lemmas.List.{length-take-le, take_min}
-use Rattle.simulator_io.specs.declared.policy.Policy.{Policy}
-use Rattle.simulator_io.specs.declared.shares.ChosenShares.{ChosenShares}
-use Rattle.simulator_io.specs.declared.window.Window.{Window}
+use Rattle.simulator_interface.specs.declared.policy.Policy.{Policy}
+use Rattle.simulator_interface.specs.declared.shares.ChosenShares.{ChosenShares}
+use Rattle.simulator_interface.specs.declared.window.Window.{Window}
 use Rattle.simulator_replay.specs.Rows.{IsRow}
 use Rattle.simulator_replay.specs.Windows.{AreInTurn, IsWindow}
-use Rattle.simulator_io.proofs.Zipped.{All-more}
+use Rattle.simulator_interface.proofs.Zipped.{All-more}
 
 -- a window that begins where the others end follows them
 in_turn-more : {A : Type 0} (first last : ℕ) (windows : List (Window A)) (window : Window A) → AreInTurn first windows last → window.first ≡ last

@@ -3,10 +3,10 @@ use Rattle.std.specs.Prelude.{◌≡◌, ℕ, ◌-◌, ◌<◌, ◌≤◌, Bool,
 use Rattle.std.specs.List.{All}
 use Rattle.std.specs.NonZero.{non_zero_usize_get}
 use Rattle.clock2q_machine.specs.Policies.{IsPolicy}
-use Rattle.simulator_io.specs.declared.best_shares.BestShares.{BestShares}
-use Rattle.simulator_io.specs.declared.row.Row.{Row}
-use Rattle.simulator_io.specs.declared.shares.ChosenShares.{ChosenShares}
-use Rattle.simulator_io.specs.ChosenShares.{shares_for}
+use Rattle.simulator_interface.specs.declared.best_shares.BestShares.{BestShares}
+use Rattle.simulator_interface.specs.declared.row.Row.{Row}
+use Rattle.simulator_interface.specs.declared.shares.ChosenShares.{ChosenShares}
+use Rattle.simulator_interface.specs.ChosenShares.{shares_for}
 use Rattle.simulator_replay.specs.MachineHits.{machine_hits}
 
 module _ (skipped : ℕ) (numbers : List ℕ) (room : ℕ) where

@@ -7,12 +7,12 @@ use Rattle.clock2q_machine.specs.Hits.{hit_count}
 use Rattle.simulator_policies.specs.declared.plain.PlainPolicy.{PlainPolicy}
 use Rattle.simulator_policies.specs.declared.plain.PlainPolicy.TheVariants as plain
 use Rattle.simulator_policies.specs.ByteCaches.{byte_outcomes}
-use Rattle.simulator_io.specs.declared.policy.Policy.{Policy}
-use Rattle.simulator_io.specs.declared.policy.Policy.TheVariants.{LeastRecentlyUsed, FirstInFirstOut}
-use Rattle.simulator_io.specs.declared.row.Row.{Row}
-use Rattle.simulator_io.specs.PolicyNames.{has_bytes}
-use Rattle.simulator_io.specs.Bytes.{asked_between, hit_between}
-use Rattle.simulator_io.specs.Trace.{Numbered, sizes_of}
+use Rattle.simulator_interface.specs.declared.policy.Policy.{Policy}
+use Rattle.simulator_interface.specs.declared.policy.Policy.TheVariants.{LeastRecentlyUsed, FirstInFirstOut}
+use Rattle.simulator_interface.specs.declared.row.Row.{Row}
+use Rattle.simulator_interface.specs.PolicyNames.{has_bytes}
+use Rattle.simulator_traces.specs.Bytes.{asked_between, hit_between}
+use Rattle.simulator_traces.specs.Trace.{Numbered, sizes_of}
 
 -- the policies over keys of unequal sizes
 abbrev pub in_bytes : Policy → Option PlainPolicy

@@ -3,8 +3,8 @@ use Rattle.std.specs.Prelude.{◌≡◌, ℕ, IfSome, List, Option, None}
 use Rattle.simulator_replay.specs.Curves.{curve_hits, hits_after}
 use Rattle.simulator_replay.specs.declared.curve.Curve.TheVariants as curve
 use Rattle.simulator_replay.specs.declared.known_hits.KnownHits.{KnownHits}
-use Rattle.simulator_io.specs.declared.policy.Policy.{Policy}
-use Rattle.simulator_io.specs.declared.policy.Policy.TheVariants.{Clock2Q, Sieve, S3Fifo, LeastRecentlyUsed, Optimal, FirstInFirstOut, Clock, Arc, TwoQ, Lirs, Lru2, WTinyLfu}
+use Rattle.simulator_interface.specs.declared.policy.Policy.{Policy}
+use Rattle.simulator_interface.specs.declared.policy.Policy.TheVariants.{Clock2Q, Sieve, S3Fifo, LeastRecentlyUsed, Optimal, FirstInFirstOut, Clock, Arc, TwoQ, Lirs, Lru2, WTinyLfu}
 
 -- those of a policy
 abbrev pub known_of : KnownHits → Policy → Option ℕ

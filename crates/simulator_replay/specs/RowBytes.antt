@@ -2,12 +2,12 @@
 use Rattle.std.specs.Prelude.{◌≡◌, ℕ, ◌+◌, Bool, List, Option, length}
 use Rattle.std.specs.List.{All}
 use Rattle.std.specs.NonZero.{non_zero_usize_get}
-use Rattle.simulator_io.specs.declared.policy.Policy.{Policy}
-use Rattle.simulator_io.specs.declared.row.Row.{Row}
-use Rattle.simulator_io.specs.declared.shares.ChosenShares.{ChosenShares}
-use Rattle.simulator_io.specs.declared.window.Window.{Window}
-use Rattle.simulator_io.specs.declared.window.Windows.{Windows}
-use Rattle.simulator_io.specs.Bytes.{asked_between, hit_between}
+use Rattle.simulator_interface.specs.declared.policy.Policy.{Policy}
+use Rattle.simulator_interface.specs.declared.row.Row.{Row}
+use Rattle.simulator_interface.specs.declared.shares.ChosenShares.{ChosenShares}
+use Rattle.simulator_interface.specs.declared.window.Window.{Window}
+use Rattle.simulator_interface.specs.declared.window.Windows.{Windows}
+use Rattle.simulator_traces.specs.Bytes.{asked_between, hit_between}
 use Rattle.simulator_replay.specs.Rows.{IsReplay}
 
 module _ (shares : Option ChosenShares) (numbers sizes : List ℕ) (room first last : ℕ) where

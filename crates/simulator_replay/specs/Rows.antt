@@ -6,14 +6,14 @@ use Rattle.clock2q_machine.specs.SecondChance.{clock_hits, clock_outcomes}
 use Rattle.clock2q_machine.specs.Optimum.{optimal_hits, optimal_outcomes}
 use Rattle.simulator_policies.specs.declared.plain.PlainPolicy.TheVariants as plain
 use Rattle.simulator_policies.specs.Policies.{plain_hits, plain_outcomes}
-use Rattle.simulator_io.specs.declared.policy.Policy.{Policy}
-use Rattle.simulator_io.specs.declared.policy.Policy.TheVariants.{Clock2Q, Sieve, S3Fifo, LeastRecentlyUsed, Optimal, FirstInFirstOut, Clock, Arc, TwoQ, Lirs, Lru2, WTinyLfu}
-use Rattle.simulator_io.specs.declared.row.Row.{Row}
-use Rattle.simulator_io.specs.declared.shares.ChosenShares.{ChosenShares}
-use Rattle.simulator_io.specs.declared.amount.Amount.{Amount}
-use Rattle.simulator_io.specs.Amounts.{keys_of}
-use Rattle.simulator_io.specs.ChosenShares.{shares_for}
-use Rattle.simulator_io.specs.Trace.{Numbered}
+use Rattle.simulator_interface.specs.declared.policy.Policy.{Policy}
+use Rattle.simulator_interface.specs.declared.policy.Policy.TheVariants.{Clock2Q, Sieve, S3Fifo, LeastRecentlyUsed, Optimal, FirstInFirstOut, Clock, Arc, TwoQ, Lirs, Lru2, WTinyLfu}
+use Rattle.simulator_interface.specs.declared.row.Row.{Row}
+use Rattle.simulator_interface.specs.declared.shares.ChosenShares.{ChosenShares}
+use Rattle.simulator_interface.specs.declared.amount.Amount.{Amount}
+use Rattle.simulator_interface.specs.Amounts.{keys_of}
+use Rattle.simulator_interface.specs.ChosenShares.{shares_for}
+use Rattle.simulator_traces.specs.Trace.{Numbered}
 use Rattle.simulator_replay.specs.MachineHits.{machine_hits, machine_outcomes}
 
 module _ (shares : Option ChosenShares) (numbers : List ℕ) (room : ℕ) where

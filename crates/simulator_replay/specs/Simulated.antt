@@ -1,22 +1,23 @@
 -- A trace read, and the text written about it.
 use Rattle.std.specs.Prelude.{◌≡◌, ℕ, List, Option, None, length, map}
 use Rattle.clock2q_ports.specs.Ports.{Traffic}
-use Rattle.simulator_io.specs.Reading.{AreRead}
-use Rattle.simulator_io.specs.declared.amount.Amount.{Amount}
-use Rattle.simulator_io.specs.declared.format.TraceFormat.{TraceFormat}
-use Rattle.simulator_io.specs.declared.options.Options.{Options}
-use Rattle.simulator_io.specs.declared.outcome.Outcome.{Outcome}
-use Rattle.simulator_io.specs.declared.shares.ChosenShares.{ChosenShares}
+use Rattle.simulator_traces.specs.Reading.{AreRead}
+use Rattle.simulator_interface.specs.declared.amount.Amount.{Amount}
+use Rattle.simulator_interface.specs.declared.format.TraceFormat.{TraceFormat}
+use Rattle.simulator_interface.specs.declared.options.Options.{Options}
+use Rattle.simulator_interface.specs.declared.outcome.Outcome.{Outcome}
+use Rattle.simulator_interface.specs.declared.shares.ChosenShares.{ChosenShares}
 use Rattle.simulator_replay.specs.BestShares.{AreAskedBest}
-use Rattle.simulator_io.specs.Bytes.{asked_between}
+use Rattle.simulator_traces.specs.Bytes.{asked_between}
 use Rattle.simulator_replay.specs.RowBytes.{AllHaveBytes, HaveBytes}
 use Rattle.simulator_replay.specs.ByteRows.{AreAskedByteRows}
-use Rattle.simulator_io.specs.Formats.{Access}
+use Rattle.simulator_traces.specs.Formats.{Access}
 use Rattle.simulator_replay.specs.Rows.{AreRows}
-use Rattle.simulator_io.specs.Sample.{sampled, scaled, scaled_shares, shown}
-use Rattle.simulator_io.specs.Written.{IsWritten}
-use Rattle.simulator_io.specs.Uses.{keys_once}
-use Rattle.simulator_io.specs.Trace.{AreNumbers, Numbered, keys_of, sizes_of}
+use Rattle.simulator_traces.specs.Sampled.{sampled}
+use Rattle.simulator_interface.specs.Sample.{scaled, scaled_shares, shown}
+use Rattle.simulator_interface.specs.Written.{IsWritten}
+use Rattle.simulator_traces.specs.Uses.{keys_once}
+use Rattle.simulator_traces.specs.Trace.{AreNumbers, Numbered, keys_of, sizes_of}
 use Rattle.simulator_replay.specs.Windows.{AreAskedWindows}
 
 -- the trace of the sampled keys alone, without a sample

@@ -4,14 +4,14 @@ use Rattle.std.specs.List.{All}
 use Rattle.std.specs.NonZero.{non_zero_usize_get}
 use Rattle.std.specs.declared.num.NonZeroUsize.{NonZeroUsize}
 use Rattle.clock2q_machine.specs.Hits.{hit_count}
-use Rattle.simulator_io.specs.declared.policy.Policy.{Policy}
-use Rattle.simulator_io.specs.declared.row.Hits.{Hits}
-use Rattle.simulator_io.specs.declared.row.Row.{Row}
-use Rattle.simulator_io.specs.declared.shares.ChosenShares.{ChosenShares}
+use Rattle.simulator_interface.specs.declared.policy.Policy.{Policy}
+use Rattle.simulator_interface.specs.declared.row.Hits.{Hits}
+use Rattle.simulator_interface.specs.declared.row.Row.{Row}
+use Rattle.simulator_interface.specs.declared.shares.ChosenShares.{ChosenShares}
 use Rattle.simulator_replay.specs.declared.row.Replayed.{Replayed}
-use Rattle.simulator_io.specs.declared.window.Window.{Window}
-use Rattle.simulator_io.specs.declared.window.Windows.{Windows}
-use Rattle.simulator_io.specs.Bytes.{hit_between}
+use Rattle.simulator_interface.specs.declared.window.Window.{Window}
+use Rattle.simulator_interface.specs.declared.window.Windows.{Windows}
+use Rattle.simulator_traces.specs.Bytes.{hit_between}
 use Rattle.simulator_replay.specs.Rows.{IsReplay, IsRow}
 
 -- windows follow one another from an access up to another

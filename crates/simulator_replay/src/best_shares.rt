@@ -1,13 +1,14 @@
 //! The shares of Clock2Q+ that hit most of a trace, found by replaying some.
 ghost use Rattle.std.specs.Prelude.{◌≡◌, ◌<◌, ◌≤◌, ◌^◌, IfErr, IfOk, Some};
 ghost use Rattle.std.specs.NonZero.{non_zero_usize_get};
-ghost use Rattle.simulator_io.specs.SimulationError.{IsOfNoDevice};
+ghost use Rattle.simulator_interface.specs.SimulationError.{IsOfNoDevice};
 ghost use Rattle.simulator_replay.specs.BestShares.{AreAllBest, AreBest, HasNoMore, clock2q_hits_after};
 
 use crate::known_hits::KnownHits;
 use crate::row::hits_with;
 use clock2q_cache::MAX_CAPACITY;
-use simulator_io::{Amount, BestShares, ChosenShares, Policy, Row, SimulationError, Trace, Unit};
+use simulator_interface::{Amount, BestShares, ChosenShares, Policy, Row, SimulationError, Unit};
+use simulator_traces::Trace;
 use std::alloc::Allocator;
 use std::num::NonZeroUsize;
 

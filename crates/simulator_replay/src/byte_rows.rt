@@ -1,14 +1,15 @@
 //! The hits of a trace with sizes in caches for a number of bytes.
 ghost use Rattle.std.specs.Prelude.{◌≡◌, IfErr, IfOk, IsTrue, Some, is_some};
-ghost use Rattle.simulator_io.specs.PolicyNames.{has_bytes};
+ghost use Rattle.simulator_interface.specs.PolicyNames.{has_bytes};
 ghost use Rattle.std.specs.NonZero.{non_zero_usize_get};
 ghost use Rattle.simulator_replay.specs.ByteRows.{AreByteHits, AreByteRows, in_bytes, IsByteRow};
-ghost use Rattle.simulator_io.specs.SimulationError.{IsOfNoDevice};
-ghost use Rattle.simulator_io.specs.Trace.{sizes_of};
+ghost use Rattle.simulator_interface.specs.SimulationError.{IsOfNoDevice};
+ghost use Rattle.simulator_traces.specs.Trace.{sizes_of};
 
 use crate::row::hits_between;
-use simulator_io::{Hits, Policy, Row, SimulationError, Trace, asked_bytes, hit_bytes};
+use simulator_interface::{Hits, Policy, Row, SimulationError};
 use simulator_policies::{PlainPolicy, byte_outcomes};
+use simulator_traces::{Trace, asked_bytes, hit_bytes};
 use std::alloc::Allocator;
 use std::num::NonZeroUsize;
 

@@ -5,12 +5,12 @@ ghost use Rattle.clock2q_machine.specs.Machine.{empty};
 ghost use Rattle.clock2q_machine.specs.Policies.{IsPolicy};
 ghost use Rattle.clock2q_machine.specs.Hits.{outcomes};
 ghost use Rattle.clock2q_machine.specs.SecondChance.{clock_outcomes};
-ghost use Rattle.simulator_io.specs.ChosenShares.{shares_for};
+ghost use Rattle.simulator_interface.specs.ChosenShares.{shares_for};
 ghost use Rattle.clock2q_machine.specs.MachineHits.{machine_after, machine_holds};
 ghost use Rattle.simulator_replay.specs.MachineHits.{machine_outcomes};
 
 use clock2q_cache::{Cache, CacheError, DefaultHashBuilder, MAX_CAPACITY};
-use simulator_io::ChosenShares;
+use simulator_interface::ChosenShares;
 use std::alloc::Allocator;
 use std::num::NonZeroUsize;
 

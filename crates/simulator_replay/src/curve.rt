@@ -3,10 +3,11 @@ ghost use Rattle.std.specs.Prelude.{◌≡◌, ◌-◌, ◌<◌, ℕ, IfErr, IfO
 ghost use Rattle.std.specs.NonZero.{non_zero_usize_get};
 ghost use Rattle.simulator_policies.specs.Policies.{AreBelow};
 ghost use Rattle.simulator_replay.specs.Curves.{AreHitsAt, curve_hits};
-ghost use Rattle.simulator_io.specs.SimulationError.{IsOfNoDevice};
+ghost use Rattle.simulator_interface.specs.SimulationError.{IsOfNoDevice};
 
-use simulator_io::{Policy, SimulationError, Trace};
+use simulator_interface::{Policy, SimulationError};
 use simulator_policies::{lru_hits_at, optimal_hits_at};
+use simulator_traces::Trace;
 use std::alloc::{AllocError, Allocator};
 use std::num::NonZeroUsize;
 

@@ -2,7 +2,7 @@
 ghost use Rattle.std.specs.Prelude.{◌≡◌};
 ghost use Rattle.simulator_replay.specs.KnownHits.{known_of};
 
-use simulator_io::Policy;
+use simulator_interface::Policy;
 
 /// The hits at one capacity after the skipped accesses, of the policies that have a curve.
 #[derive(Clone, Copy, Debug, PartialEq, Eq)]

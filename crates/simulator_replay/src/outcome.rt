@@ -1,9 +1,9 @@
 //! One trace read and replayed.
 ghost use Rattle.std.specs.Prelude.{◌≡◌, ◌<◌, ◌≤◌, ◌-◌, ◌^◌, ◌↔◌, ◌≢◌, IfErr, IfOk, IsErrOf, map};
-ghost use Rattle.simulator_io.specs.Formats.{has_sizes};
-ghost use Rattle.simulator_io.specs.Sample.{scaled, scaled_shares, shown};
-ghost use Rattle.simulator_io.specs.SimulationError.{IsOfNoDevice};
-ghost use Rattle.simulator_io.specs.Trace.{sizes_of};
+ghost use Rattle.simulator_interface.specs.TraceFormats.{has_sizes};
+ghost use Rattle.simulator_interface.specs.Sample.{scaled, scaled_shares, shown};
+ghost use Rattle.simulator_interface.specs.SimulationError.{IsOfNoDevice};
+ghost use Rattle.simulator_traces.specs.Trace.{sizes_of};
 ghost use Rattle.simulator_replay.specs.BestShares.{AreAskedBest};
 ghost use Rattle.simulator_replay.specs.ByteRows.{AreAskedByteRows};
 ghost use Rattle.simulator_replay.specs.RowBytes.{AllHaveBytes, HaveBytes};
@@ -16,10 +16,11 @@ use crate::byte_rows::byte_rows_of;
 use crate::simulation::rows_of;
 use crate::window::all_windows_of;
 use clock2q_ports::Source;
-use simulator_io::{
-    BestShares, Options, Outcome, Progress, Row, SimulationError, Trace, Windows, all_scaled,
-    all_shown, read_sample, scaled, scaled_shares, show_name, summary_of,
+use simulator_interface::{
+    BestShares, Options, Outcome, Progress, Row, SimulationError, Windows, all_scaled, all_shown,
+    scaled, scaled_shares, show_name,
 };
+use simulator_traces::{Trace, read_sample, summary_of};
 use std::alloc::Allocator;
 use std::hash::BuildHasher;
 use std::io::Write;

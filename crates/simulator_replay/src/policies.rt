@@ -3,15 +3,15 @@ ghost use Rattle.std.specs.Prelude.{◌≡◌, ◌≤◌, ◌^◌, IfErr, IfOk};
 ghost use Rattle.std.specs.NonZero.{non_zero_usize_get};
 ghost use Rattle.simulator_policies.specs.Policies.{AreBelow};
 ghost use Rattle.clock2q_machine.specs.SecondChance.{clock_outcomes};
-ghost use Rattle.simulator_io.specs.ChosenShares.{shares_for};
-ghost use Rattle.simulator_io.specs.SimulationError.{IsOfNoDevice};
+ghost use Rattle.simulator_interface.specs.ChosenShares.{shares_for};
+ghost use Rattle.simulator_interface.specs.SimulationError.{IsOfNoDevice};
 ghost use Rattle.simulator_replay.specs.CacheRefusals.{of_cache};
 ghost use Rattle.simulator_replay.specs.MachineHits.{machine_outcomes};
 ghost use Rattle.simulator_replay.specs.Rows.{IsReplay};
 
 use crate::clock::{clock_outcomes, clock2q_outcomes};
 use clock2q_cache::CacheError;
-use simulator_io::{Amount, ChosenShares, Policy, SimulationError, Unit};
+use simulator_interface::{Amount, ChosenShares, Policy, SimulationError, Unit};
 use simulator_policies::PlainPolicy::{FirstInFirstOut, LeastRecentlyUsed};
 use simulator_policies::tested::{
     arc_outcomes, lirs_outcomes, lru_2_outcomes, s3_fifo_outcomes, sieve_outcomes, two_q_outcomes,

@@ -2,17 +2,16 @@
 ghost use Rattle.std.specs.Prelude.{◌≡◌, ◌+◌, ◌-◌, ◌≤◌, IfErr, IfOk, length, take};
 ghost use Rattle.std.specs.NonZero.{non_zero_usize_get};
 ghost use Rattle.clock2q_machine.specs.Hits.{hit_count};
-ghost use Rattle.simulator_io.specs.SimulationError.{IsOfNoDevice};
-ghost use Rattle.simulator_io.specs.Trace.{sizes_of};
+ghost use Rattle.simulator_interface.specs.SimulationError.{IsOfNoDevice};
+ghost use Rattle.simulator_traces.specs.Trace.{sizes_of};
 ghost use Rattle.simulator_replay.specs.KnownHits.{AreKnown};
 ghost use Rattle.simulator_replay.specs.RowBytes.{AreBytes, HasBytes};
 ghost use Rattle.simulator_replay.specs.Rows.{AreHitsAfter, IsReplay, IsRow};
 
 use crate::known_hits::KnownHits;
 use crate::policies::policy_outcomes;
-use simulator_io::{
-    ChosenShares, Hits, Policy, Row, SimulationError, Trace, asked_bytes, hit_bytes,
-};
+use simulator_interface::{ChosenShares, Hits, Policy, Row, SimulationError};
+use simulator_traces::{Trace, asked_bytes, hit_bytes};
 use std::alloc::Allocator;
 use std::num::NonZeroUsize;
 

@@ -1,9 +1,9 @@
 //! The program's whole work: from a trace to a text.
 ghost use Rattle.std.specs.Prelude.{◌≡◌, ◌≢◌, ◌<◌, ◌↔◌, IfOk, IfErr, IsErrOf, OnOk, map};
 ghost use Rattle.std.specs.NonZero.{non_zero_usize_get};
-ghost use Rattle.simulator_io.specs.Amounts.{IsFor, keys_of};
-ghost use Rattle.simulator_io.specs.SimulationError.{IsOfNoDevice};
-ghost use Rattle.simulator_io.specs.Trace.{sizes_of};
+ghost use Rattle.simulator_interface.specs.Amounts.{IsFor, keys_of};
+ghost use Rattle.simulator_interface.specs.SimulationError.{IsOfNoDevice};
+ghost use Rattle.simulator_traces.specs.Trace.{sizes_of};
 ghost use Rattle.simulator_replay.specs.RowBytes.{HaveBytes};
 ghost use Rattle.simulator_replay.specs.Rows.{AreRows};
 ghost use Rattle.simulator_replay.specs.Simulated.{IsSimulated};
@@ -14,10 +14,11 @@ use crate::outcome::replay_source;
 use crate::row::replay_with_known;
 use clock2q_cache::MAX_CAPACITY;
 use clock2q_ports::{Sink, Source};
-use simulator_io::{
-    Amount, ChosenShares, Options, Policy, Progress, Row, STANDARD_INPUT, SimulationError, Trace,
+use simulator_interface::{
+    Amount, ChosenShares, Options, Policy, Progress, Row, STANDARD_INPUT, SimulationError,
     show_row, write_outcomes,
 };
+use simulator_traces::Trace;
 use std::alloc::Allocator;
 use std::hash::BuildHasher;
 use std::io::Write;
@@ -100,7 +101,8 @@ pub fn rows_of<P: Write, C: Clock, A: Allocator + Copy>(
             optimal: optimal.get(index).copied(),
         };
         let row = replay_with_known(alloc, capacity, policies, shares, skipped, trace, known)?;
-        show_row(alloc, trace, asked, &row, index, progress);
+        let (accesses, is_sized) = (trace.numbers().len(), trace.has_sizes());
+        show_row(alloc, accesses, is_sized, asked, &row, index, progress);
         match rows.push(row) {
             Ok(()) => {}
             Err(_) => return Err(SimulationError::Memory),

@@ -2,17 +2,15 @@
 ghost use Rattle.std.specs.Prelude.{◌≡◌, ◌-◌, ◌≤◌, IfErr, IfOk, length, map};
 ghost use Rattle.std.specs.NonZero.{non_zero_usize_get};
 ghost use Rattle.std.specs.List.{All};
-ghost use Rattle.simulator_io.specs.Bytes.{asked_between};
-ghost use Rattle.simulator_io.specs.SimulationError.{IsOfNoDevice};
-ghost use Rattle.simulator_io.specs.Trace.{sizes_of};
+ghost use Rattle.simulator_traces.specs.Bytes.{asked_between};
+ghost use Rattle.simulator_interface.specs.SimulationError.{IsOfNoDevice};
+ghost use Rattle.simulator_traces.specs.Trace.{sizes_of};
 ghost use Rattle.simulator_replay.specs.RowBytes.{AllHaveBytes, WindowsHaveBytes};
 ghost use Rattle.simulator_replay.specs.Windows.{counted, AreAllWindows, AreReplays, AreWindows};
 
 use crate::row::{Replayed, hits_between, replay_with};
-use simulator_io::{
-    ChosenShares, Hits, Policy, Row, SimulationError, Trace, Window, Windows, asked_bytes,
-    hit_bytes,
-};
+use simulator_interface::{ChosenShares, Hits, Policy, Row, SimulationError, Window, Windows};
+use simulator_traces::{Trace, asked_bytes, hit_bytes};
 use std::alloc::Allocator;
 use std::num::NonZeroUsize;
 

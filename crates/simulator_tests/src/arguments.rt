@@ -1,7 +1,9 @@
 //! Messages of refusals, and what the help texts contain.
 
 use crate::player::words_of;
-use simulator_io::{Amount, ErrorReport, HELP, POLICIES_HELP, Policy, SimulationError, Unit};
+use simulator_interface::{
+    Amount, ErrorReport, HELP, POLICIES_HELP, Policy, SimulationError, Unit,
+};
 use std::alloc::Global;
 use std::test::Fail;
 use testing::{same, same_at};

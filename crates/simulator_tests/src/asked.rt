@@ -1,7 +1,7 @@
 //! What words and arguments ask for: cases of a file, a line each.
 
 use crate::player::words_of;
-use simulator_io::{
+use simulator_interface::{
     Amount, FORMATS_HELP, HELP, Options, POLICIES_HELP, Sample, bytes_of, help_for, parse_options,
 };
 use std::alloc::{AllocError, Global};

@@ -2,8 +2,9 @@
 
 use crate::traces::{non_zero, trace_of, trace_with};
 use clock2q_cache::MAX_CAPACITY;
-use simulator_io::{ChosenShares, Policy, Trace};
+use simulator_interface::{ChosenShares, Policy};
 use simulator_replay::{TRIED_SHARES, best_shares_of, replay};
+use simulator_traces::Trace;
 use std::alloc::Global;
 use std::num::NonZeroUsize;
 use std::test::Fail;

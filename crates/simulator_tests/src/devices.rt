@@ -3,7 +3,7 @@
 use crate::player::options_of;
 use clock2q_cache::DefaultHashBuilder;
 use clock2q_ports::Device;
-use simulator_io::{Progress, SimulationError};
+use simulator_interface::{Progress, SimulationError};
 use simulator_replay::simulate;
 use std::alloc::Global;
 use std::io::{Error, ErrorKind, Read, Result as IoResult, Write};

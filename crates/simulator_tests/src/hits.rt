@@ -2,8 +2,9 @@
 
 use crate::numbers::trace_of;
 use crate::traces::non_zero;
-use simulator_io::{ChosenShares, Policy, SimulationError, Trace};
+use simulator_interface::{ChosenShares, Policy, SimulationError};
 use simulator_replay::replay;
+use simulator_traces::Trace;
 use std::alloc::Global;
 use std::test::Fail;
 use testing::same_at;

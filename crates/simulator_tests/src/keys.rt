@@ -4,7 +4,8 @@ use crate::asked::list;
 use crate::player::{Slow, words_of};
 use clock2q_cache::DefaultHashBuilder;
 use clock2q_ports::Device;
-use simulator_io::{Progress, SimulationError, Trace, parse_options, read_sample};
+use simulator_interface::{Progress, SimulationError, parse_options};
+use simulator_traces::{Trace, read_sample};
 use std::alloc::{AllocError, Global};
 use testing::{SpellingError, spelled};
 

@@ -2,7 +2,8 @@
 
 use clock2q_cache::DefaultHashBuilder;
 use clock2q_ports::Device;
-use simulator_io::{GrowingTrace, Progress, SimulationError, Trace, TraceFormat, read_trace};
+use simulator_interface::{Progress, SimulationError, TraceFormat};
+use simulator_traces::{GrowingTrace, Trace, read_trace};
 use std::alloc::{AllocError, Global};
 use std::test::Fail;
 use testing::{same, same_at};

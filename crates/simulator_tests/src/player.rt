@@ -2,7 +2,7 @@
 
 use clock2q_cache::DefaultHashBuilder;
 use clock2q_ports::Device;
-use simulator_io::{ErrorReport, Options, Progress, SimulationError, parse_options};
+use simulator_interface::{ErrorReport, Options, Progress, SimulationError, parse_options};
 use simulator_replay::simulate;
 use std::alloc::{AllocError, Global};
 use std::hash::BuildHasher;

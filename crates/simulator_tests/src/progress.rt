@@ -2,7 +2,7 @@
 
 use crate::player::{options_of, simulated};
 use clock2q_cache::DefaultHashBuilder;
-use simulator_io::Progress;
+use simulator_interface::Progress;
 use std::alloc::Global;
 use std::cell::Cell;
 use std::io;

@@ -4,7 +4,7 @@
 use crate::player::words_of;
 use clock2q_cache::DefaultHashBuilder;
 use clock2q_ports::Device;
-use simulator_io::{Progress, SimulationError, parse_options};
+use simulator_interface::{Progress, SimulationError, parse_options};
 use simulator_replay::simulate;
 use std::alloc::{Allocator, Global};
 use std::env;

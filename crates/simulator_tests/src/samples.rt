@@ -4,7 +4,7 @@ use crate::numbers::push_line;
 use crate::player::words_of;
 use crate::texts::written;
 use crate::traces::next_state;
-use simulator_io::Sample;
+use simulator_interface::Sample;
 use std::alloc::{AllocError, Global};
 use std::test::Fail;
 use testing::same_at;

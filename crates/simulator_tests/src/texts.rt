@@ -3,7 +3,9 @@
 use crate::player::{simulated, words_of};
 use clock2q_cache::DefaultHashBuilder;
 use clock2q_ports::Device;
-use simulator_io::{Options, Outcome, Progress, SimulationError, parse_options, write_outcomes};
+use simulator_interface::{
+    Options, Outcome, Progress, SimulationError, parse_options, write_outcomes,
+};
 use simulator_replay::replay_source;
 use std::alloc::Global;
 use std::hash::{BuildHasher, RandomState};

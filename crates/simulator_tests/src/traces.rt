@@ -1,6 +1,6 @@
 //! Traces that shares are compared on.
 
-use simulator_io::{GrowingTrace, Trace};
+use simulator_traces::{GrowingTrace, Trace};
 use std::alloc::{AllocError, Global};
 use std::num::NonZeroUsize;
 use std::test::Fail;

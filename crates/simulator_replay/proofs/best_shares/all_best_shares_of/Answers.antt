@@ -2,7 +2,7 @@ use Rattle.std.proofs.Common.{◌∙◌, ap, sym, subst, map, rules}
 use Rattle.std.specs.NonZero.{non_zero_usize_get}
 use Rattle.std.proofs.lemmas.List.{take_all}
 use Rattle.simulator_replay.specs.BestShares.{AreBest}
-use Rattle.simulator_io.proofs.Zipped.{zipped-more, All-more}
+use Rattle.simulator_interface.proofs.Zipped.{zipped-more, All-more}
 use Rattle.simulator_replay.proofs.best_shares.all_best_shares_of.Goals as goal
 
 pub loop-row-preserved : goal.loop-row-preserved

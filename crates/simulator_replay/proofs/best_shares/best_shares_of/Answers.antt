@@ -5,12 +5,12 @@ use Rattle.std.proofs.lemmas.Option.{slice_get-get_or}
 use Rattle.std.specs.List.{All}
 use Rattle.std.specs.NonZero.{non_zero_usize_get}
 use Rattle.std.proofs.lemmas.List.{take_all, take_more}
-use Rattle.simulator_io.specs.declared.amount.Unit.TheVariants.{Keys}
-use Rattle.simulator_io.specs.declared.shares.ChosenShares.{ChosenShares}
-use Rattle.simulator_io.specs.Amounts.{amount}
+use Rattle.simulator_interface.specs.declared.amount.Unit.TheVariants.{Keys}
+use Rattle.simulator_interface.specs.declared.shares.ChosenShares.{ChosenShares}
+use Rattle.simulator_interface.specs.Amounts.{amount}
 use Rattle.simulator_replay.specs.BestShares.{AreFirst, HasNoMore}
 use Rattle.simulator_replay.proofs.TriedShares.{fewer_of_all, no_more_of_all, no_more_than}
-use Rattle.simulator_io.proofs.Zipped.{All-more}
+use Rattle.simulator_interface.proofs.Zipped.{All-more}
 use Rattle.simulator_replay.proofs.best_shares.best_shares_of.Goals.{then-most-hits, else-most-hits}
 use Rattle.simulator_replay.proofs.best_shares.best_shares_of.Goals as goal
 

@@ -1,8 +1,8 @@
 use Rattle.std.proofs.Common.{◌≡◌, ◌∙◌, ap, sym, length, arith}
 use Rattle.std.specs.NonZero.{non_zero_usize_get}
 use Rattle.simulator_policies.specs.ByteCaches.{byte_outcomes}
-use Rattle.simulator_io.specs.Bytes.{hit_between}
-use Rattle.simulator_io.specs.Trace.{sizes_of}
+use Rattle.simulator_traces.specs.Bytes.{hit_between}
+use Rattle.simulator_traces.specs.Trace.{sizes_of}
 use Rattle.simulator_replay.proofs.ByteRows.{hits_are, outcomes_long}
 use Rattle.simulator_replay.proofs.byte_rows.byte_hits_with.Goals as goal
 

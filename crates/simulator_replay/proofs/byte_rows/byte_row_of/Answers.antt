@@ -1,9 +1,9 @@
 use Rattle.std.proofs.Common.{sym}
 use Rattle.std.specs.NonZero.{non_zero_usize_get}
 use Rattle.simulator_replay.specs.ByteRows.{AreByteHits}
-use Rattle.simulator_io.specs.Trace.{sizes_of}
+use Rattle.simulator_traces.specs.Trace.{sizes_of}
 use Rattle.simulator_replay.proofs.ByteRows.{defined-more}
-use Rattle.simulator_io.proofs.Zipped.{All-more}
+use Rattle.simulator_interface.proofs.Zipped.{All-more}
 use Rattle.simulator_replay.proofs.byte_rows.byte_row_of.Goals as goal
 
 pub loop-policy-preserved : goal.loop-policy-preserved

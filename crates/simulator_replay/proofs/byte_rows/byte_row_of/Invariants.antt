@@ -2,9 +2,9 @@
 use Rattle.std.proofs.Common.{◌≡◌, map, take}
 use Rattle.std.specs.List.{All, filter}
 use Rattle.std.specs.NonZero.{non_zero_usize_get}
-use Rattle.simulator_io.specs.PolicyNames.{has_bytes}
+use Rattle.simulator_interface.specs.PolicyNames.{has_bytes}
 use Rattle.simulator_replay.specs.ByteRows.{AreByteHits}
-use Rattle.simulator_io.specs.Trace.{sizes_of}
+use Rattle.simulator_traces.specs.Trace.{sizes_of}
 use Rattle.simulator_replay.proofs.byte_rows.byte_row_of.Given as goal
 
 abbrev pub invariant-loop-policy : goal.invariant-loop-policy

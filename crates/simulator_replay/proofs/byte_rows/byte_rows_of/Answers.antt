@@ -2,8 +2,8 @@ use Rattle.std.proofs.Common.{◌∙◌, ap, map, rules}
 use Rattle.std.specs.NonZero.{non_zero_usize_get}
 use Rattle.std.proofs.lemmas.List.{take_all}
 use Rattle.simulator_replay.specs.ByteRows.{IsByteRow}
-use Rattle.simulator_io.specs.Trace.{sizes_of}
-use Rattle.simulator_io.proofs.Zipped.{zipped-more, All-more}
+use Rattle.simulator_traces.specs.Trace.{sizes_of}
+use Rattle.simulator_interface.proofs.Zipped.{zipped-more, All-more}
 use Rattle.simulator_replay.proofs.byte_rows.byte_rows_of.Goals as goal
 
 pub loop-capacity-preserved : goal.loop-capacity-preserved

@@ -1,6 +1,6 @@
 use Rattle.std.proofs.Common.{◌∙◌, ap, length}
 use Rattle.std.specs.NonZero.{non_zero_usize_get}
-use Rattle.simulator_io.specs.declared.policy.Policy.TheVariants.{Sieve, S3Fifo, Arc, TwoQ, Lirs, Lru2, WTinyLfu}
+use Rattle.simulator_interface.specs.declared.policy.Policy.TheVariants.{Sieve, S3Fifo, Arc, TwoQ, Lirs, Lru2, WTinyLfu}
 use Rattle.simulator_replay.proofs.Replaying.{replay_is, clock2q_is, least_recent_is, optimal_is, first_in_is, clock_is}
 use Rattle.simulator_replay.proofs.policies.policy_outcomes.Goals.{in-Clock2Q+in_ok-outcomes-in-Clock2Q, in-Sieve+in_ok-outcomes-in-Sieve, in-S3Fifo+in_ok-outcomes-in-S3Fifo}
 use Rattle.simulator_replay.proofs.policies.policy_outcomes.Goals.{in-LeastRecentlyUsed+in_ok-outcomes-in-LeastRecentlyUsed, in-Optimal+in_ok-outcomes-in-Optimal}

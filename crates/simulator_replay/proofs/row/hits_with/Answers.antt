@@ -1,7 +1,7 @@
 use Rattle.std.proofs.Common.{◌≡◌, ◌∙◌, ap, sym, false, arith, length}
 use Rattle.std.specs.NonZero.{non_zero_usize_get}
-use Rattle.simulator_io.specs.Sample.{sampled}
-use Rattle.simulator_io.specs.Trace.{kept_sizes, sizes_of}
+use Rattle.simulator_traces.specs.Sampled.{sampled}
+use Rattle.simulator_traces.specs.Trace.{kept_sizes, sizes_of}
 use Rattle.simulator_replay.proofs.RowBytes.{known-bytes, replay-bytes}
 use Rattle.simulator_replay.proofs.KnownHits.{known-hits, known-replay}
 use Rattle.simulator_replay.proofs.Replaying.{after_are}

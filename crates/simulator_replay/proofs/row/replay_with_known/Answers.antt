@@ -2,9 +2,9 @@ use Rattle.std.proofs.Common.{length}
 use Rattle.std.specs.NonZero.{non_zero_usize_get}
 use Rattle.simulator_replay.specs.RowBytes.{AreBytes}
 use Rattle.simulator_replay.specs.Rows.{AreHitsAfter}
-use Rattle.simulator_io.specs.Trace.{sizes_of}
+use Rattle.simulator_traces.specs.Trace.{sizes_of}
 use Rattle.simulator_replay.proofs.Replaying.{kept-more}
-use Rattle.simulator_io.proofs.Zipped.{All-more}
+use Rattle.simulator_interface.proofs.Zipped.{All-more}
 use Rattle.simulator_replay.proofs.row.replay_with_known.Goals as goal
 
 pub loop-policy-preserved : goal.loop-policy-preserved

@@ -4,7 +4,7 @@ use Rattle.std.specs.List.{All}
 use Rattle.std.specs.NonZero.{non_zero_usize_get}
 use Rattle.simulator_replay.specs.RowBytes.{AreBytes}
 use Rattle.simulator_replay.specs.Rows.{AreHitsAfter}
-use Rattle.simulator_io.specs.Trace.{sizes_of}
+use Rattle.simulator_traces.specs.Trace.{sizes_of}
 use Rattle.simulator_replay.proofs.row.replay_with_known.Given as goal
 
 abbrev pub invariant-loop-policy : goal.invariant-loop-policy

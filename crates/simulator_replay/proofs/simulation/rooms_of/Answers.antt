@@ -1,8 +1,8 @@
 use Rattle.std.proofs.Common.{◌∙◌, ap, map, rules}
 use Rattle.std.specs.NonZero.{non_zero_usize_get}
 use Rattle.std.proofs.lemmas.List.{take_all}
-use Rattle.simulator_io.specs.Amounts.{keys_of}
-use Rattle.simulator_io.proofs.Zipped.{zipped-more}
+use Rattle.simulator_interface.specs.Amounts.{keys_of}
+use Rattle.simulator_interface.proofs.Zipped.{zipped-more}
 use Rattle.simulator_replay.proofs.simulation.rooms_of.Goals as goal
 
 pub loop-asked-preserved : goal.loop-asked-preserved

@@ -3,8 +3,8 @@ use Rattle.std.specs.NonZero.{non_zero_usize_get}
 use Rattle.std.proofs.lemmas.List.{take_all}
 use Rattle.simulator_replay.specs.RowBytes.{HasBytes}
 use Rattle.simulator_replay.specs.Rows.{IsRow}
-use Rattle.simulator_io.specs.Trace.{sizes_of}
-use Rattle.simulator_io.proofs.Zipped.{zipped-more, All-more}
+use Rattle.simulator_traces.specs.Trace.{sizes_of}
+use Rattle.simulator_interface.proofs.Zipped.{zipped-more, All-more}
 use Rattle.simulator_replay.proofs.simulation.rows_of.Goals as goal
 
 pub loop-index-preserved : goal.loop-index-preserved

@@ -4,7 +4,7 @@ use Rattle.std.specs.List.{All}
 use Rattle.std.specs.NonZero.{non_zero_usize_get}
 use Rattle.simulator_replay.specs.RowBytes.{HaveBytes}
 use Rattle.simulator_replay.specs.Rows.{IsRow}
-use Rattle.simulator_io.specs.Trace.{sizes_of}
+use Rattle.simulator_traces.specs.Trace.{sizes_of}
 use Rattle.simulator_replay.proofs.simulation.rows_of.Given as goal
 
 abbrev pub invariant-loop-index : goal.invariant-loop-index

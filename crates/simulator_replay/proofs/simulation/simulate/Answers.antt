@@ -1,5 +1,5 @@
-use Rattle.simulator_io.specs.Written.{IsWritten}
-use Rattle.simulator_io.proofs.RecordByRecord.{ok-result}
+use Rattle.simulator_interface.specs.Written.{IsWritten}
+use Rattle.simulator_traces.proofs.RecordByRecord.{ok-result}
 use Rattle.simulator_replay.proofs.simulation.simulate.Goals as goal
 
 pub returns-clause-ok : goal.returns-clause-ok

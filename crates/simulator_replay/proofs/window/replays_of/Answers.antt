@@ -3,7 +3,7 @@ use Rattle.std.specs.NonZero.{non_zero_usize_get}
 use Rattle.std.proofs.lemmas.List.{take_all}
 use Rattle.simulator_replay.specs.Rows.{IsReplay}
 use Rattle.simulator_replay.proofs.Replaying.{kept-more}
-use Rattle.simulator_io.proofs.Zipped.{All-more}
+use Rattle.simulator_interface.proofs.Zipped.{All-more}
 use Rattle.simulator_replay.proofs.window.replays_of.Goals as goal
 
 pub loop-policy-preserved : goal.loop-policy-preserved

@@ -1,6 +1,6 @@
 use Rattle.std.proofs.Common.{◌≡◌, ◌-◌, ◌≤◌, ◌∙◌, ◌++◌, ◌∷◌, [], ap, sym, subst, arith, length, take}
 use Rattle.clock2q_machine.specs.Hits.{hit_count}
-use Rattle.simulator_io.specs.Bytes.{hit_between}
+use Rattle.simulator_traces.specs.Bytes.{hit_between}
 use Rattle.simulator_replay.specs.Windows.{counted}
 use Rattle.simulator_replay.proofs.Replaying.{mapped-more, hits_of}
 use Rattle.simulator_replay.proofs.window.row_between.Goals as goal

@@ -1,11 +1,11 @@
 use Rattle.std.proofs.Common.{◌≡◌, ◌+◌, ◌-◌, ap, subst, refl, length, min, arith, rules}
 use Rattle.std.specs.NonZero.{non_zero_usize_get}
 use Rattle.simulator_replay.specs.RowBytes.{HasBytes}
-use Rattle.simulator_io.specs.Trace.{sizes_of}
+use Rattle.simulator_traces.specs.Trace.{sizes_of}
 use Rattle.simulator_replay.specs.Windows.{AreInTurn}
 use Rattle.simulator_replay.proofs.Replaying.{all_within, bytes_are, row_is}
 use Rattle.simulator_replay.proofs.WindowByWindow.{one_more}
-use Rattle.simulator_io.proofs.Zipped.{All-more}
+use Rattle.simulator_interface.proofs.Zipped.{All-more}
 use Rattle.simulator_replay.proofs.window.windows_of.Goals as goal
 
 pub row_between-requires-clause-within : goal.row_between-requires-clause-within

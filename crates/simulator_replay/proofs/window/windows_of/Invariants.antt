@@ -3,7 +3,7 @@ use Rattle.std.proofs.Common.{◌-◌, ◌≤◌, length, min}
 use Rattle.std.specs.List.{All}
 use Rattle.std.specs.NonZero.{non_zero_usize_get}
 use Rattle.simulator_replay.specs.RowBytes.{WindowsHaveBytes}
-use Rattle.simulator_io.specs.Trace.{sizes_of}
+use Rattle.simulator_traces.specs.Trace.{sizes_of}
 use Rattle.simulator_replay.specs.Windows.{AreInTurn, IsWindow}
 use Rattle.simulator_replay.proofs.window.windows_of.Given as goal
 

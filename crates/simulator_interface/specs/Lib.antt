@@ -1,0 +1,11 @@
+pub mod Amounts
+pub mod AskedOptions
+pub mod ByteAmounts
+pub mod ChosenShares
+pub mod Help
+pub mod PolicyNames
+pub mod Ratios
+pub mod Sample
+pub mod SimulationError
+pub mod TraceFormats
+pub mod Written

@@ -1,5 +1,0 @@
-use Rattle.std.proofs.Common.{[]}
-use Rattle.simulator_io.proofs.trace.GrowingTrace.with_sizes.Given as goal
-
-abbrev pub ghost-new : goal.ghost-new
-ghost-new g a = []

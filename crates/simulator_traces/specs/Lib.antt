@@ -1,0 +1,9 @@
+pub mod Bytes
+pub mod Fields
+pub mod Formats
+pub mod KeyedHasher
+pub mod KnownKeys
+pub mod Reading
+pub mod Sampled
+pub mod Trace
+pub mod Uses
