@@ -39,7 +39,7 @@ pub enum ArgumentError {
     #[error("policy named twice")]
     RepeatedPolicy,
     /// It isn't two shares, or three with the history's.
-    #[error("not shares (small and window, as small=20%,window=50% or small=30,window=10)")]
+    #[error("not shares (small and window, and perhaps history, as small=20%,window=50%,history=90% or small=30,window=10)")]
     NotShares,
     /// Small's share is all of it, the window is longer than Small, one of them alone is 0, or the
     /// history remembers more keys than it.

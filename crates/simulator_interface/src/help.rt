@@ -16,7 +16,8 @@ standard input. A capacity is how many keys a cache holds, up to 16777215, as
 sizes, a capacity in bytes, as 64kB, 64MiB or 1GB, is for lru and fifo.
 
     printf 'a\\nb\\na\\nc\\nb\\nd\\na\\nb\\n' | clock2q-simulate 2 75%
-    clock2q-simulate --svg --policies=clock2q,lru,opt 9 50 trace >hits.svg
+    zstd -dc trace.zst | clock2q-simulate --svg 1%..50% >hits.svg
+    ls *.trace | xargs -P 4 -n 1 clock2q-simulate --json 10%  # side by side
 
   --csv, --json, --svg  prints rows with commas, JSON, or a picture of a trace
   --policies=NAMES  compares these policies (--help policies)

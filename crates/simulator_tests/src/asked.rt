@@ -13,6 +13,7 @@ use testing::SpellingError;
 enum Question {
     OfWord(Property),
     Help,
+    Phrase,
     OfArguments(Choice),
 }
 
@@ -44,6 +45,7 @@ const QUESTIONS: &[(&str, Question)] = &[
     ("part", Question::OfWord(Property::Part)),
     ("amount", Question::OfWord(Property::Amount)),
     ("help", Question::Help),
+    ("phrase", Question::Phrase),
     ("keys", Question::OfArguments(Choice::Keys)),
     ("byte_capacities", Question::OfArguments(Choice::Bytes)),
     ("traces", Question::OfArguments(Choice::Traces)),
@@ -85,6 +87,7 @@ fn answer_to(
     match question {
         Some(Question::OfWord(property)) => Ok(property_of(alloc, property, asked)?),
         Some(Question::Help) => help_on(alloc, asked),
+        Some(Question::Phrase) => Ok(String::from_str(alloc, help_with(asked))?),
         Some(Question::OfArguments(choice)) => choice_of(alloc, choice, asked),
         None => Ok(String::from_str(alloc, "no question")?),
     }
@@ -123,6 +126,19 @@ fn help_on(alloc: Global, line: &str) -> Result<String, SpellingError> {
         None => "none",
     };
     Ok(String::from_str(alloc, name)?)
+}
+
+/// Returns the name of the first help text with a phrase.
+fn help_with(phrase: &str) -> &'static str {
+    if HELP.contains(phrase) {
+        "help"
+    } else if FORMATS_HELP.contains(phrase) {
+        "formats"
+    } else if POLICIES_HELP.contains(phrase) {
+        "policies"
+    } else {
+        "none"
+    }
 }
 
 /// Returns the name of a help text.
