@@ -1,10 +1,10 @@
 //! A directory with one slot, which each key has for a while before it is remembered.
-ghost use Rattle.std.specs.Prelude.{◌≡◌, ◌<◌, ◌^◌, ◌%◌, false, nat_eq};
+ghost use Rattle.std.specs.Prelude.{◌≡◌, ◌%◌, false, nat_eq};
 ghost use Rattle.clock2q_directory.specs.Index.{IsGapFor};
 ghost use Rattle.clock2q_directory.specs.History.{is_remembered};
 ghost use Rattle.tests_queues.specs.Beside.{IsAlone, HasResident};
 
-use crate::calls::{HistoryCall, Reply};
+use crate::verb::{Reply, Verb, flag};
 use clock2q_directory::directory::Directory;
 use clock2q_directory::handle::Found;
 use clock2q_directory::newcomer::Newcomer;
@@ -21,7 +21,7 @@ const NOBODY: u64 = u64::MAX;
 
 /// A directory in which no key is resident between two calls.
 #[derive(Drop)]
-pub struct Beside<A: Allocator> {
+pub(crate) struct Beside<A: Allocator> {
     directory: Directory<u64, (), A>,
     hashes: u64,
 }
@@ -43,84 +43,76 @@ impl<A: Allocator> Model for Beside<A> {
 impl<A: Allocator + Copy> Beside<A> {
     /// Returns a directory for up to `limit` remembered keys. Keys with the same remainder modulo
     /// `hashes` have the same hash.
-    pub fn new(alloc: A, limit: usize, hashes: u64) -> Result<Self, AllocError>
-        requires some { 0 < hashes }
-        requires short { limit < 2 ^ 24 }
-    {
+    pub(crate) fn new(alloc: A, limit: u8, hashes: u64) -> Result<Self, AllocError> {
         Ok(Beside {
-            directory: Directory::new(alloc, 1, limit)?,
-            hashes,
+            directory: Directory::new(alloc, 1, usize::from(limit))?,
+            hashes: hashes.max(1),
         })
     }
 }
 
 impl<A: Allocator> Beside<A> {
-    /// Returns the number of remembered keys.
-    pub fn len(&self) -> usize {
-        self.directory.remembered_len()
+    /// Makes a call.
+    pub(crate) fn reply(&mut self, verb: Verb, key: u64) -> Reply {
+        match verb {
+            Verb::Renew => self.renew(key),
+            Verb::Pass => self.pass(key),
+            Verb::Forget => self.forget(key),
+            Verb::Replace => self.replace(key),
+            Verb::Len => Some(self.directory.remembered_len() as u64),
+            Verb::Clear => self.clear(),
+            _ => None,
+        }
     }
 
-    /// Forgets a key, and returns true if it was remembered.
-    pub fn forget(&mut self, key: u64) -> bool {
+    /// Forgets a key, and replies whether it was remembered.
+    fn forget(&mut self, key: u64) -> Reply {
         let (known, _) = forget(&mut self.directory, key, self.hashes);
-        known
+        flag(known)
     }
 
-    /// Forgets a key, gives it the slot, and remembers it. Returns whether it was remembered
-    /// before, and whether it was found at the slot.
-    pub fn renew(&mut self, key: u64) -> (bool, bool) {
+    /// Forgets a key, gives it the slot, and remembers it. Replies whether it was remembered before, if
+    /// it was found at the slot.
+    fn renew(&mut self, key: u64) -> Reply {
         let (known, gap) = forget(&mut self.directory, key, self.hashes);
         enter(&mut self.directory, gap, key, self.hashes);
-        let found = remember(&mut self.directory, key, self.hashes);
+        let is_found = remember(&mut self.directory, key, self.hashes);
         leave(&mut self.directory, NOBODY, self.hashes);
-        (known, matches!(found, Found::Resident(0)))
+        if is_found { flag(known) } else { None }
     }
 
     /// Forgets a key, gives it the slot, and takes it away again without remembering the key.
-    /// Returns true if it was remembered.
-    pub fn pass(&mut self, key: u64) -> bool {
+    /// Replies whether it was remembered.
+    fn pass(&mut self, key: u64) -> Reply {
         let (known, gap) = forget(&mut self.directory, key, self.hashes);
         enter(&mut self.directory, gap, key, self.hashes);
         leave(&mut self.directory, key, self.hashes);
-        known
+        flag(known)
     }
 
-    /// Forgets a key, gives it the slot, looks it up there, and replaces it with [`NOBODY`].
-    /// Returns where it was found, and the hash and the key that left.
-    pub fn replace(&mut self, key: u64) -> (Looked, (u64, u64)) {
+    /// Forgets a key, gives it the slot, looks it up there, and replaces it with [`NOBODY`]. Replies
+    /// with the hash that left, if each look-up found the key and it was the one that left.
+    fn replace(&mut self, key: u64) -> Reply {
         let (_, gap) = forget(&mut self.directory, key, self.hashes);
         enter(&mut self.directory, gap, key, self.hashes);
         let looked = look(&mut self.directory, key, self.hashes);
-        let old = replace(&mut self.directory, key, self.hashes);
+        let (hash, left) = replace(&mut self.directory, key, self.hashes);
         leave(&mut self.directory, NOBODY, self.hashes);
-        (looked, old)
+        match looked {
+            (Some(0), Some(0), true) if left == key => Some(hash),
+            _ => None,
+        }
     }
 
     /// Forgets every key.
-    pub fn clear(&mut self) {
+    fn clear(&mut self) -> Reply {
         self.directory.clear();
-    }
-
-    /// Makes a call.
-    pub(crate) fn reply(&mut self, call: HistoryCall) -> Reply {
-        match call {
-            HistoryCall::Renew(key) => {
-                let (known, is_found) = self.renew(key);
-                Reply::Renewed(known, is_found)
-            }
-            HistoryCall::Pass(key) => Reply::Flag(self.pass(key)),
-            HistoryCall::Forget(key) => Reply::Flag(self.forget(key)),
-            HistoryCall::Clear => {
-                self.clear();
-                Reply::Done
-            }
-            HistoryCall::Len => Reply::Number(self.len()),
-        }
+        Some(1)
     }
 }
 
 /// Where a resident key was found, twice, and whether it equals the one at the slot.
-pub type Looked = (Option<u32>, Option<u32>, bool);
+type Looked = (Option<u32>, Option<u32>, bool);
 
 /// Forgets a key. Returns true if it was remembered, and otherwise the gap for its hash, if the
 /// lookup found it.
@@ -162,13 +154,14 @@ fn enter<A: Allocator>(
 }
 
 /// Looks the resident up, and remembers it when [`NOBODY`] takes its slot, at the gap that a lookup
-/// finds. Returns what was found.
-fn remember<A: Allocator>(directory: &mut Directory<u64, (), A>, key: u64, hashes: u64) -> Found
+/// finds. Returns true if it was found at its slot.
+fn remember<A: Allocator>(directory: &mut Directory<u64, (), A>, key: u64, hashes: u64) -> bool
     requires resident { HasResident key hashes directory.old.history directory.old.residents }
     requires absent { is_remembered nat_eq key directory.old.history.entries ≡ false }
     ensures resident { HasResident NOBODY hashes directory.new.history directory.new.residents }
 {
     let found = directory.lookup(key % hashes, &key);
+    let is_found = matches!(found, Found::Resident(0));
     let gap = directory.lookup(NOBODY % hashes, &NOBODY).gap();
     let newcomer = Newcomer {
         gap,
@@ -177,7 +170,7 @@ fn remember<A: Allocator>(directory: &mut Directory<u64, (), A>, key: u64, hashe
         value: Some(()),
     };
     directory.replace_remembering(0, newcomer);
-    found
+    is_found
 }
 
 /// Looks the resident up in each way.

@@ -4,9 +4,8 @@ ghost use Rattle.std.specs.Prelude.{◌≡◌, ◌+◌, ◌≤◌, true, false, 
 ghost use Rattle.std.specs.List.{range_with_len};
 
 use clock2q_queues::queues::Queues;
-use std::alloc::Global;
-use std::test::Fail;
-use testing::{Refusing, same};
+use std::alloc::{AllocError, Global};
+use testing::Refusing;
 
 /// Puts the slots from 2 to 19 into Main, and hits each.
 fn fill_main(queues: &mut Queues<&Refusing<Global>>)
@@ -85,8 +84,8 @@ fn play_each(queues: &mut Queues<&Refusing<Global>>) -> (u32, u32)
     (first, look_twice(queues))
 }
 
-/// Plays the runs. What they leave is proved.
-pub(crate) fn count(memory: &Refusing<Global>) -> Result<(), Fail> {
+/// Plays the runs on new queues. What they leave is proved.
+pub(crate) fn count(memory: &Refusing<Global>) -> Result<(u32, u32), AllocError> {
     let mut queues = Queues::new(memory, 20, 0)?;
-    same(play_each(&mut queues), (2, 0))
+    Ok(play_each(&mut queues))
 }

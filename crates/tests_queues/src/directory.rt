@@ -2,9 +2,7 @@
 ghost use Rattle.std.specs.Prelude.{◌≡◌, ◌<◌, []};
 
 use clock2q_directory::directory::Directory;
-use std::alloc::Global;
-use std::test::Fail;
-use testing::same;
+use std::alloc::{AllocError, Global};
 
 /// Makes the slot, and replaces its value. Returns how many slots are made and how many keys are
 /// remembered before and after it is made, then the slot's key and value, the value that is replaced, and
@@ -25,11 +23,8 @@ fn make_and_replace(directory: &mut Directory<u64, u64>) -> ([usize; 4], [u64; 5
     )
 }
 
-/// A directory with one slot, which has no resident.
-pub(crate) fn a_slot(alloc: Global) -> Result<(), Fail> {
+/// Does so in a directory with one slot, which has no resident.
+pub(crate) fn a_slot(alloc: Global) -> Result<([usize; 4], [u64; 5]), AllocError> {
     let mut directory = Directory::new(alloc, 1, 0)?;
-    same(
-        make_and_replace(&mut directory),
-        ([0, 0, 1, 0], [70, 700, 700, 70, 701]),
-    )
+    Ok(make_and_replace(&mut directory))
 }

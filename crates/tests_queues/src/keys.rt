@@ -9,7 +9,7 @@ use clock2q_count::Count;
 use clock2q_directory::index::index_room;
 use clock2q_directory::keys::Keys;
 use clock2q_handles::Table;
-use std::alloc::Global;
+use std::alloc::{AllocError, Global};
 use std::test::Fail;
 use testing::{same, same_at};
 
@@ -21,8 +21,11 @@ fn set_value(keys: &mut Keys<u64, u64>, place: u32, value: u64)
     *keys.value_mut(place) = value;
 }
 
-/// Returns the keys and values at the first two places, and whether each key equals another one.
-fn held(keys: &mut Keys<u64, u64>, key: u64) -> ([u64; 4], [bool; 2])
+/// The keys and values at the first two places, and whether each key equals another one.
+type Held = ([u64; 4], [bool; 2]);
+
+/// Returns what is held, and whether each key equals `key`.
+fn held(keys: &mut Keys<u64, u64>, key: u64) -> Held
     requires two { 2 ≤ length keys.old.entries }
     ensures len { length keys.new.entries ≡ length keys.old.entries }
     ensures room { keys.new.room ≡ keys.old.room }
@@ -55,37 +58,34 @@ fn replace_first_value(keys: &mut Keys<u64, u64>) -> u64
     keys.replace_value(0, 901)
 }
 
-/// One of two keys is replaced, and the other is overwritten.
-fn replace_both(keys: &mut Keys<u64, u64>) -> Result<(), Fail>
+/// One of two keys is replaced, and the other is overwritten. Returns what is held at first, then and at
+/// last, what left with its new hash and the value that left, and the numbers of keys at last and once they
+/// are cleared.
+fn replace_both(keys: &mut Keys<u64, u64>) -> ([Held; 3], [u64; 4], [usize; 2])
     requires two { length keys.old.entries ≡ 2 }
     requires room { keys.old.room ≡ 2 }
 {
     let at_first = held(keys, 70);
-    let replaced = replace_first(keys);
+    let (hash, key, new_hash) = replace_first(keys);
     let then = held(keys, 90);
     let value = replace_first_value(keys);
     keys.put(1, 6, 60, Some(600));
-    let at_last = (keys.len(), held(keys, 90));
+    let count = keys.len();
+    let at_last = held(keys, 90);
     keys.clear();
-    same(
-        (at_first, replaced, then, value, at_last, keys.len()),
-        (
-            ([70, 700, 80, 800], [true, false]),
-            (7, 70, 9),
-            ([90, 700, 80, 800], [true, false]),
-            900,
-            (2, ([90, 901, 60, 600], [true, false])),
-            0,
-        ),
+    (
+        [at_first, then, at_last],
+        [hash, key, new_hash, value],
+        [count, keys.len()],
     )
 }
 
 /// Two keys are pushed and put, replaced, and cleared.
-pub(crate) fn two_keys(alloc: Global) -> Result<(), Fail> {
+fn two_keys(alloc: Global) -> Result<([Held; 3], [u64; 4], [usize; 2]), AllocError> {
     let mut keys: Keys<u64, u64> = Keys::new(alloc, 2)?;
     keys.push(7, 70, 700);
     keys.put(1, 8, 80, Some(800));
-    replace_both(&mut keys)
+    Ok(replace_both(&mut keys))
 }
 
 /// Pushes a key, and inserts its place into an index of all keys.
@@ -120,25 +120,42 @@ fn place_of(keys: &mut Keys<u64, ()>, index: &Table<u32>, hash: u64, key: u64) -
     found
 }
 
-/// Two of three keys have the same hash, and an index can't distinguish the third's from it.
-fn three_are_found(keys: &mut Keys<u64, ()>, index: &Table<u32>) -> Result<(), Fail>
+/// Returns the places of five keys. Two of the three that are there have the same hash, and an index can't
+/// distinguish the third's from it.
+fn places_of(keys: &mut Keys<u64, ()>, index: &Table<u32>) -> [Option<u32>; 5]
     requires indexed { (places : List ℕ) × IsIndex index.now.homes keys.old.entries places }
 {
-    same(place_of(keys, index, 7, 70), Some(0))?;
-    same(place_of(keys, index, 7, 71), Some(1))?;
-    same(place_of(keys, index, 7, 73), None)?;
-    same(place_of(keys, index, 7 + 16, 72), Some(2))?;
-    same(place_of(keys, index, 8, 71), None)
+    [
+        place_of(keys, index, 7, 70),
+        place_of(keys, index, 7, 71),
+        place_of(keys, index, 7, 73),
+        place_of(keys, index, 7 + 16, 72),
+        place_of(keys, index, 8, 71),
+    ]
 }
 
-/// Three keys, of which two have the same hash.
-pub(crate) fn keys_of_one_hash(alloc: Global) -> Result<(), Fail> {
+/// Looks up three keys, of which two have the same hash, and others.
+fn keys_of_one_hash(alloc: Global) -> Result<[Option<u32>; 5], Fail> {
     let mut keys: Keys<u64, ()> = Keys::new(alloc, 3)?;
     let mut index: Table<u32> = Table::with_capacity(alloc, index_room(3))?;
     put(&mut keys, &mut index, 7, 70);
     put(&mut keys, &mut index, 7, 71);
     put(&mut keys, &mut index, 7 + 16, 72);
-    three_are_found(&mut keys, &index)
+    Ok(places_of(&mut keys, &index))
+}
+
+/// Compares what calls of keys return.
+pub(crate) fn by_place(alloc: Global) -> Result<(), Fail> {
+    let held = [
+        ([70, 700, 80, 800], [true, false]),
+        ([90, 700, 80, 800], [true, false]),
+        ([90, 901, 60, 600], [true, false]),
+    ];
+    same(two_keys(alloc)?, (held, [7, 70, 9, 900], [2, 0]))?;
+    same(
+        keys_of_one_hash(alloc)?,
+        [Some(0), Some(1), None, Some(2), None],
+    )
 }
 
 /// A small index is made for three times as many entries, one of medium size for twice as many, and

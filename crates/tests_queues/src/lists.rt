@@ -1,7 +1,8 @@
 //! The two queues as plain lists.
 
-use crate::calls::{Call, Reply};
-use std::alloc::{AllocError, Global};
+use crate::compared::Compared;
+use crate::verb::{Reply, Verb, flag, slot_if_any};
+use std::alloc::Global;
 
 #[derive(Clone, Copy, Drop)]
 struct Entry {
@@ -19,16 +20,25 @@ impl Entry {
             bit: false,
         }
     }
+
+    /// Grows older by an admission, unless it is old.
+    fn grow_older(&mut self, window: u32) {
+        if self.age < window {
+            self.age += 1;
+            self.bit = false;
+        }
+    }
 }
 
-/// The two queues as plain lists, Small oldest first. An age that has reached the window is old.
+/// The two queues as plain lists, Small oldest first. An age that has reached the window is old. If there
+/// is no memory for an entry, it is left out, and comparisons fail.
 #[derive(Drop)]
 pub(crate) struct Lists {
     small: Vec<Entry>,
     main: Vec<Entry>,
     window: u32,
-    /// The number of calls that were made.
-    calls: u64,
+    /// What others replied to the same calls.
+    pub(crate) compared: Compared,
 }
 
 impl Lists {
@@ -37,32 +47,33 @@ impl Lists {
             small: Vec::new(alloc),
             main: Vec::new(alloc),
             window,
-            calls: 0,
+            compared: Compared::new(),
         }
     }
 
-    /// Makes a call.
-    pub(crate) fn reply(&mut self, call: Call) -> Result<Reply, AllocError> {
-        self.calls = self.calls.saturating_add(1);
-        Ok(match call {
-            Call::Admit(slot) => self.admit(slot)?,
-            Call::Append(slot) => self.append(slot)?,
-            Call::Hit(slot) => self.hit(slot),
-            Call::Leave(slot) => self.leave(slot),
-            Call::TakeTail => slot_or_none(self.take_tail()),
-            Call::ReuseTail => self.reuse_tail()?,
-            Call::TakeVictim => slot_or_none(self.take_victim()?),
-            Call::ReuseVictim => self.reuse_victim()?,
-            Call::IsResident(slot) => Reply::Flag(self.is_resident(slot)),
-            Call::SmallLen => Reply::Number(self.small.len()),
-            Call::MainLen => Reply::Number(self.main.len()),
-            Call::IsTailPromoted => Reply::Flag(self.tail_is_promoted()),
-            Call::MakeBelow(_) | Call::Clear => Reply::NoCall,
-        })
+    /// Makes a call to which queues replied this.
+    pub(crate) fn check(&mut self, verb: Verb, slot: u32, got: Reply) {
+        let wanted = self.reply(verb, slot);
+        self.compared.note(got, wanted);
     }
 
-    pub(crate) fn calls(&self) -> u64 {
-        self.calls
+    /// Makes a call.
+    fn reply(&mut self, verb: Verb, slot: u32) -> Reply {
+        match verb {
+            Verb::Admit => self.admit(slot),
+            Verb::Append => self.append(slot),
+            Verb::Hit => self.hit(slot),
+            Verb::Leave => self.leave(slot),
+            Verb::TakeTail => slot_if_any(self.take_tail()),
+            Verb::ReuseTail => slot_if_any(self.reuse_tail()),
+            Verb::TakeVictim => slot_if_any(self.take_victim()),
+            Verb::ReuseVictim => slot_if_any(self.reuse_victim()),
+            Verb::IsResident => flag(self.is_resident(slot)),
+            Verb::SmallLen => Some(self.small.len() as u64),
+            Verb::MainLen => Some(self.main.len() as u64),
+            Verb::IsTailPromoted => flag(self.tail_is_promoted()),
+            _ => None,
+        }
     }
 
     pub(crate) fn small_len(&self) -> usize {
@@ -77,40 +88,37 @@ impl Lists {
         is_in(&self.small, slot) || is_in(&self.main, slot)
     }
 
-    fn admit(&mut self, slot: u32) -> Result<Reply, AllocError> {
+    fn admit(&mut self, slot: u32) -> Reply {
         if self.is_resident(slot) {
-            return Ok(Reply::NoCall);
+            return None;
         }
         for entry in self.small.iter_mut() {
-            if entry.age < self.window {
-                entry.age += 1;
-                entry.bit = false;
-            }
+            entry.grow_older(self.window);
         }
-        self.small.push(Entry::new(slot))?;
-        Ok(Reply::Done)
+        let _ = self.small.push(Entry::new(slot));
+        Some(1)
     }
 
-    fn append(&mut self, slot: u32) -> Result<Reply, AllocError> {
+    fn append(&mut self, slot: u32) -> Reply {
         if self.is_resident(slot) {
-            return Ok(Reply::NoCall);
+            return None;
         }
-        self.main.push(Entry::new(slot))?;
-        Ok(Reply::Done)
+        let _ = self.main.push(Entry::new(slot));
+        Some(1)
     }
 
     fn leave(&mut self, slot: u32) -> Reply {
         take(&mut self.small, slot);
         take(&mut self.main, slot);
-        Reply::Done
+        Some(1)
     }
 
     fn hit(&mut self, slot: u32) -> Reply {
         let window = self.window;
         if set_bit(&mut self.small, slot, window) || set_bit(&mut self.main, slot, 0) {
-            Reply::Done
+            Some(1)
         } else {
-            Reply::NoCall
+            None
         }
     }
 
@@ -123,49 +131,37 @@ impl Lists {
     }
 
     /// Admits Small's oldest slot anew.
-    fn reuse_tail(&mut self) -> Result<Reply, AllocError> {
-        let Some(tail) = self.take_tail() else {
-            return Ok(Reply::NoCall);
-        };
-        self.admit(tail)?;
-        Ok(Reply::Slot(tail))
+    fn reuse_tail(&mut self) -> Option<u32> {
+        let tail = self.take_tail()?;
+        self.admit(tail);
+        Some(tail)
     }
 
     /// Returns the slot that the hand chooses, which leaves. The entries that it passes go to the end.
-    fn take_victim(&mut self) -> Result<Option<u32>, AllocError> {
+    fn take_victim(&mut self) -> Option<u32> {
         for _ in 0..=self.main.len() {
             if self.main.is_empty() {
-                return Ok(None);
+                return None;
             }
             let first = self.main.remove(0);
             if !first.bit {
-                return Ok(Some(first.slot));
+                return Some(first.slot);
             }
-            self.main.push(Entry::new(first.slot))?;
+            let _ = self.main.push(Entry::new(first.slot));
         }
-        Ok(None)
+        None
     }
 
     /// Puts the slot that the hand chooses at the end of Main.
-    fn reuse_victim(&mut self) -> Result<Reply, AllocError> {
-        let Some(victim) = self.take_victim()? else {
-            return Ok(Reply::NoCall);
-        };
-        self.main.push(Entry::new(victim))?;
-        Ok(Reply::Slot(victim))
+    fn reuse_victim(&mut self) -> Option<u32> {
+        let victim = self.take_victim()?;
+        let _ = self.main.push(Entry::new(victim));
+        Some(victim)
     }
 
     /// Returns true if Small's oldest slot is old and was hit since it is.
     fn tail_is_promoted(&self) -> bool {
         !self.small.is_empty() && self.small[0].age >= self.window && self.small[0].bit
-    }
-}
-
-/// Returns the reply to a call that returns a slot if there is one.
-fn slot_or_none(slot: Option<u32>) -> Reply {
-    match slot {
-        Some(slot) => Reply::Slot(slot),
-        None => Reply::NoCall,
     }
 }
 

@@ -3,7 +3,7 @@ ghost use Rattle.std.specs.Prelude.{◌≡◌, ◌<◌, true, false, nat_eq};
 ghost use Rattle.std.specs.List.{list_any};
 ghost use Rattle.clock2q_queues.specs.Queues.{slots_of};
 
-use crate::calls::{Call, Reply};
+use crate::verb::{Reply, Verb, flag, slot_if_any};
 use clock2q_queues::queues::Queues;
 use std::alloc::{AllocError, Allocator, Global};
 use std::marker::Model;
@@ -43,32 +43,38 @@ impl<A: Allocator + Clone> Played<A> {
 }
 
 impl<A: Allocator> Played<A> {
+    /// Returns the length of the window.
+    pub(crate) fn window(&self) -> u32 {
+        self.window
+    }
+
     /// Makes a call. A call that the queues' state doesn't allow isn't made.
-    pub(crate) fn reply(&mut self, call: Call) -> Reply {
-        match call {
-            Call::MakeBelow(bound) => self.make_below(bound),
-            Call::Admit(slot) => self.admit(slot),
-            Call::Append(slot) => self.append(slot),
-            Call::Hit(slot) => self.hit(slot),
-            Call::Leave(slot) => self.leave(slot),
-            Call::TakeTail => self.take_tail(),
-            Call::ReuseTail => self.reuse_tail(),
-            Call::TakeVictim => self.take_victim(),
-            Call::ReuseVictim => self.reuse_victim(),
-            Call::Clear => self.clear(),
-            Call::IsResident(slot) => Reply::Flag(self.queues.is_resident(slot as usize)),
-            Call::SmallLen => Reply::Number(self.queues.small_len()),
-            Call::MainLen => Reply::Number(self.queues.main_len()),
-            Call::IsTailPromoted => self.is_tail_promoted(),
+    pub(crate) fn reply(&mut self, verb: Verb, slot: u32) -> Reply {
+        match verb {
+            Verb::MakeBelow => self.make_below(slot),
+            Verb::Admit => self.admit(slot),
+            Verb::Append => self.append(slot),
+            Verb::Hit => self.hit(slot),
+            Verb::Leave => self.leave(slot),
+            Verb::TakeTail => slot_if_any(self.queues.take_tail()),
+            Verb::ReuseTail => self.reuse_tail(),
+            Verb::TakeVictim => self.take_victim(),
+            Verb::ReuseVictim => self.reuse_victim(),
+            Verb::IsResident => flag(self.queues.is_resident(slot as usize)),
+            Verb::SmallLen => Some(self.queues.small_len() as u64),
+            Verb::MainLen => Some(self.queues.main_len() as u64),
+            Verb::IsTailPromoted => self.is_tail_promoted(),
+            Verb::Clear => self.clear(),
+            _ => None,
         }
     }
 
     fn make_below(&mut self, bound: u32) -> Reply {
         if bound > self.slots {
-            return Reply::NoCall;
+            return None;
         }
         self.queues.make_below(bound);
-        Reply::Done
+        Some(1)
     }
 
     /// Returns true if there is such a slot, and it is in no queue.
@@ -83,74 +89,67 @@ impl<A: Allocator> Played<A> {
     /// Admits a slot that is in no queue, with the records of those below it.
     fn admit(&mut self, slot: u32) -> Reply {
         if self.window == 0 || !self.is_free(slot) {
-            return Reply::NoCall;
+            return None;
         }
         self.queues.make_below(slot);
         self.queues.admit(slot);
-        Reply::Done
+        Some(1)
     }
 
     /// Puts a slot that is in no queue into Main, with the records of those below it.
     fn append(&mut self, slot: u32) -> Reply {
         if !self.is_free(slot) {
-            return Reply::NoCall;
+            return None;
         }
         self.queues.make_below(slot);
         self.queues.append(slot);
-        Reply::Done
+        Some(1)
     }
 
     fn hit(&mut self, slot: u32) -> Reply {
         if self.queues.is_resident(slot as usize) {
             self.queues.hit(slot);
-            return Reply::Done;
+            return Some(1);
         }
-        Reply::NoCall
+        None
     }
 
     fn leave(&mut self, slot: u32) -> Reply {
         if slot >= self.slots {
-            return Reply::NoCall;
+            return None;
         }
         self.queues.leave(slot);
-        Reply::Done
-    }
-
-    fn take_tail(&mut self) -> Reply {
-        match self.queues.take_tail() {
-            Some(tail) => Reply::Slot(tail),
-            None => Reply::NoCall,
-        }
+        Some(1)
     }
 
     fn reuse_tail(&mut self) -> Reply {
         if self.window == 0 || self.queues.small_len() == 0 {
-            return Reply::NoCall;
+            return None;
         }
-        Reply::Slot(self.queues.reuse_tail())
+        Some(u64::from(self.queues.reuse_tail()))
     }
 
     fn take_victim(&mut self) -> Reply {
         if self.queues.main_len() == 0 {
-            return Reply::NoCall;
+            return None;
         }
-        Reply::Slot(self.queues.take_victim())
+        Some(u64::from(self.queues.take_victim()))
     }
 
     fn reuse_victim(&mut self) -> Reply {
         if self.queues.main_len() == 0 {
-            return Reply::NoCall;
+            return None;
         }
-        Reply::Slot(self.queues.reuse_victim())
-    }
-
-    fn clear(&mut self) -> Reply {
-        self.queues.clear();
-        Reply::Done
+        Some(u64::from(self.queues.reuse_victim()))
     }
 
     /// Replies whether Small has an oldest slot and that goes on to Main.
     fn is_tail_promoted(&mut self) -> Reply {
-        Reply::Flag(self.queues.small_len() > 0 && self.queues.tail_is_promoted())
+        flag(self.queues.small_len() > 0 && self.queues.tail_is_promoted())
+    }
+
+    fn clear(&mut self) -> Reply {
+        self.queues.clear();
+        Some(1)
     }
 }

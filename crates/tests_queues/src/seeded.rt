@@ -1,127 +1,82 @@
 //! The two queues beside plain lists.
 
-use crate::calls::Call;
+use crate::compared::Difference;
 use crate::lists::Lists;
-use crate::played::{Played, TestedQueues};
+use crate::played::TestedQueues;
+use crate::verb::Verb;
 use std::alloc::Global;
-use std::test::Fail;
-use testing::{Refusing, SplitMix64, same, same_at};
+use testing::SplitMix64;
 
+/// The number of slots of queues that are compared.
 const SLOTS: u32 = 12;
 
-/// Makes a call of both, which reply the same.
-fn make(queues: &mut TestedQueues<'_>, lists: &mut Lists, call: Call) -> Result<(), Fail> {
-    let wanted = lists.reply(call)?;
-    same_at(queues.reply(call), wanted, lists.calls())
+/// Makes a call of both.
+fn make(queues: &mut TestedQueues<'_>, lists: &mut Lists, verb: Verb, slot: u32) {
+    let got = queues.reply(verb, slot);
+    lists.check(verb, slot, got);
 }
 
-/// Each slot is in a queue if the lists have it, and only then.
-fn compare(queues: &mut TestedQueues<'_>, lists: &mut Lists) -> Result<(), Fail> {
+/// Asks both which slots are in a queue, and how long the queues are.
+fn compare(queues: &mut TestedQueues<'_>, lists: &mut Lists) {
     for slot in 0..SLOTS {
-        make(queues, lists, Call::IsResident(slot))?;
+        make(queues, lists, Verb::IsResident, slot);
     }
-    make(queues, lists, Call::SmallLen)?;
-    make(queues, lists, Call::MainLen)?;
-    make(queues, lists, Call::IsTailPromoted)
+    make(queues, lists, Verb::SmallLen, 0);
+    make(queues, lists, Verb::MainLen, 0);
+    make(queues, lists, Verb::IsTailPromoted, 0);
 }
 
 /// Returns a drawn call: an admission, a slot put into Main, a slot that leaves, a hit, an eviction
 /// from Main, or Small's tail or Main's victim reused.
-fn drawn_call(lists: &Lists, draws: &mut SplitMix64) -> Call {
+fn drawn_call(lists: &Lists, draws: &mut SplitMix64) -> (Verb, u32) {
     let slot = draws.below(12) as u32;
-    match draws.below(9) {
-        0..4 if !lists.is_resident(slot) => Call::Admit(slot),
-        4 if !lists.is_resident(slot) => Call::Append(slot),
-        5 => Call::Leave(slot),
-        6 if lists.main_len() > 0 => Call::TakeVictim,
-        7 => Call::ReuseTail,
-        8 => Call::ReuseVictim,
-        _ => Call::Hit(slot),
-    }
+    let verb = match draws.below(9) {
+        0..4 if !lists.is_resident(slot) => Verb::Admit,
+        4 if !lists.is_resident(slot) => Verb::Append,
+        5 => Verb::Leave,
+        6 if lists.main_len() > 0 => Verb::TakeVictim,
+        7 => Verb::ReuseTail,
+        8 => Verb::ReuseVictim,
+        _ => Verb::Hit,
+    };
+    (verb, slot)
 }
 
 /// Makes a drawn call. Small's tail leaves before an admission if Small is full.
-fn step(
-    queues: &mut TestedQueues<'_>,
-    lists: &mut Lists,
-    small: usize,
-    draws: &mut SplitMix64,
-) -> Result<(), Fail> {
-    let call = drawn_call(lists, draws);
-    if matches!(call, Call::Admit(_)) && lists.small_len() >= small {
-        make(queues, lists, Call::TakeTail)?;
+fn step(queues: &mut TestedQueues<'_>, lists: &mut Lists, small: u64, draws: &mut SplitMix64) {
+    let (verb, slot) = drawn_call(lists, draws);
+    if matches!(verb, Verb::Admit) && lists.small_len() as u64 >= small {
+        make(queues, lists, Verb::TakeTail, 0);
     }
-    make(queues, lists, call)
+    make(queues, lists, verb, slot);
+    compare(queues, lists);
 }
 
 /// Empties both: each slot leaves the queue that the lists have it in, in their order.
-fn drain(queues: &mut TestedQueues<'_>, lists: &mut Lists) -> Result<(), Fail> {
+fn drain(queues: &mut TestedQueues<'_>, lists: &mut Lists) {
     for _ in 0..SLOTS {
-        make(queues, lists, Call::TakeTail)?;
-        make(queues, lists, Call::TakeVictim)?;
+        make(queues, lists, Verb::TakeTail, 0);
+        make(queues, lists, Verb::TakeVictim, 0);
     }
-    compare(queues, lists)?;
-    same((lists.small_len(), lists.main_len()), (0, 0))
+    compare(queues, lists);
 }
 
-/// Makes 2,000 steps, with a comparison after each, and empties both.
-fn go_along(
-    queues: &mut TestedQueues<'_>,
-    lists: &mut Lists,
-    small: usize,
-    draws: &mut SplitMix64,
-) -> Result<(), Fail> {
+/// Makes 2,000 steps with a comparison after each, and empties both.
+fn go_along(queues: &mut TestedQueues<'_>, lists: &mut Lists, small: u64, draws: &mut SplitMix64) {
     for _ in 0..2000 {
-        step(queues, lists, small, draws)?;
-        compare(queues, lists)?;
+        step(queues, lists, small, draws);
     }
-    drain(queues, lists)
+    drain(queues, lists);
 }
 
-/// Plays a run on new queues.
-fn play_new(
-    memory: &Refusing<Global>,
-    lists: &mut Lists,
-    small: usize,
-    window: u32,
-    draws: &mut SplitMix64,
-) -> Result<(), Fail> {
-    let mut queues = Played::new(memory, SLOTS, window)?;
-    go_along(&mut queues, lists, small, draws)
-}
-
-/// Plays a run with this much room in Small.
-fn play_run(
+/// Plays a seeded run of queues of twelve slots with this much room in Small, and returns the first difference
+/// from plain lists.
+pub(crate) fn beside_lists(
+    queues: &mut TestedQueues<'_>,
     alloc: Global,
-    memory: &Refusing<Global>,
-    small: usize,
-    window: u32,
-    draws: &mut SplitMix64,
-) -> Result<(), Fail> {
-    let mut lists = Lists::new(alloc, window);
-    play_new(memory, &mut lists, small, window, draws)
-}
-
-/// The room in Small and the window of each run.
-const RUNS: [(usize, u32); 8] = [
-    (1, 1),
-    (2, 1),
-    (2, 2),
-    (5, 1),
-    (5, 2),
-    (5, 3),
-    (5, 4),
-    (5, 5),
-];
-
-/// Plays seeded runs.
-pub(crate) fn play_runs(
-    alloc: Global,
-    memory: &Refusing<Global>,
-    draws: &mut SplitMix64,
-) -> Result<(), Fail> {
-    for (small, window) in RUNS {
-        play_run(alloc, memory, small, window, draws)?;
-    }
-    Ok(())
+    (small, seed): (u64, u64),
+) -> Option<Difference> {
+    let mut lists = Lists::new(alloc, queues.window());
+    go_along(queues, &mut lists, small, &mut SplitMix64::new(seed));
+    lists.compared.first
 }
