@@ -20,29 +20,25 @@ pub(crate) fn handle_of(word: &str) -> Handle {
     }
 }
 
-/// Returns the handles that a text spells.
-fn handles_of<A: Allocator + Copy>(alloc: A, text: &str) -> Result<Vec<Handle, A>, AllocError> {
+/// Returns the handles that a text spells, without those for which there is no memory.
+fn handles_of<A: Allocator + Copy>(alloc: A, text: &str) -> Vec<Handle, A> {
     let mut handles = Vec::new(alloc);
     for word in text.split_whitespace() {
-        handles.push(handle_of(word))?;
+        let _ = handles.push(handle_of(word));
     }
-    Ok(handles)
+    handles
 }
 
 /// Returns a command whose words a text spells.
-pub(crate) fn command_of<A: Allocator + Copy>(
-    alloc: A,
-    order: Order,
-    words: &str,
-) -> Result<Command<A>, AllocError> {
+pub(crate) fn command_of<A: Allocator + Copy>(alloc: A, order: Order, words: &str) -> Command<A> {
     let (first, others) = two_words(words);
-    Ok(match order {
+    match order {
         Order::Put => Command::Insert(handle_of(first)),
         Order::Remove => Command::Remove(hash_of(first), handle_of(others)),
-        Order::Find => Command::Find(handle_of(first), handles_of(alloc, others)?),
+        Order::Find => Command::Find(handle_of(first), handles_of(alloc, others)),
         Order::Reserve => Command::Reserve(number_of(first) as usize),
         Order::Get => Command::Get(hash_of(first)),
-    })
+    }
 }
 
 /// Writes a reply.

@@ -124,11 +124,15 @@ fn reads_each(crowded: &Crowded, count: usize) -> Result<(), Fail>
 
 /// A lookup of one hash, under which 2,000 handles were inserted and half of them removed, reads one
 /// slot more than there are handles.
-pub(crate) fn crowd(alloc: Global) -> Result<(), Fail> {
-    let mut crowded = Crowded::new(alloc, HASH);
-    insert_all(&mut crowded)?;
-    reads_each(&crowded, 2000)?;
-    remove_even(&mut crowded)?;
-    reads_each(&crowded, 1000)?;
+fn fill_and_read(crowded: &mut Crowded) -> Result<(), Fail> {
+    insert_all(crowded)?;
+    reads_each(crowded, 2000)?;
+    remove_even(crowded)?;
+    reads_each(crowded, 1000)?;
     same(crowded.capacity(), 3072)
+}
+
+/// Crowds a table, and looks its hash up.
+pub(crate) fn crowd(alloc: Global) -> Result<(), Fail> {
+    fill_and_read(&mut Crowded::new(alloc, HASH))
 }

@@ -2,7 +2,7 @@
 
 use crate::handle::Handle;
 use clock2q_handles::Table;
-use std::alloc::{AllocError, Allocator, Global};
+use std::alloc::{Allocator, Global};
 
 /// A slot: a handle and how far past its home it is, or nothing.
 pub(crate) type Slot = Option<(Handle, usize)>;
@@ -48,16 +48,25 @@ fn write_home<A: Allocator>(
     }
 }
 
+/// Returns free slots, or fewer if there is no memory for them.
+pub(crate) fn free_slots(alloc: Global, count: usize) -> Vec<Slot> {
+    let mut slots = Vec::new(alloc);
+    for _ in 0..count {
+        let _ = slots.push(None);
+    }
+    slots
+}
+
 /// Returns the contents of each slot, of entries with one of the fingerprints.
 pub(crate) fn slots_of<A: Allocator>(
     alloc: Global,
     table: &Table<Handle, A>,
     fingerprints: [u64; 3],
-) -> Result<Vec<Slot>, AllocError> {
+) -> Vec<Slot> {
     let count = (table.capacity() / 3).saturating_mul(4);
-    let mut slots = vec![in alloc; None; count]?;
+    let mut slots = free_slots(alloc, count);
     for home in 0..count {
         write_home(table, home, fingerprints, &mut slots);
     }
-    Ok(slots)
+    slots
 }

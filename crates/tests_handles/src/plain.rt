@@ -1,15 +1,14 @@
 //! A table as the list of the entries of each home, and where those lists put each entry.
 
 use crate::handle::{Command, Handle, Reply};
-use crate::layout::Slot;
+use crate::layout::{Slot, free_slots};
 use crate::seen::{Notes, Seen};
 use clock2q_handles::TableError;
 use clock2q_table_commands::TableReply;
-use std::alloc::{AllocError, Global};
-use std::test::Fail;
-use testing::same_at;
+use std::alloc::Global;
 
-/// The entries of each home, in the order in which they were inserted.
+/// The entries of each home, in the order in which they were inserted. If there is no memory for an entry,
+/// it is left out, and comparisons fail.
 #[derive(Drop)]
 pub(crate) struct Plain {
     alloc: Global,
@@ -18,7 +17,7 @@ pub(crate) struct Plain {
 
 impl Plain {
     /// Makes empty lists for `entries` entries.
-    pub(crate) fn with_capacity(alloc: Global, entries: usize) -> Result<Plain, AllocError> {
+    pub(crate) fn with_capacity(alloc: Global, entries: usize) -> Plain {
         let count = if entries == 0 {
             0
         } else {
@@ -28,12 +27,12 @@ impl Plain {
     }
 
     /// Makes empty lists for a number of slots.
-    fn with_slots(alloc: Global, count: usize) -> Result<Plain, AllocError> {
-        let mut homes = Vec::with_capacity(alloc, count)?;
+    fn with_slots(alloc: Global, count: usize) -> Plain {
+        let mut homes = Vec::new(alloc);
         for _ in 0..count {
-            homes.push(Vec::new(alloc))?;
+            let _ = homes.push(Vec::new(alloc));
         }
-        Ok(Plain { alloc, homes })
+        Plain { alloc, homes }
     }
 
     /// Returns the number of entries.
@@ -68,54 +67,46 @@ impl Plain {
     }
 
     /// Returns the entries that a lookup of the hash should yield.
-    pub(crate) fn candidates(&self, hash: u64) -> Result<Vec<Handle>, AllocError> {
+    pub(crate) fn candidates(&self, hash: u64) -> Vec<Handle> {
         let mut candidates = Vec::new(self.alloc);
-        let Some(list) = self.homes.get(self.home(hash)) else {
-            return Ok(candidates);
-        };
-        for held in list {
-            if is_candidate(held, hash) {
-                candidates.push(*held)?;
+        if let Some(list) = self.homes.get(self.home(hash)) {
+            for held in list {
+                if is_candidate(held, hash) {
+                    let _ = candidates.push(*held);
+                }
             }
         }
-        Ok(candidates)
+        candidates
     }
 
     /// Makes the call of a command, and notes what a table's closures should be called on.
-    pub(crate) fn reply(
-        &mut self,
-        command: &Command<Global>,
-        notes: &Notes,
-    ) -> Result<Reply<Global>, AllocError> {
+    pub(crate) fn reply(&mut self, command: &Command<Global>, notes: &Notes) -> Reply<Global> {
         match command {
             Command::Insert(handle) => self.insert(*handle, &notes.asked),
-            Command::Remove(hash, handle) => Ok(TableReply::Removed(self.remove(*hash, *handle))),
+            Command::Remove(hash, handle) => TableReply::Removed(self.remove(*hash, *handle)),
             Command::Find(handle, accepted) => self.find(*handle, accepted, notes),
-            Command::Reserve(additional) => Ok(self.reserve(*additional, &notes.asked)),
-            Command::Get(hash) => Ok(TableReply::Handles(self.candidates(*hash)?)),
+            Command::Reserve(additional) => self.reserve(*additional, &notes.asked),
+            Command::Get(hash) => TableReply::Handles(self.candidates(*hash)),
         }
     }
 
     /// Inserts a handle, last in its home.
-    fn insert(&mut self, handle: Handle, asked: &Seen) -> Result<Reply<Global>, AllocError> {
-        self.make_room(asked)?;
-        self.put(handle)?;
-        Ok(TableReply::Done)
+    fn insert(&mut self, handle: Handle, asked: &Seen) -> Reply<Global> {
+        self.make_room(asked);
+        self.put(handle);
+        TableReply::Done
     }
 
     /// Finds one of the accepted handles, or else inserts a handle.
-    fn find(
-        &mut self,
-        handle: Handle,
-        accepted: &[Handle],
-        notes: &Notes,
-    ) -> Result<Reply<Global>, AllocError> {
-        self.make_room(&notes.asked)?;
-        if let Some(held) = self.first_accepted(handle.hash, accepted, &notes.offered) {
-            return Ok(TableReply::Found(held, false));
+    fn find(&mut self, handle: Handle, accepted: &[Handle], notes: &Notes) -> Reply<Global> {
+        self.make_room(&notes.asked);
+        match self.first_accepted(handle.hash, accepted, &notes.offered) {
+            Some(held) => TableReply::Found(held, false),
+            None => {
+                self.put(handle);
+                TableReply::Found(handle, true)
+            }
         }
-        self.put(handle)?;
-        Ok(TableReply::Found(handle, true))
     }
 
     /// Returns the first candidate of a hash that is accepted, and notes those that are offered.
@@ -147,34 +138,24 @@ impl Plain {
         if entries <= self.capacity() {
             return TableReply::Done;
         }
-        let Some(count) = slots_for(entries) else {
-            return TableReply::Refused(TableError::Size);
-        };
-        match self.rebuild(count, asked) {
-            Ok(()) => TableReply::Done,
-            Err(_) => TableReply::Refused(TableError::Memory),
+        match slots_for(entries) {
+            Some(count) => {
+                self.rebuild(count, asked);
+                TableReply::Done
+            }
+            None => TableReply::Refused(TableError::Size),
         }
     }
 
     /// Returns where each home's list puts its entries, slot by slot, and how far past their home.
-    fn layout(&self) -> Result<Vec<Slot>, AllocError> {
-        let mut slots = vec![in self.alloc; None; self.homes.len()]?;
+    pub(crate) fn layout(&self) -> Vec<Slot> {
+        let mut slots = free_slots(self.alloc, self.homes.len());
         let mut spill = self.wrapped();
         for (home, list) in self.homes.iter().enumerate() {
             put_into(&mut slots, home, spill, list);
             spill = handed_on(spill, list);
         }
-        Ok(slots)
-    }
-
-    /// Compares the contents of slots with where the lists put their entries, after a command.
-    pub(crate) fn is_laid_out(
-        &self,
-        slots: &[Slot],
-        command: &Command<Global>,
-    ) -> Result<(), Fail> {
-        let wanted = self.layout()?;
-        same_at(slots, wanted.as_slice(), command)
+        slots
     }
 
     /// Returns the number of entries past the end, which are in the first slots: what the last home
@@ -193,40 +174,36 @@ impl Plain {
     }
 
     /// Doubles the slots if one more entry doesn't fit.
-    fn make_room(&mut self, asked: &Seen) -> Result<(), AllocError> {
+    fn make_room(&mut self, asked: &Seen) {
         if self.len() == self.capacity() {
             let count = self.homes.len().saturating_mul(2).max(16);
-            self.rebuild(count, asked)
-        } else {
-            Ok(())
+            self.rebuild(count, asked);
         }
     }
 
     /// Inserts the entries again, from the first slot on.
-    fn rebuild(&mut self, count: usize, asked: &Seen) -> Result<(), AllocError> {
-        let slots = self.layout()?;
-        *self = Plain::with_slots(self.alloc, count)?;
-        self.put_each(&slots, asked)
+    fn rebuild(&mut self, count: usize, asked: &Seen) {
+        let slots = self.layout();
+        *self = Plain::with_slots(self.alloc, count);
+        self.put_each(&slots, asked);
     }
 
     /// Inserts the entries of slots.
-    fn put_each(&mut self, slots: &[Slot], asked: &Seen) -> Result<(), AllocError> {
+    fn put_each(&mut self, slots: &[Slot], asked: &Seen) {
         for slot in slots {
             if let Some((handle, _)) = slot {
                 asked.note(handle.number);
-                self.put(*handle)?;
+                self.put(*handle);
             }
         }
-        Ok(())
     }
 
     /// Puts a handle last in its home.
-    fn put(&mut self, handle: Handle) -> Result<(), AllocError> {
+    fn put(&mut self, handle: Handle) {
         let home = self.home(handle.hash);
         if let Some(list) = self.homes.get_mut(home) {
-            list.push(handle)?;
+            let _ = list.push(handle);
         }
-        Ok(())
     }
 }
 

@@ -5,11 +5,13 @@ use crate::handle::Handle;
 use crate::hashed::Hashed;
 use crate::layout::slots_of;
 use crate::runs::play_run;
+use crate::seeded::play_list;
 use crate::seen::{Notes, Seen};
 use crate::verb::{Change, Grant, Look, Order, Question, Verb};
 use clock2q_handles::{TableError, partition};
 use std::alloc::{AllocError, Global};
-use testing::{Refusing, SpellingError, number_of, other_than, two_words};
+use std::fmt::Debug;
+use testing::{Refusing, SpellingError, number_of, other_than, two_numbers, two_words};
 
 /// The fingerprints of the hashes in runs that are worked out by hand.
 const FINGERPRINTS: [u64; 3] = [0, 0xAB, 0xCD];
@@ -92,13 +94,17 @@ impl<'a> Played<'a> {
             Some(Verb::Look(look)) => self.look(look, words, replies),
             Some(Verb::Ask(question)) => self.answer(question, replies),
             Some(Verb::Fill) => self.fill(number_of(words), replies),
+            Some(Verb::List) => {
+                let list = two_numbers(words);
+                play_list(&mut self.tested, &self.notes, self.lists, list, replies)
+            }
             None => replies.push_str("no call"),
         }
     }
 
     /// Makes the call of a command.
     fn make(&mut self, order: Order, words: &str, replies: &mut String) -> Result<(), AllocError> {
-        let command = command_of(self.lists, order, words)?;
+        let command = command_of(self.lists, order, words);
         let reply = self.tested.reply(self.lists, &command, &self.notes);
         write_reply(replies, &reply)
     }
@@ -141,10 +147,10 @@ impl<'a> Played<'a> {
     fn look(&self, look: Look, words: &str, replies: &mut String) -> Result<(), AllocError> {
         let table = &self.tested.table;
         match look {
-            Look::Len => write!(replies, "{}", table.len()),
-            Look::Capacity => write!(replies, "{}", table.capacity()),
-            Look::IsEmpty => write!(replies, "{}", table.is_empty()),
-            Look::Show => write!(replies, "{table:?}"),
+            Look::Len => write_shown(replies, &table.len()),
+            Look::Capacity => write_shown(replies, &table.capacity()),
+            Look::IsEmpty => write_shown(replies, &table.is_empty()),
+            Look::Show => write_shown(replies, table),
             Look::Peek => self.peek(hash_of(words), replies),
             Look::Position => self.position(words, replies),
             Look::Slots => self.write_slots(replies),
@@ -164,10 +170,13 @@ impl<'a> Played<'a> {
             Question::Offered => write_noted(replies, &mut self.notes.offered),
             Question::Requests => {
                 let made = self.refusing.requests().wrapping_sub(self.marked.0);
-                write!(replies, "{made}")
+                write_shown(replies, &made)
             }
-            Question::IsKept => write!(replies, "{}", self.refusing.held() == self.marked.1),
-            Question::Partitions => write!(replies, "{:?}", partitions()),
+            Question::IsKept => {
+                let is_kept = self.refusing.held() == self.marked.1;
+                write_shown(replies, &is_kept)
+            }
+            Question::Partitions => write_shown(replies, &partitions()),
             Question::Refusals => write_refusals(replies),
         }
     }
@@ -198,7 +207,7 @@ impl<'a> Played<'a> {
     /// and how far past its home it is.
     fn write_slots(&self, replies: &mut String) -> Result<(), AllocError> {
         write!(replies, "{}", self.tested.table.len())?;
-        let slots = slots_of(self.lists, &self.tested.table, FINGERPRINTS)?;
+        let slots = slots_of(self.lists, &self.tested.table, FINGERPRINTS);
         for (position, slot) in slots.iter().enumerate() {
             if let Some((handle, past)) = slot {
                 write!(replies, " {position}:{}+{past}", handle.number)?;
@@ -238,6 +247,11 @@ fn write_outcome(
         Some(Err(refusal)) => write!(replies, "{refusal}"),
         None => replies.push_str("no call"),
     }
+}
+
+/// Writes a value.
+fn write_shown<T: Debug>(replies: &mut String, value: &T) -> Result<(), AllocError> {
+    write!(replies, "{value:?}")
 }
 
 /// Writes the texts of all refusals.

@@ -22,7 +22,7 @@ pub(crate) fn play_run(
     replies: &mut String,
 ) -> Result<(), AllocError> {
     let (made, calls) = case.split_once(';').unwrap_or((case, ""));
-    let commands = commands_of(refusing, lists, calls)?;
+    let commands = commands_of(refusing, lists, calls);
     run(refusing, made, &commands, replies)
 }
 
@@ -37,36 +37,36 @@ fn run<'a>(
     refuse(refusing, refused);
     let asked = Cell::new(0u64);
     let given = run_counted(refusing, number_of(entries) as usize, commands, &asked);
-    write_outcome(replies, given, asked.get())
+    write_outcome(replies, &given, asked.get())
 }
 
 /// Writes the replies, or why nothing was run, and the number of hashes that were asked for.
-fn write_outcome<A: Allocator + Drop>(
+fn write_outcome<A: Allocator>(
     replies: &mut String,
-    given: Result<Vec<Reply<A>, A>, TableError>,
+    given: &Result<Vec<Reply<A>, A>, TableError>,
     asked: u64,
 ) -> Result<(), AllocError> {
     match given {
-        Ok(given) => write_replies(replies, &given)?,
+        Ok(given) => write_replies(replies, given)?,
         Err(refusal) => write!(replies, "{refusal}\n")?,
     }
     write!(replies, "asked {asked}\n")
 }
 
-/// Returns the commands that a text spells.
+/// Returns the commands that a text spells, without those for which there is no memory.
 fn commands_of<'a>(
     refusing: &'a Refusing<Global>,
     lists: Global,
     calls: &str,
-) -> Result<Vec<Command<&'a Refusing<Global>>>, AllocError> {
+) -> Vec<Command<&'a Refusing<Global>>> {
     let mut commands = Vec::new(lists);
     for call in calls.split_terminator(';') {
         let (name, words) = two_words(call);
         if let Some(Verb::Make(order)) = Verb::named(name) {
-            commands.push(command_of(refusing, order, words)?)?;
+            let _ = commands.push(command_of(refusing, order, words));
         }
     }
-    Ok(commands)
+    commands
 }
 
 /// Refuses all requests after a number of granted ones, or one of them, if that is spelled.

@@ -8,11 +8,7 @@ use crate::runs::run_counted;
 use crate::seen::Notes;
 use std::alloc::{AllocError, Global};
 use std::cell::Cell;
-use std::test::Fail;
-use testing::{SplitMix64, same, same_at};
-
-/// The number of lists.
-const LISTS: u64 = 200;
+use testing::{Refusing, SplitMix64};
 
 /// The commands of a list that are drawn, beside the lookups and growths between them.
 const COMMANDS: u64 = 500;
@@ -71,18 +67,18 @@ impl DrawnCommands {
     }
 
     /// Returns up to three candidates of a hash, or any handles in their place.
-    fn accepted(&mut self, hash: u64, plain: &Plain) -> Result<Vec<Handle>, AllocError> {
-        let candidates = plain.candidates(hash)?;
+    fn accepted(&mut self, hash: u64, plain: &Plain) -> Vec<Handle> {
+        let candidates = plain.candidates(hash);
         self.chosen(&candidates, plain)
     }
 
     /// Returns up to three of some candidates, or any handles in their place.
-    fn chosen(&mut self, candidates: &[Handle], plain: &Plain) -> Result<Vec<Handle>, AllocError> {
+    fn chosen(&mut self, candidates: &[Handle], plain: &Plain) -> Vec<Handle> {
         let mut chosen = Vec::new(self.alloc);
         for number in 0..self.draws.below(4) {
-            chosen.push(self.one_of(number, candidates, plain))?;
+            let _ = chosen.push(self.one_of(number, candidates, plain));
         }
-        Ok(chosen)
+        chosen
     }
 
     /// Returns one of some candidates, or any handle.
@@ -98,14 +94,13 @@ impl DrawnCommands {
 
     /// Returns a search under the hash of an entry, or under one that agrees with it in what a table
     /// reads, or under another hash.
-    fn find(&mut self, number: u64, plain: &Plain) -> Result<Command<Global>, AllocError> {
+    fn find(&mut self, number: u64, plain: &Plain) -> Command<Global> {
         let near = self.held(number, plain).hash ^ (self.draws.below(2) << UNREAD);
         let hash = match self.draws.below(2) {
             0 => self.hash(),
             _ => near,
         };
-        let accepted = self.accepted(hash, plain)?;
-        Ok(Command::Find(Handle { hash, number }, accepted))
+        Command::Find(Handle { hash, number }, self.accepted(hash, plain))
     }
 
     /// Returns a command to make room for a few more handles, or for more than can be counted.
@@ -119,166 +114,175 @@ impl DrawnCommands {
 
     /// Returns the command with this number in a list, which has more insertions in the first half
     /// and more removals in the second. The last tenth are lookups.
-    fn command(&mut self, number: u64, plain: &Plain) -> Result<Command<Global>, AllocError> {
+    fn command(&mut self, number: u64, plain: &Plain) -> Command<Global> {
         let additions = if number < COMMANDS / 2 { 10 } else { 4 };
         let kind = if number < COMMANDS * 9 / 10 {
             self.draws.below(18)
         } else {
             17
         };
-        Ok(match kind {
+        match kind {
             kind if kind < additions && kind % 2 == 0 => Command::Insert(self.handle(
                 number, plain,
             )),
-            kind if kind < additions => self.find(number, plain)?,
+            kind if kind < additions => self.find(number, plain),
             0..=12 => {
                 let handle = self.held(number, plain);
                 Command::Remove(handle.hash ^ (self.draws.below(2) << UNREAD), handle)
             }
             13 | 14 => self.reserve(),
             _ => Command::Get(self.hash()),
-        })
+        }
     }
 }
 
-/// A table and its plain lists, with what their closures are called on, the commands that were made
-/// of both, and the replies.
+/// A table whose requests for memory can be refused.
+type TestedTable<'a> = Hashed<&'a Refusing<Global>>;
+
+/// Plain lists to which the commands of a list are made too, with what their closures should be called on,
+/// the commands, and what a table replied to them.
 #[derive(Drop)]
-struct Pair {
+struct Run {
     alloc: Global,
-    tested: Hashed,
     plain: Plain,
-    got: Notes,
     wanted: Notes,
     commands: Vec<Command<Global>>,
     replies: Vec<Reply<Global>>,
+    /// The number of the first command after which the table was another one.
+    first: Option<usize>,
 }
 
-impl Pair {
-    /// Makes a table and plain lists for `entries` entries.
-    fn with_capacity(alloc: Global, entries: usize) -> Result<Pair, Fail> {
-        Ok(Pair {
+impl Run {
+    /// Makes plain lists for `entries` entries.
+    fn with_capacity(alloc: Global, entries: usize) -> Run {
+        Run {
             alloc,
-            tested: Hashed::with_capacity(alloc, entries)?,
-            plain: Plain::with_capacity(alloc, entries)?,
-            got: Notes::new(),
+            plain: Plain::with_capacity(alloc, entries),
             wanted: Notes::new(),
             commands: Vec::new(alloc),
             replies: Vec::new(alloc),
-        })
-    }
-
-    /// Makes the call of both. The reply is the same, and so are the handles that closures were
-    /// called on, the sizes, and the handle in each slot.
-    fn make(&mut self, command: Command<Global>) -> Result<(), Fail> {
-        let reply = self.tested.reply(self.alloc, &command, &self.got);
-        self.is_wanted(&reply, &command)?;
-        self.replies.push(reply)?;
-        self.commands.push(command)?;
-        Ok(())
-    }
-
-    /// Compares both after a command, and the reply of the one with that of the other.
-    fn is_wanted(&mut self, reply: &Reply<Global>, command: &Command<Global>) -> Result<(), Fail> {
-        let wanted = self.plain.reply(command, &self.wanted)?;
-        same_at(reply, &wanted, command)?;
-        match command {
-            Command::Get(_) => Ok(()),
-            _ => self.is_same(command),
+            first: None,
         }
     }
 
-    /// Compares both after a command.
-    fn is_same(&self, command: &Command<Global>) -> Result<(), Fail> {
-        self.have_same_notes(command)?;
-        self.have_same_sizes(command)?;
-        self.have_same_slots(command)
+    /// Makes a command of the lists, and returns true if a table is the same after it, with its reply, the
+    /// handles that its closures were called on, its sizes, and the handle in each slot.
+    fn is_wanted(
+        &mut self,
+        tested: &TestedTable<'_>,
+        got: &Notes,
+        command: &Command<Global>,
+        reply: &Reply<Global>,
+    ) -> bool {
+        let wanted = self.plain.reply(command, &self.wanted);
+        *reply == wanted && (matches!(command, Command::Get(_)) || self.is_same(tested, got))
     }
 
-    /// Closures of both were called on the same handles.
-    fn have_same_notes(&self, command: &Command<Global>) -> Result<(), Fail> {
-        same_at(
-            self.got.offered.noted(),
-            self.wanted.offered.noted(),
-            command,
-        )?;
-        same_at(self.got.asked.noted(), self.wanted.asked.noted(), command)
+    /// Returns true if a table is the same, and its closures were called on the same handles.
+    fn is_same(&self, tested: &TestedTable<'_>, got: &Notes) -> bool {
+        got.offered.noted() == self.wanted.offered.noted()
+            && got.asked.noted() == self.wanted.asked.noted()
+            && self.has_same_sizes(tested)
+            && self.has_same_slots(tested)
     }
 
-    /// As many handles are in both, and as many fit.
-    fn have_same_sizes(&self, command: &Command<Global>) -> Result<(), Fail> {
-        let table = &self.tested.table;
-        same_at(
-            (table.len(), table.capacity(), table.is_empty()),
-            (
-                self.plain.len(),
-                self.plain.capacity(),
-                self.plain.len() == 0,
-            ),
-            command,
-        )
+    /// Returns true if as many handles are in both, and as many fit.
+    fn has_same_sizes(&self, tested: &TestedTable<'_>) -> bool {
+        let table = &tested.table;
+        table.len() == self.plain.len()
+            && table.capacity() == self.plain.capacity()
+            && table.is_empty() == (self.plain.len() == 0)
     }
 
-    /// The same handles are in the slots of both.
-    fn have_same_slots(&self, command: &Command<Global>) -> Result<(), Fail> {
-        let slots = slots_of(self.alloc, &self.tested.table, FINGERPRINTS)?;
-        self.plain.is_laid_out(&slots, command)
+    /// Returns true if the same handles are in the slots of both.
+    fn has_same_slots(&self, tested: &TestedTable<'_>) -> bool {
+        let slots = slots_of(self.alloc, &tested.table, FINGERPRINTS);
+        slots.as_slice() == self.plain.layout().as_slice()
     }
 
-    /// Grows both after some commands, and looks up drawn hashes after others.
-    fn make_further(&mut self, draws: &mut DrawnCommands, number: u64) -> Result<(), Fail> {
-        if number % (COMMANDS / 2) == COMMANDS / 2 - 1 {
-            let vacant = self.plain.capacity().saturating_sub(self.plain.len());
-            self.make(Command::Reserve(vacant.saturating_add(1)))?;
+    /// Adds a command and its reply.
+    fn add(&mut self, command: Command<Global>, reply: Reply<Global>, is_wanted: bool) {
+        if !is_wanted && self.first.is_none() {
+            self.first = Some(self.commands.len());
         }
-        if number % 5 == 4 {
-            for _ in 0..8 {
-                self.make(Command::Get(draws.hash()))?;
-            }
-        }
-        Ok(())
+        let _ = self.commands.push(command);
+        let _ = self.replies.push(reply);
     }
 
-    /// Makes a list of drawn commands.
-    fn make_all(&mut self, draws: &mut DrawnCommands) -> Result<(), Fail> {
-        for number in 0..COMMANDS {
-            let command = draws.command(number, &self.plain)?;
-            self.make(command)?;
-            self.make_further(draws, number)?;
-        }
-        Ok(())
-    }
-
-    /// Makes the commands of a list, and runs them as one list.
-    fn play(&mut self, list: u64, entries: usize) -> Result<(), Fail> {
-        let mut draws = DrawnCommands {
-            draws: SplitMix64::new(list),
-            homes: 1 << (list % 4),
-            alloc: self.alloc,
-        };
-        self.make_all(&mut draws)?;
-        self.is_run(entries)
-    }
-
-    /// A new table replies to the commands as one list as it did to each.
-    fn is_run(&self, entries: usize) -> Result<(), Fail> {
+    /// Returns true if a new table replies to the commands as one list as the table did to each.
+    fn is_run(&self, entries: usize) -> bool {
         let asked = Cell::new(0);
-        let replies = run_counted(self.alloc, entries, &self.commands, &asked)?;
-        same(replies.as_slice(), self.replies.as_slice())
+        match run_counted(self.alloc, entries, &self.commands, &asked) {
+            Ok(replies) => replies.as_slice() == self.replies.as_slice(),
+            Err(_) => false,
+        }
+    }
+
+    /// Writes at which command the table was another one, or whether the list is run as each command is.
+    fn write_outcome(&self, entries: usize, replies: &mut String) -> Result<(), AllocError> {
+        match self.first {
+            Some(number) => write!(
+                replies,
+                "{number}: {:?} gave {:?}",
+                self.commands.get(number),
+                self.replies.get(number)
+            ),
+            None if self.is_run(entries) => replies.push_str("alike"),
+            None => replies.push_str("another run"),
+        }
     }
 }
 
-/// Makes the commands of a list on a new table and on new plain lists, and runs them as one list.
-fn play_list(alloc: Global, list: u64) -> Result<(), Fail> {
-    let entries = (list % 3 * 10) as usize;
-    let mut pair = Pair::with_capacity(alloc, entries)?;
-    pair.play(list, entries)
+/// Makes the call of a command of both.
+fn make(tested: &mut TestedTable<'_>, got: &Notes, run: &mut Run, command: Command<Global>) {
+    let reply = tested.reply(run.alloc, &command, got);
+    let is_wanted = run.is_wanted(tested, got, &command, &reply);
+    run.add(command, reply, is_wanted);
 }
 
-/// Plays all lists, and returns their number.
-pub(crate) fn play_lists(alloc: Global) -> Result<u64, Fail> {
-    for list in 0..LISTS {
-        play_list(alloc, list)?;
+/// Grows both after some commands, and looks up drawn hashes after others.
+fn make_further(
+    tested: &mut TestedTable<'_>,
+    got: &Notes,
+    run: &mut Run,
+    draws: &mut DrawnCommands,
+    number: u64,
+) {
+    if number % (COMMANDS / 2) == COMMANDS / 2 - 1 {
+        let vacant = run.plain.capacity().saturating_sub(run.plain.len());
+        make(tested, got, run, Command::Reserve(vacant.saturating_add(1)));
     }
-    Ok(LISTS)
+    if number % 5 == 4 {
+        for _ in 0..8 {
+            make(tested, got, run, Command::Get(draws.hash()));
+        }
+    }
+}
+
+/// Makes a list of drawn commands.
+fn make_all(tested: &mut TestedTable<'_>, got: &Notes, run: &mut Run, draws: &mut DrawnCommands) {
+    for number in 0..COMMANDS {
+        let command = draws.command(number, &run.plain);
+        make(tested, got, run, command);
+        make_further(tested, got, run, draws, number);
+    }
+}
+
+/// Makes the commands of a list on a table for `entries` entries and on plain lists, runs them as one list,
+/// and writes whether all is the same.
+pub(crate) fn play_list(
+    tested: &mut TestedTable<'_>,
+    got: &Notes,
+    alloc: Global,
+    (list, entries): (u64, u64),
+    replies: &mut String,
+) -> Result<(), AllocError> {
+    let mut draws = DrawnCommands {
+        draws: SplitMix64::new(list),
+        homes: 1 << (list % 4),
+        alloc,
+    };
+    let mut run = Run::with_capacity(alloc, entries as usize);
+    make_all(tested, got, &mut run, &mut draws);
+    run.write_outcome(entries as usize, replies)
 }

@@ -12,6 +12,8 @@ pub(crate) enum Verb {
     Ask(Question),
     /// Inserts handles, and asks how the table grew.
     Fill,
+    /// Makes a seeded list of commands, and compares the table with plain lists.
+    List,
 }
 
 /// A command, which lists of commands have too.
@@ -100,6 +102,7 @@ const VERBS: &[(&str, Verb)] = &[
     ("partitions", Verb::Ask(Question::Partitions)),
     ("refusals", Verb::Ask(Question::Refusals)),
     ("fill", Verb::Fill),
+    ("beside_lists", Verb::List),
 ];
 
 impl Verb {
