@@ -7,7 +7,7 @@ use std::alloc::{AllocError, Global};
 /// Makes the slot, and replaces its value. Returns how many slots are made and how many keys are
 /// remembered before and after it is made, then the slot's key and value, the value that is replaced, and
 /// the key and value that are left.
-fn make_and_replace(directory: &mut Directory<u64, u64>) -> ([usize; 4], [u64; 5])
+fn make_and_replace(directory: &mut Directory<u64, u64>) -> [u64; 9]
     requires empty { directory.old.residents.entries ≡ [] }
     requires room { 0 < directory.old.residents.room }
 {
@@ -16,15 +16,21 @@ fn make_and_replace(directory: &mut Directory<u64, u64>) -> ([usize; 4], [u64; 5
     let after = (directory.made(), directory.remembered_len());
     let (key, value) = (*directory.key(0), *directory.value(0));
     let replaced = directory.replace_value(0, 701);
-    let left = (*directory.key(0), *directory.value(0));
-    (
-        [before.0, before.1, after.0, after.1],
-        [key, value, replaced, left.0, left.1],
-    )
+    [
+        before.0 as u64,
+        before.1 as u64,
+        after.0 as u64,
+        after.1 as u64,
+        key,
+        value,
+        replaced,
+        *directory.key(0),
+        *directory.value(0),
+    ]
 }
 
 /// Does so in a directory with one slot, which has no resident.
-pub(crate) fn a_slot(alloc: Global) -> Result<([usize; 4], [u64; 5]), AllocError> {
+pub(crate) fn a_slot(alloc: Global) -> Result<[u64; 9], AllocError> {
     let mut directory = Directory::new(alloc, 1, 0)?;
     Ok(make_and_replace(&mut directory))
 }
