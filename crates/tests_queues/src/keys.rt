@@ -58,9 +58,9 @@ fn replace_first_value(keys: &mut Keys<u64, u64>) -> u64
     keys.replace_value(0, 901)
 }
 
-/// One of two keys is replaced, and the other is overwritten. Returns what is held at first, then and at
-/// last, what left with its new hash and the value that left, and the numbers of keys at last and once they
-/// are cleared.
+/// Replaces one of two keys, overwrites the other, and clears both. Returns what is held before, between and
+/// after the two, the hash and the key that left, the new hash and the value that left, and the numbers of
+/// keys before and after they are cleared.
 fn replace_both(keys: &mut Keys<u64, u64>) -> ([Held; 3], [u64; 4], [usize; 2])
     requires two { length keys.old.entries ≡ 2 }
     requires room { keys.old.room ≡ 2 }
