@@ -1,6 +1,7 @@
 //! A cache whose calls are given as small values.
 
 use crate::calls::{Answer, Call, is_kept, made_value};
+use crate::model::Resident;
 use clock2q_cache::Cache;
 use std::alloc::{AllocError, Global};
 use std::hash::BuildHasher;
@@ -20,18 +21,24 @@ impl<S: BuildHasher> Called<S> {
     pub(crate) fn answer(&mut self, call: Call) -> Answer {
         match call {
             Call::Put(key, value) => Answer::Value(self.put(key, value)),
-            Call::Evict(key, value) => Answer::Handed(self.put_evicting(key, value)),
+            Call::Evict(key, value) => Answer::Left(self.put_evicting(key, value)),
             Call::PutSlot(key, value) => self.put_slot(key, value),
             Call::Get(key) => Answer::Value(self.get(key)),
             Call::GetAt(slot, key) => Answer::Value(self.get_at(slot, key)),
             Call::Set(key, value) => Answer::Value(self.set(key, value)),
-            Call::With(key, value) => Answer::Stored(self.fetch(key, value)),
-            Call::Try(key, offered) => Answer::Tried(self.try_fetch(key, offered)),
-            Call::Write(key, offered, value) => Answer::Tried(self.write(key, offered, value)),
+            Call::PeekSlot(key) => Answer::Found(self.peek_slot(key)),
+            Call::HitSlot(slot) => Answer::Flag(self.hit_slot(slot)),
+            Call::RemoveSlot(slot) => Answer::Flag(self.remove_slot(slot)),
+            Call::With(key, value) => Answer::Value(self.fetch(key, value)),
+            Call::Try(key, offered) => Answer::Value(self.try_fetch(key, offered)),
+            Call::Write(key, offered, value) => Answer::Value(self.write(key, offered, value)),
             Call::Slot(key, value) => self.take_slot(key, value),
             Call::Enter(key, value) => self.enter(key, value),
             Call::Remove(key) => Answer::Flag(self.remove(key)),
-            Call::Retain(bits, count) => self.retain(bits, count),
+            Call::Retain(bits, count) => {
+                self.retain(bits, count, &[]);
+                Answer::Done
+            }
             Call::Clear => self.clear(),
             Call::MakeRoom => Answer::Left(self.evict()),
             Call::Prefill(first, more) => self.prefill(first, more),
@@ -71,8 +78,20 @@ impl<S: BuildHasher> Called<S> {
         Some(before)
     }
 
-    fn fetch(&mut self, key: u64, value: u64) -> u64 {
-        *self.cache.get_or_insert_with(key, || value)
+    fn peek_slot(&self, key: u64) -> Option<usize> {
+        self.cache.peek_slot(&key)
+    }
+
+    fn hit_slot(&mut self, slot: usize) -> bool {
+        self.cache.hit_slot(slot)
+    }
+
+    fn remove_slot(&mut self, slot: usize) -> bool {
+        self.cache.remove_slot(slot)
+    }
+
+    fn fetch(&mut self, key: u64, value: u64) -> Option<u64> {
+        Some(*self.cache.get_or_insert_with(key, || value))
     }
 
     fn try_fetch(&mut self, key: u64, offered: Option<u64>) -> Option<u64> {
@@ -110,18 +129,30 @@ impl<S: BuildHasher> Called<S> {
         self.cache.remove(&key)
     }
 
-    fn retain(&mut self, bits: u64, count: u32) -> Answer {
+    /// Keeps the residents that the bits say, and returns true if these are all that it is asked about,
+    /// in this order.
+    fn retain(&mut self, bits: u64, count: u32, residents: &[Resident]) -> bool {
         let mut asked = 0u32;
-        self.cache.retain(|_, _| {
+        let mut left = residents;
+        let mut same = true;
+        self.cache.retain(|key, value| {
+            match left.split_first() {
+                Some((first, others)) => {
+                    same = same && first.0 == *key && first.2 == *value;
+                    left = others;
+                }
+                None => same = false,
+            }
             let stays = is_kept(bits, count, asked);
             asked = asked.saturating_add(1);
             stays
         });
-        Answer::Done
+        same && left.is_empty()
     }
 
-    fn evict(&mut self) -> Option<(u64, usize)> {
-        self.cache.evict()
+    fn evict(&mut self) -> Option<(u64, u64)> {
+        let (key, slot) = self.cache.evict()?;
+        Some((key, slot as u64))
     }
 
     fn clear(&mut self) -> Answer {
@@ -164,12 +195,27 @@ impl<S: BuildHasher> Called<S> {
         format!(in alloc; "{:?}", self.cache)
     }
 
+    /// Returns true if a slot is one of the first that are listed for a hash, of which there are this many.
+    pub(crate) fn lists_slot(&self, hash: u64, count: usize, slot: usize) -> bool {
+        for nth in 0..count {
+            if self.cache.slot_with_hash(hash, nth) == Some(slot) {
+                return true;
+            }
+        }
+        false
+    }
+
+    /// Returns true if more than this many slots are listed for a hash.
+    pub(crate) fn lists_more(&self, hash: u64, count: usize) -> bool {
+        self.cache.slot_with_hash(hash, count).is_some()
+    }
+
     /// Returns true if the cache lists exactly these residents, in this order.
-    pub(crate) fn lists(&self, residents: &[(u64, u64)]) -> bool {
+    pub(crate) fn lists(&self, residents: &[Resident]) -> bool {
         let mut left = residents;
-        for (key, _, value) in &self.cache {
+        for (key, slot, value) in &self.cache {
             match left.split_first() {
-                Some((first, others)) if first.0 == *key && first.1 == *value => left = others,
+                Some((first, others)) if *first == (*key, slot, *value) => left = others,
                 _ => return false,
             }
         }
@@ -177,19 +223,7 @@ impl<S: BuildHasher> Called<S> {
     }
 
     /// Returns true if `retain` visits exactly these residents, in this order.
-    pub(crate) fn holds(&mut self, residents: &[(u64, u64)]) -> bool {
-        let mut left = residents;
-        let mut same = true;
-        self.cache.retain(|key, value| {
-            match left.split_first() {
-                Some((first, others)) => {
-                    same = same && first.0 == *key && first.1 == *value;
-                    left = others;
-                }
-                None => same = false,
-            }
-            true
-        });
-        same && left.is_empty()
+    pub(crate) fn holds(&mut self, residents: &[Resident]) -> bool {
+        self.retain(0, 0, residents)
     }
 }

@@ -16,6 +16,12 @@ pub(crate) enum Call {
     Peek(u64),
     Contains(u64),
     GetAt(usize, u64),
+    /// Asks for a key's slot.
+    PeekSlot(u64),
+    /// Records a hit of the key at a slot.
+    HitSlot(usize),
+    /// Removes the key at a slot.
+    RemoveSlot(usize),
     /// Writes a value through a lent reference.
     Set(u64, u64),
     With(u64, u64),
@@ -43,12 +49,10 @@ pub(crate) enum Call {
 #[derive(Clone, Copy, Debug, PartialEq)]
 pub(crate) enum Answer {
     Value(Option<u64>),
-    Stored(u64),
-    /// A key and its value.
-    Handed(Option<(u64, u64)>),
-    Tried(Option<u64>),
-    /// A key that left, and its slot.
-    Left(Option<(u64, usize)>),
+    /// A key's slot.
+    Found(Option<usize>),
+    /// A key that left, and its value or its slot, if one left.
+    Left(Option<(u64, u64)>),
     /// A key's slot and the value there.
     Slot(usize, u64),
     /// A key's slot and who had it.
@@ -74,7 +78,7 @@ impl Call {
     /// The call with this number in a list: mostly one that looks a key up or inserts it.
     pub(crate) fn drawn(draws: &mut SplitMix64, model: &Model, number: u64) -> Call {
         let key = draws.below(model.keys());
-        match draws.below(400) {
+        match draws.below(440) {
             0..=59 => Call::Put(key, number),
             60..=69 => Call::Evict(key, number),
             70..=79 => Call::PutSlot(key, number),
@@ -92,6 +96,8 @@ impl Call {
             370..=379 => Call::MakeRoom,
             380 => Call::Clear,
             381 | 382 => Call::Prefill(number, draws.below(4)),
+            400..=419 => Call::HitSlot(model.hint(key, draws.below(4))),
+            420..=429 => Call::RemoveSlot(model.hint(key, draws.below(4))),
             kind => Call::aside(draws, key, kind),
         }
     }
@@ -107,7 +113,8 @@ impl Call {
             390..=392 => Call::Contains(key),
             393..=395 => Call::Len,
             396 | 397 => Call::IsEmpty,
-            _ => Call::Capacity,
+            398 | 399 => Call::Capacity,
+            _ => Call::PeekSlot(key),
         }
     }
 }

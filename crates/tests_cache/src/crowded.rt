@@ -8,6 +8,12 @@ use testing::{LinearHashBuilder, SplitMix64};
 
 type Crowded = Tested<LinearHashBuilder>;
 
+/// Hashes of which only the two highest bits differ.
+const FOUR_HASHES: LinearHashBuilder = LinearHashBuilder {
+    times: 1 << 62,
+    more: 5,
+};
+
 /// Puts a quarter more keys than the cache can hold.
 fn fill(tested: &mut Crowded, capacity: u64, list: u64) -> Result<(), Fail> {
     for number in 0..capacity.saturating_add(capacity / 4) {
@@ -45,6 +51,34 @@ fn is_same(tested: &mut Crowded, capacity: u64, list: u64) -> Result<(), Fail> {
 fn agrees(alloc: Global, capacity: u64, spread: LinearHashBuilder) -> Result<(), Fail> {
     let mut tested = Tested::usual(alloc, capacity as usize, spread)?;
     is_same(&mut tested, capacity, spread.times)
+}
+
+/// Makes drawn calls, and looks all keys up by their slots after each.
+fn drive_closely(tested: &mut Crowded, calls: u64, list: u64) -> Result<(), Fail> {
+    let mut draws = SplitMix64::new(list);
+    for number in 0..calls {
+        let position = Position { list, number };
+        let call = Call::drawn(&mut draws, &tested.model, number);
+        tested.call(call, position)?;
+        tested.keys_are_same(position)?;
+    }
+    Ok(())
+}
+
+/// A small cache, in which most keys hash alike, agrees with its lists, and lists its keys by hash.
+fn lists_by_hash(alloc: Global, capacity: usize) -> Result<(), Fail> {
+    let mut tested = Tested::usual(alloc, capacity, FOUR_HASHES)?;
+    drive_closely(&mut tested, 500, capacity as u64)?;
+    tested.hashes_are_same(FOUR_HASHES)
+}
+
+/// Slots are found, hit, removed and listed by hash.
+#[test]
+fn four_hashes(rt: HostRuntime) -> Result<(), Fail> {
+    for capacity in [1, 2, 7, 30] {
+        lists_by_hash(rt.alloc(), capacity)?;
+    }
+    Ok(())
 }
 
 #[test]

@@ -5,8 +5,6 @@
 #[cfg(test)]
 mod accesses;
 #[cfg(test)]
-mod by_slot;
-#[cfg(test)]
 mod called;
 #[cfg(test)]
 mod calls;

@@ -4,9 +4,10 @@
 use crate::calls::{Answer, Call, is_kept, made_value};
 use clock2q_cache::Occupant;
 use std::alloc::{AllocError, Global};
+use testing::LinearHashBuilder;
 
 /// How a capacity is divided.
-#[derive(Clone, Copy, Debug)]
+#[derive(Clone, Copy)]
 pub(crate) struct Shares {
     pub(crate) capacity: usize,
     pub(crate) small: usize,
@@ -37,8 +38,11 @@ impl Shares {
     }
 }
 
+/// A resident key, its slot and its value.
+pub(crate) type Resident = (u64, usize, u64);
+
 /// A resident key.
-#[derive(Clone, Copy, Debug)]
+#[derive(Clone, Copy)]
 struct Entry {
     key: u64,
     slot: usize,
@@ -89,7 +93,7 @@ impl Model {
 
     /// A slot to look for the key at: its own, if it has one, or sometimes another.
     pub(crate) fn hint(&self, key: u64, kind: u64) -> usize {
-        let slot = self.find(key).map_or(0, |entry| entry.slot);
+        let slot = self.slot(key).unwrap_or(0);
         match kind {
             0 => slot.saturating_add(1),
             1 => usize::MAX,
@@ -102,6 +106,17 @@ impl Model {
         self.values.len()
     }
 
+    /// The number of residents with a hash.
+    pub(crate) fn hashed(&self, spread: LinearHashBuilder, hash: u64) -> usize {
+        let mut count: usize = 0;
+        for key in 0..self.keys() {
+            if hash_of(spread, key) == hash && self.find(key).is_some() {
+                count = count.wrapping_add(1);
+            }
+        }
+        count
+    }
+
     /// The key of the resident at a slot.
     pub(crate) fn key_at(&self, slot: usize) -> Option<u64> {
         let entry = self.at(slot)?;
@@ -112,7 +127,7 @@ impl Model {
     pub(crate) fn answer(&mut self, call: Call) -> Result<Answer, AllocError> {
         Ok(match call {
             Call::Put(key, value) => Answer::Value(self.put(key, value)?),
-            Call::Evict(key, value) => Answer::Handed(self.put_evicting(key, value)?),
+            Call::Evict(key, value) => Answer::Left(self.put_evicting(key, value)?),
             Call::PutSlot(key, value) => {
                 let (slot, occupant) = self.put_slot(key, value)?;
                 Answer::Placed(slot, occupant)
@@ -122,9 +137,12 @@ impl Model {
             Call::Contains(key) => Answer::Flag(self.find(key).is_some()),
             Call::GetAt(slot, key) => Answer::Value(self.get_at(slot, key)),
             Call::Set(key, value) => Answer::Value(self.replace(key, value)),
-            Call::With(key, value) => Answer::Stored(self.fetch(key, value)?),
-            Call::Try(key, offered) => Answer::Tried(self.try_fetch(key, offered)?),
-            Call::Write(key, offered, value) => Answer::Tried(self.write(key, offered, value)?),
+            Call::PeekSlot(key) => Answer::Found(self.slot(key)),
+            Call::HitSlot(slot) => Answer::Flag(self.hit_slot(slot)),
+            Call::RemoveSlot(slot) => Answer::Flag(self.remove_slot(slot)?),
+            Call::With(key, value) => Answer::Value(self.try_fetch(key, Some(value))?),
+            Call::Try(key, offered) => Answer::Value(self.try_fetch(key, offered)?),
+            Call::Write(key, offered, value) => Answer::Value(self.write(key, offered, value)?),
             Call::Slot(key, value) => {
                 let (slot, held) = self.take_slot(key, value)?;
                 Answer::Slot(slot, held)
@@ -172,12 +190,12 @@ impl Model {
         )
     }
 
-    /// The residents with their values, by ascending slot.
-    pub(crate) fn residents(&self) -> Result<Vec<(u64, u64)>, AllocError> {
+    /// The residents, by ascending slot.
+    pub(crate) fn residents(&self) -> Result<Vec<Resident>, AllocError> {
         let mut residents = Vec::with_capacity(self.alloc, self.len())?;
         for slot in 0..self.values.len() {
             if let Some(key) = self.key_at(slot) {
-                residents.push((key, self.value(slot)))?;
+                residents.push((key, slot, self.value(slot)))?;
             }
         }
         Ok(residents)
@@ -189,22 +207,12 @@ impl Model {
 
     /// The entry of a resident key.
     fn find(&self, key: u64) -> Option<Entry> {
-        for entry in &self.small {
-            if entry.key == key {
-                return Some(*entry);
-            }
-        }
-        self.main.iter().find(|entry| entry.key == key).copied()
+        entry_of(&self.small, key).or(entry_of(&self.main, key))
     }
 
     /// The entry of the resident at a slot.
     fn at(&self, slot: usize) -> Option<Entry> {
-        for entry in &self.small {
-            if entry.slot == slot {
-                return Some(*entry);
-            }
-        }
-        self.main.iter().find(|entry| entry.slot == slot).copied()
+        entry_at(&self.small, slot).or(entry_at(&self.main, slot))
     }
 
     fn value(&self, slot: usize) -> u64 {
@@ -215,6 +223,12 @@ impl Model {
         if let Some(stored) = self.values.get_mut(slot) {
             *stored = value;
         }
+    }
+
+    /// The slot of a resident key.
+    pub(crate) fn slot(&self, key: u64) -> Option<usize> {
+        let entry = self.find(key)?;
+        Some(entry.slot)
     }
 
     fn peek(&self, key: u64) -> Option<u64> {
@@ -236,6 +250,22 @@ impl Model {
         }
     }
 
+    fn hit_slot(&mut self, slot: usize) -> bool {
+        let Some(entry) = self.at(slot) else {
+            return false;
+        };
+        self.hit(entry.key);
+        true
+    }
+
+    fn remove_slot(&mut self, slot: usize) -> Result<bool, AllocError> {
+        let is_resident = self.at(slot).is_some();
+        if is_resident {
+            self.vacate(slot)?;
+        }
+        Ok(is_resident)
+    }
+
     fn replace(&mut self, key: u64, value: u64) -> Option<u64> {
         let entry = self.find(key)?;
         let before = self.get(key);
@@ -254,12 +284,12 @@ impl Model {
     /// Returns what the value replaces, or else the resident that is evicted.
     fn put_evicting(&mut self, key: u64, value: u64) -> Result<Option<(u64, u64)>, AllocError> {
         if self.find(key).is_some() {
-            return Ok(self.replace(key, value).map(|before| (key, before)));
+            return Ok(Some(key).zip(self.replace(key, value)));
         }
         let slot = self.enter(key)?;
         let before = self.value(slot);
         self.store(slot, value);
-        Ok(self.evicted.map(|evicted| (evicted, before)))
+        Ok(self.evicted.zip(Some(before)))
     }
 
     /// Returns the slot of the key, and who had it.
@@ -274,14 +304,6 @@ impl Model {
             Some(evicted) => Ok((slot, Occupant::Other(evicted))),
             None => Ok((slot, Occupant::Nobody)),
         }
-    }
-
-    fn fetch(&mut self, key: u64, value: u64) -> Result<u64, AllocError> {
-        if let Some(held) = self.get(key) {
-            return Ok(held);
-        }
-        self.insert(key, value)?;
-        Ok(value)
     }
 
     fn try_fetch(&mut self, key: u64, offered: Option<u64>) -> Result<Option<u64>, AllocError> {
@@ -352,7 +374,7 @@ impl Model {
     }
 
     /// Returns the key that leaves, and its slot.
-    fn evict(&mut self) -> Result<Option<(u64, usize)>, AllocError> {
+    fn evict(&mut self) -> Result<Option<(u64, u64)>, AllocError> {
         if self.len() == 0 {
             return Ok(None);
         }
@@ -363,7 +385,7 @@ impl Model {
             self.small_leaves()?
         };
         self.free.push(slot)?;
-        Ok(self.evicted.map(|key| (key, slot)))
+        Ok(self.evicted.zip(Some(slot as u64)))
     }
 
     fn clear(&mut self) {
@@ -395,8 +417,8 @@ impl Model {
 
     /// Removes the resident of a slot. The slot is the next that a new key gets.
     fn vacate(&mut self, slot: usize) -> Result<(), AllocError> {
-        self.small.retain(|entry| entry.slot != slot);
-        self.main.retain(|entry| entry.slot != slot);
+        leave(&mut self.small, slot);
+        leave(&mut self.main, slot);
         self.free.push(slot)?;
         Ok(())
     }
@@ -500,6 +522,36 @@ impl Model {
         }
         Ok(0)
     }
+}
+
+/// The hash of a key.
+pub(crate) fn hash_of(spread: LinearHashBuilder, key: u64) -> u64 {
+    key.wrapping_mul(spread.times).wrapping_add(spread.more)
+}
+
+/// The entry of a key.
+fn entry_of(entries: &[Entry], key: u64) -> Option<Entry> {
+    for entry in entries {
+        if entry.key == key {
+            return Some(*entry);
+        }
+    }
+    None
+}
+
+/// The entry with a slot.
+fn entry_at(entries: &[Entry], slot: usize) -> Option<Entry> {
+    for entry in entries {
+        if entry.slot == slot {
+            return Some(*entry);
+        }
+    }
+    None
+}
+
+/// Removes the entry with a slot.
+fn leave(entries: &mut Vec<Entry>, slot: usize) {
+    entries.retain(|entry| entry.slot != slot);
 }
 
 /// Marks the entry of a key as hit if it has at least this age.

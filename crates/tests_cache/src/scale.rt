@@ -1,9 +1,10 @@
 //! Caches of a thousand and of a million keys over seeded streams, and lists of a thousand.
 //! docs/TESTING.md explains where the figures come from.
+ghost use Rattle.std.specs.Prelude.{◌<◌, ◌≤◌};
 
 use crate::accesses::{Hits, on_cache, on_lists};
 use crate::model::{Model, Shares};
-use clock2q_cache::{Cache, CacheError, DefaultHashBuilder};
+use clock2q_cache::{Cache, CacheError};
 use std::alloc::Global;
 use std::num::NonZeroUsize;
 use std::test::Fail;
@@ -21,14 +22,14 @@ const MILLION: Hits = Hits {
     sum: 2_927_035_905_532,
 };
 
-fn cache_of(
-    alloc: Global,
-    capacity: usize,
-) -> Result<Cache<u64, u64, DefaultHashBuilder>, CacheError> {
-    Cache::new(
-        alloc,
-        NonZeroUsize::new(capacity).unwrap_or(NonZeroUsize::MIN),
-    )
+/// Returns the result of accesses on a new cache.
+fn hits_of(alloc: Global, capacity: usize, accesses: u64, spread: u64) -> Result<Hits, CacheError>
+    requires some { 0 < spread }
+    requires few { spread ≤ 32 }
+{
+    let capacity = NonZeroUsize::new(capacity).unwrap_or(NonZeroUsize::MIN);
+    let mut cache = Cache::new(alloc, capacity)?;
+    Ok(on_cache(&mut cache, accesses, spread))
 }
 
 #[test]
@@ -39,12 +40,10 @@ fn lists_of_a_thousand_keys(rt: HostRuntime) -> Result<(), Fail> {
 
 #[test]
 fn cache_of_a_thousand_keys(rt: HostRuntime) -> Result<(), Fail> {
-    let mut cache = cache_of(rt.alloc(), 1_000)?;
-    same(on_cache(&mut cache, 1_000_000, 13), THOUSAND)
+    same(hits_of(rt.alloc(), 1_000, 1_000_000, 13)?, THOUSAND)
 }
 
 #[test]
 fn cache_of_a_million_keys(rt: HostRuntime) -> Result<(), Fail> {
-    let mut cache = cache_of(rt.alloc(), 1_000_000)?;
-    same(on_cache(&mut cache, 10_000_000, 23), MILLION)
+    same(hits_of(rt.alloc(), 1_000_000, 10_000_000, 23)?, MILLION)
 }

@@ -17,7 +17,7 @@ const CALLS: u64 = 100;
 const CAPACITIES: u64 = 60;
 
 /// What the lists of a test have in common.
-#[derive(Clone, Copy, Debug, PartialEq)]
+#[derive(Clone, Copy)]
 enum Kind {
     Usual,
     NoSmall,

@@ -2,13 +2,13 @@
 
 use crate::called::Called;
 use crate::calls::Call;
-use crate::model::{Model, Shares};
+use crate::model::{Model, Shares, hash_of};
 use clock2q_cache::Cache;
 use std::alloc::Global;
 use std::hash::BuildHasher;
 use std::num::NonZeroUsize;
 use std::test::Fail;
-use testing::same_at;
+use testing::{LinearHashBuilder, same_at};
 
 /// The list, and the call in it, that a test is at.
 #[derive(Clone, Copy, Debug)]
@@ -26,28 +26,28 @@ pub(crate) struct Tested<S: BuildHasher> {
 }
 
 impl<S: BuildHasher + Drop> Tested<S> {
+    /// Makes both, empty.
     pub(crate) fn new(alloc: Global, shares: Shares, hasher: S) -> Result<Tested<S>, Fail> {
         let capacity = NonZeroUsize::new(shares.capacity).unwrap_or(NonZeroUsize::MIN);
         let (small, window) = (shares.small, shares.window);
         let cache = Cache::with_policy(alloc, capacity, small, window, hasher)?;
-        let model = Model::new(alloc, shares);
-        Ok(Tested {
-            alloc,
-            called: Called::new(cache),
-            model,
-        })
+        Ok(Tested::of(alloc, shares, cache))
     }
 
     /// With the shares of a cache that is made with only a capacity.
     pub(crate) fn usual(alloc: Global, capacity: usize, hasher: S) -> Result<Tested<S>, Fail> {
-        let model = Model::new(alloc, Shares::usual(capacity));
-        let capacity = NonZeroUsize::new(capacity).unwrap_or(NonZeroUsize::MIN);
-        let cache = Cache::with_hasher(alloc, capacity, hasher)?;
-        Ok(Tested {
+        let most = NonZeroUsize::new(capacity).unwrap_or(NonZeroUsize::MIN);
+        let cache = Cache::with_hasher(alloc, most, hasher)?;
+        Ok(Tested::of(alloc, Shares::usual(capacity), cache))
+    }
+
+    /// A new cache with these shares, and lists with the same.
+    fn of(alloc: Global, shares: Shares, cache: Cache<u64, u64, S>) -> Tested<S> {
+        Tested {
             alloc,
             called: Called::new(cache),
-            model,
-        })
+            model: Model::new(alloc, shares),
+        }
     }
 
     /// Makes the call on both. The answers are the same.
@@ -81,6 +81,29 @@ impl<S: BuildHasher + Drop> Tested<S> {
             let key = self.model.key_at(slot).unwrap_or(0);
             self.call(Call::GetAt(slot, key), position)?;
             self.call(Call::GetAt(slot + 1, key), position)?;
+        }
+        Ok(())
+    }
+
+    /// Each key has the same slot, if it is resident.
+    pub(crate) fn keys_are_same(&mut self, position: Position) -> Result<(), Fail> {
+        for key in 0..self.model.keys() {
+            self.call(Call::PeekSlot(key), position)?;
+        }
+        Ok(())
+    }
+
+    /// Each resident's slot, and no other, is listed once for its hash under this hasher.
+    pub(crate) fn hashes_are_same(&self, spread: LinearHashBuilder) -> Result<(), Fail> {
+        for key in 0..self.model.keys() {
+            let hash = hash_of(spread, key);
+            let count = self.model.hashed(spread, hash);
+            let is_listed = match self.model.slot(key) {
+                Some(slot) => self.called.lists_slot(hash, count, slot),
+                None => true,
+            };
+            let found = (is_listed, self.called.lists_more(hash, count));
+            same_at(found, (true, false), key)?;
         }
         Ok(())
     }

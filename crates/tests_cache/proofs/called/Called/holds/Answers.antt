@@ -1,7 +1,0 @@
-use Rattle.std.proofs.Common.{rules}
-use denote.Param.Always.{mut_total}
-use Rattle.clock2q_cache.proofs.Retained.{asked_always}
-use Rattle.tests_cache.proofs.called.Called.holds.Goals as goal
-
-pub retain-requires : goal.retain-requires
-retain-requires g c = record { callable = asked_always _ _ _ (mut_total _ _ (λ f a. search rules)) }
