@@ -1,15 +1,13 @@
 //! Devices that give and take a few bytes at a time, and fail at one of their calls.
 
-use crate::long_texts::served;
 use clock2q_command::{Device, Failed, ServeError, Sink, Source, serve};
 use std::alloc::{AllocError, Global};
-use std::fmt::Debug;
 use std::io::{Error, ErrorKind, Read, Result as IoResult, Write};
 use std::test::Fail;
 use testing::{same, same_at};
 
 /// How a device fails: by an error, by moving no byte though some are left, or at a flush.
-#[derive(Clone, Copy, Debug, PartialEq)]
+#[derive(Clone, Copy, Debug)]
 enum Fault {
     Error(ErrorKind),
     Nothing,
@@ -24,6 +22,13 @@ struct Plan {
     fails_at: usize,
     fault: Fault,
 }
+
+/// A device that moves all bytes at its first call, and never fails.
+const SOUND: Plan = Plan {
+    step: 100,
+    fails_at: 100,
+    fault: Fault::Nothing,
+};
 
 impl Plan {
     /// Returns the number of bytes moved at this call.
@@ -135,173 +140,129 @@ const KINDS: [ErrorKind; 42] = [
     ErrorKind::Uncategorized,
 ];
 
-/// Returns the result of `serve` for a text from such a reader, the text that it writes, and the
-/// number of reads.
-fn read(alloc: Global, text: &[u8], plan: Plan) -> (Result<(), ServeError>, Vec<u8>, usize) {
+/// What is seen of a run: the result of `serve`, the numbers of reads, writes and flushes, and the
+/// number of bytes that were written, if they begin the replies of TEXT.
+type Seen = (Result<(), ServeError>, (usize, usize, usize), Option<usize>);
+
+/// Serves a text from such a reader to such a writer.
+fn seen(alloc: Global, text: &[u8], reading: Plan, writing: Plan) -> Seen {
     let mut reader = Device::new(Reader {
         left: text,
-        plan,
+        plan: reading,
         calls: 0,
     });
-    let mut writer = Device::new(Vec::new(alloc));
-    let outcome = serve(alloc, &mut reader, &mut writer);
-    (outcome, writer.into_inner(), reader.into_inner().calls)
-}
-
-/// Returns the result of `serve` if TEXT's replies go to such a writer, and the writer afterwards.
-fn written(alloc: Global, plan: Plan) -> (Result<(), ServeError>, Writer) {
-    let mut reader = Device::new(TEXT);
     let mut writer = Device::new(Writer {
         taken: Vec::new(alloc),
-        plan,
+        plan: writing,
         calls: 0,
         flushes: 0,
     });
     let outcome = serve(alloc, &mut reader, &mut writer);
-    (outcome, writer.into_inner())
+    let writer = writer.into_inner();
+    let reads = reader.into_inner().calls;
+    let taken = begun(&writer.taken);
+    (outcome, (reads, writer.calls, writer.flushes), taken)
 }
 
-/// Returns the first failing read that isn't reported as it should be: at once, with nothing
-/// written.
-fn other_read(alloc: Global, text: &[u8], step: usize, reads: usize) -> Option<(usize, ErrorKind)> {
-    for kind in KINDS {
+/// Returns the number of bytes that were written, if they begin the replies.
+fn begun(taken: &[u8]) -> Option<usize> {
+    REPLIES.starts_with(taken).then_some(taken.len())
+}
+
+/// A failing read is reported at once, with nothing written. The 21 bytes of a text are given in 21,
+/// 6 or 1 calls, and one more call reports the end.
+fn fails_reading(alloc: Global, text: &[u8], kind: ErrorKind) -> Result<(), Fail> {
+    for (step, reads) in [(1, 22), (4, 7), (100, 2)] {
         for fails_at in 0..reads {
-            let fault = Fault::Error(kind);
             let plan = Plan {
                 step,
                 fails_at,
-                fault,
+                fault: Fault::Error(kind),
             };
-            let (outcome, replies, calls) = read(alloc, text, plan);
-            let is_reported = outcome == Err(ServeError::Read) && replies.is_empty();
-            if !is_reported || calls != fails_at + 1 {
-                return Some((fails_at, kind));
-            }
-        }
-    }
-    None
-}
-
-/// The 21 bytes of a text are given in 21, 6 or 1 calls, and one more call reports the end.
-#[test]
-fn failing_reads(rt: HostRuntime) -> Result<(), Fail> {
-    for text in [TEXT, b"bogus\nnew 2\nput 1 10\n".as_slice()] {
-        for (step, reads) in [(1, 22), (4, 7), (100, 2)] {
-            same_at(other_read(rt.alloc(), text, step, reads), None, step)?;
+            let wanted = (Err(ServeError::Read), (fails_at + 1, 0, 0), Some(0));
+            let at = (kind, step, fails_at);
+            same_at(seen(alloc, text, plan, SOUND), wanted, at)?;
         }
     }
     Ok(())
 }
 
-/// Checks that a read of no byte ends the text, and nothing is read after it.
-fn ends_at(alloc: Global, fails_at: usize) -> Result<(), Fail> {
-    let plan = Plan {
-        step: 1,
-        fails_at,
-        fault: Fault::Nothing,
-    };
-    let (outcome, replies, calls) = read(alloc, TEXT, plan);
-    let (wanted, text) = served(alloc, TEXT.get(..fails_at).unwrap_or(TEXT));
-    same_at(
-        (outcome, replies.as_slice()),
-        (wanted, text.as_slice()),
-        fails_at,
-    )?;
-    same(calls, fails_at.saturating_add(1))
+#[test]
+fn failing_reads(rt: HostRuntime) -> Result<(), Fail> {
+    for kind in KINDS {
+        fails_reading(rt.alloc(), TEXT, kind)?;
+        fails_reading(rt.alloc(), b"bogus\nnew 2\nput 1 10\n", kind)?;
+    }
+    Ok(())
 }
 
-/// The bytes before such a read are the whole text.
+/// A read of no byte ends the text: the bytes before it are the whole text, and nothing is read after
+/// it.
 #[test]
 fn ending_reads(rt: HostRuntime) -> Result<(), Fail> {
     for fails_at in 0..22 {
-        ends_at(rt.alloc(), fails_at)?;
+        let plan = Plan {
+            step: 1,
+            fails_at,
+            fault: Fault::Nothing,
+        };
+        let text = TEXT.get(..fails_at).unwrap_or(TEXT);
+        let (outcome, (_, writes, flushes), taken) = seen(rt.alloc(), text, SOUND, SOUND);
+        let calls = (fails_at + 1, writes, flushes);
+        let wanted = (outcome, calls, Some(taken.unwrap_or(0)));
+        same_at(seen(rt.alloc(), TEXT, plan, SOUND), wanted, fails_at)?;
     }
     Ok(())
-}
-
-/// Returns the first of `writes` calls at which a failing write isn't reported as it should be: at
-/// once, after a prefix of the text, and without a flush.
-fn other_write(alloc: Global, step: usize, writes: usize, fault: Fault) -> Option<usize> {
-    for fails_at in 0..writes {
-        let plan = Plan {
-            step,
-            fails_at,
-            fault,
-        };
-        let (outcome, writer) = written(alloc, plan);
-        let taken = writer.taken.as_slice();
-        let is_reported = outcome == Err(ServeError::Write) && REPLIES.starts_with(taken);
-        let is_all = taken.len() == fails_at.saturating_mul(step);
-        if !is_reported || !is_all || writer.calls != fails_at + 1 || writer.flushes != 0 {
-            return Some(fails_at);
-        }
-    }
-    None
 }
 
 /// The 16 bytes of the replies are taken in 16, 4 or 1 calls.
 const WRITES: [(usize, usize); 3] = [(1, 16), (5, 4), (100, 1)];
 
-#[test]
-fn failing_writes(rt: HostRuntime) -> Result<(), Fail> {
+/// A failing write is reported at once, after a prefix of the replies, and without a flush.
+fn fails_writing(alloc: Global, fault: Fault) -> Result<(), Fail> {
     for (step, writes) in WRITES {
-        for kind in KINDS {
-            let other = other_write(rt.alloc(), step, writes, Fault::Error(kind));
-            same_at(other, None, (kind, step))?;
+        for fails_at in 0..writes {
+            let plan = Plan {
+                step,
+                fails_at,
+                fault,
+            };
+            let calls = (2, fails_at + 1, 0);
+            let taken = Some(fails_at.saturating_mul(step));
+            let wanted = (Err(ServeError::Write), calls, taken);
+            let at = (fault, step, fails_at);
+            same_at(seen(alloc, TEXT, SOUND, plan), wanted, at)?;
         }
-        let other = other_write(rt.alloc(), step, writes, Fault::Nothing);
-        same_at(other, None, step)?;
     }
     Ok(())
 }
 
-/// Returns true if a writer took all replies in this number of calls, and was flushed once.
-fn is_whole(writer: &Writer, writes: usize) -> bool {
-    writer.taken.as_slice() == REPLIES && writer.calls == writes && writer.flushes == 1
-}
-
-/// Checks the result of `serve` with such a writer, once all replies are written.
-fn ends_whole<P: Debug + Copy>(
-    alloc: Global,
-    plan: Plan,
-    writes: usize,
-    wanted: Result<(), ServeError>,
-    at: P,
-) -> Result<(), Fail> {
-    let (outcome, writer) = written(alloc, plan);
-    same_at((outcome, is_whole(&writer, writes)), (wanted, true), at)
-}
-
-#[test]
-fn whole_writes(rt: HostRuntime) -> Result<(), Fail> {
+/// All replies are written, in this number of calls, and flushed once, with this result.
+fn ends_whole(alloc: Global, fault: Fault, wanted: Result<(), ServeError>) -> Result<(), Fail> {
     for (step, writes) in WRITES {
         let plan = Plan {
             step,
             fails_at: writes,
-            fault: Fault::Nothing,
+            fault,
         };
-        ends_whole(rt.alloc(), plan, writes, Ok(()), step)?;
+        let wanted = (wanted, (2, writes, 1), Some(16));
+        same_at(seen(alloc, TEXT, SOUND, plan), wanted, (fault, step))?;
     }
     Ok(())
 }
 
 #[test]
-fn failing_flushes(rt: HostRuntime) -> Result<(), Fail> {
-    for (step, writes) in WRITES {
-        for kind in KINDS {
-            let plan = Plan {
-                step,
-                fails_at: 0,
-                fault: Fault::NoFlush(kind),
-            };
-            let refusal = Err(ServeError::Write);
-            ends_whole(rt.alloc(), plan, writes, refusal, kind)?;
-        }
+fn writes(rt: HostRuntime) -> Result<(), Fail> {
+    for kind in KINDS {
+        fails_writing(rt.alloc(), Fault::Error(kind))?;
+        let refusal = Err(ServeError::Write);
+        ends_whole(rt.alloc(), Fault::NoFlush(kind), refusal)?;
     }
-    Ok(())
+    fails_writing(rt.alloc(), Fault::Nothing)?;
+    ends_whole(rt.alloc(), Fault::Nothing, Ok(()))
 }
 
-/// Checks that a source returns what the reader that it wraps returns.
+/// A source returns what the reader that it wraps returns.
 fn source_returns(source: &mut Device<&[u8]>) -> Result<(), Fail> {
     let mut block = [0u8; 4];
     same(source.read(&mut block), Ok(3))?;
@@ -309,12 +270,15 @@ fn source_returns(source: &mut Device<&[u8]>) -> Result<(), Fail> {
     same(source.read(&mut block), Ok(0))
 }
 
-/// Checks that a sink passes what it takes to the writer that it wraps.
+/// A sink passes what it takes to the writer that it wraps.
 fn sink_takes(alloc: Global) -> Result<(), Fail> {
     let mut sink = Device::new(Vec::new(alloc));
-    same(sink.write(b"abc"), Ok(3))?;
-    same(sink.flush(), Ok(()))?;
-    same(sink.into_inner().as_slice(), b"abc".as_slice())
+    let sent = (sink.write(b"abc"), sink.flush());
+    let taken = sink.into_inner();
+    same(
+        (sent, taken.as_slice()),
+        ((Ok(3), Ok(())), b"abc".as_slice()),
+    )
 }
 
 /// A device returns what the reader or writer returns, and any error as its own.
@@ -326,44 +290,36 @@ fn devices(rt: HostRuntime) -> Result<(), Fail> {
     same(shown.as_str(), "device failed")
 }
 
-/// Checks that a device continues where it was after a failure. Each of its calls makes one call.
-fn source_goes_on(source: &mut Device<Reader<'_>>, kind: ErrorKind) -> Result<(), Fail> {
+/// Returns the results of four reads, of which the second fails, and the number of the reader's
+/// calls.
+fn received(kind: ErrorKind) -> ([Result<usize, Failed>; 4], usize) {
+    let mut source = Device::new(Reader {
+        left: b"abc",
+        plan: Plan {
+            step: 2,
+            fails_at: 1,
+            fault: Fault::Error(kind),
+        },
+        calls: 0,
+    });
     let mut block = [0u8; 8];
-    for wanted in [Ok(2), Err(Failed), Ok(1), Ok(0)] {
-        same_at(source.read(&mut block), wanted, kind)?;
-    }
-    Ok(())
+    let first = source.read(&mut block);
+    let failed = source.read(&mut block);
+    let rest = source.read(&mut block);
+    let end = source.read(&mut block);
+    ([first, failed, rest, end], source.into_inner().calls)
 }
 
-#[test]
-fn failing_sources(rt: HostRuntime) -> Result<(), Fail> {
-    for kind in KINDS {
-        let mut source = Device::new(Reader {
-            left: b"abc",
-            plan: Plan {
-                step: 2,
-                fails_at: 1,
-                fault: Fault::Error(kind),
-            },
-            calls: 0,
-        });
-        source_goes_on(&mut source, kind)?;
-        same_at(source.into_inner().calls, 4, kind)?;
-    }
-    Ok(())
-}
-
-/// Returns the results of two writes and a flush, of which the second write or the flush fails, and
-/// the writer afterwards.
-fn sent(
-    alloc: Global,
-    fault: Fault,
-) -> (
+/// The results of two writes and a flush.
+type Sent = (
     Result<usize, Failed>,
     Result<usize, Failed>,
     Result<(), Failed>,
-    Writer,
-) {
+);
+
+/// Returns the results of two writes and a flush, of which the second write or the flush fails, and
+/// the numbers of the writer's calls and flushes.
+fn sent(alloc: Global, fault: Fault) -> (Sent, (usize, usize)) {
     let mut sink = Device::new(Writer {
         taken: Vec::new(alloc),
         plan: Plan {
@@ -377,30 +333,23 @@ fn sent(
     let first = sink.write(b"abc");
     let second = sink.write(b"c");
     let flushed = sink.flush();
-    (first, second, flushed, sink.into_inner())
+    let writer = sink.into_inner();
+    ((first, second, flushed), (writer.calls, writer.flushes))
 }
 
-/// Checks the results of a device whose second write or flush fails.
-fn sink_answers(
-    alloc: Global,
-    fault: Fault,
-    second: Result<usize, Failed>,
-    flushed: Result<(), Failed>,
-) -> Result<(), Fail> {
-    let (first, again, last, writer) = sent(alloc, fault);
-    same_at((first, again, last), (Ok(2), second, flushed), fault)?;
-    same_at((writer.calls, writer.flushes), (2, 1), fault)
-}
-
+/// A device continues where it was after a failure, and each of its calls makes one call.
 #[test]
-fn failing_sinks(rt: HostRuntime) -> Result<(), Fail> {
+fn failing_devices(rt: HostRuntime) -> Result<(), Fail> {
     for kind in KINDS {
+        let reads = [Ok(2), Err(Failed), Ok(1), Ok(0)];
+        same_at(received(kind), (reads, 4), kind)?;
         for (fault, second, flushed) in [
             (Fault::Error(kind), Err(Failed), Ok(())),
             (Fault::Nothing, Ok(0), Ok(())),
             (Fault::NoFlush(kind), Ok(1), Err(Failed)),
         ] {
-            sink_answers(rt.alloc(), fault, second, flushed)?;
+            let wanted = ((Ok(2), second, flushed), (2, 1));
+            same_at(sent(rt.alloc(), fault), wanted, fault)?;
         }
     }
     Ok(())
