@@ -2,7 +2,7 @@
 
 use clock2q_cache::{Cache, CacheError, DefaultHashBuilder};
 use clock2q_memo::Memo;
-use std::alloc::{Allocator, Global};
+use std::alloc::Global;
 use std::num::NonZeroUsize;
 use std::test::Fail;
 use testing::{Refusing, Tried, same_at, try_in_turn};
@@ -19,8 +19,8 @@ enum Maker {
 }
 
 /// Returns the capacity of a cache if it was made.
-fn capacity_of<A: Allocator>(
-    made: Result<Cache<u64, u64, DefaultHashBuilder, A>, CacheError>,
+fn capacity_of(
+    made: Result<Cache<u64, u64, DefaultHashBuilder, &Refusing<Global>>, CacheError>,
 ) -> Result<usize, CacheError> {
     match made {
         Ok(cache) => Ok(cache.capacity()),
@@ -29,12 +29,9 @@ fn capacity_of<A: Allocator>(
 }
 
 /// Returns the capacity of a memo if it was made.
-fn memo_capacity_of<F, A: Allocator>(
-    made: Result<Memo<u64, u64, F, DefaultHashBuilder, A>, CacheError>,
-) -> Result<usize, CacheError>
-where
-    F: Fn(&u64) -> u64 + Drop,
-{
+fn memo_capacity_of<F: Fn(&u64) -> u64 + Drop>(
+    made: Result<Memo<u64, u64, F, DefaultHashBuilder, &Refusing<Global>>, CacheError>,
+) -> Result<usize, CacheError> {
     match made {
         Ok(memo) => Ok(memo.capacity()),
         Err(refusal) => Err(refusal),
@@ -46,9 +43,9 @@ fn square(key: &u64) -> u64 {
 }
 
 /// Makes a cache or a memo, and returns its capacity.
-fn make<A: Allocator + Copy>(
+fn make(
     maker: Maker,
-    alloc: A,
+    alloc: &Refusing<Global>,
     capacity: NonZeroUsize,
 ) -> Result<usize, CacheError> {
     let hasher = DefaultHashBuilder::new();
@@ -69,7 +66,23 @@ fn make<A: Allocator + Copy>(
 /// Small and Main; the records and keys of the history; the residents' keys and values; the free
 /// slots. One without a history needs neither of the history's two, and one without Small needs no
 /// positions.
-const REQUESTS: [(usize, u64); 3] = [(20, 9), (2, 9), (1, 6)];
+const REQUESTS: [(Maker, usize, u64); 15] = [
+    (Maker::New, 20, 9),
+    (Maker::New, 2, 9),
+    (Maker::New, 1, 6),
+    (Maker::WithHasher, 20, 9),
+    (Maker::WithHasher, 2, 9),
+    (Maker::WithHasher, 1, 6),
+    (Maker::WithPolicy(19), 20, 9),
+    (Maker::WithPolicy(1), 20, 9),
+    (Maker::WithPolicy(0), 20, 8),
+    (Maker::MemoNew, 20, 9),
+    (Maker::MemoNew, 2, 9),
+    (Maker::MemoNew, 1, 6),
+    (Maker::MemoWithHasher, 20, 9),
+    (Maker::MemoWithHasher, 2, 9),
+    (Maker::MemoWithHasher, 1, 6),
+];
 
 /// Each of a call's requests is refused in turn; there are this many.
 fn is_refused_each(
@@ -85,57 +98,28 @@ fn is_refused_each(
         CacheError::Memory,
         || make(maker, alloc, wanted),
     );
-    same_at(tried, Tried::Done(requests), (maker, capacity))?;
-    same_at(alloc.held(), 0, (maker, capacity))
+    let left = (tried, alloc.held());
+    same_at(left, (Tried::Done(requests), 0), (maker, capacity))
 }
 
-/// The same for a call with the usual shares, by capacity.
-fn is_refused_with_usual_shares(alloc: Global, maker: Maker) -> Result<(), Fail> {
-    for (capacity, requests) in REQUESTS {
-        is_refused_each(&Refusing::new(alloc), maker, capacity, requests)?;
+#[test]
+fn refused_in_turn(rt: HostRuntime) -> Result<(), Fail> {
+    for (maker, capacity, requests) in REQUESTS {
+        is_refused_each(&Refusing::new(rt.alloc()), maker, capacity, requests)?;
     }
     Ok(())
-}
-
-#[test]
-fn new(rt: HostRuntime) -> Result<(), Fail> {
-    is_refused_with_usual_shares(rt.alloc(), Maker::New)
-}
-
-#[test]
-fn with_hasher(rt: HostRuntime) -> Result<(), Fail> {
-    is_refused_with_usual_shares(rt.alloc(), Maker::WithHasher)
-}
-
-#[test]
-fn with_policy(rt: HostRuntime) -> Result<(), Fail> {
-    // Without Small there are no window positions.
-    for (small, requests) in [(19, 9), (1, 9), (0, 8)] {
-        let maker = Maker::WithPolicy(small);
-        is_refused_each(&Refusing::new(rt.alloc()), maker, 20, requests)?;
-    }
-    Ok(())
-}
-
-#[test]
-fn memo_new(rt: HostRuntime) -> Result<(), Fail> {
-    is_refused_with_usual_shares(rt.alloc(), Maker::MemoNew)
-}
-
-#[test]
-fn memo_with_hasher(rt: HostRuntime) -> Result<(), Fail> {
-    is_refused_with_usual_shares(rt.alloc(), Maker::MemoWithHasher)
 }
 
 /// A call is refused for its arguments, and not for lack of memory.
 fn is_refused_for(
     alloc: &Refusing<Global>,
     maker: Maker,
-    capacity: NonZeroUsize,
+    capacity: usize,
     reason: CacheError,
 ) -> Result<(), Fail> {
-    same_at(make(maker, alloc, capacity), Err(reason), maker)?;
-    same_at(alloc.requests(), 0, maker)
+    let capacity = NonZeroUsize::new(capacity).unwrap_or(NonZeroUsize::MAX);
+    let made = make(maker, alloc, capacity);
+    same_at((made, alloc.requests()), (Err(reason), 0), maker)
 }
 
 /// An impossible capacity, or shares that don't fit, are refused before any memory is requested.
@@ -143,14 +127,13 @@ fn is_refused_for(
 fn nothing_asked_before(rt: HostRuntime) -> Result<(), Fail> {
     let alloc = Refusing::new(rt.alloc());
     alloc.refuse_after(0);
-    let too_large = NonZeroUsize::new(16_777_216).unwrap_or(NonZeroUsize::MIN);
-    for maker in [Maker::New, Maker::MemoNew, Maker::WithPolicy(1)] {
-        is_refused_for(&alloc, maker, too_large, CacheError::Capacity)?;
+    for (maker, capacity, reason) in [
+        (Maker::New, 16_777_216, CacheError::Capacity),
+        (Maker::MemoNew, 16_777_216, CacheError::Capacity),
+        (Maker::WithPolicy(1), 16_777_216, CacheError::Capacity),
+        (Maker::WithPolicy(1), 1, CacheError::Policy),
+    ] {
+        is_refused_for(&alloc, maker, capacity, reason)?;
     }
-    is_refused_for(
-        &alloc,
-        Maker::WithPolicy(1),
-        NonZeroUsize::MIN,
-        CacheError::Policy,
-    )
+    Ok(())
 }

@@ -1,9 +1,9 @@
 //! Texts of commands that are served while requests for memory are refused.
 
 use clock2q_command::{Device, ServeError, serve};
-use std::alloc::{Allocator, Global};
+use std::alloc::Global;
 use std::test::Fail;
-use testing::{Refusing, Tried, try_in_turn};
+use testing::{Refusing, Tried, same_at, try_in_turn};
 
 /// A line of each command, and their replies.
 const EVERY_COMMAND: (&str, &str) = (
@@ -18,8 +18,8 @@ const CHOSEN_SHARES: (&str, &str) = ("new 4 2 1\nput 1 10\nget 1\n", "ok\nnone\n
 
 /// Returns true if these are the replies to a text. Returns false if another text was written, or
 /// if any was written before a refusal.
-fn is_answered<A: Allocator>(
-    alloc: A,
+fn is_answered(
+    alloc: &Refusing<Global>,
     out: Global,
     (text, replies): (&str, &str),
 ) -> Result<bool, ServeError> {
@@ -33,22 +33,19 @@ fn is_answered<A: Allocator>(
     }
 }
 
-#[test]
-fn every_command(rt: HostRuntime) -> Result<(), Fail> {
-    let alloc = Refusing::new(rt.alloc());
-    let tried = try_in_turn(&alloc, true, ServeError::Memory, || {
-        is_answered(&alloc, rt.alloc(), EVERY_COMMAND)
-    });
-    assert!(rt; matches!(tried, Tried::Done(_)), "{tried:?}");
-    Ok(())
+/// Serves a text while its requests for memory are refused in turn.
+fn is_refused_each(alloc: Global, case: (&str, &str)) -> Tried {
+    let refusing = Refusing::new(alloc);
+    try_in_turn(&refusing, true, ServeError::Memory, || {
+        is_answered(&refusing, alloc, case)
+    })
 }
 
 #[test]
-fn chosen_shares(rt: HostRuntime) -> Result<(), Fail> {
-    let alloc = Refusing::new(rt.alloc());
-    let tried = try_in_turn(&alloc, true, ServeError::Memory, || {
-        is_answered(&alloc, rt.alloc(), CHOSEN_SHARES)
-    });
-    assert!(rt; matches!(tried, Tried::Done(_)), "{tried:?}");
+fn refused_in_turn(rt: HostRuntime) -> Result<(), Fail> {
+    for case in [EVERY_COMMAND, CHOSEN_SHARES] {
+        let tried = is_refused_each(rt.alloc(), case);
+        same_at(matches!(tried, Tried::Done(_)), true, tried)?;
+    }
     Ok(())
 }
