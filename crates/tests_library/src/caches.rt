@@ -1,22 +1,9 @@
-//! A cache that is lent to a function, its values in order, and the refusals of a cache.
+//! The values of a cache in order, and its refusals.
 
-use clock2q::{Cache, CacheError, DefaultHashBuilder};
-use std::alloc::Global;
+use clock2q::{Cache, CacheError};
 use std::num::NonZeroUsize;
 use std::test::Fail;
 use testing::same;
-
-/// Makes a cache for this many numbers, each with a value, and lends it to `work`.
-pub(crate) fn with_cache<V, W>(alloc: Global, capacity: usize, work: W) -> Result<(), Fail>
-where
-    V: Drop,
-    W: FnOnce(&mut Cache<u64, V, DefaultHashBuilder>) -> Result<(), Fail> + Drop,
-    requires callable { W.IsAlwaysCallable work }
-{
-    let capacity = NonZeroUsize::new(capacity).unwrap_or(NonZeroUsize::MAX);
-    let mut cache = Cache::new(alloc, capacity)?;
-    work(&mut cache)
-}
 
 #[test]
 fn refusals_show(rt: HostRuntime) -> Result<(), Fail> {
@@ -52,5 +39,6 @@ fn values_are_listed(cache: &mut Cache<u64, u64>) -> Result<(), Fail> {
 
 #[test]
 fn values_by_slot(rt: HostRuntime) -> Result<(), Fail> {
-    with_cache(rt.alloc(), 5, values_are_listed)
+    let capacity = NonZeroUsize::new(5).unwrap_or(NonZeroUsize::MIN);
+    values_are_listed(&mut Cache::new(rt.alloc(), capacity)?)
 }

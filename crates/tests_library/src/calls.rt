@@ -1,9 +1,6 @@
-//! A cache of counted keys that is lent to a function.
+//! A cache of counted keys.
 
 use clock2q_cache::Cache;
-use std::alloc::Global;
-use std::num::NonZeroUsize;
-use std::test::Fail;
 use testing::{Counted, Counts, LinearHashBuilder};
 
 /// A hash of its own for each key, and one hash for all keys.
@@ -21,20 +18,4 @@ pub(crate) fn put_three<'a>(cache: &mut Counting<'a>, counts: &'a Counts) {
         let _ = cache.put(counts.key(id), id);
     }
     let _ = counts.asked();
-}
-
-/// Makes a cache for this many keys, and lends it to `work`.
-pub(crate) fn with_counting<'a, W>(
-    alloc: Global,
-    capacity: usize,
-    spread: LinearHashBuilder,
-    work: W,
-) -> Result<(), Fail>
-where
-    W: FnOnce(&mut Counting<'a>) -> Result<(), Fail> + Drop,
-    requires callable { W.IsAlwaysCallable work }
-{
-    let capacity = NonZeroUsize::new(capacity).unwrap_or(NonZeroUsize::MAX);
-    let mut cache = Cache::with_hasher(alloc, capacity, spread)?;
-    work(&mut cache)
 }

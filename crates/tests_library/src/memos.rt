@@ -14,24 +14,14 @@ fn square(key: &u64) -> u64 {
     key.wrapping_mul(*key)
 }
 
-/// A memo of this many values.
-fn memo_of<F: Fn(&u64) -> u64 + Drop>(
-    alloc: Global,
-    capacity: usize,
-    function: F,
-) -> Result<Memo<u64, u64, F>, Fail> {
-    let capacity = NonZeroUsize::new(capacity).unwrap_or(NonZeroUsize::MIN);
-    Ok(Memo::new(alloc, capacity, function)?)
-}
-
 /// Looks a hundred keys up in turn, ten times each.
 fn squares_are_returned<F: Fn(&u64) -> u64>(memo: &mut Memo<u64, u64, F>) -> Result<(), Fail>
     requires { (function : F) (key : ℕ) → IsCallableAt F.Fn function key }
 {
     for round in 0..1000u64 {
         let key = round % 100;
-        same(memo.get(key), square(&key))?;
-        same(memo.get_recorded(key), square(&key))?;
+        let value = square(&key);
+        same((memo.get(key), memo.get_recorded(key)), (value, value))?;
     }
     Ok(())
 }
@@ -41,8 +31,7 @@ fn squares_of_two<F: Fn(&u64) -> u64>(memo: &mut Memo<u64, u64, F>) -> Result<()
     requires { (function : F) (key : ℕ) → IsCallableAt F.Fn function key }
 {
     for _ in 0..5 {
-        same(memo.get(3), 9)?;
-        same(memo.get_recorded(4), 16)?;
+        same((memo.get(3), memo.get_recorded(4)), (9, 16))?;
     }
     Ok(())
 }
@@ -73,35 +62,26 @@ fn one_call_for_each_key(rt: HostRuntime) -> Result<(), Fail> {
         calls.set(calls.get().wrapping_add(1));
         square(key)
     };
-    let mut memo = memo_of(rt.alloc(), 20, counted)?;
+    let capacity = NonZeroUsize::new(20).unwrap_or(NonZeroUsize::MIN);
+    let mut memo = Memo::new(rt.alloc(), capacity, counted)?;
     look_up_each_twice(&mut memo);
     look_up_twenty(&mut memo);
     same(calls.get(), 20)
 }
 
-/// Returns whether the keys 1 and 3 are remembered.
-fn are_remembered<F: Fn(&u64) -> u64>(memo: &Memo<u64, u64, F>) -> (bool, bool) {
-    (memo.contains(&1), memo.contains(&3))
-}
-
-/// A hit that is recorded, and one more key.
-fn record_one<F: Fn(&u64) -> u64>(memo: &mut Memo<u64, u64, F>) -> Result<(), Fail>
+/// Hits a key and looks one more up: the key stays if the hit is recorded, and otherwise another does.
+fn hit_one<F: Fn(&u64) -> u64>(memo: &mut Memo<u64, u64, F>, is_recorded: bool) -> Result<(), Fail>
     requires { (function : F) (key : ℕ) → IsCallableAt F.Fn function key }
 {
     look_up_twenty(memo);
-    memo.get_recorded(1);
+    if is_recorded {
+        memo.get_recorded(1);
+    } else {
+        memo.get(1);
+    }
     memo.get(21);
-    same(are_remembered(memo), (true, false))
-}
-
-/// A hit that isn't recorded, and one more key.
-fn record_none<F: Fn(&u64) -> u64>(memo: &mut Memo<u64, u64, F>) -> Result<(), Fail>
-    requires { (function : F) (key : ℕ) → IsCallableAt F.Fn function key }
-{
-    look_up_twenty(memo);
-    memo.get(1);
-    memo.get(21);
-    same(are_remembered(memo), (false, true))
+    let kept = (memo.contains(&1), memo.contains(&3));
+    same(kept, (is_recorded, !is_recorded))
 }
 
 /// Looks five keys up, one of them twice.
@@ -117,8 +97,8 @@ fn recalled<F: Fn(&u64) -> u64>(alloc: Global, memo: &mut Memo<u64, u64, F>) -> 
 enum Run {
     Hundred,
     Two,
-    Recorded,
-    Unrecorded,
+    /// One of twenty keys is hit, which may be recorded.
+    HitOne(bool),
     List,
 }
 
@@ -133,15 +113,15 @@ fn look_up<F: Fn(&u64) -> u64>(
     match run {
         Run::Hundred => squares_are_returned(memo),
         Run::Two => squares_of_two(memo),
-        Run::Recorded => record_one(memo),
-        Run::Unrecorded => record_none(memo),
+        Run::HitOne(is_recorded) => hit_one(memo, is_recorded),
         Run::List => recalled(alloc, memo),
     }
 }
 
 /// The same, with a memo of this many squares made for it.
 fn look_up_anew(alloc: Global, capacity: usize, run: Run) -> Result<(), Fail> {
-    let mut memo = memo_of(alloc, capacity, square)?;
+    let capacity = NonZeroUsize::new(capacity).unwrap_or(NonZeroUsize::MIN);
+    let mut memo = Memo::new(alloc, capacity, square)?;
     look_up(alloc, &mut memo, run)
 }
 
@@ -157,12 +137,12 @@ fn one_value_at_a_time(rt: HostRuntime) -> Result<(), Fail> {
 
 #[test]
 fn a_recorded_hit_saves_the_key(rt: HostRuntime) -> Result<(), Fail> {
-    look_up_anew(rt.alloc(), 20, Run::Recorded)
+    look_up_anew(rt.alloc(), 20, Run::HitOne(true))
 }
 
 #[test]
 fn an_unrecorded_hit_saves_nothing(rt: HostRuntime) -> Result<(), Fail> {
-    look_up_anew(rt.alloc(), 20, Run::Unrecorded)
+    look_up_anew(rt.alloc(), 20, Run::HitOne(false))
 }
 
 #[test]
@@ -181,7 +161,8 @@ fn is_cleared<F: Fn(&u64) -> u64>(memo: &mut Memo<u64, u64, F>) -> bool
 
 #[test]
 fn cleared_and_taken_apart(rt: HostRuntime) -> Result<(), Fail> {
-    let mut memo = memo_of(rt.alloc(), 2, square)?;
+    let capacity = NonZeroUsize::new(2).unwrap_or(NonZeroUsize::MIN);
+    let mut memo = Memo::new(rt.alloc(), capacity, square)?;
     let is_empty = is_cleared(&mut memo);
     let function = memo.into_function();
     same((is_empty, function(&5)), (true, 25))

@@ -2,9 +2,11 @@
 ghost use Rattle.std.specs.Prelude.{IfOk, map};
 ghost use Rattle.clock2q_text.specs.Commands.{AreSupplied, call_of};
 
-use crate::calls::{ALIKE, APART, Counting, put_three, with_counting};
+use crate::calls::{ALIKE, APART, Counting, put_three};
+use clock2q_cache::Cache;
 use clock2q_command::{Command, run};
 use std::alloc::{AllocError, Global};
+use std::num::NonZeroUsize;
 use std::test::Fail;
 use testing::{Counted, Counts, LinearHashBuilder, same_at};
 
@@ -108,9 +110,9 @@ fn asks_anew(
     wanted: (u64, u64),
 ) -> Result<(), Fail> {
     let counts = Counts::new();
-    with_counting(alloc, 2, spread, |cache| {
-        list_asks(alloc, cache, &counts, list, wanted)
-    })
+    let capacity = NonZeroUsize::new(2).unwrap_or(NonZeroUsize::MIN);
+    let mut cache = Cache::with_hasher(alloc, capacity, spread)?;
+    list_asks(alloc, &mut cache, &counts, list, wanted)
 }
 
 /// The failing fetch looks into the history too.

@@ -3,7 +3,6 @@ ghost use Rattle.std.specs.Prelude.{◌≡◌, ℕ, Bool, List};
 ghost use Rattle.clock2q_memo.specs.Memo.{IsCallableAt};
 ghost use Rattle.clock2q_uses.specs.WriteBack.{IsInStep};
 
-use crate::caches::with_cache;
 use clock2q::{Cache, CacheError, MAX_CAPACITY, Memo};
 use clock2q_uses::checksums::{adler32, checksums, is_unchanged};
 use clock2q_uses::interning::Interner;
@@ -46,8 +45,8 @@ fn copies_are_known<F: Fn(&usize) -> Option<u32>>(
 ) -> Result<(), Fail>
     requires { (function : F) (key : ℕ) → IsCallableAt F.Fn function key }
 {
-    same(is_unchanged(memo, 7, 7), true)?;
-    same(is_unchanged(memo, 7, 8), false)
+    let known = (is_unchanged(memo, 7, 7), is_unchanged(memo, 7, 8));
+    same(known, (true, false))
 }
 
 #[test]
@@ -76,10 +75,9 @@ fn keys_after_them(interner: &mut Interner) -> Result<(), Fail> {
     for key in 100..200 {
         interner.intern(key)?;
     }
-    same(interner.intern(23)?, 1)?;
-    same(interner.intern(100)?, 5)?;
-    same(interner.number_of(23), Some(1))?;
-    same(interner.number_of(24), None)
+    let again = (interner.intern(23)?, interner.intern(100)?);
+    let known = (interner.number_of(23), interner.number_of(24));
+    same((again, known), ((1, 5), (Some(1), None)))
 }
 
 #[test]
@@ -95,14 +93,16 @@ fn pages_are_loaded(pages: &mut Cache<usize, Option<usize>>) -> Result<(), Fail>
 {
     let mut frames = [0u8; 2];
     let file = b"abc";
-    same(load(pages, &mut frames, file, 0), 0)?;
-    same(load(pages, &mut frames, file, 1), 1)?;
-    same(load(pages, &mut frames, file, 2), 0)?;
-    same(frames, *b"cb")?;
-    same(clock2q_pages::is_in(pages, 0, 2), true)?;
-    same(clock2q_pages::is_in(pages, 0, 0), false)?;
-    same(load(pages, &mut frames, file, 0), 1)?;
-    same(frames, *b"ca")
+    let first = load(pages, &mut frames, file, 0);
+    let second = load(pages, &mut frames, file, 1);
+    let third = load(pages, &mut frames, file, 2);
+    let full = frames;
+    let is_third = clock2q_pages::is_in(pages, 0, 2);
+    let is_first = clock2q_pages::is_in(pages, 0, 0);
+    let again = load(pages, &mut frames, file, 0);
+    let loaded = ([first, second, third, again], is_third, is_first);
+    let wanted = ([0, 1, 0, 1], true, false);
+    same((loaded, full, frames), (wanted, *b"cb", *b"ca"))
 }
 
 #[test]
@@ -122,12 +122,17 @@ fn pages_through_one_frame(rt: HostRuntime) -> Result<(), Fail> {
 
 /// A record that isn't there changes nothing: the one in the slot stays.
 fn records_are_read(records: &mut Cache<usize, u8>) -> Result<(), Fail> {
-    same(record_of(records, b"abc", 2), Ok(b'c'))?;
-    same(record_of(records, b"abc", 3), Err(NoRecord))?;
-    same(records.peek(&2), Some(&b'c'))?;
-    same(record_of(records, b"", 2), Ok(b'c'))?;
-    same(record_of(records, b"abc", 0), Ok(b'a'))?;
-    same(records.peek(&2), None)
+    let read = record_of(records, b"abc", 2);
+    let missing = record_of(records, b"abc", 3);
+    let kept = records.peek(&2).copied();
+    let again = record_of(records, b"", 2);
+    let other = record_of(records, b"abc", 0);
+    let left = records.peek(&2).copied();
+    let wanted = [Ok(b'c'), Err(NoRecord), Ok(b'c'), Ok(b'a')];
+    same(
+        ([read, missing, again, other], kept, left),
+        (wanted, Some(b'c'), None),
+    )
 }
 
 #[test]
@@ -138,13 +143,17 @@ fn records_through_one_slot(rt: HostRuntime) -> Result<(), Fail> {
 
 #[test]
 fn hits(rt: HostRuntime) -> Result<(), Fail> {
-    let capacity = NonZeroUsize::new(2).unwrap_or(NonZeroUsize::MIN);
-    same(replay(rt.alloc(), capacity, &[])?, 0)?;
-    same(replay(rt.alloc(), capacity, &[1, 1, 2, 1, 2])?, 3)?;
-    same(replay(rt.alloc(), capacity, &[1, 2, 3, 4])?, 0)?;
-    let too_large = NonZeroUsize::new(MAX_CAPACITY + 1).unwrap_or(NonZeroUsize::MIN);
-    let refused = replay(rt.alloc(), too_large, &[1]);
-    same(refused, Err(CacheError::Capacity))
+    let rows: [(usize, &[u64], Result<usize, CacheError>); 4] = [
+        (2, &[], Ok(0)),
+        (2, &[1, 1, 2, 1, 2], Ok(3)),
+        (2, &[1, 2, 3, 4], Ok(0)),
+        (MAX_CAPACITY + 1, &[1], Err(CacheError::Capacity)),
+    ];
+    for (capacity, trace, wanted) in rows {
+        let capacity = NonZeroUsize::new(capacity).unwrap_or(NonZeroUsize::MIN);
+        same(replay(rt.alloc(), capacity, trace), wanted)?;
+    }
+    Ok(())
 }
 
 /// A hundred keys are found by the numbers that a second insertion returns.
@@ -166,15 +175,17 @@ fn each_key_is_found_in_its_part(rt: HostRuntime) -> Result<(), Fail> {
 
 /// Squares in one slot.
 fn squares_are_returned(squares: &mut Cache<u64, u64>) -> Result<(), Fail> {
-    same(square_of(squares, 12), 144)?;
-    same(square_of(squares, 12), 144)?;
-    same(square_of(squares, 3), 9)?;
-    same(squares.peek(&12), None)
+    let first = square_of(squares, 12);
+    let again = square_of(squares, 12);
+    let other = square_of(squares, 3);
+    let is_left = squares.contains(&12);
+    same((first, again, other, is_left), (144, 144, 9, false))
 }
 
 #[test]
 fn squares_in_one_slot(rt: HostRuntime) -> Result<(), Fail> {
-    with_cache(rt.alloc(), 1, squares_are_returned)
+    let capacity = NonZeroUsize::new(1).unwrap_or(NonZeroUsize::MIN);
+    squares_are_returned(&mut Cache::new(rt.alloc(), capacity)?)
 }
 
 /// A cache is filled with the keys 1 to 20, of which 3 to 20 are in Main: these are still there
@@ -200,7 +211,8 @@ fn main_outlives_a_scan(cache: &mut Cache<u64, u64>) -> Result<(), Fail> {
 
 #[test]
 fn a_scan_leaves_main(rt: HostRuntime) -> Result<(), Fail> {
-    with_cache(rt.alloc(), 20, main_outlives_a_scan)
+    let capacity = NonZeroUsize::new(20).unwrap_or(NonZeroUsize::MIN);
+    main_outlives_a_scan(&mut Cache::new(rt.alloc(), capacity)?)
 }
 
 /// Three blocks through one slot: what is written goes to the device when its slot is needed, or at
@@ -212,17 +224,23 @@ fn blocks_are_written_back(cache: &mut Cache<usize, u8>) -> Result<(), Fail>
     let mut dirty = [false; 3];
     let mut device = *b"abc";
     write_block(cache, &mut dirty, &mut device, 0, b'A');
-    same(device, *b"abc")?;
-    same(read_block(cache, &mut dirty, &mut device, 1), b'b')?;
-    same(device, *b"Abc")?;
-    same(read_block(cache, &mut dirty, &mut device, 0), b'A')?;
+    let unwritten = device;
+    let second = read_block(cache, &mut dirty, &mut device, 1);
+    let evicted = device;
+    let first = read_block(cache, &mut dirty, &mut device, 0);
     write_block(cache, &mut dirty, &mut device, 0, b'Z');
     write_block(cache, &mut dirty, &mut device, 2, b'C');
-    same(device, *b"Zbc")?;
+    let replaced = device;
     flush(cache, &mut dirty, &mut device);
-    same(device, *b"ZbC")?;
-    same(dirty, [false; 3])?;
-    same(read_block(cache, &mut dirty, &mut device, 2), b'C')
+    let flushed = device;
+    let clean = dirty;
+    let third = read_block(cache, &mut dirty, &mut device, 2);
+    let devices = [unwritten, evicted, replaced, flushed];
+    let wanted = [*b"abc", *b"Abc", *b"Zbc", *b"ZbC"];
+    same(
+        (devices, [second, first, third], clean),
+        (wanted, [b'b', b'A', b'C'], [false; 3]),
+    )
 }
 
 #[test]
