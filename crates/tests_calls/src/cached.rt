@@ -19,6 +19,9 @@ pub(crate) type Counting<'a, S> = Cache<
     &'a Refusing<Global>,
 >;
 
+/// An error of a closure.
+type Refusal<'a> = Vec<u8, &'a Refusing<Global>>;
+
 /// A cache, and what its run counts.
 #[derive(Drop)]
 pub(crate) struct Cached<'a, S: BuildHasher> {
@@ -91,20 +94,18 @@ impl<'a, S: BuildHasher> Cached<'a, S> {
         match verb {
             Verb::Put => Reply::Value(self.put(first, second)),
             Verb::With => Reply::Pair(self.with(first, second)),
-            Verb::Try => Reply::Value(self.fetch(first, Ok(second))),
-            Verb::TryFail => Reply::Value(self.fetch(first, Err(()))),
+            Verb::Try => self.fetch(first, Ok(second)),
+            Verb::TryFail => self.fail(first, b""),
             Verb::TryMut => Reply::Value(self.fetch_mut(first, Ok(second))),
             Verb::TryMutFail => Reply::Value(self.fetch_mut(first, Err(()))),
-            Verb::Fail => self.fail(first),
+            Verb::Fail => self.fail(first, b"no"),
             Verb::SlotFor => self.slot_for(first, second),
             Verb::Enter => self.enter(first, second),
             Verb::Puts => Reply::Number(self.puts(first, second)),
             Verb::Stores => Reply::Number(self.stores(first, second)),
             Verb::Prefill => Reply::Number(self.prefill()),
             Verb::Remove => Reply::Flag(self.remove(first)),
-            Verb::Retain => self.retain(first, second),
-            Verb::EveryOther => Reply::Number(self.every_other()),
-            Verb::Tags => Reply::Number(self.tags()),
+            Verb::Retain => Reply::Number(self.retain(first)),
             Verb::Clear => self.clear(),
             _ => Reply::Unknown,
         }
@@ -133,7 +134,7 @@ impl<'a, S: BuildHasher> Cached<'a, S> {
 
     fn slot(&mut self, id: u64) -> Option<u64> {
         let key = self.key(id);
-        self.cache.slot(&key).map(|slot| slot as u64)
+        Some(self.cache.slot(&key)? as u64)
     }
 
     fn peek(&self, id: u64) -> Option<u64> {
@@ -167,13 +168,20 @@ impl<'a, S: BuildHasher> Cached<'a, S> {
         (value, calls)
     }
 
-    /// Fetches a value, unless the closure fails.
-    fn fetch(&mut self, id: u64, fetched: Result<u64, ()>) -> Option<u64> {
+    /// Fetches a value, unless the closure fails, with an error that may own bytes.
+    fn fetch(&mut self, id: u64, fetched: Result<u64, Refusal<'a>>) -> Reply {
         let key = self.key(id);
         match self.cache.try_get_or_insert_with(key, || fetched) {
-            Ok(value) => Some(*value),
-            Err(()) => None,
+            Ok(value) => Reply::Value(Some(*value)),
+            Err(refusal) => Reply::Failed(refusal.len() as u64),
         }
+    }
+
+    /// Fetches a value with a closure that fails, with an error that owns these bytes.
+    fn fail(&mut self, id: u64, bytes: &[u8]) -> Reply {
+        let memory = self.watch.memory;
+        let refusal = Vec::from_slice(memory, bytes).unwrap_or(Vec::new(memory));
+        self.fetch(id, Err(refusal))
     }
 
     /// Fetches a value, unless the closure fails, and writes one more where it is lent.
@@ -186,17 +194,6 @@ impl<'a, S: BuildHasher> Cached<'a, S> {
                 Some(before)
             }
             Err(()) => None,
-        }
-    }
-
-    /// Fetches a value with a closure that fails with an error that owns two bytes.
-    fn fail(&mut self, id: u64) -> Reply {
-        let key = self.key(id);
-        let refusal: Result<_, _> = Vec::from_slice(self.watch.memory, b"no");
-        match self.cache.try_get_or_insert_with(key, || Err(refusal)) {
-            Ok(value) => Reply::Value(Some(*value)),
-            Err(Ok(refusal)) => Reply::Failed(refusal.len() as u64),
-            Err(Err(_)) => Reply::Failed(0),
         }
     }
 
@@ -258,22 +255,17 @@ impl<'a, S: BuildHasher> Cached<'a, S> {
         made
     }
 
-    /// Keeps the residents whose values are from the first up to the end.
-    fn retain(&mut self, first: u64, end: u64) -> Reply {
-        self.cache
-            .retain(|_, value| first <= *value && *value < end);
-        Reply::Done
-    }
-
-    /// Keeps every other resident, and returns the keys that the closure was called for, as digits of
-    /// a number.
-    fn every_other(&mut self) -> u64 {
+    /// Keeps the residents whose bits are set, lowest first, and returns the keys and the values that the
+    /// closure was called for, as digits of a number.
+    fn retain(&mut self, bits: u64) -> u64 {
         let mut asked = 0u64;
-        let mut keep = false;
-        self.cache.retain(|key, _| {
+        let mut left = bits;
+        self.cache.retain(|key, value| {
             asked = asked.wrapping_mul(10).wrapping_add(key.id);
-            keep = !keep;
-            keep
+            asked = asked.wrapping_mul(10).wrapping_add(*value);
+            let stays = left % 2 == 1;
+            left /= 2;
+            stays
         });
         asked
     }

@@ -24,7 +24,7 @@ pub(crate) enum Reply {
     Offered(u64, bool),
     /// A key that left, and its value or its slot, if one left.
     Left(Option<(u64, u64)>),
-    /// The closure's error, and how many bytes it owns.
+    /// The closure failed, and its error owns this many bytes.
     Failed(u64),
     Done,
     Refused(CacheError),
@@ -49,6 +49,7 @@ impl Reply {
             Reply::Offered(slot, is_new) => write!(replies, "{slot} {is_new}\n"),
             Reply::Left(None) => replies.push_str("none\n"),
             Reply::Left(Some((key, held))) => write!(replies, "some {key} {held}\n"),
+            Reply::Failed(0) => replies.push_str("none\n"),
             Reply::Failed(bytes) => write!(replies, "failed {bytes}\n"),
             Reply::Done => replies.push_str("ok\n"),
             Reply::Refused(refusal) => write!(replies, "{refusal}\n"),

@@ -31,8 +31,6 @@ pub(crate) enum Verb {
     Remove,
     Evict,
     Retain,
-    EveryOther,
-    Tags,
     Clear,
     At(AtSlot),
     Show(Shown),
@@ -54,6 +52,7 @@ pub(crate) enum AtSlot {
 pub(crate) enum Shown {
     /// Their keys, slots and values.
     Residents,
+    /// Their keys, each with the number of keys that were made with it.
     Keys,
     /// How many are where.
     Debug,
@@ -100,8 +99,6 @@ const VERBS: &[(&str, Verb)] = &[
     ("remove", Verb::Remove),
     ("evict", Verb::Evict),
     ("retain", Verb::Retain),
-    ("every_other", Verb::EveryOther),
-    ("tags", Verb::Tags),
     ("clear", Verb::Clear),
     ("peek_slot", Verb::At(AtSlot::Peek)),
     ("slot_with_hash", Verb::At(AtSlot::Listed)),

@@ -19,11 +19,11 @@ impl<'a, S: BuildHasher> Cached<'a, S> {
 
     fn peek_slot(&self, id: u64) -> Option<u64> {
         let key = self.key(id);
-        self.cache.peek_slot(&key).map(|slot| slot as u64)
+        Some(self.cache.peek_slot(&key)? as u64)
     }
 
     fn slot_with_hash(&self, hash: u64, nth: usize) -> Option<u64> {
-        self.cache.slot_with_hash(hash, nth).map(|slot| slot as u64)
+        Some(self.cache.slot_with_hash(hash, nth)? as u64)
     }
 
     fn hit_slot(&mut self, slot: usize) -> bool {

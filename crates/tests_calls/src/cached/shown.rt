@@ -24,19 +24,10 @@ impl<'a, S: BuildHasher> Cached<'a, S> {
         Ok(())
     }
 
-    /// Returns the id and the tag of each resident's key, by ascending slot, as digits of a number.
-    pub(super) fn tags(&self) -> u64 {
-        let mut tags = 0u64;
-        for key in self.cache.keys() {
-            tags = tags.wrapping_mul(10).wrapping_add(key.id);
-            tags = tags.wrapping_mul(10).wrapping_add(key.tag);
-        }
-        tags
-    }
-
+    /// Writes the id and the tag of each resident's key.
     fn write_keys(&self, replies: &mut String) -> Result<(), AllocError> {
         for key in self.cache.keys() {
-            write!(replies, "{} ", key.id)?;
+            write!(replies, "{}:{} ", key.id, key.tag)?;
         }
         Ok(())
     }
