@@ -18,22 +18,27 @@ enum Maker {
     MemoWithHasher,
 }
 
-/// Returns the capacity of a cache if it was made.
-fn capacity_of(
-    made: Result<Cache<u64, u64, DefaultHashBuilder, &Refusing<Global>>, CacheError>,
-) -> Result<usize, CacheError> {
-    match made {
-        Ok(cache) => Ok(cache.capacity()),
-        Err(refusal) => Err(refusal),
+/// What a constructor makes, with the number of keys that it has room for.
+trait Made {
+    fn room(&self) -> usize;
+}
+
+impl Made for Cache<u64, u64, DefaultHashBuilder, &Refusing<Global>> {
+    fn room(&self) -> usize {
+        self.capacity()
     }
 }
 
-/// Returns the capacity of a memo if it was made.
-fn memo_capacity_of<F: Fn(&u64) -> u64 + Drop>(
-    made: Result<Memo<u64, u64, F, DefaultHashBuilder, &Refusing<Global>>, CacheError>,
-) -> Result<usize, CacheError> {
+impl<F: Fn(&u64) -> u64> Made for Memo<u64, u64, F, DefaultHashBuilder, &Refusing<Global>> {
+    fn room(&self) -> usize {
+        self.capacity()
+    }
+}
+
+/// Returns the capacity of what was made.
+fn capacity_of<T: Made + Drop>(made: Result<T, CacheError>) -> Result<usize, CacheError> {
     match made {
-        Ok(memo) => Ok(memo.capacity()),
+        Ok(made) => Ok(made.room()),
         Err(refusal) => Err(refusal),
     }
 }
@@ -55,10 +60,8 @@ fn make(
         Maker::WithPolicy(small) => capacity_of(Cache::with_policy(
             alloc, capacity, small, small, hasher,
         )),
-        Maker::MemoNew => memo_capacity_of(Memo::new(alloc, capacity, square)),
-        Maker::MemoWithHasher => memo_capacity_of(Memo::with_hasher(
-            alloc, capacity, hasher, square,
-        )),
+        Maker::MemoNew => capacity_of(Memo::new(alloc, capacity, square)),
+        Maker::MemoWithHasher => capacity_of(Memo::with_hasher(alloc, capacity, hasher, square)),
     }
 }
 

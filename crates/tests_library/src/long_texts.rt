@@ -6,7 +6,7 @@ use std::test::Fail;
 use testing::same;
 
 /// Returns the result of `serve` for a text, and the text that it writes.
-pub(crate) fn served(alloc: Global, text: &[u8]) -> (Result<(), ServeError>, Vec<u8>) {
+fn served(alloc: Global, text: &[u8]) -> (Result<(), ServeError>, Vec<u8>) {
     let mut reader = Device::new(text);
     let mut writer = Device::new(Vec::new(alloc));
     let outcome = serve(alloc, &mut reader, &mut writer);
