@@ -46,19 +46,17 @@ const REFUSALS: [(SimulationError, Option<usize>, &str, u8); 4] = [
 pub(crate) fn report_refusals(alloc: Global) -> Result<(), Fail> {
     let arguments = words_of(alloc, "5 a")?;
     for (refusal, trace, wanted, status) in REFUSALS {
-        has_message(alloc, &arguments, refusal, trace, wanted)?;
-        same_at(refusal.status(), status, wanted)?;
+        has_message(alloc, &arguments, (refusal, trace), (wanted, status))?;
     }
     same(SimulationError::Shares(1).status(), 2)
 }
 
-/// Checks the message of a refusal, which may be of one of the traces.
+/// Checks the message and the status of a refusal, which may be of one of the traces.
 fn has_message(
     alloc: Global,
     arguments: &[String],
-    refusal: SimulationError,
-    trace: Option<usize>,
-    wanted: &str,
+    (refusal, trace): (SimulationError, Option<usize>),
+    wanted: (&str, u8),
 ) -> Result<(), Fail> {
     let report = ErrorReport {
         refusal,
@@ -66,7 +64,7 @@ fn has_message(
         arguments,
     };
     let text = format!(in alloc; "{report}")?;
-    same(text.as_str(), wanted)
+    same((text.as_str(), refusal.status()), wanted)
 }
 
 /// Checks that the first help text fits a screen, and that another names each policy.

@@ -45,14 +45,15 @@ fn best_are_best(alloc: Global, trace: &Trace<Global>, skipped: usize) -> Result
         let best = best_shares_of(alloc, capacity, &TRIED_SHARES, skipped, trace)?;
         let usual = hits_of(alloc, capacity, None, skipped, trace)?;
         let most = most_of(alloc, capacity, skipped, trace)?.max(usual);
-        same_at((best.capacity, best.usual), (capacity, usual), room)?;
-        same_at(best.hits, most, room)?;
-        same_at(
-            hits_of(alloc, capacity, best.shares, skipped, trace)?,
-            most,
-            room,
-        )?;
-        same_at(best.shares.is_some(), usual < most, room)?;
+        let again = hits_of(alloc, capacity, best.shares, skipped, trace)?;
+        let given = (
+            best.capacity,
+            best.usual,
+            best.hits,
+            again,
+            best.shares.is_some(),
+        );
+        same_at(given, (capacity, usual, most, most, usual < most), room)?;
     }
     Ok(())
 }

@@ -117,6 +117,7 @@ fn check(alloc: Global) -> Result<(), Fail> {
     sizes::grow_with_sizes(alloc)?;
     sizes::keep_sizes_of_a_sample(alloc)?;
     sizes::add_sizes()?;
+    sizes::add_large_sizes()?;
     samples::keep_their_part(alloc)?;
     samples::replay_as_alone(alloc)?;
     policies::count_outcomes(alloc)?;

@@ -34,9 +34,8 @@ pub(crate) fn number_prefixes(alloc: Global) -> Result<(), Fail> {
     let mut growing = GrowingTrace::new(alloc);
     push_prefixes(&mut growing)?;
     let trace = growing.finish();
-    same(trace.numbers(), [0, 1, 2, 0, 3, 1, 2, 3].as_slice())?;
-    same(trace.key_count(), 4)?;
-    Ok(())
+    let wanted = [0, 1, 2, 0, 3, 1, 2, 3];
+    same((trace.numbers(), trace.key_count()), (wanted.as_slice(), 4))
 }
 
 /// Numbers long keys that differ in their last byte.
@@ -67,8 +66,10 @@ fn many_lines(alloc: Global) -> Result<String, AllocError> {
 
 /// Checks the numbers of the keys of such lines.
 fn numbers_go_back(trace: &Trace<Global>) -> Result<(), Fail> {
-    same(trace.key_count(), 65_537)?;
-    same(trace.numbers().len(), 131_074)?;
+    same(
+        (trace.key_count(), trace.numbers().len()),
+        (65_537, 131_074),
+    )?;
     for (index, number) in trace.numbers().iter().enumerate() {
         let wanted = index.min(131_073usize.saturating_sub(index));
         same_at(*number as usize, wanted, index)?;

@@ -47,9 +47,21 @@ pub(crate) fn show_percents(alloc: Global) -> Result<(), Fail> {
     let trace = vec![in alloc; b'a'; 1_114_112]?;
     let length = Some(2_228_224);
     let lines = "\r\x1b[Kclock2q-simulate: 47% read\r\x1b[Kclock2q-simulate: 50% read\r\x1b[K";
-    shows(alloc, "5", &trace, (length, true), lines)?;
-    shows(alloc, "5", &trace, (length, false), "")?;
-    shows(alloc, "5", &trace, (None, true), "")
+    let cases = [(length, true, lines), (length, false, ""), (None, true, "")];
+    show_each(alloc, "5", &trace, &cases)
+}
+
+/// Checks what is shown in cases: with lengths of the trace, and if it is to be shown.
+fn show_each(
+    alloc: Global,
+    line: &str,
+    trace: &[u8],
+    cases: &[(Option<u64>, bool, &str)],
+) -> Result<(), Fail> {
+    for (length, is_shown, wanted) in cases {
+        shows(alloc, line, trace, (*length, *is_shown), wanted)?;
+    }
+    Ok(())
 }
 
 /// A clock on which ten seconds pass before each reading.
@@ -81,8 +93,8 @@ pub(crate) fn show_rows(alloc: Global) -> Result<(), Fail> {
         \r\x1b[K\x1b[?7l       7   100.00\x1b[?7h\n\
         \r\x1b[K\x1b[3A\x1b[J";
     let line = "5 7 --policies=lru";
-    shows(alloc, line, &trace, (length, true), lines)?;
-    shows(alloc, line, &trace, (length, false), "")
+    let cases = [(length, true, lines), (length, false, "")];
+    show_each(alloc, line, &trace, &cases)
 }
 
 /// Of a sample the capacity for all keys is shown, which is replayed as one for three keys.

@@ -74,7 +74,7 @@ pub(crate) fn grow_with_sizes(alloc: Global) -> Result<(), Fail> {
     keeps_no_size(alloc)
 }
 
-/// Sums of parts, of lists that end before others, and of more than 64 bits.
+/// Sums of parts, and of lists that end before others.
 pub(crate) fn add_sizes() -> Result<(), Fail> {
     let outcomes = [true, false, true, true];
     let sizes = [1usize, 20, 300, 4000];
@@ -86,14 +86,24 @@ pub(crate) fn add_sizes() -> Result<(), Fail> {
         (9, 9, 0, 0),
         (1, 2, 0, 20),
     ] {
-        same_at(hit_bytes(&outcomes, &sizes, first, last), hit, first)?;
-        same_at(asked_bytes(&sizes, first, last), asked, last)?;
+        let given = (
+            hit_bytes(&outcomes, &sizes, first, last),
+            asked_bytes(&sizes, first, last),
+        );
+        same_at(given, (hit, asked), (first, last))?;
     }
     same(hit_bytes(&outcomes, &sizes[..1], 0, 4), 1)?;
-    same(hit_bytes(&outcomes[..3], &sizes, 0, 4), 301)?;
+    same(hit_bytes(&outcomes[..3], &sizes, 0, 4), 301)
+}
+
+/// Sums of more than 64 bits.
+pub(crate) fn add_large_sizes() -> Result<(), Fail> {
+    let outcomes = [true, false, true, true];
     let large = [usize::MAX, 1, usize::MAX, 5];
-    same(hit_bytes(&outcomes, &large, 0, 4), usize::MAX)?;
-    same(hit_bytes(&outcomes, &large, 1, 2), 0)?;
-    same(asked_bytes(&large, 1, 3), usize::MAX)?;
-    Ok(())
+    let given = (
+        hit_bytes(&outcomes, &large, 0, 4),
+        hit_bytes(&outcomes, &large, 1, 2),
+        asked_bytes(&large, 1, 3),
+    );
+    same(given, (usize::MAX, 0, usize::MAX))
 }
