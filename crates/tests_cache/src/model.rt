@@ -128,10 +128,7 @@ impl Model {
         Ok(match call {
             Call::Put(key, value) => Answer::Value(self.put(key, value)?),
             Call::Evict(key, value) => Answer::Left(self.put_evicting(key, value)?),
-            Call::PutSlot(key, value) => {
-                let (slot, occupant) = self.put_slot(key, value)?;
-                Answer::Placed(slot, occupant)
-            }
+            Call::PutSlot(key, value) => self.put_slot(key, value)?,
             Call::Get(key) => Answer::Value(self.get(key)),
             Call::Peek(key) => Answer::Value(self.peek(key)),
             Call::Contains(key) => Answer::Flag(self.find(key).is_some()),
@@ -147,11 +144,7 @@ impl Model {
                 let (slot, held) = self.take_slot(key, value)?;
                 Answer::Slot(slot, held)
             }
-            Call::Enter(key, value) => {
-                let is_hit = self.find(key).is_some();
-                let (slot, held) = self.take_slot(key, value)?;
-                Answer::Entered(slot, held, is_hit, !is_hit && self.evicted.is_some())
-            }
+            Call::Enter(key, value) => self.enter_slot(key, value)?,
             Call::Remove(key) => Answer::Flag(self.remove(key)?),
             Call::Retain(bits, count) => {
                 self.retain(bits, count)?;
@@ -293,17 +286,26 @@ impl Model {
     }
 
     /// Returns the slot of the key, and who had it.
-    fn put_slot(&mut self, key: u64, value: u64) -> Result<(usize, Occupant<u64>), AllocError> {
+    fn put_slot(&mut self, key: u64, value: u64) -> Result<Answer, AllocError> {
         if let Some(entry) = self.find(key) {
             self.replace(key, value);
-            return Ok((entry.slot, Occupant::Itself));
+            return Ok(Answer::Placed(entry.slot, Occupant::Itself));
         }
         let slot = self.enter(key)?;
         self.store(slot, value);
-        match self.evicted {
-            Some(evicted) => Ok((slot, Occupant::Other(evicted))),
-            None => Ok((slot, Occupant::Nobody)),
-        }
+        let occupant = match self.evicted {
+            Some(evicted) => Occupant::Other(evicted),
+            None => Occupant::Nobody,
+        };
+        Ok(Answer::Placed(slot, occupant))
+    }
+
+    /// Returns the slot of the key and its value, and whether it was hit or another was evicted.
+    fn enter_slot(&mut self, key: u64, value: u64) -> Result<Answer, AllocError> {
+        let is_hit = self.find(key).is_some();
+        let (slot, held) = self.take_slot(key, value)?;
+        let has_evicted = !is_hit && self.evicted.is_some();
+        Ok(Answer::Entered(slot, held, is_hit, has_evicted))
     }
 
     fn try_fetch(&mut self, key: u64, offered: Option<u64>) -> Result<Option<u64>, AllocError> {
