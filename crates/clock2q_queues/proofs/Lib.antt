@@ -1,7 +1,9 @@
 pub mod AllRecords
 pub mod Attaching
 pub mod Booleans
+pub mod Copies
 pub mod Flagged
+pub mod Growth
 pub mod Hand
 pub mod Hits
 pub mod InQueue

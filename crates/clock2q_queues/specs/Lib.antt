@@ -3,6 +3,7 @@ pub mod Ends
 pub mod Link
 pub mod Links
 pub mod Flags
+pub mod Growth
 pub mod Main
 pub mod Ring
 pub mod Rings

@@ -1,6 +1,7 @@
 //! What a ring links: the record of a slot, and the neighbours of a place.
-ghost use Rattle.std.specs.Prelude.{◌≡◌};
+ghost use Rattle.std.specs.Prelude.{◌≡◌, ℕ, ◌+◌, ◌^◌, ◌<◌};
 ghost use Rattle.clock2q_queues.specs.declared.entries.Record.{Record};
+ghost use Rattle.clock2q_queues.specs.Growth.{moved_location};
 ghost use Rattle.clock2q_queues.specs.Links.{vacant as no_record};
 
 /// Where a slot is: the queue that it is in, if any, and in Small whether it is young.
@@ -14,6 +15,22 @@ pub(crate) enum Location {
     SmallOld,
     /// In Main.
     Main,
+}
+
+impl Location {
+    /// Returns the location of the same slot in a window that has `gap` new positions at the cursor: the
+    /// positions from the cursor on are moved up.
+    pub(crate) fn past_gap(self, cursor: u32, gap: u32) -> Self
+        requires fits { (position : ℕ) → self ≡ Location.SmallYoung position → position + gap < 2 ^ 32 }
+        ensures moved { result ≡ moved_location cursor gap self }
+    {
+        match self {
+            Location::SmallYoung(position) if position >= cursor => {
+                Location::SmallYoung(position + gap)
+            }
+            same => same,
+        }
+    }
 }
 
 /// The neighbours of a place in an order. The places of an order are all in the same one, so in

@@ -5,6 +5,7 @@ ghost use Rattle.std.specs.Bool.{then_some};
 ghost use Rattle.clock2q_queues.specs.Cells.{Rises, cells_state, accessed, written};
 ghost use Rattle.clock2q_queues.specs.Ends.{position_freed};
 ghost use Rattle.clock2q_queues.specs.Flags.{is_linked};
+ghost use Rattle.clock2q_queues.specs.Growth.{GrowsLinks};
 ghost use Rattle.clock2q_queues.specs.Links.{LinkState, accesses_of, vacant, is_old, Attaches, Detaches, SetsBit, fresh, made_below, record_at, next_at, previous_at, with_location, location_at, bit_at, young_at};
 ghost use Rattle.clock2q_queues.specs.Small.{GrowsOld, next_cursor};
 
@@ -56,6 +57,48 @@ impl<A: Allocator> Links<A> {
             window: Cells::new(positions),
             inspections: Count::new(),
         })
+    }
+
+    /// Returns links for `slots` slots, and a window of `window` positions, of which the new ones are put
+    /// in at the cursor: it takes these next. All counts go on from those of these links.
+    pub(crate) fn grown(
+        &self,
+        alloc: A,
+        slots: u32,
+        window: u32,
+        cursor: u32,
+    ) -> Result<Self, AllocError>
+    where
+        A: Clone,
+        requires slots { length self.now.records.items ≤ slots }
+        requires window { length self.now.window.items ≤ window }
+        requires cursor { cursor ≤ length self.now.window.items }
+        requires positions { (slot position : ℕ)
+            → location_at self.now.records.items slot ≡ Location.SmallYoung position
+            → position < length self.now.window.items }
+        ensures { IfOk result (GrowsLinks cursor slots window self.now) }
+    {
+        let gap = window - self.window_len();
+        let ring = self
+            .ring
+            .grown_past_gap(alloc.clone()?, slots, cursor, gap)?;
+        let flags = self.flags.grown(alloc.clone()?, slots)?;
+        let positions = self.window.with_gap(alloc, cursor, window, NOWHERE)?;
+        let mut inspections = Count::new();
+        inspections.raise(&self.inspections);
+        Ok(Links {
+            ring,
+            flags,
+            window: positions,
+            inspections,
+        })
+    }
+
+    /// Returns the number of the window's positions.
+    pub(crate) fn window_len(&self) -> u32
+        ensures { result ≡ length self.now.window.items }
+    {
+        self.window.len() as u32
     }
 
     /// Returns the slot after one that is in a queue.
@@ -189,7 +232,7 @@ impl<A: Allocator> Links<A> {
         if let Some(oldest) = there.slot() {
             self.make_old(oldest);
         }
-        if cursor + 1 < self.window.len() as u32 {
+        if cursor + 1 < self.window_len() {
             cursor + 1
         } else {
             0

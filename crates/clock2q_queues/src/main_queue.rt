@@ -11,7 +11,7 @@ use std::alloc::Allocator;
 
 /// A ring of slots. The hand is at the slot that it inspects next, and a new slot goes just before
 /// the hand.
-#[derive(Drop)]
+#[derive(Clone, Copy)]
 pub(crate) struct Main {
     hand: Option<u32>,
     pub(crate) len: usize,

@@ -1,5 +1,5 @@
 //! Places that are reused, ordered newest first, and the chain of the free ones.
-ghost use Rattle.std.specs.Prelude.{◌≡◌, ◌+◌, ◌-◌, ◌<◌, true, [], ◌∷◌, take, drop, length, Some, None, IfOk, nat_eq};
+ghost use Rattle.std.specs.Prelude.{◌≡◌, ◌+◌, ◌-◌, ◌*◌, ◌<◌, ◌≤◌, true, [], ◌∷◌, take, drop, length, Some, None, IfOk, nat_eq};
 ghost use Rattle.std.specs.List.{last_or, list_any};
 ghost use Rattle.clock2q_queues.specs.Cells.{Rises};
 ghost use Rattle.clock2q_queues.specs.Rings.{without};
@@ -10,7 +10,7 @@ use std::alloc::{AllocError, Allocator, Global};
 use std::marker::Model;
 
 /// Places that were given up. The record of each links to the next.
-#[derive(Drop)]
+#[derive(Clone, Copy)]
 struct Chain {
     head: u32,
     len: u32,
@@ -50,7 +50,7 @@ impl<A: Allocator> Model for Order<A> {
 }
 
 impl<A: Allocator> Order<A> {
-    ghost use Rattle.clock2q_queues.specs.Order.{IsWholeOrder, unused, next_place};
+    ghost use Rattle.clock2q_queues.specs.Order.{IsWholeOrder, unused, used, next_place};
 
     /// Returns an order of `limit` places, none of them in use. It takes all the memory that it
     /// will ever need.
@@ -67,6 +67,31 @@ impl<A: Allocator> Order<A> {
             newest: 0,
             len: 0,
             chain: Chain { head: 0, len: 0 },
+        })
+    }
+
+    /// Returns an order of `limit` places that has the same places in use, and the same free ones. It takes
+    /// all the memory that it will ever need.
+    ///
+    /// # Errors
+    ///
+    /// `AllocError` if the request for memory is refused.
+    ///
+    /// # Cost
+    ///
+    /// Two accesses for each place that was used.
+    pub fn grown(&self, alloc: A, limit: u32) -> Result<Self, AllocError>
+        requires limit { self.now.limit ≤ limit }
+        ensures grown { IfOk result (λ o. o
+            ≡ record self.now { limit = limit; accesses = o.accesses }) }
+        ensures accesses { IfOk result (λ o. o.accesses ≡ self.now.accesses + 2 * used self.now) }
+        ensures whole { IfOk result IsWholeOrder }
+    {
+        Ok(Order {
+            ring: self.ring.grown(alloc, limit)?,
+            newest: self.newest,
+            len: self.len,
+            chain: self.chain,
         })
     }
 

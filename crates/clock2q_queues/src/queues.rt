@@ -8,6 +8,8 @@ ghost use Rattle.clock2q_queues.specs.Small.{admitted, small_hit_at};
 ghost use Rattle.clock2q_queues.specs.Main.{inspections, from_victim, main_hit_at};
 ghost use Rattle.clock2q_queues.specs.Queues.{slots_of, without_slot, empty_queues, victim_leaves, looks_ahead, IsAt, IsWholeQueues, tail_promoted};
 
+mod growth;
+
 use crate::entries::Location;
 use crate::links::Links;
 use crate::main_queue::Main;

@@ -1,7 +1,8 @@
 //! Entries that are linked by number, slots in their queues or places in their order.
-ghost use Rattle.std.specs.Prelude.{◌≡◌, ℕ, ◌+◌, ◌-◌, ◌<◌, ◌≤◌, IfOk, length, replicate, slice_set};
+ghost use Rattle.std.specs.Prelude.{◌≡◌, ℕ, ◌+◌, ◌-◌, ◌<◌, ◌≤◌, ◌^◌, IfOk, length, replicate, slice_set};
 ghost use Rattle.clock2q_queues.specs.Cells.{accessed, cells_state};
-ghost use Rattle.clock2q_queues.specs.Links.{Attaches, Detaches, made_below, next_at, previous_at, record_at, vacant, with_location, with_next, with_previous};
+ghost use Rattle.clock2q_queues.specs.Growth.{GrowsRing, moved_record};
+ghost use Rattle.clock2q_queues.specs.Links.{Attaches, Detaches, location_at, made_below, next_at, previous_at, record_at, vacant, with_location, with_next, with_previous};
 ghost use Rattle.clock2q_queues.specs.Ring.{ring_state};
 
 use crate::entries::{Linked, Location, Neighbours, Record};
@@ -39,6 +40,27 @@ impl<E: Linked, A: Allocator> Ring<E, A> {
             entries: Vec::with_capacity(alloc, places as usize)?,
             places,
             accesses: Count::new(),
+        })
+    }
+
+    /// Returns a ring of `places` places with the same entries. It takes all the memory that it will ever
+    /// need. It counts on from this ring's count: each entry that was made is read and written.
+    pub(crate) fn grown(&self, alloc: A, places: u32) -> Result<Self, AllocError>
+        requires { length self.now.cells.items ≤ places }
+        ensures { IfOk result (GrowsRing (λ e. e) places self.now) }
+    {
+        let mut entries = Vec::with_capacity(alloc, places as usize)?;
+        let mut accesses = Count::new();
+        accesses.raise(&self.accesses);
+        for entry in &self.entries {
+            accesses.tick();
+            accesses.tick();
+            entries.push_reserved(*entry);
+        }
+        Ok(Ring {
+            entries,
+            places,
+            accesses,
         })
     }
 
@@ -183,6 +205,39 @@ impl<E: Linked, A: Allocator> Ring<E, A> {
 }
 
 impl<A: Allocator> Ring<Record, A> {
+    /// Returns a ring of `slots` slots with the same records, whose locations are
+    /// [past a gap](Location::past_gap) at the cursor. Otherwise it is like [`grown`](Ring::grown).
+    pub(crate) fn grown_past_gap(
+        &self,
+        alloc: A,
+        slots: u32,
+        cursor: u32,
+        gap: u32,
+    ) -> Result<Self, AllocError>
+        requires slots { length self.now.cells.items ≤ slots }
+        requires positions { (slot position : ℕ)
+            → location_at self.now.cells.items slot ≡ Location.SmallYoung position
+            → position + gap < 2 ^ 32 }
+        ensures { IfOk result (GrowsRing (moved_record cursor gap) slots self.now) }
+    {
+        let mut entries = Vec::with_capacity(alloc, slots as usize)?;
+        let mut accesses = Count::new();
+        accesses.raise(&self.accesses);
+        for record in &self.entries {
+            accesses.tick();
+            accesses.tick();
+            entries.push_reserved(Record {
+                location: record.location.past_gap(cursor, gap),
+                ..*record
+            });
+        }
+        Ok(Ring {
+            entries,
+            places: slots,
+            accesses,
+        })
+    }
+
     /// Writes the location of a slot that was made, which counts as a read and a write.
     pub(crate) fn set_location(&mut self, slot: u32, location: Location)
         requires { slot < self.old.made }

@@ -10,12 +10,12 @@ use std::alloc::Allocator;
 
 /// A queue of slots, newest first. The window's positions hold the young slots, and the cursor is
 /// the position of the next admission.
-#[derive(Drop)]
+#[derive(Clone, Copy)]
 pub(crate) struct Small {
     newest: u32,
     pub(crate) oldest: u32,
     pub(crate) len: usize,
-    cursor: u32,
+    pub(crate) cursor: u32,
 }
 
 impl Small {

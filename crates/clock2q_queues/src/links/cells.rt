@@ -1,9 +1,10 @@
 //! Vectors whose reads and writes are counted. Only these accessors reach the items.
-ghost use Rattle.std.specs.Prelude.{◌≡◌, ◌+◌, ◌<◌, length, replicate, slice_index_or, slice_set};
+ghost use Rattle.std.specs.Prelude.{◌≡◌, ◌+◌, ◌-◌, ◌*◌, ◌<◌, ◌≤◌, IfOk, length, replicate, slice_index_or, slice_set};
 ghost use Rattle.clock2q_queues.specs.Cells.{cells_state, accessed, written};
+ghost use Rattle.clock2q_queues.specs.Growth.{with_gap};
 
 use clock2q_count::Count;
-use std::alloc::{Allocator, Global};
+use std::alloc::{AllocError, Allocator, Global};
 use std::marker::Model;
 
 /// Items by number, with the number of reads and writes.
@@ -32,6 +33,25 @@ impl<T: Copy, A: Allocator> Cells<T, A> {
             items,
             accesses: Count::new(),
         }
+    }
+
+    /// Returns `len` cells: the items before a cell, copies of `item`, and the items from that cell on.
+    /// They count on from the count of these: each old item is read and written.
+    pub(super) fn with_gap(&self, alloc: A, at: u32, len: u32, item: T) -> Result<Self, AllocError>
+        requires at { at ≤ length self.now.items }
+        requires len { length self.now.items ≤ len }
+        ensures { IfOk result (λ c. c ≡ cells_state
+            (with_gap at (len - length self.now.items) item self.now.items)
+            (self.now.accesses + 2 * length self.now.items)) }
+    {
+        let (before, after) = self.items.split_at(at as usize);
+        let mut items = Vec::with_capacity(alloc, len as usize)?;
+        items.extend_from_slice(before)?;
+        items.resize(len as usize - after.len(), item)?;
+        items.extend_from_slice(after)?;
+        let mut accesses = Count::new();
+        accesses.raise(self);
+        Ok(Cells { items, accesses })
     }
 
     /// Returns the number of cells.

@@ -1,5 +1,5 @@
 //! What is known of a slot without its record: whether it is in a queue, and its hit bit.
-ghost use Rattle.std.specs.Prelude.{◌≡◌, ◌+◌, ◌<◌, ◌≤◌, true, IfOk, length, replicate, slice_index_or, slice_set};
+ghost use Rattle.std.specs.Prelude.{◌≡◌, ◌+◌, ◌-◌, ◌<◌, ◌≤◌, ◌++◌, true, IfOk, length, replicate, slice_index_or, slice_set};
 ghost use Rattle.clock2q_queues.specs.Flags.{flag_state, says_linked};
 ghost use Rattle.clock2q_queues.specs.Cells.{accessed};
 ghost use Rattle.clock2q_queues.specs.Links.{made_below, record_at};
@@ -50,6 +50,18 @@ impl<A: Allocator> Flags<A> {
             flags: Vec::with_capacity(alloc, slots as usize)?,
             slots,
         })
+    }
+
+    /// Returns the flags of `slots` slots: those of these, and free slots. It takes all the memory that
+    /// they will ever need.
+    pub(super) fn grown(&self, alloc: A, slots: u32) -> Result<Self, AllocError>
+        requires { length self.now.items ≤ slots }
+        ensures { IfOk result (λ f. f ≡ flag_state
+            (self.now.items ++ replicate (slots - length self.now.items) Flag.Free) self.now.made) }
+    {
+        let mut flags = Vec::with_capacity(alloc, slots as usize)?;
+        flags.extend_from_slice(&self.flags)?;
+        Ok(Flags { flags, slots })
     }
 
     /// Returns the flag of a slot that is in a queue. The look is counted in `looks`.

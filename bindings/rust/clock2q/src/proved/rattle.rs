@@ -5,6 +5,7 @@ use alloc::vec;
 use core::fmt;
 use core::hash::Hasher;
 use core::ops::{Deref, DerefMut};
+use core::slice;
 
 /// A request for memory was refused.
 #[derive(Clone, Copy, Debug, PartialEq, Eq)]
@@ -100,6 +101,24 @@ impl<T: Copy, A: Allocator> Vec<T, A> {
         self.items.try_reserve_exact(more).map_err(|_| AllocError)?;
         self.items.resize(count, item);
         Ok(())
+    }
+
+    /// Adds copies of items.
+    pub fn extend_from_slice(&mut self, items: &[T]) -> Result<(), AllocError> {
+        let more = items.len();
+        self.items.try_reserve_exact(more).map_err(|_| AllocError)?;
+        self.items.extend_from_slice(items);
+        Ok(())
+    }
+}
+
+impl<'a, T, A: Allocator> IntoIterator for &'a Vec<T, A> {
+    type Item = &'a T;
+    type IntoIter = slice::Iter<'a, T>;
+
+    #[inline]
+    fn into_iter(self) -> slice::Iter<'a, T> {
+        self.items.iter()
     }
 }
 

@@ -14,6 +14,20 @@ pub(crate) enum Location {
     Main,
 }
 
+impl Location {
+    /// Returns the location of the same slot in a window that has `gap` new positions at the cursor: the
+    /// positions from the cursor on are moved up.
+    #[inline]
+    pub(crate) fn past_gap(self, cursor: u32, gap: u32) -> Self {
+        match self {
+            Location::SmallYoung(position) if position >= cursor => {
+                Location::SmallYoung(position + gap)
+            }
+            same => same,
+        }
+    }
+}
+
 /// The neighbours of a place in an order. The places of an order are all in the same one, so in
 /// contracts they have the location of a free slot.
 #[derive(Clone, Copy)]

@@ -40,6 +40,41 @@ impl<A: Allocator> Links<A> {
         })
     }
 
+    /// Returns links for `slots` slots, and a window of `window` positions, of which the new ones are put
+    /// in at the cursor: it takes these next. All counts go on from those of these links.
+    #[inline]
+    pub(crate) fn grown(
+        &self,
+        alloc: A,
+        slots: u32,
+        window: u32,
+        cursor: u32,
+    ) -> Result<Self, AllocError>
+    where
+        A: Clone,
+    {
+        let gap = window - self.window_len();
+        let ring = self
+            .ring
+            .grown_past_gap(alloc.clone(), slots, cursor, gap)?;
+        let flags = self.flags.grown(alloc.clone(), slots)?;
+        let positions = self.window.with_gap(alloc, cursor, window, NOWHERE)?;
+        let mut inspections = Count::new();
+        inspections.raise(&self.inspections);
+        Ok(Links {
+            ring,
+            flags,
+            window: positions,
+            inspections,
+        })
+    }
+
+    /// Returns the number of the window's positions.
+    #[inline]
+    pub(crate) fn window_len(&self) -> u32 {
+        self.window.len() as u32
+    }
+
     /// Returns the slot after one that is in a queue.
     #[inline]
     pub(crate) fn next(&mut self, slot: u32) -> u32 {
@@ -112,7 +147,7 @@ impl<A: Allocator> Links<A> {
         if let Some(oldest) = there.slot() {
             self.make_old(oldest);
         }
-        if cursor + 1 < self.window.len() as u32 {
+        if cursor + 1 < self.window_len() {
             cursor + 1
         } else {
             0

@@ -7,6 +7,7 @@ use crate::proved::rattle::Allocator;
 
 /// A ring of slots. The hand is at the slot that it inspects next, and a new slot goes just before
 /// the hand.
+#[derive(Clone, Copy)]
 pub(crate) struct Main {
     hand: Option<u32>,
     pub(crate) len: usize,

@@ -6,6 +6,7 @@ use crate::proved::queues::ring::Ring;
 use crate::proved::rattle::{AllocError, Allocator, Global};
 
 /// Places that were given up. The record of each links to the next.
+#[derive(Clone, Copy)]
 struct Chain {
     head: u32,
     len: u32,
@@ -50,6 +51,26 @@ impl<A: Allocator> Order<A> {
             newest: 0,
             len: 0,
             chain: Chain { head: 0, len: 0 },
+        })
+    }
+
+    /// Returns an order of `limit` places that has the same places in use, and the same free ones. It takes
+    /// all the memory that it will ever need.
+    ///
+    /// # Errors
+    ///
+    /// `AllocError` if the request for memory is refused.
+    ///
+    /// # Cost
+    ///
+    /// Two accesses for each place that was used.
+    #[inline]
+    pub fn grown(&self, alloc: A, limit: u32) -> Result<Self, AllocError> {
+        Ok(Order {
+            ring: self.ring.grown(alloc, limit)?,
+            newest: self.newest,
+            len: self.len,
+            chain: self.chain,
         })
     }
 

@@ -1,6 +1,8 @@
 // Written by bindings/rust/erase from crates/clock2q_queues/src/queues.rt; change that, and run erase.
 //! The two queues of a cache's residents, Small and Main, over the links that they share.
 
+mod growth;
+
 use crate::proved::queues::entries::Location;
 use crate::proved::queues::links::Links;
 use crate::proved::queues::main_queue::Main;

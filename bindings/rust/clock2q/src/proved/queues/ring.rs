@@ -26,6 +26,25 @@ impl<E: Linked, A: Allocator> Ring<E, A> {
         })
     }
 
+    /// Returns a ring of `places` places with the same entries. It takes all the memory that it will ever
+    /// need. It counts on from this ring's count: each entry that was made is read and written.
+    #[inline]
+    pub(crate) fn grown(&self, alloc: A, places: u32) -> Result<Self, AllocError> {
+        let mut entries = Vec::with_capacity(alloc, places as usize)?;
+        let mut accesses = Count::new();
+        accesses.raise(&self.accesses);
+        for entry in &self.entries {
+            accesses.tick();
+            accesses.tick();
+            entries.push_reserved(*entry);
+        }
+        Ok(Ring {
+            entries,
+            places,
+            accesses,
+        })
+    }
+
     /// Returns the number of places.
     #[inline]
     pub(crate) fn places(&self) -> u32 {
@@ -126,6 +145,34 @@ impl<E: Linked, A: Allocator> Ring<E, A> {
 }
 
 impl<A: Allocator> Ring<Record, A> {
+    /// Returns a ring of `slots` slots with the same records, whose locations are
+    /// [past a gap](Location::past_gap) at the cursor. Otherwise it is like [`grown`](Ring::grown).
+    #[inline]
+    pub(crate) fn grown_past_gap(
+        &self,
+        alloc: A,
+        slots: u32,
+        cursor: u32,
+        gap: u32,
+    ) -> Result<Self, AllocError> {
+        let mut entries = Vec::with_capacity(alloc, slots as usize)?;
+        let mut accesses = Count::new();
+        accesses.raise(&self.accesses);
+        for record in &self.entries {
+            accesses.tick();
+            accesses.tick();
+            entries.push_reserved(Record {
+                location: record.location.past_gap(cursor, gap),
+                ..*record
+            });
+        }
+        Ok(Ring {
+            entries,
+            places: slots,
+            accesses,
+        })
+    }
+
     /// Writes the location of a slot that was made, which counts as a read and a write.
     #[inline]
     pub(crate) fn set_location(&mut self, slot: u32, location: Location) {

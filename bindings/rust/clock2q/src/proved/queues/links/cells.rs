@@ -3,7 +3,7 @@
 
 use crate::proved::rattle::Vec;
 use crate::proved::count::Count;
-use crate::proved::rattle::{Allocator, Global};
+use crate::proved::rattle::{AllocError, Allocator, Global};
 
 /// Items by number, with the number of reads and writes.
 pub(crate) struct Cells<T: Copy, A: Allocator = Global> {
@@ -19,6 +19,20 @@ impl<T: Copy, A: Allocator> Cells<T, A> {
             items,
             accesses: Count::new(),
         }
+    }
+
+    /// Returns `len` cells: the items before a cell, copies of `item`, and the items from that cell on.
+    /// They count on from the count of these: each old item is read and written.
+    #[inline]
+    pub(super) fn with_gap(&self, alloc: A, at: u32, len: u32, item: T) -> Result<Self, AllocError> {
+        let (before, after) = self.items.split_at(at as usize);
+        let mut items = Vec::with_capacity(alloc, len as usize)?;
+        items.extend_from_slice(before)?;
+        items.resize(len as usize - after.len(), item)?;
+        items.extend_from_slice(after)?;
+        let mut accesses = Count::new();
+        accesses.raise(self);
+        Ok(Cells { items, accesses })
     }
 
     /// Returns the number of cells.

@@ -35,6 +35,15 @@ impl<A: Allocator> Flags<A> {
         })
     }
 
+    /// Returns the flags of `slots` slots: those of these, and free slots. It takes all the memory that
+    /// they will ever need.
+    #[inline]
+    pub(super) fn grown(&self, alloc: A, slots: u32) -> Result<Self, AllocError> {
+        let mut flags = Vec::with_capacity(alloc, slots as usize)?;
+        flags.extend_from_slice(&self.flags)?;
+        Ok(Flags { flags, slots })
+    }
+
     /// Returns the flag of a slot that is in a queue. The look is counted in `looks`.
     #[inline]
     pub(super) fn read(&self, slot: u32, looks: &mut Count) -> Flag {
