@@ -29,6 +29,8 @@ struct Chain {
 /// assert_eq!(rt; order.reuse_oldest(), 0);
 /// order.unlink(1);
 /// assert_eq!(rt; order.len(), 1);
+/// let order = order.grown(rt.alloc(), 3)?;
+/// assert_eq!(rt; order.limit(), 3);
 /// ```
 #[derive(Drop)]
 pub struct Order<A: Allocator = Global> {

@@ -36,7 +36,8 @@ use std::marker::Model;
 /// assert_eq!(rt; queues.take_tail(), Some(0));
 /// queues.append(0);
 /// assert!(rt; queues.is_resident(0));
-/// assert_eq!(rt; queues.take_victim(), 0);
+/// let mut more = queues.grown(rt.alloc(), 8, 4)?;
+/// assert_eq!(rt; more.take_victim(), 0);
 /// ```
 #[derive(Drop)]
 pub struct Queues<A: Allocator = Global> {

@@ -6,7 +6,8 @@
 //!   free places.
 //!
 //! They are linked lists whose links are numbers, so a step on one entry costs the same however many
-//! there are. Constructors take all the memory that will ever be needed, and no later call can fail.
+//! there are. Constructors take all the memory that will ever be needed. `grown`, which returns a copy
+//! with room for more, is one of them. No other call can fail.
 
 mod entries;
 mod link;

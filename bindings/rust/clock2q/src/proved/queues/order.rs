@@ -28,6 +28,8 @@ struct Chain {
 /// assert_eq!(order.reuse_oldest(), 0);
 /// order.unlink(1);
 /// assert_eq!(order.len(), 1);
+/// let order = order.grown(Global, 3)?;
+/// assert_eq!(order.limit(), 3);
 /// # Ok::<(), Box<dyn std::error::Error>>(())
 /// ```
 pub struct Order<A: Allocator = Global> {

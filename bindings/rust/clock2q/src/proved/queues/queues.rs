@@ -31,7 +31,8 @@ use crate::proved::rattle::{AllocError, Allocator, Global};
 /// assert_eq!(queues.take_tail(), Some(0));
 /// queues.append(0);
 /// assert!(queues.is_resident(0));
-/// assert_eq!(queues.take_victim(), 0);
+/// let mut more = queues.grown(Global, 8, 4)?;
+/// assert_eq!(more.take_victim(), 0);
 /// # Ok::<(), Box<dyn std::error::Error>>(())
 /// ```
 pub struct Queues<A: Allocator = Global> {
