@@ -1,5 +1,5 @@
 //! The keys themselves, and the counts of their comparisons and writes.
-ghost use Rattle.std.specs.Prelude.{◌≡◌, ℕ, ◌+◌, ◌<◌, [], ◌∷◌, ◌++◌, length, slice_set, Some, IfOk};
+ghost use Rattle.std.specs.Prelude.{◌≡◌, ℕ, ◌+◌, ◌<◌, ◌≤◌, [], ◌∷◌, ◌++◌, length, slice_set, Some, IfOk, OnOk, OnErr};
 ghost use Rattle.std.specs.Borrow.{sem};
 
 use clock2q_count::Count;
@@ -131,6 +131,21 @@ impl<K, V, A: Allocator> Keys<K, V, A> {
     {
         self.writes.tick();
         self.entries.push_reserved(Entry { hash, key, value });
+    }
+
+    /// Makes room for up to `room` keys in all. Each key keeps its place.
+    ///
+    /// # Errors
+    ///
+    /// `AllocError` if the request for memory is refused. The room is then as it was.
+    pub fn reserve(&mut self, room: usize) -> Result<(), AllocError>
+        ensures kept { self.new ≡ record self.old { room = self.new.room } }
+        ensures more { self.old.room ≤ self.new.room }
+        ensures room { OnOk result (room ≤ self.new.room) }
+        ensures refused { OnErr result (self.new ≡ self.old) }
+    {
+        let additional = room.saturating_sub(self.len());
+        self.entries.reserve_exact(additional)
     }
 
     /// Drops every key and value. No place has a key afterwards.
