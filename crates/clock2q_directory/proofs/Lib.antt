@@ -2,9 +2,11 @@ pub mod Emptied
 pub mod Entries
 pub mod Forgetting
 pub mod Gaps
+pub mod Growing
 pub mod Hashed
 pub mod Histories
 pub mod Indexes
+pub mod Larger
 pub mod Looking
 pub mod Lookups
 pub mod MakingPlaces

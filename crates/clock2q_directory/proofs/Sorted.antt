@@ -17,7 +17,7 @@ length-parted : (es : List (ℕ × ℕ)) → length es ≡ length (slot_entries 
 length-parted [] = refl
 length-parted (e ∷ es) = grind (arith, length-parted es)
 
-total-parted : (homes : List (List (ℕ × ℕ))) → total homes ≡ total (slots_in homes) + total (places_in homes)
+pub total-parted : (homes : List (List (ℕ × ℕ))) → total homes ≡ total (slots_in homes) + total (places_in homes)
 total-parted [] = refl
 total-parted (es ∷ homes) = omega (
   arith,

@@ -56,7 +56,7 @@ slot_is_below x s below e h = let q : e.1 ≡ s = eqb-true e.1 s (and_parts _ _ 
 slot_is_no_place : (x s : ℕ) → s < first_remembered → (e : ℕ × ℕ) → is_entry_of eqb x s e ≡ true → not (ltb e.1 first_remembered) ≡ false
 slot_is_no_place x s below e h = ap not (slot_is_below x s below e h)
 
-place_is_past : (p : ℕ) → ltb (first_remembered + p) first_remembered ≡ false
+pub place_is_past : (p : ℕ) → ltb (first_remembered + p) first_remembered ≡ false
 place_is_past p = le-ltb (first_remembered + p) first_remembered (omega arith)
 
 place_is_no_slot : (x p : ℕ) (e : ℕ × ℕ) → is_entry_of eqb x (first_remembered + p) e ≡ true → ltb e.1 first_remembered ≡ false
@@ -66,7 +66,7 @@ place_is_no_slot x p e h = let q : e.1 ≡ first_remembered + p = eqb-true e.1 (
 pub place_of : (h p : ℕ) → ltb h first_remembered ≡ false → eqb h (first_remembered + p) ≡ eqb (h - first_remembered) p
 place_of h p past = grind (arith, ltb-false, eqb-true, eq-eqb, ne_eqb, eqb-false)
 
-place_back : (p : ℕ) → first_remembered + p - first_remembered ≡ p
+pub place_back : (p : ℕ) → first_remembered + p - first_remembered ≡ p
 place_back p = omega arith
 
 -- taking a place's handle out of the entries takes the place out of the places
@@ -126,11 +126,11 @@ module _ {E F : Type 0} (view : List E → List F) (empty : view [] ≡ []) wher
   pub listed-view : (homes : List (List E)) (x : ℕ) → listed (map view homes) x ≡ view (listed homes x)
   listed-view homes x = ap (λ n. get_or (map view homes) (x % n) []) (length-map homes view) ∙ get_or-view homes (home homes x)
 
-  view-with_list : (homes : List (List E)) (x : ℕ) (es : List E) → map view (with_list homes x es) ≡ with_list (map view homes) x (view es)
+  pub view-with_list : (homes : List (List E)) (x : ℕ) (es : List E) → map view (with_list homes x es) ≡ with_list (map view homes) x (view es)
   view-with_list homes x es = map-set view homes (home homes x) es ∙ ap (λ n. set (map view homes) (x % n) (view es)) (sym (length-map homes view))
 
   -- a list whose view is unchanged
-  view-unseen : (homes : List (List E)) (x : ℕ) (es : List E) → view es ≡ view (listed homes x) → map view (with_list homes x es) ≡ map view homes
+  pub view-unseen : (homes : List (List E)) (x : ℕ) (es : List E) → view es ≡ view (listed homes x) → map view (with_list homes x es) ≡ map view homes
   view-unseen homes x es same =
       view-with_list homes x es ∙ ap (λ zs. with_list (map view homes) x zs) (same ∙ sym (listed-view homes x)) ∙ set-get_or (map view homes) (home (map view homes) x) []
 

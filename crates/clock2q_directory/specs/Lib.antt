@@ -6,4 +6,5 @@ pub mod Index
 pub mod History
 pub mod Directory
 pub mod DirectoryLends
+pub mod Growth
 pub mod Accesses

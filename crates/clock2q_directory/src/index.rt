@@ -6,6 +6,7 @@ ghost use Rattle.clock2q_handles.specs.Layout.{walk};
 ghost use Rattle.clock2q_handles.specs.Positions.{gap_of};
 ghost use Rattle.clock2q_directory.specs.Index.{emptied, index_for, index_room, is_shared, places, places_among, entered, entered_from, left, looked_up, remembered_at, HasSlotRoom, HasPlaceRoom, HasRoomBeside, IsGapFor, HasSlotUnder, IsWithinCapacity, forgotten_if};
 
+mod growth;
 mod succession;
 
 use crate::handle::Handle;
