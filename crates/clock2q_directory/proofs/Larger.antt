@@ -11,7 +11,6 @@ use Rattle.clock2q_directory.specs.declared.keys.store.Entry.{Entry}
 use Rattle.clock2q_directory.specs.Index.{IndexState, index_state, index_for, first_remembered, is_shared, slots, places, beside, entered, slots_among, places_among, slot_entries, place_entries, slots_in, places_in, IsSorted}
 use Rattle.clock2q_directory.specs.Indexes.{IsIndex}
 use Rattle.clock2q_directory.specs.Growth.{place_entered, HasRoomForPlace, HasSizesOf, Keeps, AddsPlaces, AddsSlots, Outgrows, Grows}
-use Rattle.clock2q_queues.specs.Cells.{Rises}
 use Rattle.clock2q_directory.specs.Directory.{known}
 use Rattle.clock2q_directory.specs.Keys.{KeyPlaces}
 use Rattle.clock2q_directory.specs.History.{IsHistory, remembered_from, places_from, accesses_of}
@@ -215,7 +214,7 @@ module _ {K : Type 0} {eq : K → K → Bool} {index index' : IndexState} {order
   grown-view = grind (arith, ordered, roomy)
 
   pub grows : {V : Type 0} {residents residents' : KeyPlaces K V} {s : ℕ} → residents' ≡ record residents { room = residents'.room } → Outgrows s limit residents'.entries keys'.entries index index'
-      → Rises 0 (2 * used order) order.accesses order'.accesses → Grows s limit (known (remembered_from index order keys) residents) (remembered_from index' order' keys')
+      → order'.accesses ≡ order.accesses + 2 * used order → Grows s limit (known (remembered_from index order keys) residents) (remembered_from index' order' keys')
   grows {V} {residents} {residents'} same out counted =
       let writes : keys'.writes ≡ keys.writes = ap (λ (z : KeyPlaces K Unit). z.writes) roomy in
       record {
@@ -223,5 +222,5 @@ module _ {K : Type 0} {eq : K → K → Bool} {index index' : IndexState} {order
         residents = subst (λ (z : List (Entry K V)). Keeps z (slots index) (slots index')) (ap (λ (z : KeyPlaces K V). z.entries) same) out.slots_kept;
         sizes = out.sizes;
         index_accesses = out.accesses;
-        accesses = (omega (arith, writes, counted.0), omega (arith, writes, counted.1));
+        accesses = omega (arith, writes, counted);
       }

@@ -2,7 +2,6 @@
 use Rattle.std.specs.Prelude.{◌≡◌, ℕ, ◌+◌, ◌*◌, ◌^◌, ◌<◌, ◌≤◌, if◌then◌else◌, List, length, nat_eq}
 use Rattle.std.specs.List.{AllByRecursion, IsDistinct}
 use Rattle.clock2q_handles.specs.Homes.{total, capacity, with_handle}
-use Rattle.clock2q_queues.specs.Cells.{Rises}
 use Rattle.clock2q_directory.specs.Accesses.{most_changed}
 use Rattle.clock2q_directory.specs.declared.keys.store.Entry.{Entry}
 use Rattle.clock2q_directory.specs.Indexes.{IsIndex}
@@ -58,8 +57,8 @@ pub record Outgrows {K V L W : Type 0} (slots places : ℕ) (residents : List (E
   pub sizes : HasSizesOf (index_for slots places) new
   pub accesses : old.accesses ≤ new.accesses
 
--- a directory has room for so many residents and remembered keys: each key is where it was, and the index has the tables
--- of a new one
+-- a directory has room for so many residents and remembered keys: each key is where it was, the index has the tables of a
+-- new one, and the link of each place that was used was read and written
 pub record Grows {K V : Type 0} (slots limit : ℕ) (old : Known K V) (new : Remembered K) : Type 0 where
   pub becomes : new ≡ record old.history {
     limit = limit;
@@ -69,4 +68,4 @@ pub record Grows {K V : Type 0} (slots limit : ℕ) (old : Known K V) (new : Rem
   pub residents : Keeps old.residents.entries (known.slots old.history.places.index) (known.slots new.places.index)
   pub sizes : HasSizesOf (index_for slots limit) new.places.index
   pub index_accesses : old.history.places.index.accesses ≤ new.places.index.accesses
-  pub accesses : Rises 0 (2 * (length old.history.places.taken + length old.history.places.free)) old.history.accesses new.accesses
+  pub accesses : new.accesses ≡ old.history.accesses + 2 * (length old.history.places.taken + length old.history.places.free)

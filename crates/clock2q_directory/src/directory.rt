@@ -8,6 +8,7 @@ ghost use Rattle.clock2q_directory.specs.Directory.{nothing_known};
 ghost use Rattle.clock2q_directory.specs.DirectoryLends.{LendsValueOf};
 
 mod changes;
+mod growth;
 mod lookups;
 
 use crate::history::Ghost;
@@ -57,7 +58,7 @@ impl<K: Eq, V, A: Allocator> Model for Directory<K, V, A> {
 
 impl<K: Eq + Drop, V: Drop, A: Allocator + Copy> Directory<K, V, A> {
     /// Returns an empty directory for up to `slots` residents and `limit` remembered keys. It takes
-    /// all the memory that it will ever need.
+    /// all the memory that it will need until it [grows](Directory::grow).
     ///
     /// # Errors
     ///

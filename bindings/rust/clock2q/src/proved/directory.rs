@@ -6,7 +6,8 @@
 //! - [`Index`](index::Index): where each known key is, under its hash;
 //! - [`Ghost`](history::Ghost): the remembered keys, each at a place, and the order of the places.
 //!
-//! Constructors take all the memory that will ever be needed, and no later call can fail.
+//! Constructors and [`grow`](directory::Directory::grow) take all the memory that will be needed until
+//! the next `grow`, and no other call can fail.
 
 pub mod directory;
 pub mod handle;

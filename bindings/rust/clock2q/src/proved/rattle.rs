@@ -46,9 +46,14 @@ impl<T, A: Allocator> Vec<T, A> {
 
     /// Returns an empty vector with room for so many items.
     pub fn with_capacity(alloc: A, room: usize) -> Result<Self, AllocError> {
-        let mut items = vec::Vec::new();
-        items.try_reserve_exact(room).map_err(|_| AllocError)?;
-        Ok(Vec { items, alloc })
+        let mut all = Vec::new(alloc);
+        all.reserve_exact(room)?;
+        Ok(all)
+    }
+
+    /// Makes room for so many more items, and moves the items at most once.
+    pub fn reserve_exact(&mut self, more: usize) -> Result<(), AllocError> {
+        self.items.try_reserve_exact(more).map_err(|_| AllocError)
     }
 
     /// Returns where the memory comes from.
@@ -98,7 +103,7 @@ impl<T: Copy, A: Allocator> Vec<T, A> {
     /// Removes the last items, or adds copies of one, until there are so many.
     pub fn resize(&mut self, count: usize, item: T) -> Result<(), AllocError> {
         let more = count.saturating_sub(self.items.len());
-        self.items.try_reserve_exact(more).map_err(|_| AllocError)?;
+        self.reserve_exact(more)?;
         self.items.resize(count, item);
         Ok(())
     }
@@ -106,7 +111,7 @@ impl<T: Copy, A: Allocator> Vec<T, A> {
     /// Adds copies of items.
     pub fn extend_from_slice(&mut self, items: &[T]) -> Result<(), AllocError> {
         let more = items.len();
-        self.items.try_reserve_exact(more).map_err(|_| AllocError)?;
+        self.reserve_exact(more)?;
         self.items.extend_from_slice(items);
         Ok(())
     }

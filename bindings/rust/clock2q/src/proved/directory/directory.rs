@@ -2,6 +2,7 @@
 //! The directory itself, and access to keys and values by slot.
 
 mod changes;
+mod growth;
 mod lookups;
 
 use crate::proved::directory::history::Ghost;
@@ -41,7 +42,7 @@ pub struct Directory<K: Eq, V, A: Allocator = Global> {
 
 impl<K: Eq, V, A: Allocator + Copy> Directory<K, V, A> {
     /// Returns an empty directory for up to `slots` residents and `limit` remembered keys. It takes
-    /// all the memory that it will ever need.
+    /// all the memory that it will need until it [grows](Directory::grow).
     ///
     /// # Errors
     ///

@@ -1,6 +1,7 @@
 // Written by bindings/rust/erase from crates/clock2q_directory/src/index.rt; change that, and run erase.
 //! The index of a cache: where each known key is, under the key's hash.
 
+mod growth;
 mod succession;
 
 use crate::proved::directory::handle::Handle;

@@ -98,6 +98,17 @@ impl<K, V, A: Allocator> Keys<K, V, A> {
         self.entries.push_reserved(Entry { hash, key, value });
     }
 
+    /// Makes room for up to `room` keys in all. Each key keeps its place.
+    ///
+    /// # Errors
+    ///
+    /// `AllocError` if the request for memory is refused. The room is then as it was.
+    #[inline]
+    pub fn reserve(&mut self, room: usize) -> Result<(), AllocError> {
+        let additional = room.saturating_sub(self.len());
+        self.entries.reserve_exact(additional)
+    }
+
     /// Drops every key and value. No place has a key afterwards.
     #[inline]
     pub fn clear(&mut self) {
