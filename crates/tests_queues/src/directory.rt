@@ -1,4 +1,4 @@
-//! A slot of a directory.
+//! Slots of a directory.
 ghost use Rattle.std.specs.Prelude.{◌≡◌, ◌<◌, []};
 
 use clock2q_directory::directory::Directory;
@@ -33,4 +33,19 @@ fn make_and_replace(directory: &mut Directory<u64, u64>) -> [u64; 9]
 pub(crate) fn a_slot(alloc: Global) -> Result<[u64; 9], AllocError> {
     let mut directory = Directory::new(alloc, 1, 0)?;
     Ok(make_and_replace(&mut directory))
+}
+
+/// Makes the only slot of a directory, and one more once the directory has grown. Returns how many slots
+/// are made, the key and the value of the first, and the key of the second.
+pub(crate) fn a_slot_more(alloc: Global) -> Result<[u64; 4], AllocError> {
+    let mut directory: Directory<u64, u64> = Directory::new(alloc, 1, 0)?;
+    directory.prepare(7, 70, 700);
+    directory.grow(alloc, 2, 3)?;
+    directory.prepare(8, 80, 800);
+    Ok([
+        directory.made() as u64,
+        *directory.key(0),
+        *directory.value(0),
+        *directory.key(1),
+    ])
 }

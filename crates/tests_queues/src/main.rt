@@ -29,6 +29,7 @@ fn play_worked(alloc: Global, memory: &Refusing<Global>) -> Result<(), Fail> {
         directory::a_slot(alloc)?,
         [0, 0, 1, 0, 70, 700, 700, 70, 701],
     )?;
+    same(directory::a_slot_more(alloc)?, [2, 70, 700, 80])?;
     keys::by_place(alloc)?;
     keys::room_of_an_index()
 }
