@@ -13,6 +13,7 @@ pub mod Closures
 pub mod Insertions
 pub mod MakingRoom
 pub mod Makers
+pub mod Growth
 pub mod Iteration
 pub mod Occupants
 pub mod SlotsByHash

@@ -1,7 +1,8 @@
 //! How a cache's capacity is divided among its queues.
-ghost use Rattle.std.specs.Prelude.{◌≡◌, ◌<◌, ◌≤◌, ◌^◌, MatchOption};
+ghost use Rattle.std.specs.Prelude.{◌≡◌, ◌<◌, ◌≤◌, ◌↔◌, IsTrue, MatchOption};
 ghost use Rattle.clock2q_machine.specs.Shares.{usual_shares, usual_history, main_share};
 ghost use Rattle.clock2q_machine.specs.Policies.{IsPolicy, shares_with};
+ghost use Rattle.clock2q_machine.specs.Growth.{IsAtLeast};
 
 use std::marker::Model;
 
@@ -106,5 +107,15 @@ impl Shares {
         ensures within { result ≤ self.capacity }
     {
         self.history
+    }
+
+    /// Returns true if no share is smaller than in `old`.
+    pub(crate) fn is_at_least(self, old: Shares) -> bool
+        ensures { IsTrue result ↔ IsAtLeast old self }
+    {
+        old.small <= self.small
+            && old.main() <= self.main()
+            && old.window <= self.window
+            && old.history <= self.history
     }
 }

@@ -8,6 +8,7 @@ pub mod Calls
 pub mod Steps
 pub mod Bounds
 pub mod Whole
+pub mod Growth
 pub mod Leaving
 pub mod Scans
 pub mod Turnover

@@ -34,6 +34,13 @@ impl<K, V> Entries<K, V> {
         Ok(Entries { pairs })
     }
 
+    /// Makes room for a pair at each slot below a larger capacity.
+    pub(crate) fn reserve(&mut self, capacity: usize) -> Result<(), Refused> {
+        self.pairs
+            .try_reserve_exact(capacity - self.pairs.len())
+            .map_err(|_| Refused::Memory)
+    }
+
     /// Returns the pair at a slot.
     #[inline]
     pub(crate) fn pair(&self, slot: usize) -> Option<&(K, V)> {

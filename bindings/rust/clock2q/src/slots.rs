@@ -48,6 +48,15 @@ impl Shares {
             history: Some(history),
         }
     }
+
+    /// Returns Small's slots, the window and the history's keys for a capacity.
+    fn at(&self, capacity: usize) -> (usize, usize, usize) {
+        let usual = usual::Shares::usual(capacity);
+        let (small, window) = self
+            .small_and_window
+            .unwrap_or((usual.small(), usual.window()));
+        (small, window, self.history.unwrap_or(usual.history()))
+    }
 }
 
 /// What the first place of the index says of a key.
@@ -71,16 +80,20 @@ impl Slots {
     }
 
     pub(crate) fn with_shares(capacity: usize, shares: Shares) -> Result<Slots, Refused> {
-        let usual = usual::Shares::usual(capacity);
-        let (small, window) = shares
-            .small_and_window
-            .unwrap_or((usual.small(), usual.window()));
-        let history = shares.history.unwrap_or(usual.history());
+        let (small, window, history) = shares.at(capacity);
         let (some, hasher) = (some(capacity)?, DefaultHashBuilder::default());
         Ok(Slots {
             cache: Cache::with_history(Global, some, small, window, history, hasher)?,
             shares,
         })
+    }
+
+    /// Has more slots, with the shares that were asked for. Each key keeps its slot. If it is refused, nothing has changed.
+    pub(crate) fn grow(&mut self, capacity: usize) -> Result<(), Refused> {
+        let (small, window, history) = self.shares.at(capacity);
+        Ok(self
+            .cache
+            .grow_with_history(some(capacity)?, small, window, history)?)
     }
 
     /// Makes one of this capacity and these shares, in which no key has a slot.

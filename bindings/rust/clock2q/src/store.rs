@@ -64,10 +64,13 @@ impl<K, V> Store<K, V> {
         self.slots.capacity().min(self.limit)
     }
 
-    /// Has as many pairs at most from now on, for which there are slots. Returns those above, which leave.
+    /// Has as many pairs at most from now on, with more slots if there are fewer. Returns those above, which leave.
     pub(crate) fn resize(&mut self, limit: usize) -> Result<Vec<(K, V)>, Refused> {
-        if limit == 0 || limit > self.slots.capacity() {
+        if limit == 0 {
             return Err(Refused::Capacity);
+        }
+        if limit > self.slots.capacity() {
+            self.grow(limit)?;
         }
         let mut left = Vec::new();
         self.second.reserve_exact(1);
@@ -79,6 +82,15 @@ impl<K, V> Store<K, V> {
             false => usize::MAX,
         };
         Ok(left)
+    }
+
+    /// Has more slots, and room for their pairs.
+    fn grow(&mut self, capacity: usize) -> Result<(), Refused> {
+        if capacity > MAX_CAPACITY {
+            return Err(Refused::Capacity);
+        }
+        self.entries.reserve(capacity)?;
+        self.slots.grow(capacity)
     }
 
     /// Removes all pairs, and drops them last.
