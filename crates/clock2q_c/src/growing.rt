@@ -6,8 +6,8 @@ ghost use Rattle.clock2q_machine.specs.Shares.{usual_shares};
 ghost use Rattle.std.specs.Option.{option_map};
 ghost use Rattle.std.specs.Prelude.{◌≡◌, ◌≢◌, ◌<◌, ◌≤◌, ◌↔◌, ◌⊎◌, IsSome, IfSome};
 
-use crate::status::{BAD_CAPACITY, BAD_POLICY, DONE, NO_MEMORY, status_of};
 use crate::handle::Handle;
+use crate::status::{BAD_CAPACITY, BAD_POLICY, DONE, NO_MEMORY, status_of};
 use clock2q_cache::MAX_CAPACITY;
 use std::num::NonZeroUsize;
 

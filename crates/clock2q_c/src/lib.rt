@@ -33,8 +33,8 @@ pub use crate::status::{BAD_CAPACITY, BAD_POLICY, DONE, NO_MEMORY};
 pub use crate::tokens::{
     Admitted, GivenHash, Token, TokensHandle, clock2q_tokens_admit, clock2q_tokens_capacity,
     clock2q_tokens_clear, clock2q_tokens_enter, clock2q_tokens_evict, clock2q_tokens_forget,
-    clock2q_tokens_grow, clock2q_tokens_grow_with_history, clock2q_tokens_hit, clock2q_tokens_len, clock2q_tokens_new, clock2q_tokens_next_victim,
-    clock2q_tokens_release, clock2q_tokens_remove, clock2q_tokens_seek,
-    clock2q_tokens_with_history, clock2q_tokens_with_policy,
+    clock2q_tokens_grow, clock2q_tokens_grow_with_history, clock2q_tokens_hit, clock2q_tokens_len,
+    clock2q_tokens_new, clock2q_tokens_next_victim, clock2q_tokens_release, clock2q_tokens_remove,
+    clock2q_tokens_seek, clock2q_tokens_with_history, clock2q_tokens_with_policy,
 };
 pub use crate::version::{VERSION, clock2q_version};

@@ -100,9 +100,12 @@ impl<K: Hash + Eq + Drop, V: Drop, S: BuildHasher, A: Allocator + Copy> Cache<K,
         }
         let alloc = *self.free.allocator();
         let slots = shares.capacity();
-        let queues = self.queues.grown(alloc, slots as u32, shares.window() as u32)?;
+        let queues = self
+            .queues
+            .grown(alloc, slots as u32, shares.window() as u32)?;
         self.free.reserve_exact(slots - self.free.len())?;
-        self.directory.grow(alloc, slots, shares.history(), &queues)?;
+        self.directory
+            .grow(alloc, slots, shares.history(), &queues)?;
         self.queues = queues;
         self.shares = shares;
         Ok(())
