@@ -6,6 +6,7 @@ pub mod Fetched
 pub mod Filled
 pub mod Finding
 pub mod Gone
+pub mod Growth
 pub mod Indexed
 pub mod IndexPrices
 pub mod Insertions

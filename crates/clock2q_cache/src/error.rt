@@ -5,10 +5,10 @@ ghost use Rattle.clock2q_cache.specs.declared.error.CacheError.TheVariants.{Memo
 use std::alloc::AllocError;
 use thiserror::Error;
 
-/// The reason why a cache wasn't made, or a list of commands wasn't run.
+/// The reason why a cache wasn't made or its capacity wasn't raised, or a list of commands wasn't run.
 ///
-/// Nothing was done then. Memory that was taken for the cache is given back, and no command has
-/// run.
+/// Nothing was done then. Memory that was taken for a new cache is given back, a cache is as it was,
+/// and no command has run.
 ///
 /// # Example
 ///
@@ -22,11 +22,12 @@ pub enum CacheError {
     /// A request for memory was refused.
     #[error("no memory")]
     Memory,
-    /// The capacity is above [`MAX_CAPACITY`](crate::MAX_CAPACITY). Only constructors return it.
+    /// The capacity is above [`MAX_CAPACITY`](crate::MAX_CAPACITY). Only constructors,
+    /// [`grow`](crate::Cache::grow) and [`grow_with_history`](crate::Cache::grow_with_history) return it.
     #[error("capacity refused")]
     Capacity,
-    /// The chosen shares don't fit together. Only [`with_policy`](crate::Cache::with_policy)
-    /// returns it.
+    /// The chosen shares don't fit together, or one of them is smaller than that of the cache that was
+    /// to grow.
     #[error("policy refused")]
     Policy,
 }

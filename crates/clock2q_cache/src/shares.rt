@@ -1,5 +1,5 @@
 //! How a cache's capacity is divided among its queues.
-ghost use Rattle.std.specs.Prelude.{◌≡◌, ◌<◌, ◌≤◌, ◌↔◌, IsTrue, MatchOption};
+ghost use Rattle.std.specs.Prelude.{◌≡◌, ◌<◌, ◌≤◌, ◌↔◌, true, MatchOption};
 ghost use Rattle.clock2q_machine.specs.Shares.{usual_shares, usual_history, main_share};
 ghost use Rattle.clock2q_machine.specs.Policies.{IsPolicy, shares_with};
 ghost use Rattle.clock2q_machine.specs.Growth.{IsAtLeast};
@@ -111,7 +111,8 @@ impl Shares {
 
     /// Returns true if no share is smaller than in `old`.
     pub(crate) fn is_at_least(self, old: Shares) -> bool
-        ensures { IsTrue result ↔ IsAtLeast old self }
+        ensures least { (result ≡ true) ↔ IsAtLeast old self }
+        ensures policy { IsPolicy old }
     {
         old.small <= self.small
             && old.main() <= self.main()

@@ -29,7 +29,7 @@ impl<K: Hash + Eq + Drop, V: Drop, S: BuildHasher, A: Allocator + Copy> Cache<K,
     ///
     /// # Cost
     ///
-    /// Time in proportion to the new capacity, with at most eight accesses to links for each key of the
+    /// Time in proportion to the new capacity, with at most six accesses to links for each key of the
     /// old one. No key is hashed, compared or dropped. While the call runs, the memory of the queues and
     /// the index is taken twice.
     pub fn grow(&mut self, capacity: NonZeroUsize) -> Result<(), CacheError>
@@ -105,7 +105,7 @@ impl<K: Hash + Eq + Drop, V: Drop, S: BuildHasher, A: Allocator + Copy> Cache<K,
             .grown(alloc, slots as u32, shares.window() as u32)?;
         self.free.reserve_exact(slots - self.free.len())?;
         self.directory
-            .grow(alloc, slots, shares.history(), &queues)?;
+            .grow(alloc, slots, shares.history())?;
         self.queues = queues;
         self.shares = shares;
         Ok(())
