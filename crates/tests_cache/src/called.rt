@@ -2,9 +2,10 @@
 
 use crate::calls::{Answer, Call, is_kept, made_value};
 use crate::model::Resident;
-use clock2q_cache::Cache;
+use clock2q_cache::{Cache, CacheError};
 use std::alloc::{AllocError, Global};
 use std::hash::BuildHasher;
+use std::num::NonZeroUsize;
 
 /// A cache to be called.
 #[derive(Drop)]
@@ -15,6 +16,11 @@ pub(crate) struct Called<S: BuildHasher> {
 impl<S: BuildHasher> Called<S> {
     pub(crate) fn new(cache: Cache<u64, u64, S>) -> Called<S> {
         Called { cache }
+    }
+
+    /// Raises the capacity.
+    pub(crate) fn grow(&mut self, capacity: NonZeroUsize) -> Result<(), CacheError> {
+        self.cache.grow(capacity)
     }
 
     /// Makes the call, and returns its answer.

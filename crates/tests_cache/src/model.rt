@@ -84,6 +84,17 @@ impl Model {
         }
     }
 
+    /// Raises the capacity. A key of Small that is no longer young stays so, however long the window.
+    pub(crate) fn grow(&mut self, shares: Shares) {
+        let window = self.shares.window;
+        for entry in &mut self.small {
+            if entry.age >= window {
+                entry.age = usize::MAX;
+            }
+        }
+        self.shares = shares;
+    }
+
     /// The end of the range of keys that a list of calls uses.
     pub(crate) fn keys(&self) -> u64 {
         (self.shares.capacity as u64)

@@ -110,6 +110,29 @@ fn lists_are_same(alloc: Global, kind: Kind) -> Result<(), Fail> {
     Ok(())
 }
 
+/// A list of calls between which the capacity is raised.
+fn grown_is_same(alloc: Global, list: u64) -> Result<(), Fail> {
+    let mut draws = SplitMix64::new(list);
+    let mut tested = made(alloc, Kind::Usual, Shares::usual(list as usize))?;
+    for times in 2..=4 {
+        let end = Position {
+            list,
+            number: CALLS,
+        };
+        drive(&mut tested, end, &mut draws)?;
+        tested.grow(list.saturating_mul(times) as usize)?;
+    }
+    drive_and_look(&mut tested, Position { list, number: CALLS }, &mut draws)
+}
+
+#[test]
+fn growing(rt: HostRuntime) -> Result<(), Fail> {
+    for capacity in 1..=CAPACITIES {
+        grown_is_same(rt.alloc(), capacity)?;
+    }
+    Ok(())
+}
+
 #[test]
 fn usual_shares(rt: HostRuntime) -> Result<(), Fail> {
     lists_are_same(rt.alloc(), Kind::Usual)

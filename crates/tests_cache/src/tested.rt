@@ -50,6 +50,14 @@ impl<S: BuildHasher + Drop> Tested<S> {
         }
     }
 
+    /// Raises the capacity of both.
+    pub(crate) fn grow(&mut self, capacity: usize) -> Result<(), Fail> {
+        let most = NonZeroUsize::new(capacity).unwrap_or(NonZeroUsize::MIN);
+        self.called.grow(most)?;
+        self.model.grow(Shares::usual(capacity));
+        Ok(())
+    }
+
     /// Makes the call on both. The answers are the same.
     pub(crate) fn call(&mut self, call: Call, position: Position) -> Result<(), Fail> {
         let answer = self.called.answer(call);
