@@ -32,6 +32,7 @@ ring-grown change blank rs rs' copied old places a b now shown within fits count
           ∙ ap change (sym (all-at rs old t) ∙ ap (λ (z : RingState). record_at z.cells.items t) shown);
       as_many = length-all rs' places (omega (arith, as_many, many, within, fits));
       made = as_many ∙ sym made;
+      within = omega (arith, made, many, within);
       accesses = omega (arith, counted, made);
     }
 
@@ -114,6 +115,7 @@ module _ (old new : RingState) (flags flags' : List Flag) (window window' : Cell
     positions = ap (λ (z : CellsState (Option ℕ)). z.items) w;
     as_many = g.as_many;
     made = g.made;
+    within = g.within;
     inspections = same;
     accesses = omega (arith, g.accesses, ap (λ (z : CellsState (Option ℕ)). z.accesses) w);
   })

@@ -1,5 +1,5 @@
 -- What a ring and the links become when they get room for more slots and more positions.
-use Rattle.std.specs.Prelude.{◌≡◌, ℕ, ◌+◌, ◌-◌, ◌*◌, nat_lt, if◌then◌else◌, List, ◌++◌, length, take, drop, replicate, None}
+use Rattle.std.specs.Prelude.{◌≡◌, ℕ, ◌+◌, ◌-◌, ◌*◌, ◌≤◌, nat_lt, if◌then◌else◌, List, ◌++◌, length, take, drop, replicate, None}
 use Rattle.clock2q_queues.specs.Links.{LinkState, accesses_of, bit_at, record_at}
 use Rattle.clock2q_queues.specs.Ring.{RingState}
 use Rattle.clock2q_queues.specs.declared.entries.Location.{Location}
@@ -28,6 +28,7 @@ pub record GrowsRing (change : Record → Record) (places : ℕ) (old new : Ring
   pub entries : (t : ℕ) → record_at new.cells.items t ≡ change (record_at old.cells.items t)
   pub as_many : length new.cells.items ≡ places
   pub made : new.made ≡ old.made
+  pub within : old.made ≤ length old.cells.items
   pub accesses : new.cells.accesses ≡ old.cells.accesses + 2 * old.made
 
 -- links for this many slots and positions have another's records and bits, and its window with the new positions at the
@@ -38,5 +39,6 @@ pub record GrowsLinks (cursor slots window : ℕ) (old new : LinkState) : Type 0
   pub positions : new.window.items ≡ with_gap cursor (window - length old.window.items) None old.window.items
   pub as_many : length new.records.items ≡ slots
   pub made : new.made ≡ old.made
+  pub within : old.made ≤ length old.records.items
   pub inspections : new.bits.inspections ≡ old.bits.inspections
   pub accesses : accesses_of new ≡ accesses_of old + 2 * old.made + 2 * length old.window.items

@@ -28,6 +28,7 @@ impl<A: Allocator> Queues<A> {
         }) }
         ensures accesses { IfOk result (λ q. q.accesses
             ≡ self.now.accesses + 2 * self.now.made + 2 * self.now.window) }
+        ensures within { IfOk result (λ q. q.made ≤ self.now.slots) }
     {
         let mut small = self.small;
         // a window with no position may have any cursor

@@ -21,3 +21,6 @@ returns-clause-grown g c =
     (rw (ap (λ (q : QueueState). q.slots) c.self.view_is) c.requires.slots) (rw (ap (λ (q : QueueState). q.window) c.self.view_is) c.requires.window)
     c.ranges.slots.fits c.ranges.window.fits (omega (arith, c.min.ensures, c.window_len.ensures))
     (λ some. omega (arith, c.min.ensures, c.window_len.ensures, c.self.invariant.small.cursor_in some))).is
+
+pub returns-clause-within : goal.returns-clause-within
+returns-clause-within g c = rw (← c.self.view_is) (omega (arith, c.in_ok-grown.ensures.made, c.in_ok-grown.ensures.within))
