@@ -67,7 +67,7 @@ module _ {K V : Type 0} {eq : K → K → Bool} {hash : K → ℕ} {shares : Sha
   -- what contracts see of it then
   pub grows : {S : Type 0} {hasher : S} {shares' : Shares} {q' : QueueState} {h' : Remembered K} {capacity window history : ℕ} → IsCache eq hash shares q h (slots h.places.index) keys free room
       → IsPolicy shares → q' ≡ record q { slots = capacity; window = window; accesses = q'.accesses }
-      → q'.accesses ≡ q.accesses + 2 * q.made + 2 * q.window → q.made ≤ q.slots
+      → q'.accesses ≡ q.accesses + 2 * q.made + 2 * q.window → q'.made ≤ q.slots
       → keys' ≡ record keys { room = keys'.room } → free' ≡ free → directory.Grows capacity history (record { history = h; residents = keys }) h'
       → Grows shares' (cache_state (machine_of shares q keys.entries h.entries free) h.places hasher (counts_of q h keys))
           (cache_state (machine_of shares' q' keys'.entries h'.entries free') h'.places hasher (counts_of q' h' keys'))
@@ -78,7 +78,7 @@ module _ {K V : Type 0} {eq : K → K → Bool} {hash : K → ℕ} {shares : Sha
     free = ap (λ (z : Remembered K). z.places.free) d.becomes;
     counts = record {
       inspections = omega (arith, ap (λ (z : QueueState). z.inspections) queues);
-      accesses = (omega (arith, accesses, d.accesses.0), omega (arith, accesses, d.accesses.1, made, kept.sized.as_many, kept.sized.window, kept.sized.remembers, policy.within, policy.below, policy.remembered));
+      accesses = (omega (arith, accesses, d.accesses), omega (arith, accesses, d.accesses, d.places, made, ap (λ (z : QueueState). z.made) queues, kept.sized.as_many, kept.sized.window, kept.sized.remembers, policy.within, policy.below, policy.remembered));
       comparisons = (omega (arith, ap (λ (z : Remembered K). z.comparisons) d.becomes, ap (λ (z : KeyPlaces K V). z.comparisons) same), omega (arith, ap (λ (z : Remembered K). z.comparisons) d.becomes, ap (λ (z : KeyPlaces K V). z.comparisons) same));
     };
     charged = d.index_accesses;

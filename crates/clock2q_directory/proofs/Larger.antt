@@ -222,5 +222,6 @@ module _ {K : Type 0} {eq : K → K → Bool} {index index' : IndexState} {order
         residents = subst (λ (z : List (Entry K V)). Keeps z (slots index) (slots index')) (ap (λ (z : KeyPlaces K V). z.entries) same) out.slots_kept;
         sizes = out.sizes;
         index_accesses = out.accesses;
+        places = h.whole.within;
         accesses = omega (arith, writes, counted);
       }

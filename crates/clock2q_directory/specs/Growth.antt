@@ -68,4 +68,5 @@ pub record Grows {K V : Type 0} (slots limit : ℕ) (old : Known K V) (new : Rem
   pub residents : Keeps old.residents.entries (known.slots old.history.places.index) (known.slots new.places.index)
   pub sizes : HasSizesOf (index_for slots limit) new.places.index
   pub index_accesses : old.history.places.index.accesses ≤ new.places.index.accesses
+  pub places : length old.history.places.taken + length old.history.places.free ≤ old.history.limit
   pub accesses : new.accesses ≡ old.history.accesses + 2 * (length old.history.places.taken + length old.history.places.free)

@@ -18,7 +18,7 @@ pub(crate) enum Location {
 }
 
 impl Location {
-    /// Returns the location of the same slot in a window that has `gap` new positions at the cursor: the
+    /// Returns the location of the same slot in a window that has `gap` new positions at the cursor. The old
     /// positions from the cursor on are moved up.
     pub(crate) fn past_gap(self, cursor: u32, gap: u32) -> Self
         requires fits { (position : ℕ) → self ≡ Location.SmallYoung position → position + gap < 2 ^ 32 }

@@ -59,8 +59,9 @@ impl<A: Allocator> Links<A> {
         })
     }
 
-    /// Returns links for `slots` slots, and a window of `window` positions, of which the new ones are put
-    /// in at the cursor: it takes these next. All counts go on from those of these links.
+    /// Returns links for `slots` slots and a window of `window` positions, with what these links hold. The
+    /// new positions are put in at the cursor, so they are taken next. All counts go on from those of these
+    /// links.
     pub(crate) fn grown(
         &self,
         alloc: A,

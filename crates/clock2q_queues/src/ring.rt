@@ -44,7 +44,7 @@ impl<E: Linked, A: Allocator> Ring<E, A> {
     }
 
     /// Returns a ring of `places` places with the same entries. It takes all the memory that it will ever
-    /// need. It counts on from this ring's count: each entry that was made is read and written.
+    /// need. The count goes on from that of this ring: each entry that was made is read and written.
     pub(crate) fn grown(&self, alloc: A, places: u32) -> Result<Self, AllocError>
         requires { length self.now.cells.items ≤ places }
         ensures { IfOk result (GrowsRing (λ e. e) places self.now) }

@@ -1,7 +1,8 @@
-//! Runs worked out by hand, whose contracts say what no call reports: the inspections by the hand, and the
-//! accesses to links.
-ghost use Rattle.std.specs.Prelude.{◌≡◌, ◌+◌, ◌≤◌, true, false, [], ◌∷◌, map};
+//! Runs worked out by hand, whose contracts say what no call reports: the inspections by the hand, the
+//! accesses to links, and ages.
+ghost use Rattle.std.specs.Prelude.{◌≡◌, ◌+◌, ◌≤◌, true, false, [], ◌∷◌, map, IfOk};
 ghost use Rattle.std.specs.List.{range_with_len};
+ghost use Rattle.clock2q_machine.specs.Ages.{Young};
 
 use clock2q_queues::queues::Queues;
 use std::alloc::{AllocError, Global};
@@ -88,4 +89,24 @@ fn play_each(queues: &mut Queues<&Refusing<Global>>) -> (u32, u32)
 pub(crate) fn count(memory: &Refusing<Global>) -> Result<(u32, u32), AllocError> {
     let mut queues = Queues::new(memory, 20, 0)?;
     Ok(play_each(&mut queues))
+}
+
+/// Slots 0 and 1 fill the window. It is made longer by one, and slot 0 is still young after the next
+/// admission.
+fn admit_and_grow(memory: &Refusing<Global>) -> Result<Queues<&Refusing<Global>>, AllocError>
+    ensures small { IfOk result (λ q. q.small
+        ≡ (2, Young 0) ∷ (1, Young 1) ∷ (0, Young 2) ∷ []) }
+    ensures accesses { IfOk result (λ q. q.accesses ≤ 38) }
+{
+    let mut queues = Queues::new(memory, 2, 2)?;
+    queues.admit(0);
+    queues.admit(1);
+    let mut longer = queues.grown(memory, 3, 3)?;
+    longer.admit(2);
+    Ok(longer)
+}
+
+/// Plays the run on growth, and returns the number of slots in Small.
+pub(crate) fn grow(memory: &Refusing<Global>) -> Result<usize, AllocError> {
+    Ok(admit_and_grow(memory)?.small_len())
 }

@@ -25,6 +25,7 @@ use testing::{Refusing, play_cases, same};
 /// Plays the runs that are worked out by hand in the code.
 fn play_worked(alloc: Global, memory: &Refusing<Global>) -> Result<(), Fail> {
     same(counts::count(memory)?, (2, 0))?;
+    same(counts::grow(memory)?, 3)?;
     same(
         directory::a_slot(alloc)?,
         [0, 0, 1, 0, 70, 700, 700, 70, 701],

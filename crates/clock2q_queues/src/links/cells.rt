@@ -35,8 +35,8 @@ impl<T: Copy, A: Allocator> Cells<T, A> {
         }
     }
 
-    /// Returns `len` cells: the items before a cell, copies of `item`, and the items from that cell on.
-    /// They count on from the count of these: each old item is read and written.
+    /// Returns `len` cells: the items before the cell `at`, copies of `item`, and the items from that cell
+    /// on. The count goes on from that of these cells: each of their items is read and written.
     pub(super) fn with_gap(&self, alloc: A, at: u32, len: u32, item: T) -> Result<Self, AllocError>
         requires at { at ≤ length self.now.items }
         requires len { length self.now.items ≤ len }

@@ -7,7 +7,8 @@ use std::alloc::{AllocError, Allocator};
 impl<A: Allocator> Queues<A> {
     /// Returns queues for the slots below `slots`, with a window of `window` admissions, that hold the
     /// same slots in the same order, each with its bit. A young slot is as many admissions old as it was,
-    /// so in a longer window it stays young for longer. An old slot stays old.
+    /// so in a longer window it stays young for longer. An old slot stays old. These queues stay as they
+    /// are.
     ///
     /// # Errors
     ///

@@ -57,7 +57,7 @@ impl<A: Allocator> Order<A> {
     }
 
     /// Returns an order of `limit` places that has the same places in use, and the same free ones. It takes
-    /// all the memory that it will ever need.
+    /// all the memory that it will ever need. This order stays as it is.
     ///
     /// # Errors
     ///
