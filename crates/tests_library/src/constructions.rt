@@ -1,4 +1,4 @@
-//! Caches and memos that can't be made because requests for memory are refused.
+//! Caches and memos that can't be made, or grow, because requests for memory are refused.
 
 use clock2q_cache::{Cache, CacheError, DefaultHashBuilder};
 use clock2q_memo::Memo;
@@ -14,6 +14,8 @@ enum Maker {
     WithHasher,
     /// With a Small of this many keys, and a window of the same length.
     WithPolicy(usize),
+    /// With half the capacity at first.
+    Grown,
     MemoNew,
     MemoWithHasher,
 }
@@ -47,6 +49,15 @@ fn square(key: &u64) -> u64 {
     key.wrapping_mul(*key)
 }
 
+/// Makes a cache for half as many keys, raises its capacity, and returns that.
+fn grown(alloc: &Refusing<Global>, capacity: NonZeroUsize) -> Result<usize, CacheError> {
+    let half = NonZeroUsize::new(capacity.get() / 2).unwrap_or(NonZeroUsize::MIN);
+    let mut cache: Cache<u64, u64, DefaultHashBuilder, &Refusing<Global>> =
+        Cache::new(alloc, half)?;
+    cache.grow(capacity)?;
+    Ok(cache.capacity())
+}
+
 /// Makes a cache or a memo, and returns its capacity.
 fn make(
     maker: Maker,
@@ -60,6 +71,7 @@ fn make(
         Maker::WithPolicy(small) => capacity_of(Cache::with_policy(
             alloc, capacity, small, small, hasher,
         )),
+        Maker::Grown => grown(alloc, capacity),
         Maker::MemoNew => capacity_of(Memo::new(alloc, capacity, square)),
         Maker::MemoWithHasher => capacity_of(Memo::with_hasher(alloc, capacity, hasher, square)),
     }
@@ -68,8 +80,8 @@ fn make(
 /// A cache requests memory for nine vectors: two of the index; the records, positions and bits of
 /// Small and Main; the records and keys of the history; the residents' keys and values; the free
 /// slots. One without a history needs neither of the history's two, and one without Small needs no
-/// positions.
-const REQUESTS: [(Maker, usize, u64); 15] = [
+/// positions. One that grows requests all of them again.
+const REQUESTS: [(Maker, usize, u64); 17] = [
     (Maker::New, 20, 9),
     (Maker::New, 2, 9),
     (Maker::New, 1, 6),
@@ -79,6 +91,8 @@ const REQUESTS: [(Maker, usize, u64); 15] = [
     (Maker::WithPolicy(19), 20, 9),
     (Maker::WithPolicy(1), 20, 9),
     (Maker::WithPolicy(0), 20, 8),
+    (Maker::Grown, 20, 18),
+    (Maker::Grown, 2, 15),
     (Maker::MemoNew, 20, 9),
     (Maker::MemoNew, 2, 9),
     (Maker::MemoNew, 1, 6),
