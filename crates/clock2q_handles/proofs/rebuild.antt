@@ -3,4 +3,5 @@ pub mod Hashes
 pub mod Held
 pub mod HashOfHandle
 pub mod Growth
+pub mod Reserving
 pub mod Rebuilds
