@@ -3,5 +3,7 @@ pub mod Hashes
 pub mod Held
 pub mod HashOfHandle
 pub mod Growth
+pub mod Growing
 pub mod Reserving
+pub mod Inserting
 pub mod Rebuilds
