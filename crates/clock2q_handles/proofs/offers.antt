@@ -1,3 +1,4 @@
 -- Candidates offered to a closure.
 pub mod Offering
 pub mod Accepting
+pub mod OfferedAll

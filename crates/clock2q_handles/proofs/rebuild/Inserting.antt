@@ -1,16 +1,108 @@
 -- What a call that makes room and then inserts promises at each of its ends.
-use Rattle.std.proofs.Common.{◌≡◌, ◌≢◌, ℕ, ◌+◌, ◌^◌, ◌<◌, ◌≤◌, Bool, true, false, refl, sym, ap, subst, arith, List, Result, Ok, Err, IsOk, IsTrue, IfOk, OnOk, OnErr}
+use Rattle.std.proofs.Common.{◌≡◌, ◌≢◌, ℕ, ◌+◌, ◌^◌, ◌<◌, ◌≤◌, Bool, true, false, refl, sym, ap, subst, arith, List, Some, None, Result, Ok, Err, IsOk, IsTrue, IfOk, OnOk, OnErr}
 use Rattle.std.specs.Fn.{Mut}
 use Rattle.clock2q_handles.specs.declared.error.TableError.{TableError}
 use Rattle.clock2q_handles.specs.declared.error.TableError.TheVariants.{Memory, RunTooLong}
-use Rattle.clock2q_handles.specs.Changes.{IsLaidOut, OnlyReads, PutIn, ReadsAtMost, ReadsWalk, Restores, WritesAtMost}
-use Rattle.clock2q_handles.specs.Homes.{total}
+use Rattle.clock2q_handles.specs.Changes.{Inserts, IsLaidOut, OnlyReads, PutIn, ReadsAtMost, ReadsWalk, Restores, WritesAtMost}
+use Rattle.clock2q_handles.specs.Homes.{candidates, total}
 use Rattle.clock2q_handles.specs.Layout.{run, walk}
-use Rattle.clock2q_handles.specs.Offers.{FindsOrPuts}
+use Rattle.clock2q_handles.specs.Offers.{FindsOrPuts, Offers}
 use Rattle.clock2q_handles.specs.Rehash.{AfterGrowth, AsksHeld}
 use Rattle.clock2q_handles.specs.TableStep.{IsBelowCapacity, IsFull, TableValue}
 use Rattle.clock2q_handles.proofs.Promises.{no_error}
 use Rattle.clock2q_handles.proofs.rebuild.Growing.{MakesRoom}
+
+module _ {H : Type 0} (eq : H → H → Bool) (x : ℕ) (v : H) (old : TableValue H) where
+  -- the clauses of insert_within_capacity
+  abbrev pub InsertsWithin : Result (Unit {0}) TableError → TableValue H → Type 0
+  InsertsWithin result new = record {
+    put : PutIn old.homes x v result new.homes;
+    refused : OnErr result (new ≡ record old { reads = new.reads });
+    few : total old.homes + 1 < 2 ^ 24 → IsOk result;
+    writes : WritesAtMost (run old.slots x + 1) old new;
+    reads : total old.homes + 1 < 2 ^ 24 → ReadsWalk (walk old.homes x) old new;
+    reads_counted : old.reads ≤ new.reads;
+    restores : OnOk result (Restores eq x v old new);
+    laid : IsLaidOut new;
+  }
+
+  -- an insertion at the end of a walk that was read promises them
+  pub inserts_within : (r : ℕ) → r ≡ old.reads + walk old.homes x → (result : Result (Unit {0}) TableError) (new : TableValue H) → Inserts eq x v result (record old { reads = r }) new → InsertsWithin result new
+  inserts_within r is result new inserts = record {
+    put = inserts.put;
+    refused = inserts.refused;
+    few = inserts.few;
+    writes = inserts.writes;
+    reads = λ few. omega (arith, inserts.reads few, is);
+    reads_counted = omega (arith, inserts.counted, is);
+    restores = inserts.restores;
+    laid = inserts.laid;
+  }
+
+  module _ {M : Type 0} (g : Mut M (H × Unit {0}) Bool) (f last : M) where
+    -- the clauses of find_or_put
+    abbrev pub FindsWithin : Result (H × Bool) TableError → TableValue H → Type 0
+    FindsWithin result new = record {
+      settles : FindsOrPuts g f old.homes x v result new.homes last;
+      found : IfOk result (λ r. r.1 ≡ false → OnlyReads (walk old.homes x) old new);
+      only : result ≢ Err Memory;
+      few : total old.homes + 1 < 2 ^ 24 → IsOk result;
+      writes : WritesAtMost (run old.slots x + 1) old new;
+      reads : total old.homes + 1 < 2 ^ 24 → ReadsAtMost (walk old.homes x) old new;
+      reads_counted : old.reads ≤ new.reads;
+      restores : IfOk result (λ r. IsTrue r.1 → Restores eq x v old new);
+      laid : IsLaidOut new;
+    }
+
+    -- a candidate that was accepted
+    pub finds_one : (w : H) (new : TableValue H) → OnlyReads (walk old.homes x) old new → Offers g f (candidates old.homes x) (Some w) last → IsLaidOut new → FindsWithin (Ok (w, false)) new
+    finds_one w new only offers laid =
+        let writes = ap (λ t. t.writes) only.0 in
+        record {
+          settles = (Some w, offers, (refl, ap (λ t. t.homes) only.0));
+          found = λ _. only;
+          only = λ e. cc;
+          few = λ _. refl;
+          writes = (omega (arith, writes), omega (arith, writes));
+          reads = λ _. (only.1.0, omega (arith, writes, only.1.1));
+          reads_counted = only.1.0;
+          restores = λ e. absurd (cc);
+          laid = laid;
+        }
+
+    module _ (read : TableValue H) (only : OnlyReads (walk old.homes x) old read) (all : read.reads ≡ old.reads + walk old.homes x) (offers : Offers g f (candidates old.homes x) None last) (new : TableValue H) where
+      -- none was, and the handle is put in
+      pub finds_none : Inserts eq x v (Ok tt) read new → FindsWithin (Ok (v, true)) new
+      finds_none inserts =
+          let within = inserts_within read.reads all (Ok tt) new (subst (λ t. Inserts eq x v (Ok tt) t new) only.0 inserts) in
+          record {
+            settles = (None, offers, (refl, within.put.0, within.put.1));
+            found = λ e. absurd (cc);
+            only = λ e. cc;
+            few = λ _. refl;
+            writes = within.writes;
+            reads = λ few. (within.reads_counted, omega (arith, within.reads few));
+            reads_counted = within.reads_counted;
+            restores = λ _. within.restores;
+            laid = within.laid;
+          }
+
+      -- or it is refused
+      pub finds_refused : (e : TableError) → Inserts eq x v (Err e) read new → FindsWithin (Err e) new
+      finds_refused e inserts =
+          let within = inserts_within read.reads all (Err e) new (subst (λ t. Inserts eq x v (Err e) t new) only.0 inserts) in
+          let long : e ≡ RunTooLong = within.put.0 in
+          record {
+            settles = (None, offers, within.put);
+            found = tt;
+            only = λ is. cc;
+            few = within.few;
+            writes = within.writes;
+            reads = λ few. (within.reads_counted, omega (arith, within.reads few));
+            reads_counted = within.reads_counted;
+            restores = tt;
+            laid = within.laid;
+          }
 
 module _ {F H : Type 0} (eq : H → H → Bool) (g : Mut F (H × Unit {0}) ℕ) (f : F) (x : ℕ) (v : H) (old : TableValue H) where
   -- the clauses of insert
@@ -75,33 +167,6 @@ module _ {F H : Type 0} (eq : H → H → Bool) (g : Mut F (H × Unit {0}) ℕ) 
       restores = λ _. tt;
     }
 
-  -- the clauses of insert_within_capacity
-  abbrev pub InsertsWithin : TableValue H → Result (Unit {0}) TableError → TableValue H → Type 0
-  InsertsWithin made result new = record {
-    put : PutIn made.homes x v result new.homes;
-    refused : OnErr result (new ≡ record made { reads = new.reads });
-    few : total made.homes + 1 < 2 ^ 24 → IsOk result;
-    writes : WritesAtMost (run made.slots x + 1) made new;
-    reads : total made.homes + 1 < 2 ^ 24 → ReadsWalk (walk made.homes x) made new;
-    reads_counted : made.reads ≤ new.reads;
-    restores : OnOk result (Restores eq x v made new);
-    laid : IsLaidOut new;
-  }
-
-  -- and of find_or_put
-  abbrev pub FindsWithin : {M : Type 0} → Mut M (H × Unit {0}) Bool → M → M → TableValue H → Result (H × Bool) TableError → TableValue H → Type 0
-  FindsWithin g' f' last made result new = record {
-    settles : FindsOrPuts g' f' made.homes x v result new.homes last;
-    found : IfOk result (λ r. r.1 ≡ false → OnlyReads (walk made.homes x) made new);
-    only : result ≢ Err Memory;
-    few : total made.homes + 1 < 2 ^ 24 → IsOk result;
-    writes : WritesAtMost (run made.slots x + 1) made new;
-    reads : total made.homes + 1 < 2 ^ 24 → ReadsAtMost (walk made.homes x) made new;
-    reads_counted : made.reads ≤ new.reads;
-    restores : IfOk result (λ r. IsTrue r.1 → Restores eq x v made new);
-    laid : IsLaidOut new;
-  }
-
   -- a refused insertion isn't refused for memory
   refused_otherwise : (before after : List (List (ℕ × H))) (result : Result (Unit {0}) TableError) → PutIn before x v result after → result ≢ Err Memory
   refused_otherwise before after (Ok u) put e = cc
@@ -112,7 +177,7 @@ module _ {F H : Type 0} (eq : H → H → Bool) (g : Mut F (H × Unit {0}) ℕ) 
     few_still few = omega (arith, few, room.as_many)
 
     -- there is room
-    pub inserts_then : (result : Result (Unit {0}) TableError) (new : TableValue H) → InsertsWithin made result new → InsertsGrowing result new
+    pub inserts_then : (result : Result (Unit {0}) TableError) (new : TableValue H) → InsertsWithin eq x v made result new → InsertsGrowing result new
     inserts_then result new within = record {
       put = λ _ key gives. subst (λ hs. PutIn hs x v result new.homes) (room.grown key gives) within.put;
       memory = λ e. absurd (refused_otherwise _ _ result within.put e);
@@ -127,7 +192,7 @@ module _ {F H : Type 0} (eq : H → H → Bool) (g : Mut F (H × Unit {0}) ℕ) 
     }
 
     pub finds_then : {M : Type 0} (g' : Mut M (H × Unit {0}) Bool) (f' : M) (last' : M) (result : Result (H × Bool) TableError) (new : TableValue H)
-        → FindsWithin g' f' last' made result new → FindsGrowing g' f' result new
+        → FindsWithin eq x v made g' f' last' result new → FindsGrowing g' f' result new
     finds_then g' f' last' result new within = record {
       settles = λ _. (last', λ key gives. subst (λ hs. FindsOrPuts g' f' hs x v result new.homes last') (room.grown key gives) within.settles);
       memory = λ e. absurd (within.only e);

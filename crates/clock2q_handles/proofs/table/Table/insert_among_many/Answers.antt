@@ -1,7 +1,18 @@
 use Rattle.std.proofs.Common.{◌-◌, arith}
 use Rattle.clock2q_handles.proofs.shifts.Calls.{end_of, put_in, putting, refusing}
-use Rattle.clock2q_handles.proofs.shifts.Insertions.{inserted}
+use Rattle.clock2q_handles.proofs.shifts.Insertions.{end_within, inserted}
 use Rattle.clock2q_handles.proofs.table.Table.insert_among_many.Goals as goal
+
+pub has_room-requires : goal.has_room-requires
+has_room-requires g c =
+    record { tidy = c.self.invariant.tidy; within = end_within c.self.invariant (end_of c.self.invariant c.self.view_is c.requires.room c.requires.ends) }
+
+pub put_at-requires : goal.put_at-requires
+put_at-requires g c = record {
+  tidy = c.self.invariant.tidy;
+  within = end_within c.self.invariant (end_of c.self.invariant c.self.view_is c.requires.room c.requires.ends);
+  room = rw c.if-not-has_room.false at c.has_room.ensures.room;
+}
 
 pub returns-then-not-has_room : goal.returns-then-not-has_room
 returns-then-not-has_room g c =

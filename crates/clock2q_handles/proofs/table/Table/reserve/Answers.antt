@@ -1,8 +1,9 @@
-use Rattle.std.proofs.Common.{◌≡◌, ◌<◌, ◌≤◌, ◌+◌, ◌^◌, inl, inr, Err, sym, ap, ◌∙◌, subst, arith}
+use Rattle.std.proofs.Common.{◌≡◌, ◌<◌, ◌≤◌, ◌+◌, ◌^◌, inl, inr, length, Err, refl, sym, subst, arith}
 use Rattle.std.proofs.lemmas.Result.{err_from_is_err_and}
-use Rattle.clock2q_handles.specs.Homes.{total}
+use Rattle.clock2q_handles.specs.Homes.{capacity, total}
 use Rattle.clock2q_handles.specs.TableStep.{fit, IsShortOf}
 use Rattle.clock2q_handles.specs.declared.error.TableError.TheVariants.{Memory}
+use Rattle.clock2q_handles.proofs.rebuild.Growth.{larger_multiple}
 use Rattle.clock2q_handles.proofs.rebuild.Reserving.{Reserves, reserves_past, reserves_nothing, reserves_failed, reserves_more}
 use Rattle.clock2q_handles.proofs.table.Table.reserve.Given.{Over}
 use Rattle.clock2q_handles.proofs.table.Table.reserve.Goals.{Else-entries-capacity, After-rebuilt}
@@ -33,6 +34,16 @@ counts : (g : Over) (c : After-rebuilt g) → (c.in-Some-slots_for.count ≡ fit
 counts g c =
     let entries : total c.args.self.now.homes + c.args.additional ≡ c.in-Some.entries = omega (arith, c.in-Some.ensures.1, c.len.ensures.len) in
     (rw entries c.in-Some-slots_for.ensures.count, omega arith)
+
+pub rebuilt-requires : goal.rebuilt-requires
+rebuilt-requires g c =
+    let homes = c.args.self.now.homes in
+    let m = c.in-Some-slots_for.count in
+    let whole = c.facts.ensures.whole in
+    let need = short g (goal.at.rebuilt-requires g c).Else-entries-capacity in
+    let fits : total homes ≤ capacity m = omega (arith, c.in-Some-slots_for.ensures.enough, c.in-Some.ensures.1, c.len.ensures.len) in
+    let more : capacity (length homes) < capacity m = omega (arith, c.in-Some-slots_for.ensures.enough, c.if-entries-capacity.false, c.capacity.ensures.capacity) in
+    record { count = c.in-Some-slots_for.ensures.power; fits = fits; multiple = larger_multiple homes (length homes) refl whole.slot_count m c.in-Some-slots_for.ensures.power more; asked = c.requires.rehash need }
 
 pub returns-in_err-self : goal.returns-in_err-self
 returns-in_err-self g c =
