@@ -44,7 +44,6 @@ impl<H: Copy + Eq + Default, A: Allocator + Copy> Table<H, A> {
     /// # Cost
     ///
     /// Constant if there is room already, and otherwise linear in the number of slots.
-    #[tactic(auto, using(crate::proofs::Promises::whole_laid, crate::proofs::rebuild::Growth::larger_multiple))]
     pub fn reserve<F: FnMut(H) -> u64>(
         &mut self,
         additional: usize,
@@ -90,7 +89,6 @@ impl<H: Copy + Eq + Default, A: Allocator + Copy> Table<H, A> {
 
     /// Makes room for one more entry: a full table grows.
     #[inline(always)]
-    #[tactic(auto, using(crate::proofs::Promises::whole_laid))]
     pub(super) fn make_room<F: FnMut(H) -> u64>(&mut self, rehash: &mut F) -> Result<(), TableError>
         requires rehash { IsFull self.old.homes → MayRehash F.FnMut rehash.old self.old.homes }
         ensures grown { OnOk result
@@ -118,7 +116,6 @@ impl<H: Copy + Eq + Default, A: Allocator + Copy> Table<H, A> {
 
     /// Rebuilds a full table in twice its slots, or in `MIN_SLOTS` if that is more.
     #[inline(never)]
-    #[tactic(auto, using(crate::proofs::Attributes::rebuilding, crate::proofs::rebuild::Growth::slot_count_doubled, crate::proofs::rebuild::Growth::doubled_is, crate::proofs::rebuild::Growth::doubled_more, crate::proofs::rebuild::Growth::doubled_multiple, crate::proofs::rebuild::Growth::rebuilt_room, crate::proofs::Attributes::laid_out))]
     fn grow<F: FnMut(H) -> u64>(&mut self, rehash: &mut F) -> Result<(), TableError>
         requires full { IsFull self.old.homes }
         requires asked { MayRehash F.FnMut rehash.old self.old.homes }

@@ -35,7 +35,6 @@ impl<H: Copy + Eq + Default, A: Allocator + Copy> Table<H, A> {
     /// Below capacity it writes the slots from the new entry's to the end of its run. Growth is
     /// linear in the number of slots.
     #[inline(always)]
-    #[tactic(auto, using(crate::proofs::Promises::no_error))]
     pub fn insert<F: FnMut(H) -> u64>(
         &mut self,
         hash: u64,
@@ -129,7 +128,7 @@ impl<H: Copy + Eq + Default, A: Allocator> Table<H, A> {
     ///
     /// It writes the slots from the new entry's to the end of its run.
     #[inline(always)]
-    #[tactic(auto, using(crate::proofs::Promises::on_err, crate::proofs::layout::TidyLayout::homes_length))]
+    #[tactic(auto, using(crate::proofs::layout::TidyLayout::homes_length))]
     pub fn insert_within_capacity(&mut self, hash: u64, handle: H) -> Result<(), TableError>
         requires room { IsBelowCapacity self.old.homes }
         ensures put { PutIn self.old.homes hash handle result self.new.homes }
@@ -200,7 +199,7 @@ impl<H: Copy + Eq + Default, A: Allocator> Table<H, A> {
     /// Calls `matches` on the candidates of `hash`, up to the first that it accepts. Returns that
     /// candidate and its slot, or else the gap for the hash.
     #[inline(always)]
-    #[tactic(auto, using(crate::proofs::layout::TidyLayout::homes_length, crate::proofs::walks::Yields::left_at_start, crate::proofs::Promises::if_err, crate::proofs::Attributes::laid_out))]
+    #[tactic(auto, using(crate::proofs::layout::TidyLayout::homes_length, crate::proofs::walks::Yields::left_at_start))]
     fn offer<M: FnMut(H) -> bool>(&mut self, hash: u64, matches: &mut M) -> Result<(H, usize), Gap>
         requires slots { 0 < length self.old.homes }
         requires callable { MayBeOffered M.FnMut matches.old (candidates self.old.homes hash) }
@@ -237,7 +236,7 @@ impl<H: Copy + Eq + Default, A: Allocator> Table<H, A> {
     /// Inserts an entry at the gap for its hash as [insert_at](Table::insert_at) does, in a table
     /// with so many entries that a run may become too long. It first reads the rest of the run.
     #[inline(never)]
-    #[tactic(auto, using(crate::proofs::layout::TidyLayout::homes_length, crate::proofs::shifts::Insertions::end_within, crate::proofs::shifts::Calls::end_of))]
+    #[tactic(auto, using(crate::proofs::layout::TidyLayout::homes_length))]
     fn insert_among_many(&mut self, end: Gap, hash: u64, handle: H) -> Result<(), TableError>
         requires room { IsBelowCapacity self.old.homes }
         requires ends { EndsAt self.old.slots hash end.mark end.position }
