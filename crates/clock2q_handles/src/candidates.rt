@@ -131,7 +131,7 @@ impl<'a, H: Copy + Default> Reader<'a, H> {
     /// Advances a walk to its next candidate, and returns the candidate's slot with what the walk
     /// looks for there, or else the gap where the walk ends.
     #[inline(always)]
-    #[tactic(auto, using(crate::proofs::walks::Cursors::lookup_ends, crate::proofs::shifts::Moves::reach_of_meaning, crate::proofs::walks::Cursors::goes_on))]
+    #[tactic(auto, using(crate::proofs::shifts::Moves::reach_of_meaning, crate::proofs::walks::Cursors::goes_on))]
     fn candidate(&mut self, mut slot: usize, mut wanted: Wanted) -> Result<(usize, Wanted), Gap>
         requires lookup { IsLookup self.old.slots (sought wanted) slot }
         requires some { IsSome (sought wanted) }
