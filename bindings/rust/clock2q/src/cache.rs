@@ -209,14 +209,33 @@ impl<K, V, S> Cache<K, V, S> {
         Some((key, value))
     }
 
-    /// Has the cache hold `capacity` keys at most. Pairs leave as by [`evict`](Cache::evict) until there are no
-    /// more, are kept in a vector until then, and are dropped; later a key may take the place of two, of which
-    /// [`push`](Cache::push) returns one. The cache keeps its memory, and as many slots for new keys.
+    /// Has the cache hold `capacity` keys at most.
+    ///
+    /// If it was for fewer, no pair leaves: those that are here stay in their order, with their hits, and keys that left
+    /// stay remembered. Small, its window and the history grow with the capacity, unless their sizes were asked for. A
+    /// cache takes more memory if it never had this capacity.
+    ///
+    /// If it was for more, pairs leave as by [`evict`](Cache::evict) until there are no more, are kept in a vector until
+    /// then, and are dropped; later a key may take the place of two, of which [`push`](Cache::push) returns one. The cache
+    /// keeps its memory, and as many slots for new keys.
     ///
     /// # Errors
     ///
-    /// [`Refused::Capacity`] if it is 0, or above the capacity with which the cache was made. Nothing has changed
-    /// then.
+    /// [`Refused::Capacity`] if it is 0 or above [`MAX_CAPACITY`](crate::MAX_CAPACITY), and [`Refused::Memory`]. Nothing
+    /// has changed then.
+    ///
+    /// # Cost
+    ///
+    /// Time in proportion to the new capacity if the cache never had it. No key is hashed or compared.
+    ///
+    /// ```
+    /// let mut cache = clock2q::Cache::new(2)?;
+    /// cache.extend([(7, "seven"), (8, "eight")]);
+    /// cache.resize(1000)?;
+    /// cache.insert(9, "nine");
+    /// assert_eq!(cache.len(), 3);
+    /// # Ok::<(), clock2q::Refused>(())
+    /// ```
     pub fn resize(&mut self, capacity: usize) -> Result<(), Refused> {
         self.store.resize(capacity).map(drop)
     }

@@ -3,7 +3,7 @@
 use crate::before::Before;
 use crate::entries::{Drained, Entries};
 use crate::slots::{AtHome, Found, Slots};
-use crate::Refused;
+use crate::{Refused, MAX_CAPACITY};
 use alloc::vec::Vec;
 use core::borrow::Borrow;
 use core::hash::{BuildHasher, Hash};
@@ -64,16 +64,25 @@ impl<K, V> Store<K, V> {
         self.slots.capacity().min(self.limit)
     }
 
-    /// Has as many pairs at most from now on, with more slots if there are fewer. Returns those above, which leave.
-    pub(crate) fn resize(&mut self, limit: usize) -> Result<Vec<(K, V)>, Refused> {
-        if limit == 0 {
+    /// Has slots for as many pairs, of which there may be no more than before. If it is refused, nothing has changed.
+    pub(crate) fn reserve(&mut self, capacity: usize) -> Result<(), Refused> {
+        if capacity == 0 || capacity > MAX_CAPACITY {
             return Err(Refused::Capacity);
         }
-        if limit > self.slots.capacity() {
-            self.grow(limit)?;
-        }
-        let mut left = Vec::new();
+        let slots = self.slots.capacity();
         self.second.reserve_exact(1);
+        if capacity > slots {
+            self.entries.reserve(capacity)?;
+            self.slots.grow(capacity)?;
+            self.limit = self.limit.min(slots);
+        }
+        Ok(())
+    }
+
+    /// Has as many pairs at most from now on, with more slots if there are fewer. Returns those above, which leave.
+    pub(crate) fn resize(&mut self, limit: usize) -> Result<Vec<(K, V)>, Refused> {
+        self.reserve(limit)?;
+        let mut left = Vec::new();
         while self.len() > limit {
             left.extend(self.evict().map(|(_, pair)| pair));
         }
@@ -82,15 +91,6 @@ impl<K, V> Store<K, V> {
             false => usize::MAX,
         };
         Ok(left)
-    }
-
-    /// Has more slots, and room for their pairs.
-    fn grow(&mut self, capacity: usize) -> Result<(), Refused> {
-        if capacity > MAX_CAPACITY {
-            return Err(Refused::Capacity);
-        }
-        self.entries.reserve(capacity)?;
-        self.slots.grow(capacity)
     }
 
     /// Removes all pairs, and drops them last.
@@ -208,12 +208,6 @@ impl<K, V> Store<K, V> {
     #[cfg(feature = "std")] // as caches with a clock need it
     pub(crate) fn next_victim_slot(&mut self) -> Option<usize> {
         self.slots.next_victim()
-    }
-
-    /// Returns how many pairs there may be at most.
-    #[cfg(feature = "std")] // as caches with a clock need it
-    pub(crate) fn made(&self) -> usize {
-        self.slots.capacity()
     }
 
     /// Returns the pair that would leave next.

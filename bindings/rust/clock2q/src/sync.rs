@@ -12,7 +12,7 @@ use crate::store::Store;
 use crate::{DefaultHashBuilder, Refused};
 pub use expiring::ExpiringCache;
 use shard::Pairs;
-use shards::{count_for, part, slots_of_part, usual_count, Shards};
+use shards::{count_for, slots_of_part, usual_count, Shards};
 use std::fmt;
 use std::sync::{Mutex, MutexGuard, PoisonError};
 use std::vec::{self, Vec};
@@ -61,9 +61,7 @@ pub use weighted::WeightedCache;
 pub struct Cache<K, V, S = DefaultHashBuilder> {
     shards: Shards<Store<K, V>, K, V>,
     hasher: S,
-    /// How many keys there are slots for.
-    made: usize,
-    /// How many of them there may be. Whoever changes it has this lock meanwhile.
+    /// How many keys there may be. Whoever changes it has this lock meanwhile.
     capacity: Mutex<usize>,
 }
 
@@ -85,6 +83,14 @@ impl<K, V> Pairs<K, V> for Store<K, V> {
 
     fn len(&self) -> usize {
         Store::len(self)
+    }
+
+    fn reserve(&mut self, capacity: usize) -> Result<(), Refused> {
+        Store::reserve(self, capacity)
+    }
+
+    fn resize(&mut self, limit: usize) -> Result<Vec<(K, V)>, Refused> {
+        Store::resize(self, limit)
     }
 
     fn evict(&mut self) -> Option<(K, V)> {
@@ -226,7 +232,6 @@ impl<K, V, S> Cache<K, V, S> {
         Ok(Cache {
             shards,
             hasher,
-            made: capacity,
             capacity: Mutex::new(capacity),
         })
     }
@@ -247,29 +252,16 @@ impl<K, V, S> Cache<K, V, S> {
         *locked(&self.capacity)
     }
 
-    /// Has the cache hold `capacity` keys at most, divided among the shards as at first. Pairs leave each shard as
-    /// by [`Cache::resize`](crate::Cache::resize), are kept in a vector until all are through, and are dropped
-    /// without a lock. The cache keeps its memory.
+    /// Has the cache hold `capacity` keys at most, divided among the shards as at first, of which there are as many as
+    /// before. Each shard does what [`Cache::resize`](crate::Cache::resize) does. Pairs that leave are kept in a vector
+    /// until all shards are through, and are dropped without a lock.
     ///
     /// # Errors
     ///
-    /// [`Refused::Capacity`] if it is less than the number of shards, or above the capacity with which the cache
-    /// was made. Nothing has changed then.
+    /// [`Refused::Capacity`] if it is less than the number of shards, or if the part of one would be above
+    /// [`MAX_CAPACITY`](crate::MAX_CAPACITY), and [`Refused::Memory`]. The cache has the same pairs and capacity then.
     pub fn resize(&self, capacity: usize) -> Result<(), Refused> {
-        let count = self.shards.len();
-        if capacity < count || capacity > self.made {
-            return Err(Refused::Capacity);
-        }
-        let mut left = Vec::new();
-        let mut present = locked(&self.capacity);
-        for (at, shard) in self.shards.iter().enumerate() {
-            let limit = part(capacity as u64, at, count) as usize;
-            left.extend(shard.lock().resize(limit)?);
-        }
-        *present = capacity;
-        drop(present);
-        drop(left);
-        Ok(())
+        self.shards.resize(&self.capacity, capacity).map(drop)
     }
 
     /// Returns how many shards there are.

@@ -112,7 +112,7 @@ impl<K, V> WeightedStore<K, V> {
         });
     }
 
-    /// Has as many pairs at most from now on, for which there are slots. Returns those above, which leave.
+    /// Has as many pairs at most from now on, with more slots if there are fewer. Returns those above, which leave.
     pub(crate) fn resize(&mut self, limit: usize) -> Result<Vec<(K, V)>, Refused> {
         let left = self.pairs.resize(limit)?;
         Ok(left.into_iter().map(|pair| self.without(pair)).collect())

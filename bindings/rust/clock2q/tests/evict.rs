@@ -2,7 +2,7 @@
 
 mod common;
 
-use clock2q::{Cache, PageCache, Refused, WeightedCache};
+use clock2q::{Cache, PageCache, Refused, WeightedCache, MAX_CAPACITY};
 use common::{calls, Constant, Draws, Good, Itself, TwoBits};
 use std::collections::HashMap;
 use std::hash::BuildHasher;
@@ -58,7 +58,7 @@ fn resizes<S: BuildHasher + Default>() {
         let mut draws = Draws(1);
         for number in 0..(calls() / 4 / CAPACITIES.len()) as u64 {
             if draws.below(50) == 0 {
-                let limit = 1 + draws.below(capacity as u64) as usize;
+                let limit = 1 + draws.below(2 * capacity as u64) as usize;
                 assert_eq!(cache.resize(limit), Ok(()));
                 assert_eq!(cache.capacity(), limit);
             }
@@ -76,7 +76,7 @@ fn resizes<S: BuildHasher + Default>() {
                 }
             }
         }
-        for refused in [0, capacity + 1] {
+        for refused in [0, MAX_CAPACITY + 1] {
             assert_eq!(cache.resize(refused), Err(Refused::Capacity));
         }
         assert_eq!(cache.resize(capacity), Ok(()));
@@ -236,7 +236,8 @@ fn weighted_values_are_made() {
     assert_eq!(cache.resize(3), Ok(()));
     assert!(cache.len() <= 3 && cache.capacity() == 3);
     assert_eq!(cache.weight(), cache.iter().map(|(_, weight)| weight).sum());
-    assert_eq!(cache.resize(11), Err(Refused::Capacity));
+    assert_eq!(cache.resize(MAX_CAPACITY + 1), Err(Refused::Capacity));
+    assert_eq!((cache.resize(11), cache.capacity()), (Ok(()), 11));
     let refused = WeightedCache::with_policy(10, 10, 1, 100, weigher);
     assert_eq!(refused.err(), Some(Refused::Policy));
 }

@@ -2,6 +2,7 @@
 
 mod common;
 
+use clock2q::MAX_CAPACITY;
 use clock2q::{sync, Builder, Cache, Cause, Clock, ExpiringCache, Refused, TurnedClock};
 use common::{calls, Constant, Draws, Good, Itself, TwoBits};
 use std::cell::RefCell;
@@ -113,7 +114,7 @@ fn expires<S: BuildHasher + Default>(capacity: usize) {
                 assert!(model.pairs.is_empty());
             }
             23 if draws.below(9) == 0 => {
-                let limit = 1 + draws.below(capacity as u64) as usize;
+                let limit = 1 + draws.below(2 * capacity as u64) as usize;
                 assert_eq!(cache.resize(limit), Ok(()));
                 model.hears(&left, &[Cause::Evicted]);
                 assert_eq!(cache.capacity(), limit);
@@ -128,7 +129,10 @@ fn expires<S: BuildHasher + Default>(capacity: usize) {
         assert!(left.borrow().is_empty(), "{:?}", left.borrow());
         assert_eq!(cache.len(), model.pairs.len());
     }
-    assert_eq!(cache.resize(capacity + 1), Err(Refused::Capacity));
+    for refused in [0, MAX_CAPACITY + 1] {
+        assert_eq!(cache.resize(refused), Err(Refused::Capacity));
+    }
+    assert_eq!(cache.len(), model.pairs.len());
 }
 
 #[test]

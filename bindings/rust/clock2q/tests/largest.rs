@@ -24,6 +24,21 @@ fn pages() {
     );
 }
 
+/// The largest caches have an index of their own for the keys that left.
+#[test]
+fn a_map_that_grows() {
+    let mut cache = Cache::new(1000).expect("a cache");
+    (0..2000u64).for_each(|number| _ = cache.insert(number, !number));
+    let pairs: Vec<u64> = cache.keys().copied().collect();
+    match cache.resize(MAX_CAPACITY) {
+        Ok(()) => assert_eq!(cache.capacity(), MAX_CAPACITY),
+        Err(refused) => assert_eq!((refused, cache.capacity()), (Refused::Memory, 1000)),
+    }
+    assert!(pairs.iter().all(|key| cache.get(key) == Some(&!key)));
+    (2000..12_000).for_each(|number| _ = cache.insert(number, !number));
+    assert_eq!(cache.len(), cache.capacity().min(11_000));
+}
+
 #[test]
 fn a_map() {
     match Cache::new(MAX_CAPACITY) {

@@ -1,5 +1,5 @@
 //! The erased core against a plain model of the machine that it is proved to be: the same replies, slots, victims and
-//! history, whatever the hasher.
+//! history, whatever the hasher, and whenever it grows.
 
 mod common;
 mod machine;
@@ -30,6 +30,8 @@ const SHARES: [(usize, usize, usize); 12] = [
 struct Beside<S: BuildHasher> {
     cache: Cache<u64, u64, S>,
     model: Model,
+    /// It grows at random below this capacity.
+    grows_below: usize,
 }
 
 impl<S: BuildHasher> Beside<S> {
@@ -126,6 +128,20 @@ impl<S: BuildHasher> Beside<S> {
         }
     }
 
+    /// Raises some of the shares.
+    fn grow(&mut self, draws: &mut Draws) {
+        let mut more = |bound| draws.below(bound) as usize;
+        let model = &mut self.model;
+        let small = model.small_share + more(3);
+        let capacity = small + model.capacity - model.small_share + more(4);
+        let window = (model.window + more(3)).clamp(small.min(1), small);
+        let history = (model.limit + more(4)).min(capacity);
+        let some = capacity.try_into().expect("it isn't 0");
+        let grown = self.cache.grow_with_history(some, small, window, history);
+        assert_eq!(grown, Ok(()));
+        model.grow((capacity, small, window), history);
+    }
+
     fn call(&mut self, draws: &mut Draws, number: u64) {
         let key = draws.below(3 * self.model.capacity as u64 + 1);
         let slot = draws.below(self.model.capacity as u64 + 2) as usize;
@@ -133,6 +149,7 @@ impl<S: BuildHasher> Beside<S> {
             0..=89 => self.put(key, number, draws.below(4)),
             90..=179 => self.look_up(key, draws.below(7)),
             180..=198 => self.take_out(key, slot, draws.below(20).saturating_sub(15).min(4)),
+            _ if self.model.capacity < self.grows_below => self.grow(draws),
             _ if draws.below(20) == 0 => {
                 self.cache.clear();
                 self.model.clear();
@@ -159,9 +176,13 @@ fn agrees<S: BuildHasher + Default>() {
         let mut beside = Beside {
             cache: cache.expect("a cache"),
             model: Model::new(shares),
+            grows_below: 0,
         };
         let mut draws = Draws(1 + capacity as u64);
         for number in 0..calls() / SHARES.len() {
+            if number == calls() / SHARES.len() / 2 {
+                beside.grows_below = 3 * capacity + 20;
+            }
             beside.call(&mut draws, number as u64);
         }
     }
@@ -183,18 +204,27 @@ fn agrees_with_one_hash() {
 }
 
 /// The shares that a capacity has if nothing else is said.
+fn usual(capacity: usize) -> (usize, usize, usize) {
+    let small = if capacity > 1 {
+        (capacity / 10).max(1)
+    } else {
+        0
+    };
+    (capacity, small, small.div_ceil(2))
+}
+
+/// A cache has them, and also one that was made smaller and grew.
 #[test]
 fn the_usual_shares() {
-    for capacity in 1..=250 {
-        let some = capacity.try_into().expect("it isn't 0");
-        let small = if capacity > 1 {
-            (capacity / 10).max(1)
-        } else {
-            0
-        };
-        let mut cache: Cache<u64, u64> = Cache::new(Global, some).expect("a cache");
-        let mut model = Model::new((capacity, small, small.div_ceil(2)));
+    for (made, grown) in (1..=250).flat_map(|made| [(made, made), (made, made + made / 3 + 1)]) {
+        let some = |capacity: usize| capacity.try_into().expect("it isn't 0");
+        let mut cache: Cache<u64, u64> = Cache::new(Global, some(made)).expect("a cache");
+        let mut model = Model::new(usual(made));
         for number in 0..1000 {
+            if number == 500 {
+                assert_eq!(cache.grow(some(grown)), Ok(()));
+                model.grow(usual(grown), grown / 2);
+            }
             let key = number * number % 371;
             if model.slot(key).is_none() {
                 model.insert(key, number);
@@ -223,4 +253,37 @@ fn refusals() {
         assert_eq!(made(7, small, window), Some(CacheError::Policy));
     }
     assert_eq!(made(7, 6, 6), None);
+}
+
+/// No share becomes smaller. A growth that is refused changes nothing.
+#[test]
+fn refused_growth() {
+    let some = |capacity: usize| capacity.try_into().expect("it isn't 0");
+    let hasher = Good::default();
+    let made = Cache::with_history(Global, some(10), 3, 2, 5, hasher);
+    let mut cache: Cache<u64, u64, Good> = made.expect("a cache");
+    (0..20).for_each(|key| _ = cache.put(key, key));
+    let entries = |cache: &Cache<u64, u64, Good>| {
+        let entries = cache.iter().map(|(key, slot, _)| (*key, slot));
+        (cache.capacity(), entries.collect::<Vec<_>>())
+    };
+    let before = entries(&cache);
+    for (capacity, small, window, history) in [
+        (9, 3, 2, 5),
+        (11, 5, 2, 5),
+        (12, 2, 2, 5),
+        (12, 3, 1, 5),
+        (12, 3, 2, 4),
+        (12, 3, 2, 13),
+        (12, 3, 4, 5),
+        (12, 12, 2, 5),
+    ] {
+        let grown = cache.grow_with_history(some(capacity), small, window, history);
+        assert_eq!(grown, Err(CacheError::Policy));
+    }
+    assert_eq!(cache.grow(some(10)), Err(CacheError::Policy));
+    assert_eq!(cache.grow(some(1 << 24)), Err(CacheError::Capacity));
+    assert_eq!(entries(&cache), before);
+    assert_eq!(cache.grow_with_history(some(10), 3, 2, 5), Ok(()));
+    assert_eq!(entries(&cache), before);
 }

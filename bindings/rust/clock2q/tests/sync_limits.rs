@@ -3,7 +3,7 @@
 mod common;
 
 use clock2q::sync::{Cache, WeightedCache};
-use clock2q::Refused;
+use clock2q::{Refused, MAX_CAPACITY};
 use common::{calls, Constant, Draws, Good, Itself, TwoBits};
 use std::collections::HashMap;
 use std::hash::BuildHasher;
@@ -33,7 +33,7 @@ fn resizes<S: BuildHasher + Default>() {
         let mut draws = Draws(1);
         for number in 0..(calls() / 8 / MADE.len()) as u64 {
             if draws.below(50) == 0 {
-                let limit = shards + draws.below((capacity - shards) as u64 + 1) as usize;
+                let limit = shards + draws.below(2 * capacity as u64) as usize;
                 assert_eq!(cache.resize(limit), Ok(()));
                 assert_eq!(cache.capacity(), limit);
             }
@@ -51,9 +51,11 @@ fn resizes<S: BuildHasher + Default>() {
             }
             assert!(cache.len() <= cache.capacity());
         }
-        for refused in [0, shards - 1, capacity + 1] {
+        let len = cache.len();
+        for refused in [0, shards - 1, shards * MAX_CAPACITY + 1] {
             assert_eq!(cache.resize(refused), Err(Refused::Capacity));
         }
+        assert_eq!(cache.len(), len);
         assert_eq!((cache.resize(capacity), cache.shards()), (Ok(()), shards));
     }
 }
@@ -65,12 +67,12 @@ fn a_cache_is_resized() {
     resizes::<Constant>();
 }
 
-/// The shards of a smaller cache have room for as many keys as the cache.
+/// The shards have room for as many keys as the cache.
 #[test]
-fn a_smaller_capacity_is_divided_without_rest() {
+fn another_capacity_is_divided_without_rest() {
     let hasher = Itself::default();
     let cache = Cache::with_shards_and_hasher(1000, 16, hasher).expect("a cache");
-    for limit in [16, 17, 100, 999, 1000] {
+    for limit in [16, 17, 100, 999, 1000, 1001, 2500] {
         cache.resize(limit).expect("it fits");
         for key in 0..20_000u64 {
             cache.insert(key, ());
@@ -89,7 +91,7 @@ fn threads_go_on_while_it_is_resized() {
         let mut draws = Draws(thread + 1);
         for _ in 0..calls() / 10 / THREADS as usize {
             if thread == 0 && draws.below(20) == 0 {
-                let limit = 16 + draws.below(985) as usize;
+                let limit = 16 + draws.below(1985) as usize;
                 assert_eq!(cache.resize(limit), Ok(()));
                 assert!(cache.len() <= limit);
             }

@@ -146,7 +146,7 @@ fn weighted_pairs_are_gone_through() {
                 16 => cache.retain(|kept, _| kept % 8 != key % 8),
                 17 if key % 16 == 0 => assert!(cache.drain().all(|(_, value)| value < number)),
                 18 => {
-                    let limit = shards + draws.below((capacity - shards + 1) as u64) as usize;
+                    let limit = shards + draws.below(2 * capacity as u64) as usize;
                     assert_eq!(cache.resize(limit), Ok(()));
                     assert_eq!(cache.capacity(), limit);
                 }

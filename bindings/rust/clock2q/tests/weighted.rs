@@ -36,8 +36,8 @@ fn each_pair_is_heard_once<S: BuildHasher + Default>() {
                 3 if number % 50 == 0 => cache.clear(),
                 4 => cache.set_max_weight(max_weight / (1 + draws.below(2))),
                 5 => {
-                    let limit = 1 + draws.below(capacity as u64) as usize;
-                    cache.resize(limit).expect("it is smaller");
+                    let limit = 1 + draws.below(2 * capacity as u64) as usize;
+                    cache.resize(limit).expect("there is memory");
                 }
                 6 => match cache.entry(key) {
                     WeightedEntry::Occupied(entry) => {

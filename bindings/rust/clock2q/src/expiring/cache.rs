@@ -148,9 +148,7 @@ impl<K, V, L: FnMut(&K, &V, Cause), C: Clock, S> ExpiringCache<K, V, L, C, S> {
     ///
     /// Those of [`Cache::resize`](crate::Cache::resize).
     pub fn resize(&mut self, capacity: usize) -> Result<(), Refused> {
-        if capacity == 0 || capacity > self.store.made() {
-            return Err(Refused::Capacity);
-        }
+        self.store.reserve(capacity)?;
         let now = self.now();
         while self.len() > capacity {
             let pair = self.store.evict_timed(now);

@@ -4,7 +4,7 @@ mod keyed;
 
 use super::locked;
 use super::shard::Pairs;
-use super::shards::{count_for, part, slots_of_part, Shards};
+use super::shards::{count_for, slots_of_part, Shards};
 use crate::expiring::timed::{moment, Gone, Timed};
 use crate::expiring::Builder;
 use crate::store::Store;
@@ -39,9 +39,7 @@ pub struct ExpiringCache<K, V, L = fn(&K, &V, Cause), C = SystemClock, S = Defau
     listener: L,
     clock: Arc<C>,
     hasher: S,
-    /// How many keys there are slots for.
-    made: usize,
-    /// How many of them there may be. Whoever changes it has this lock meanwhile.
+    /// How many keys there may be. Whoever changes it has this lock meanwhile.
     capacity: Mutex<usize>,
 }
 
@@ -88,6 +86,14 @@ impl<K, V, C: Clock> Pairs<K, Timed<V>> for TimedPairs<K, V, C> {
 
     fn len(&self) -> usize {
         self.store.len()
+    }
+
+    fn reserve(&mut self, capacity: usize) -> Result<(), Refused> {
+        self.store.reserve(capacity)
+    }
+
+    fn resize(&mut self, limit: usize) -> Result<Vec<(K, Timed<V>)>, Refused> {
+        self.store.resize(limit)
     }
 
     fn evict(&mut self) -> Option<(K, Timed<V>)> {
@@ -149,7 +155,6 @@ impl<K, V, L, C, S> ExpiringCache<K, V, L, C, S> {
             listener: builder.listener,
             clock,
             hasher: builder.hasher,
-            made: capacity,
             capacity: Mutex::new(capacity),
         })
     }
@@ -270,19 +275,8 @@ impl<K, V, L: Fn(&K, &V, Cause), C: Clock, S> ExpiringCache<K, V, L, C, S> {
     ///
     /// Those of [`sync::Cache::resize`](super::Cache::resize).
     pub fn resize(&self, capacity: usize) -> Result<(), Refused> {
-        let (now, count) = (self.now(), self.shards.len());
-        if capacity < count || capacity > self.made {
-            return Err(Refused::Capacity);
-        }
-        let mut left = Vec::new();
-        let mut present = locked(&self.capacity);
-        for (at, shard) in self.shards.iter().enumerate() {
-            let limit = part(capacity as u64, at, count) as usize;
-            left.extend(shard.lock().store.resize(limit)?);
-        }
-        *present = capacity;
-        drop(present);
-        for pair in left {
+        let now = self.now();
+        for pair in self.shards.resize(&self.capacity, capacity)? {
             self.tell(pair, Cause::Evicted, now);
         }
         Ok(())

@@ -1,6 +1,7 @@
 //! A part of a shared cache, under one lock.
 
 use super::flight::Flight;
+use crate::Refused;
 use std::borrow::Borrow;
 use std::mem;
 use std::ops::{Deref, DerefMut};
@@ -21,6 +22,12 @@ pub(super) trait Pairs<K, V> {
 
     /// Returns how many pairs there are.
     fn len(&self) -> usize;
+
+    /// Has slots for as many pairs, of which there may be no more than before. If it is refused, nothing has changed.
+    fn reserve(&mut self, capacity: usize) -> Result<(), Refused>;
+
+    /// Has as many pairs at most from now on. Returns those above, which leave.
+    fn resize(&mut self, limit: usize) -> Result<Vec<(K, V)>, Refused>;
 
     /// Removes the pair that would leave next, and returns it.
     fn evict(&mut self) -> Option<(K, V)>;

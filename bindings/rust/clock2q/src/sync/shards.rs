@@ -1,10 +1,12 @@
 //! What is divided among shards.
 
+use super::locked;
 use super::shard::{Pairs, Shard};
 use crate::slots::{Shares, Slots};
-use crate::Refused;
+use crate::{Refused, MAX_CAPACITY};
 use std::boxed::Box;
 use std::ops::Deref;
+use std::sync::Mutex;
 use std::vec::Vec;
 
 /// How many shards there are if there are keys enough.
@@ -94,6 +96,30 @@ impl<P: Pairs<K, V>, K, V> Shards<P, K, V> {
     /// Returns how many pairs there are.
     pub(super) fn pairs_len(&self) -> usize {
         self.iter().map(|shard| shard.lock().len()).sum()
+    }
+
+    /// Has the shards hold `capacity` pairs at most together, which `present` is then, and returns those that leave. If it
+    /// is refused, no shard holds more or fewer than before.
+    pub(super) fn resize(
+        &self,
+        present: &Mutex<usize>,
+        capacity: usize,
+    ) -> Result<Vec<(K, V)>, Refused> {
+        let count = self.len();
+        let limit = |at| part(capacity as u64, at, count) as usize;
+        if capacity < count || limit(0) > MAX_CAPACITY {
+            return Err(Refused::Capacity);
+        }
+        let mut left = Vec::new();
+        let mut present = locked(present);
+        for (at, shard) in self.iter().enumerate() {
+            shard.lock().reserve(limit(at))?;
+        }
+        for (at, shard) in self.iter().enumerate() {
+            left.extend(shard.lock().resize(limit(at))?);
+        }
+        *present = capacity;
+        Ok(left)
     }
 
     /// Removes the pair that would leave next from the shard that has most pairs, and returns it. If that has none any

@@ -39,9 +39,7 @@ pub struct WeightedCache<K, V, W, S = DefaultHashBuilder, L = fn(&K, &V, Cause)>
     weigher: W,
     hasher: S,
     listener: Option<L>,
-    /// How many keys there are slots for.
-    made: usize,
-    /// How many of them there may be. Whoever changes it has this lock meanwhile.
+    /// How many keys there may be. Whoever changes it has this lock meanwhile.
     capacity: Mutex<usize>,
     /// The most that the weights may be together. Whoever changes it has this lock meanwhile.
     max_weight: Mutex<u64>,
@@ -64,6 +62,14 @@ impl<K, V> Pairs<K, V> for WeightedStore<K, V> {
 
     fn len(&self) -> usize {
         self.pairs.len()
+    }
+
+    fn reserve(&mut self, capacity: usize) -> Result<(), Refused> {
+        self.pairs.reserve(capacity)
+    }
+
+    fn resize(&mut self, limit: usize) -> Result<Vec<(K, V)>, Refused> {
+        WeightedStore::resize(self, limit)
     }
 
     fn evict(&mut self) -> Option<(K, V)> {
@@ -183,7 +189,6 @@ impl<K, V, W: Fn(&K, &V) -> u64, S> WeightedCache<K, V, W, S> {
             weigher,
             hasher,
             listener: None,
-            made: capacity,
             capacity: Mutex::new(capacity),
             max_weight: Mutex::new(max_weight),
         })
@@ -213,7 +218,6 @@ impl<K, V, W, S, L> WeightedCache<K, V, W, S, L> {
             weigher: self.weigher,
             hasher: self.hasher,
             listener: Some(listener),
-            made: self.made,
             capacity: self.capacity,
             max_weight: self.max_weight,
         }
@@ -304,18 +308,7 @@ impl<K, V, W, S, L: Fn(&K, &V, Cause)> WeightedCache<K, V, W, S, L> {
     ///
     /// Those of [`sync::Cache::resize`](super::Cache::resize).
     pub fn resize(&self, capacity: usize) -> Result<(), Refused> {
-        let count = self.shards.len();
-        if capacity < count || capacity > self.made {
-            return Err(Refused::Capacity);
-        }
-        let mut left = Vec::new();
-        let mut present = locked(&self.capacity);
-        for (at, shard) in self.shards.iter().enumerate() {
-            let limit = part(capacity as u64, at, count) as usize;
-            left.extend(shard.lock().resize(limit)?);
-        }
-        *present = capacity;
-        drop(present);
+        let left = self.shards.resize(&self.capacity, capacity)?;
         self.tell(&left, Cause::Evicted);
         Ok(())
     }

@@ -1,4 +1,5 @@
 //! A plain model of the machine that the core is proved to be.
+#![allow(dead_code)] // no test uses all of it
 
 use std::collections::VecDeque;
 
@@ -8,15 +9,24 @@ pub struct Resident {
     pub slot: usize,
     /// Whether it was hit since it was old, or since the hand passed it.
     is_hit: bool,
-    /// Which admission to Small it was.
-    admission: usize,
+    /// Which admission to Small it was, unless it is old for good.
+    admission: Option<usize>,
+}
+
+impl Resident {
+    fn is_old(&self, window: usize, admissions: usize) -> bool {
+        let is_past = |admission| admission + window <= admissions;
+        self.admission.map_or(true, is_past)
+    }
 }
 
 /// The machine by lists: no slot is linked, and no key hashed.
 pub struct Model {
     pub capacity: usize,
-    small_share: usize,
-    window: usize,
+    pub small_share: usize,
+    pub window: usize,
+    /// How many keys are remembered at most.
+    pub limit: usize,
     /// The newest first.
     small: VecDeque<Resident>,
     /// That at the hand first.
@@ -38,6 +48,7 @@ impl Model {
             capacity,
             small_share,
             window,
+            limit: capacity / 2,
             small: VecDeque::new(),
             main: VecDeque::new(),
             history: VecDeque::new(),
@@ -56,8 +67,17 @@ impl Model {
         found.map(|it| it.slot)
     }
 
-    fn is_old(&self, it: &Resident) -> bool {
-        it.admission + self.window <= self.admissions
+    /// Has these shares, none of them smaller than before. What is old stays so in a longer window.
+    pub fn grow(&mut self, (capacity, small_share, window): (usize, usize, usize), limit: usize) {
+        for it in self.small.iter_mut() {
+            if it.is_old(self.window, self.admissions) {
+                it.admission = None;
+            }
+        }
+        self.capacity = capacity;
+        self.small_share = small_share;
+        self.window = window;
+        self.limit = limit;
     }
 
     pub fn hit(&mut self, slot: usize) -> bool {
@@ -69,14 +89,14 @@ impl Model {
         let Some(it) = self.small.iter_mut().find(|it| it.slot == slot) else {
             return false;
         };
-        it.is_hit |= it.admission + window <= admissions;
+        it.is_hit |= it.is_old(window, admissions);
         true
     }
 
     fn tail_goes_on(&self) -> bool {
         self.small
             .back()
-            .is_some_and(|it| it.is_hit && self.is_old(it))
+            .is_some_and(|it| it.is_hit && it.is_old(self.window, self.admissions))
     }
 
     /// Has the hand pass those that were hit, and takes the first that wasn't.
@@ -100,7 +120,7 @@ impl Model {
 
     fn remember(&mut self, key: u64) {
         self.history.push_front(key);
-        self.history.truncate(self.capacity / 2);
+        self.history.truncate(self.limit);
     }
 
     fn forget(&mut self, key: u64) -> bool {
@@ -122,7 +142,7 @@ impl Model {
 
     fn admit(&mut self, key: u64, slot: usize) {
         self.admissions += 1;
-        let (is_hit, admission) = (false, self.admissions);
+        let (is_hit, admission) = (false, Some(self.admissions));
         self.small.push_front(Resident {
             key,
             slot,
@@ -132,7 +152,7 @@ impl Model {
     }
 
     fn append(&mut self, key: u64, slot: usize) {
-        let (is_hit, admission) = (false, 0);
+        let (is_hit, admission) = (false, None);
         self.main.push_back(Resident {
             key,
             slot,
@@ -223,7 +243,9 @@ impl Model {
     }
 
     pub fn clear(&mut self) {
+        let limit = self.limit;
         *self = Model::new((self.capacity, self.small_share, self.window));
+        self.limit = limit;
     }
 
     /// The keys by ascending slot.
