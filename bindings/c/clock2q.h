@@ -12,7 +12,7 @@
  *     use(frames[place.slot]);
  *     clock2q_free(&cache);
  *
- * All memory is taken when a cache is made: no later call takes any, and none fails.
+ * All memory is taken when a cache is made or grows: no other call takes any, and none fails.
  *
  * Keys are hashed with a fixed seed, so whoever chooses them can choose ones that collide, which
  * makes calls slow. If strangers do, scramble the keys with a secret.
@@ -52,12 +52,13 @@ typedef struct {
 
 #define CLOCK2Q_NONE {0}
 
-/* What clock2q_new, clock2q_with_policy and clock2q_with_history answer. Only after CLOCK2Q_DONE there is a cache. */
+/* What clock2q_new, clock2q_with_policy and clock2q_with_history answer, and the calls by which a cache grows. Only
+ * after CLOCK2Q_DONE there is a cache, or it has grown. */
 enum {
     CLOCK2Q_DONE = 0,
-    CLOCK2Q_NO_MEMORY = 1,    /* nothing is kept of what was taken */
+    CLOCK2Q_NO_MEMORY = 1,    /* a request was refused; of a cache that isn't made nothing is kept */
     CLOCK2Q_BAD_CAPACITY = 2, /* 0, or above CLOCK2Q_MAX_CAPACITY; no memory was asked for */
-    CLOCK2Q_BAD_POLICY = 3    /* the shares don't fit together; no memory was asked for */
+    CLOCK2Q_BAD_POLICY = 3    /* the shares don't fit together, or to those before; no memory was asked for */
 };
 
 /* Where a key is, and which key had that slot until this call: the same one after a hit. */
@@ -81,7 +82,7 @@ typedef struct {
     void (*give_back)(void *block);
 } clock2q_memory;
 
-/* Has the caches that this thread makes from now on take their memory there, or from malloc again if
+/* Has the caches that this thread makes or grows from now on take their memory there, or from malloc again if
  * `memory` is null. Returns where they took it before. What a cache took goes back where it came
  * from, whoever frees it. */
 clock2q_memory clock2q_use_memory(const clock2q_memory *memory);
@@ -103,6 +104,17 @@ uint32_t clock2q_with_policy(clock2q_cache *cache, size_t capacity, size_t small
  * beside the keys that were hit. CLOCK2Q_BAD_POLICY also if history > capacity. */
 uint32_t clock2q_with_history(clock2q_cache *cache, size_t capacity, size_t small, size_t window,
                               size_t history);
+
+/* Raises the capacity of a cache to `capacity` keys, with the shares of clock2q_new. No key leaves: each keeps
+ * its slot, its hits and its turn to leave, and keys that left stay remembered. CLOCK2Q_BAD_POLICY if the
+ * slots for new keys, those for others, the window or the history would be fewer than they are, as in
+ * a smaller cache. Unless CLOCK2Q_DONE is answered the cache is as it was. Needs a cache. Takes time in
+ * proportion to the capacity, and meanwhile memory for both of them; hashes no key. */
+uint32_t clock2q_grow(clock2q_cache *cache, size_t capacity);
+
+/* Does so with the shares of clock2q_with_history, which have to fit together as there. */
+uint32_t clock2q_grow_with_history(clock2q_cache *cache, size_t capacity, size_t small, size_t window,
+                                   size_t history);
 
 /* Finds the slot of a key and records a hit, or gives the key a slot, which another key may lose.
  * Returns where it is; clock2q_enter below writes that instead. Needs a cache. Costs one hash;
@@ -195,6 +207,11 @@ uint32_t clock2q_tokens_with_policy(clock2q_tokens *cache, size_t capacity, size
 uint32_t clock2q_tokens_with_history(clock2q_tokens *cache, size_t capacity, size_t small, size_t window,
                                      size_t history);
 
+/* Raise the capacity to `capacity` tokens, as clock2q_grow and clock2q_grow_with_history do. They need a cache. */
+uint32_t clock2q_tokens_grow(clock2q_tokens *cache, size_t capacity);
+uint32_t clock2q_tokens_grow_with_history(clock2q_tokens *cache, size_t capacity, size_t small, size_t window,
+                                          size_t history);
+
 /* Finds the slot that comes after `nth` others among those of the tokens with this hash. Each of them
  * is found for one `nth`, and nothing else; their order is the same until a token enters or leaves.
  * Records nothing. Needs a cache. */
@@ -279,6 +296,9 @@ static inline clock2q_tokens clock2q_tokens_checked_value(clock2q_tokens cache) 
     clock2q_with_policy(clock2q_checked(cache, false), capacity, small, window)
 #define clock2q_with_history(cache, capacity, small, window, history) \
     clock2q_with_history(clock2q_checked(cache, false), capacity, small, window, history)
+#define clock2q_grow(cache, capacity) clock2q_grow(clock2q_checked(cache, true), capacity)
+#define clock2q_grow_with_history(cache, capacity, small, window, history) \
+    clock2q_grow_with_history(clock2q_checked(cache, true), capacity, small, window, history)
 #define clock2q_enter_key(cache, key) clock2q_enter_key(clock2q_checked(cache, true), key)
 #define clock2q_find_key(cache, key) clock2q_find_key(clock2q_checked(cache, true), key)
 #define clock2q_at(cache, slot, key) clock2q_at(clock2q_checked(cache, true), slot, key)
@@ -296,6 +316,9 @@ static inline clock2q_tokens clock2q_tokens_checked_value(clock2q_tokens cache) 
     clock2q_tokens_with_policy(clock2q_tokens_checked(cache, false), capacity, small, window)
 #define clock2q_tokens_with_history(cache, capacity, small, window, history) \
     clock2q_tokens_with_history(clock2q_tokens_checked(cache, false), capacity, small, window, history)
+#define clock2q_tokens_grow(cache, capacity) clock2q_tokens_grow(clock2q_tokens_checked(cache, true), capacity)
+#define clock2q_tokens_grow_with_history(cache, capacity, small, window, history) \
+    clock2q_tokens_grow_with_history(clock2q_tokens_checked(cache, true), capacity, small, window, history)
 #define clock2q_tokens_seek(cache, hash, nth) clock2q_tokens_seek(clock2q_tokens_checked(cache, true), hash, nth)
 #define clock2q_tokens_hit(cache, slot) clock2q_tokens_hit(clock2q_tokens_checked(cache, true), slot)
 #define clock2q_tokens_admit(cache, hash) clock2q_tokens_admit(clock2q_tokens_checked(cache, true), hash)

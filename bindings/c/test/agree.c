@@ -9,6 +9,7 @@
 struct run {
     clock2q_cache cache;
     struct model model;
+    size_t most; /* it doesn't grow from this capacity on */
     uint64_t *last; /* the key that entered each slot last */
     bool *has_last;
 };
@@ -95,6 +96,27 @@ static bool evicts(struct run *run) {
         && place.has_last == expected && place.evicted == expected;
 }
 
+/* Has the cache grow by some slots, with the usual shares or with others. */
+static bool grows(struct run *run) {
+    struct shares to = usual_shares(run->model.capacity + (size_t)(draw() % 4));
+    bool is_usual = draw() % 2 == 0;
+    if (!is_usual) {
+        to.small = run->model.small_share + (size_t)(draw() % 2);
+        to.window = draw() % 2 == 0 ? run->model.window : to.small;
+        to.history = to.capacity - (size_t)(draw() % 2);
+    }
+    bool fits = is_usual || (to.small < to.capacity && (to.small == 0) == (to.window == 0));
+    bool expected = fits && model_may_grow(&run->model, to);
+    uint32_t answer = is_usual ? clock2q_grow(&run->cache, to.capacity)
+                               : clock2q_grow_with_history(&run->cache, to.capacity, to.small, to.window, to.history);
+    if (answer != (expected ? CLOCK2Q_DONE : CLOCK2Q_BAD_POLICY)) return false;
+    if (!expected) return true;
+    run->last = enlarged(run->last, run->model.capacity, to.capacity, sizeof *run->last);
+    run->has_last = enlarged(run->has_last, run->model.capacity, to.capacity, sizeof *run->has_last);
+    model_grow(&run->model, to);
+    return goes_through(run);
+}
+
 static bool counts(struct run *run) {
     size_t count = run->model.small.count + run->model.main.count;
     bool agrees = clock2q_len(&run->cache) == count && clock2q_capacity(&run->cache) == run->model.capacity;
@@ -119,11 +141,14 @@ static bool call_agrees(struct run *run) {
     if (kind < 29) return clock2q_contains(&run->cache, key) == (model_slot(&run->model, key) != NOWHERE);
     if (kind < 30) return evicts(run);
     if (kind < 31) return clock2q_remove(&run->cache, key) == model_remove(&run->model, key);
+    if (run->model.capacity < run->most && draw() % 64 == 0) return grows(run);
     return counts(run);
 }
 
 static bool run_agrees(size_t capacity, size_t calls) {
-    struct run run = {CLOCK2Q_NONE, model_of(capacity), calloc(capacity, sizeof *run.last), calloc(capacity, sizeof *run.has_last)};
+    struct run run = {.cache = CLOCK2Q_NONE, .model = model_of(capacity), .most = capacity + capacity / 4 + 8};
+    run.last = calloc(capacity, sizeof *run.last);
+    run.has_last = calloc(capacity, sizeof *run.has_last);
     if (run.last == NULL || run.has_last == NULL || clock2q_new(&run.cache, capacity) != CLOCK2Q_DONE) return false;
     bool agrees = true;
     for (size_t i = 0; i < calls && agrees; i++) {

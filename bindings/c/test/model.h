@@ -22,18 +22,26 @@ struct list {
     size_t count;
 };
 
+/* How many slots, how many of them for new keys, for how many admissions these are young, and how many keys that left
+ * are remembered. */
+struct shares {
+    size_t capacity, small, window, history;
+};
+
 struct model {
-    size_t capacity, small_share, window;
+    size_t capacity, small_share, window, history_share;
     struct list small, main; /* Small's newest first, Main's next victim first */
     struct list history;     /* newest first */
     long *vacant;            /* slots that were freed, as a stack */
     size_t vacant_count, made;
 };
 
-static struct list list_of(size_t room) {
-    struct list list = {calloc(room, sizeof(struct entry)), 0};
-    if (list.entries == NULL) abort();
-    return list;
+/* Makes room for `count` elements in place of `before` ones. Those that are new are 0. */
+static void *enlarged(void *array, size_t before, size_t count, size_t size) {
+    char *larger = realloc(array, count * size);
+    if (larger == NULL) abort();
+    if (before < count) memset(larger + before * size, 0, (count - before) * size);
+    return larger;
 }
 
 static long place_in(const struct list *list, uint64_t key) {
@@ -60,15 +68,35 @@ static void put_last(struct list *list, struct entry entry) {
     list->entries[list->count++] = entry;
 }
 
-static struct model model_of(size_t capacity) {
+static struct shares usual_shares(size_t capacity) {
     size_t tenth = capacity / 10;
     size_t small = capacity == 1 ? 0 : tenth > 0 ? tenth : 1;
-    struct model model = {.capacity = capacity, .small_share = small, .window = (small + 1) / 2};
-    model.small = list_of(capacity + 1);
-    model.main = list_of(capacity + 1);
-    model.history = list_of(capacity + 1);
-    model.vacant = calloc(capacity + 1, sizeof *model.vacant);
-    if (model.vacant == NULL) abort();
+    return (struct shares){capacity, small, (small + 1) / 2, capacity / 2};
+}
+
+/* Whether a cache may grow to these shares: none is smaller than it was. */
+static inline bool model_may_grow(const struct model *model, struct shares to) {
+    return to.small >= model->small_share && to.capacity - to.small >= model->capacity - model->small_share
+        && to.window >= model->window && to.history >= model->history_share;
+}
+
+/* Each key stays what it is, and an old one old. */
+static void model_grow(struct model *model, struct shares to) {
+    size_t before = model->capacity > 0 ? model->capacity + 1 : 0;
+    struct list *lists[] = {&model->small, &model->main, &model->history};
+    for (size_t i = 0; i < sizeof lists / sizeof *lists; i++) {
+        lists[i]->entries = enlarged(lists[i]->entries, before, to.capacity + 1, sizeof(struct entry));
+    }
+    model->vacant = enlarged(model->vacant, before, to.capacity + 1, sizeof *model->vacant);
+    model->capacity = to.capacity;
+    model->small_share = to.small;
+    model->window = to.window;
+    model->history_share = to.history;
+}
+
+static struct model model_of(size_t capacity) {
+    struct model model = {.capacity = 0};
+    model_grow(&model, usual_shares(capacity));
     return model;
 }
 
@@ -133,7 +161,7 @@ static void join_small(struct model *model, uint64_t key, long slot) {
 }
 
 static void remember(struct model *model, uint64_t key) {
-    size_t room = model->capacity / 2;
+    size_t room = model->history_share;
     if (room == 0) return;
     if (model->history.count == room) model->history.count--;
     put_first(&model->history, (struct entry){.key = key});

@@ -48,6 +48,18 @@ static void bad_numbers(void) {
     must(clock2q_with_history(&cache, 10, 2, 1, 11) == CLOCK2Q_BAD_POLICY, "a history longer than the cache");
     must(cache.at == NULL, "no cache");
     must(requests == 0, "no memory is asked for");
+    must(clock2q_with_history(&cache, 10, 3, 2, 6) == CLOCK2Q_DONE, "a cache");
+    requests = 0;
+    must(clock2q_grow(&cache, 0) == CLOCK2Q_BAD_CAPACITY, "growth to no capacity");
+    must(clock2q_grow(&cache, CLOCK2Q_MAX_CAPACITY + 1) == CLOCK2Q_BAD_CAPACITY, "growth to one too large");
+    must(clock2q_grow_with_history(&cache, SIZE_MAX, 3, 2, 6) == CLOCK2Q_BAD_CAPACITY, "with shares");
+    must(clock2q_grow(&cache, 10) == CLOCK2Q_BAD_POLICY, "fewer slots for new keys");
+    must(clock2q_grow_with_history(&cache, 9, 3, 2, 6) == CLOCK2Q_BAD_POLICY, "fewer for others");
+    must(clock2q_grow_with_history(&cache, 12, 3, 1, 6) == CLOCK2Q_BAD_POLICY, "a shorter window");
+    must(clock2q_grow_with_history(&cache, 12, 3, 2, 5) == CLOCK2Q_BAD_POLICY, "a shorter history");
+    must(clock2q_grow_with_history(&cache, 12, 3, 2, 13) == CLOCK2Q_BAD_POLICY, "one longer than the cache");
+    must(clock2q_capacity(&cache) == 10 && requests == 0, "nothing has changed, and no memory is asked for");
+    clock2q_free(&cache);
 }
 
 static void no_memory(void) {
@@ -73,6 +85,34 @@ static void no_memory(void) {
     must(clock2q_with_policy(&cache, 100, 10, 5) == CLOCK2Q_DONE, "a cache with shares");
     clock2q_free(&cache);
     must(blocks == 0, "all memory of a cache with shares is given back");
+}
+
+/* Whether the keys from 50 to 99, of the slots from 50 on, are there, and no other has a slot. */
+static bool has_all(clock2q_cache *cache) {
+    for (uint64_t key = 0; key < 100; key++) {
+        if (clock2q_holds(cache, (size_t)key, key) != (key >= 50)) return false;
+    }
+    return clock2q_len(cache) == 50;
+}
+
+static void no_memory_to_grow(void) {
+    clock2q_cache cache = CLOCK2Q_NONE;
+    left = -1;
+    blocks = 0;
+    must(clock2q_new(&cache, 100) == CLOCK2Q_DONE, "a cache");
+    for (uint64_t key = 0; key < 100; key++) clock2q_enter_key(&cache, key);
+    for (uint64_t key = 0; key < 50; key++) clock2q_remove(&cache, key);
+    long granted = 0;
+    for (left = 0; clock2q_grow(&cache, 200) != CLOCK2Q_DONE; left = ++granted) {
+        must(clock2q_capacity(&cache) == 100 && has_all(&cache), "a refusal changes nothing");
+    }
+    must(granted >= 1 && granted <= 12, "at most twelve requests to grow");
+    must(clock2q_capacity(&cache) == 200 && has_all(&cache), "the keys stay at their slots");
+    left = 0;
+    for (uint64_t key = 100; key < 1000; key++) clock2q_enter_key(&cache, key);
+    must(clock2q_len(&cache) == 200, "no call takes memory after that");
+    clock2q_free(&cache);
+    must(blocks == 0, "all memory is given back");
 }
 
 static long own_taken, own_given_back;
@@ -106,6 +146,7 @@ static void own_memory(void) {
 int main(void) {
     bad_numbers();
     no_memory();
+    no_memory_to_grow();
     own_memory();
     left = -1;
     return failed;

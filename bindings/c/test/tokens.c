@@ -16,6 +16,7 @@ struct run {
     bool *is_used;      /* by slot */
     uint64_t number;
     unsigned kind; /* of the hash */
+    size_t most;   /* it doesn't grow from this capacity on */
 };
 
 static uint64_t drawn = 88172645463325252u;
@@ -114,6 +115,23 @@ static bool clears(struct run *run) {
     return clock2q_tokens_len(&run->cache) == 0;
 }
 
+/* Has the cache grow, with shares that a larger one may have later. */
+static bool grows(struct run *run) {
+    size_t before = run->model.capacity;
+    struct shares to = usual_shares(before + (size_t)(draw() % 4));
+    to.history = to.history > run->model.history_share ? to.history : run->model.history_share;
+    bool is_usual = to.history == to.capacity / 2, expected = model_may_grow(&run->model, to);
+    uint32_t answer = is_usual && draw() % 2 == 0
+        ? clock2q_tokens_grow(&run->cache, to.capacity)
+        : clock2q_tokens_grow_with_history(&run->cache, to.capacity, to.small, to.window, to.history);
+    if (!expected || answer != CLOCK2Q_DONE || clock2q_tokens_capacity(&run->cache) != to.capacity) return false;
+    run->keys = enlarged(run->keys, before, to.capacity, sizeof *run->keys);
+    run->codes = enlarged(run->codes, before, to.capacity, sizeof *run->codes);
+    run->is_used = enlarged(run->is_used, before, to.capacity, sizeof *run->is_used);
+    model_grow(&run->model, to);
+    return clock2q_tokens_grow(&run->cache, to.capacity - 1) != CLOCK2Q_DONE;
+}
+
 static bool call_agrees(struct run *run) {
     uint64_t key = draw() % (3 * run->model.capacity);
     unsigned kind = (unsigned)(draw() % 64);
@@ -128,11 +146,13 @@ static bool call_agrees(struct run *run) {
     if (kind < 53) return evicts(run);
     if (kind < 56) return removes(run, (size_t)(draw() % run->model.capacity));
     if (kind < 63) return lists_are_right(run, key);
+    if (run->model.capacity < run->most && draw() % 8 == 0) return grows(run);
     return draw() % 64 != 0 || clears(run);
 }
 
 static bool run_agrees(size_t capacity, unsigned kind, size_t calls) {
     struct run run = {.cache = CLOCK2Q_TOKENS_NONE, .model = model_of(capacity), .kind = kind};
+    run.most = capacity + capacity / 4 + 8;
     run.keys = calloc(capacity, sizeof *run.keys);
     run.codes = calloc(capacity, sizeof *run.codes);
     run.is_used = calloc(capacity, sizeof *run.is_used);
