@@ -88,7 +88,7 @@ inline const secret &process_secret() {
 } // namespace detail
 
 // A clock2q_cache that is freed with its owner. Its calls are those of clock2q.h, which says what they cost; none
-// throws but the constructors: std::bad_alloc if there is no memory, std::invalid_argument if the capacity
+// throws but the constructors and `grow`: std::bad_alloc if there is no memory, std::invalid_argument if the capacity
 // or the policy is refused. One that was moved from may only be destroyed, assigned to and asked for its
 // capacity, which is 0. No call is const that asks the library, since no two calls may overlap.
 class page_cache {
@@ -133,6 +133,17 @@ class page_cache {
     clock2q_place next_victim() noexcept { return clock2q_next_victim(&handle_); }
     // Takes all slots away, and forgets all keys.
     void clear() noexcept { clock2q_clear(&handle_); }
+    // Raises the capacity, as clock2q_grow does, to that of a cache that is made of the same arguments. Nothing has
+    // changed if it throws.
+    void grow(std::size_t capacity) {
+        detail::check(clock2q_grow(&handle_, capacity));
+        capacity_ = capacity;
+    }
+    void grow(std::size_t capacity, policy shares) {
+        std::size_t history = shares.history.value_or(capacity / 2);
+        detail::check(clock2q_grow_with_history(&handle_, capacity, shares.small, shares.window, history));
+        capacity_ = capacity;
+    }
     // Returns how many keys have a slot.
     std::size_t size() noexcept { return clock2q_len(&handle_); }
     // Returns how many keys can have a slot.
@@ -186,6 +197,16 @@ class token_cache {
     clock2q_found next_victim() noexcept { return clock2q_tokens_next_victim(&handle_); }
     // Takes all slots away, and forgets all keys.
     void clear() noexcept { clock2q_tokens_clear(&handle_); }
+    // Does what page_cache's does.
+    void grow(std::size_t capacity) {
+        detail::check(clock2q_tokens_grow(&handle_, capacity));
+        capacity_ = capacity;
+    }
+    void grow(std::size_t capacity, policy shares) {
+        std::size_t history = shares.history.value_or(capacity / 2);
+        detail::check(clock2q_tokens_grow_with_history(&handle_, capacity, shares.small, shares.window, history));
+        capacity_ = capacity;
+    }
     // Returns how many keys have a slot.
     std::size_t size() noexcept { return clock2q_tokens_len(&handle_); }
     // Returns how many keys can have a slot.
@@ -247,6 +268,25 @@ template <class Node> class nodes {
     void remove(Node *node) noexcept {
         by_slot_[node->slot] = nullptr;
         unlink(node);
+    }
+
+    // Takes the nodes of another that has fewer slots, and isn't used any more. They keep their slots, and those of a
+    // hash their order.
+    void take(nodes &other) noexcept {
+        std::copy(other.begin(), other.end(), by_slot_.get());
+        for (std::size_t chain = 0; chain < std::size_t{1} << other.bits_; chain++) {
+            Node *oldest = nullptr;
+            for (Node *node = other.chains_[chain]; node != nullptr;) {
+                Node *next = std::exchange(node->next, oldest);
+                oldest = std::exchange(node, next);
+            }
+            while (oldest != nullptr) {
+                Node *next = oldest->next;
+                oldest->next = std::exchange(chains_[home(oldest->hash)], oldest);
+                oldest = next;
+            }
+        }
+        size_ = other.size_;
     }
 
     // Takes all nodes out, and returns the first of them or null; each leads to the next.
@@ -470,7 +510,7 @@ template <> struct argument<false> {
 //   the next. So let Hash be different for different keys.
 // - `get`, `at`, `find`, `[]` and all that inserts record a hit. `peek`, `contains`, `count`, iterators and const
 //   members don't.
-// - A pointer or reference to a value holds until its key leaves; iterators until an entry comes or leaves.
+// - A pointer or reference to a value holds until its key leaves; iterators until an entry comes or leaves, or the cache grows.
 //   Moving or swapping a cache keeps them all, moves no key or value, and leaves an empty cache of capacity 0,
 //   in which what would insert throws std::length_error.
 // - Hash, Equal, constructors, assignments and destructors of keys and values run while the cache is whole.
@@ -735,15 +775,15 @@ class cache {
 
     // Has the cache hold `capacity` keys at most. Entries leave as by `evict` until there are no more, and are destroyed
     // then; later two may leave for one that comes. The cache keeps its memory, and as many slots for new keys. If
-    // `capacity` is above the largest so far, a larger cache takes its place, with the policy that was given: all
-    // entries enter it as new ones, in the order in which they would leave, and other keys are forgotten. Pointers to
-    // values hold then, iterators don't. Throws std::invalid_argument if `capacity` is 0 or above
+    // `capacity` is above the largest so far, no entry leaves, each keeps its turn to leave and its hits, and keys that
+    // left stay remembered. The policy that was given is kept; otherwise it is the usual one of the larger capacity.
+    // Pointers to values hold then, iterators don't. Throws std::invalid_argument if `capacity` is 0 or above
     // CLOCK2Q_MAX_CAPACITY or the cache was moved from, or std::bad_alloc; nothing has changed then.
     void resize(size_type capacity) {
-        if (capacity == 0 || state_ == nullptr) detail::check(CLOCK2Q_BAD_CAPACITY);
+        if (capacity == 0 || capacity > CLOCK2Q_MAX_CAPACITY || state_ == nullptr) detail::check(CLOCK2Q_BAD_CAPACITY);
+        if (capacity > state_->slots.capacity()) return state_->grow(capacity);
         leaving left = state_->none_left();
-        if (capacity > state_->slots.capacity()) state_->grow(capacity, left, [](std::size_t, std::size_t) {});
-        else left.add(state_->resize(capacity));
+        left.add(state_->resize(capacity));
     }
 
     // Takes all entries out, and forgets all keys. Takes time in proportion to the capacity.
@@ -944,25 +984,15 @@ class cache {
             return gone;
         }
 
-        // Has more slots than there are, and calls `moved` with the slot that each node had and the one that it has. It
-        // calls no code of users, and has changed nothing if it throws.
-        template <class Moved> void grow(std::size_t capacity, leaving &left, Moved moved) {
-            token_cache more = made(capacity, shares);
+        // Has more slots than there are. Each node keeps its own. It calls no code of users, and has changed nothing if it
+        // throws.
+        void grow(std::size_t capacity) {
             detail::nodes<node> all(capacity);
-            node *first = nullptr, **end = &first;
-            while (node *next = evict()) {
-                *end = next;
-                end = &next->next;
-            }
-            slots = std::move(more);
+            if (shares) slots.grow(capacity, *shares);
+            else slots.grow(capacity);
+            all.take(nodes);
             nodes = std::move(all);
             limit = no_limit;
-            while (first != nullptr) {
-                node *next = std::exchange(first, first->next);
-                std::size_t before = next->slot;
-                left.add(link(next));
-                moved(before, std::size_t{next->slot});
-            }
         }
 
         void clear() noexcept {
@@ -1339,13 +1369,11 @@ class weighted_cache {
         return true;
     }
 
-    // Has more slots than there are, with each weight at the slot that its entry has then. No entry leaves.
+    // Has more slots than there are. Each entry keeps its slot and its weight.
     void grow(size_type capacity) {
         std::unique_ptr<std::uint64_t[]> weights(new std::uint64_t[capacity]());
-        typename entries::leaving none = entries_.state_->none_left();
-        entries_.state_->grow(capacity, none, [&](std::size_t before, std::size_t now) {
-            weights[now] = limit_->by_slot[before];
-        });
+        std::copy_n(limit_->by_slot.get(), entries_.state_->slots.capacity(), weights.get());
+        entries_.state_->grow(capacity);
         limit_->by_slot = std::move(weights);
     }
 

@@ -151,6 +151,12 @@ template <class Hash> struct model {
         return left;
     }
 
+    // Keys stay where they are, in their order.
+    void grow(std::size_t capacity) {
+        slots.grow(capacity);
+        key_at.resize(capacity);
+    }
+
     void clear() {
         slots.clear();
         map.clear();
@@ -260,9 +266,13 @@ template <class Hash> static void random_calls(std::size_t capacity, long calls,
             tried.clear();
             wanted.clear();
         }
+        if (draw % 1009 == 0 && tried.capacity() < 2 * capacity) {
+            tried.resize(tried.capacity() + 1 + capacity / 8);
+            wanted.grow(tried.capacity());
+        }
         bool agrees = agrees_on_call(tried, wanted, draw >> 8, static_cast<std::uint64_t>(call));
         if (call % 997 == 0) agrees = agrees && is_modelled(tried, wanted);
-        if (!agrees || tried.size() != wanted.map.size() || tried.size() > capacity) return must(false, name);
+        if (!agrees || tried.size() != wanted.map.size() || tried.size() > tried.capacity()) return must(false, name);
     }
     must(is_modelled(tried, wanted), name);
 }
@@ -625,8 +635,18 @@ static void refusals() {
     must_throw<invalid_argument>([] { page_cache none(10, {2, 3}); }, "a window longer than Small");
     must_throw<invalid_argument>([] { cache<int, int> none(10, {10, 1}); }, "no slot for Main");
     must_throw<invalid_argument>([] { page_cache none(10, {2, 1, 11}); }, "a history longer than the cache");
+    page_cache pages(10, {3, 2});
+    must_throw<invalid_argument>([&] { pages.grow(0); }, "growth to capacity 0");
+    must_throw<invalid_argument>([&] { pages.grow(10); }, "to fewer slots for new keys");
+    must_throw<invalid_argument>([&] { pages.grow(9, {3, 2}); }, "to a smaller capacity");
+    cache<int, int> full(2);
+    full.put(1, 1);
+    full.put(2, 2);
     const clock2q_memory memory = {no_memory, std::free};
     clock2q_use_memory(&memory);
+    must_throw<std::bad_alloc>([&] { pages.grow(20, {3, 2}); }, "no memory to grow");
+    must_throw<std::bad_alloc>([&] { full.resize(20); }, "no memory for a larger cache");
+    must(pages.capacity() == 10 && full.capacity() == 2 && full.size() == 2 && *full.peek(1) == 1, "nothing has changed");
     must_throw<std::bad_alloc>([] { page_cache none(10); }, "no memory");
     must_throw<std::bad_alloc>([] { cache<int, int> none(10); }, "no memory for a cache");
     clock2q_use_memory(nullptr);
@@ -646,6 +666,11 @@ static void pages() {
     place = one.evict();
     must(place.evicted && place.last == 8 && place.slot == slot && !one.evict().evicted, "it is evicted");
     must(one.add(8).has_value() && one.contains(8) && !one.add(8) && one.size() == 1, "it is added once");
+    slot = one.peek(8).slot;
+    one.grow(10, {1, 1});
+    must(one.holds(slot, 8) && one.capacity() == 10, "it keeps its slot");
+    one.grow(30);
+    must(one.holds(slot, 8) && one.capacity() == 30, "by the usual shares too");
     one.clear();
     must(!one.contains(8), "all are");
 }

@@ -95,7 +95,7 @@ static void reasons() {
     words.resize(3);
     for (const char *key : {"x", "y"}) words.put(key, 1);
     words.resize(1);
-    must(left.size() == 8 && left[6].key == "e" && left[7].key == "x", "in the order in which it leaves");
+    must(left.size() == 8 && left[6].key == "x" && left[7].key == "e", "in the order in which it leaves");
     words.erase(words.begin());
     must(left.size() == 9 && left.back().why == reason::removed, "what leaves by its position is");
     words.put("f", 9);

@@ -80,6 +80,37 @@ template <class Hash> static void resized(std::size_t capacity, long calls) {
     must(is_refused([&] { tried.resize(1); }) && moved.capacity() == capacity, "a cache that was moved from");
 }
 
+// Entries leave a larger cache in the order in which they would have left before.
+template <class Hash> static void order_is_kept(std::size_t capacity) {
+    cache<std::uint64_t, int, Hash> tried(capacity), before(capacity);
+    std::uint64_t state = capacity;
+    for (std::size_t call = 0; call < 20 * capacity; call++) {
+        std::uint64_t draw = drawn(state), key = (draw >> 20) % (2 * capacity);
+        if (draw % 8 == 0) must(tried.erase(key) == before.erase(key), "the same calls");
+        tried.try_emplace(key, 1);
+        before.try_emplace(key, 1);
+    }
+    tried.resize(2 * capacity + 1);
+    must(tried.size() == before.size(), "no entry leaves");
+    while (auto next = before.evict()) {
+        auto left = tried.evict();
+        must(left && left.key() == next.key(), "the order is kept");
+    }
+    must(tried.empty(), "the order is kept to the end");
+}
+
+// A key that left comes back as one that is known, after the cache has grown: it leaves after all that are here.
+static void what_left_is_remembered() {
+    cache<int, int> tried(10);
+    for (int key = 0; key < 10; key++) tried.put(key, key);
+    int gone = tried.push(10, 10).key();
+    tried.resize(20);
+    must(!tried.push(gone, gone) && tried.size() == 11, "it has room");
+    int last = -1;
+    while (auto left = tried.evict()) last = left.key();
+    must(last == gone, "it is known");
+}
+
 // It hits as often as a cache that was made as large, by nine tenths, and keeps the policy that it was given.
 static void larger_is_useful() {
     cache<std::uint64_t, int> large(500, clock2q::policy{100, 50}), tried(50, clock2q::policy{20, 10});
@@ -279,6 +310,12 @@ int main(int, char **arguments) {
     }
     smaller_is_useful();
     larger_is_useful();
+    for (std::size_t capacity : {1, 2, 10, 100, 1000}) {
+        order_is_kept<good>(capacity);
+        order_is_kept<two_bits>(capacity);
+        order_is_kept<constant>(capacity);
+    }
+    what_left_is_remembered();
     longer_history_admits_a_longer_loop();
     weights_are_kept_by_a_resize();
     few_leave();
