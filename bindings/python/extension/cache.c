@@ -263,9 +263,8 @@ static PyMethodDef cache_methods[] = {
      "next_victim($self, /)\n--\n\nReturn the (key, value) pair that popitem would remove, or None."},
     {"resize", (PyCFunction)cache_resize, METH_O,
      "resize($self, maxsize, /)\n--\n\nHold at most maxsize keys from now on.\n\n"
-     "The pairs that are too many leave, in the order of popitem. If maxsize is more than there was ever room for, a\n"
-     "larger cache takes the place of this: the pairs enter it as new keys, in the order of popitem, and other keys\n"
-     "are forgotten."},
+     "The pairs that are too many leave, in the order of popitem. If maxsize is more than there was ever room for,\n"
+     "memory is taken for it. No pair leaves then, each keeps its turn, and keys that left stay remembered."},
     {"expire", WITH_DEFAULT(cache_expire),
      "expire($self, /, time=None)\n--\n\nRemove what has expired, now or at another time, and return a list of those (key, value) pairs."},
     {"clear", (PyCFunction)cache_clear, METH_NOARGS,

@@ -51,13 +51,24 @@ int read_history(PyObject *history, Py_ssize_t most, const char *name, Py_ssize_
     return -1;
 }
 
-int make_slots(const Cache *cache, size_t capacity, clock2q_tokens *slots, size_t *size) {
+int make_slots(Cache *cache, size_t capacity) {
     clock2q_memory before = begin_count();
     uint32_t status = cache->history < 0
-                          ? clock2q_tokens_new(slots, capacity)
-                          : clock2q_tokens_with_history(slots, capacity, usual_small(capacity), usual_window(capacity),
+                          ? clock2q_tokens_new(&cache->slots, capacity)
+                          : clock2q_tokens_with_history(&cache->slots, capacity, usual_small(capacity), usual_window(capacity),
                                                         (size_t)cache->history);
-    *size = end_count(before);
+    end_count(before, &cache->slots_size);
+    return made_slots(status);
+}
+
+int grow_slots(Cache *cache, size_t capacity) {
+    if (cache->capacity == 0) return make_slots(cache, capacity);
+    clock2q_memory before = begin_count();
+    uint32_t status = cache->history < 0
+                          ? clock2q_tokens_grow(&cache->slots, capacity)
+                          : clock2q_tokens_grow_with_history(&cache->slots, capacity, usual_small(capacity),
+                                                             usual_window(capacity), (size_t)cache->history);
+    end_count(before, &cache->slots_size);
     return made_slots(status);
 }
 
@@ -66,7 +77,7 @@ static int make_first_slots(Cache *self, Py_ssize_t maxsize, PyObject *history) 
     if (may_make_slots(self->is_made, maxsize, 0, "maxsize") < 0) return -1;
     if (read_history(history, maxsize, "maxsize", &self->history) < 0) return -1;
     self->capacity = self->maxsize = (size_t)maxsize;
-    return maxsize == 0 ? 0 : make_slots(self, self->capacity, &self->slots, &self->slots_size);
+    return maxsize == 0 ? 0 : make_slots(self, self->capacity);
 }
 
 /* Keeps an object if it isn't None. */

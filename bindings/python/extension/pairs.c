@@ -45,21 +45,36 @@ int may_make_slots(int is_made, Py_ssize_t capacity, Py_ssize_t least, const cha
     return -1;
 }
 
+/* How much the library has more than as a count began. Before each block is its size. */
 static size_t counted;
 
+typedef union {
+    size_t size;
+    char aligned[16];
+} counted_block;
+
 static void *count_and_take(size_t size) {
+    counted_block *block = size > SIZE_MAX - sizeof *block ? NULL : PyMem_Malloc(sizeof *block + size);
+    if (block == NULL) return NULL;
+    block->size = size;
     counted += size;
-    return PyMem_Malloc(size);
+    return block + 1;
+}
+
+static void count_and_give_back(void *start) {
+    counted_block *block = (counted_block *)start - 1;
+    counted -= block->size;
+    PyMem_Free(block);
 }
 
 clock2q_memory begin_count(void) {
     counted = 0;
-    return clock2q_use_memory(&(clock2q_memory){count_and_take, PyMem_Free});
+    return clock2q_use_memory(&(clock2q_memory){count_and_take, count_and_give_back});
 }
 
-size_t end_count(clock2q_memory before) {
+void end_count(clock2q_memory before, size_t *size) {
     clock2q_use_memory(&before);
-    return counted;
+    *size += counted;
 }
 
 int made_slots(uint32_t status) {

@@ -214,9 +214,8 @@ PyObject *cache_next_victim(Cache *self, PyObject *unused);
  * memory. */
 int resize_pairs(Cache *cache, size_t maxsize);
 
-/* Has at most `maxsize` pairs be there, for which there aren't slots: those that are there enter others, in the order in
- * which they would leave, and other keys are forgotten. Returns -1 with an exception, and the cache as it was, if there
- * is no memory or a key has no hash. */
+/* Has at most `maxsize` pairs be there, for which there aren't slots yet. Each stays at its slot, and what left is
+ * remembered. It runs no other code. Returns -1 with an exception, and the cache as it was, if there is no memory. */
 int grow_pairs(Cache *cache, size_t maxsize);
 
 /* Takes out the pair at a slot. The caller drops it. */
@@ -253,13 +252,15 @@ static inline size_t usual_window(size_t capacity) {
  * so many. */
 int read_history(PyObject *history, Py_ssize_t most, const char *name, Py_ssize_t *number);
 
-/* Takes the memory for slots with the cache's history, and counts it. Returns -1 with an exception if there is none. */
-int make_slots(const Cache *cache, size_t capacity, clock2q_tokens *slots, size_t *size);
+/* Takes the memory for the cache's slots with its history, or for more of them, and counts it. Returns -1 with an exception
+ * if there is none. */
+int make_slots(Cache *cache, size_t capacity);
+int grow_slots(Cache *cache, size_t capacity);
 
-/* Has the library take its memory where tracemalloc sees it, and counts that. The second returns how much it was, and
- * is given what the first returned. No other code runs between them. */
+/* Has the library take its memory where tracemalloc sees it, and counts that. The second adds how much more it has than
+ * before, and is given what the first returned. No other code runs between them. */
 clock2q_memory begin_count(void);
-size_t end_count(clock2q_memory before);
+void end_count(clock2q_memory before, size_t *size);
 
 /* Raises a KeyError. */
 void set_key_error(PyObject *key);

@@ -5,7 +5,7 @@ import sys
 import unittest
 
 from clock2q import Cache
-from keys import Key, SameHash, UnhashableNow
+from keys import Acting, Key, SameHash, UnhashableNow
 
 
 class GrowingTest(unittest.TestCase):
@@ -47,45 +47,58 @@ class GrowingTest(unittest.TestCase):
         cache["d"] = 9
         self.assertEqual((left[2:], cache.weight), ([("c", 4, "evicted")], 9))
 
-    def test_hashes_that_raise(self):
+    def test_the_order_stays(self):
+        """Pairs leave a larger cache as they would have left before."""
+        draws = random.Random(2)
+        for kind in (int, Key, SameHash):
+            for capacity in (1, 2, 3, 10, 100):
+                grown, plain = Cache(capacity), Cache(capacity)
+                for number in range(20 * capacity):
+                    key = kind(draws.randrange(2 * capacity))
+                    for it in (grown, plain):
+                        if number % 7 == 0:
+                            it.pop(key, None)
+                        elif it.get(key) is None:
+                            it[key] = number
+                grown.resize(2 * capacity + 1)
+                self.assertEqual([grown.popitem() for _ in range(len(grown))], [plain.popitem() for _ in range(len(plain))])
+
+    def test_what_left_is_remembered(self):
+        """A key that comes back to the larger cache is known, and leaves after all that are there."""
+        cache = Cache(10)
+        cache.update((number, number) for number in range(10))
+        left = cache.next_victim()[0]
+        cache[10] = 10
+        self.assertNotIn(left, cache)
+        cache.resize(20)
+        cache[left] = left
+        self.assertEqual([cache.popitem()[0] for _ in range(11)][-1], left)
+
+    def test_no_key_is_hashed_or_compared(self):
         self.addCleanup(setattr, UnhashableNow, "is_broken", False)
         cache = Cache(2)
         cache[UnhashableNow(1)] = 1
         UnhashableNow.is_broken = True
-        self.assertRaises(ZeroDivisionError, cache.resize, 5)
+        cache.resize(5)
         UnhashableNow.is_broken = False
-        self.assertEqual((dict(cache.items()), cache.maxsize), ({UnhashableNow(1): 1}, 2))
+        self.assertEqual((dict(cache.items()), cache.maxsize), ({UnhashableNow(1): 1}, 5))
 
-    def test_hashes_that_change_the_cache(self):
-        class Changing(Key):
-            act = staticmethod(lambda: None)
+    def test_comparisons_that_have_it_grow(self):
+        self.addCleanup(setattr, Acting, "act", None)
+        cache = Cache(5)
+        cache.update((Acting(number), number) for number in range(5))
+        sizes = iter((10, 300, 50_000))
+        Acting.act = lambda: [cache.resize(size) for size in (next(sizes, None),) if size]
+        self.assertEqual([cache.get(Acting(number)) for number in range(5)], list(range(5)))
+        self.assertEqual((len(cache), cache.maxsize), (5, 50_000))
 
-            def __hash__(self):
-                Changing.act()
-                return super().__hash__()
-
-            __eq__ = Key.__eq__
-
-        def once(change):
-            def act():
-                Changing.act = staticmethod(lambda: None)
-                change()
-
-            Changing.act = staticmethod(act)
-
-        for change in (lambda: cache.clear(), lambda: cache.popitem(), lambda: cache.resize(1), lambda: cache.resize(50), lambda: cache.__setitem__(8, 8)):
-            cache = Cache(3)
-            cache.update((Changing(number), number) for number in range(3))
-            once(change)
-            cache.resize(10)
-            pairs = dict(cache.items())
-            self.assertEqual(({key: cache[key] for key in pairs}, cache.maxsize), (pairs, 10))
-            cache.update((number, number) for number in range(100, 120))
-            self.assertEqual(len(cache), 10)
-        cache = Cache(3)
-        cache[Changing(1)] = 1
-        Changing.act = staticmethod(lambda: cache.__setitem__(5, 5))
-        self.assertRaises(RuntimeError, cache.resize, 10)
+    def test_from_no_room(self):
+        cache = Cache(0)
+        self.assertRaises(ValueError, cache.__setitem__, 1, 1)
+        cache.resize(2)
+        cache.update({1: 1, 2: 2})
+        cache.resize(4)
+        self.assertEqual((dict(cache.items()), cache.maxsize), ({1: 1, 2: 2}, 4))
 
     def test_references_are_given_back(self):
         key, value = Key(10**9), object()

@@ -45,11 +45,13 @@ class MemoryTest(unittest.TestCase):
             before = tracemalloc.get_traced_memory()[0]
             cache = Cache(maxsize, *arguments)
             cache["a"] = None
-            taken = tracemalloc.get_traced_memory()[0] - before
+            for larger in (maxsize, 2 * maxsize + 1, 5 * maxsize):
+                cache.resize(larger)
+                taken = tracemalloc.get_traced_memory()[0] - before
+                size = sys.getsizeof(cache)
+                self.assertLess(abs(taken - size), 2_000)
+                self.assertGreater(size, 60 * larger)
             tracemalloc.stop()
-            size = sys.getsizeof(cache)
-            self.assertLess(abs(taken - size), 2_000)
-            self.assertGreater(size, 60 * maxsize)
             cache.clear()
             self.assertLess(sys.getsizeof(cache), size)
 

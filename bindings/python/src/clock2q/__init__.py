@@ -68,7 +68,7 @@ class Cache(_extension.Cache, abc.MutableMapping):
     Cache(maxsize, weigher=None, max_weight=None, *, ttl=None, timer=None, listener=None, history=None)
 
     When a new key comes to a full cache, the replacement chooses one that leaves. All memory but that of
-    keys and values is taken when the cache is made and when the first pair is stored. If maxsize is 0, to
+    keys and values is taken when the cache is made or grows and when the first pair is stored. If maxsize is 0, to
     store a pair raises ValueError.
 
     weigher(key, value) returns what a pair weighs, an int from 0, and is called once before it is stored. Pairs
