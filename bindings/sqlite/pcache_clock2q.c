@@ -11,7 +11,7 @@
  * A hit sets a bit in the library, or none, and until the next key enters no bit is cleared and no
  * page grows older. So the library gets only the first of a page's hits between two entries.
  *
- * The index begins small, and is made anew at twice the size as the cache fills. All memory is of
+ * The index begins small, and grows to twice the size as the cache fills. All memory is of
  * SQLite's allocator. What a cache can do without is asked for as benign: the page of a fetch that
  * may fail, a longer table, and an index.
  *
@@ -138,16 +138,16 @@ static void *taken_as_benign(size_t size) {
     return block;
 }
 
-/* Makes an index in SQLite's memory, and has the thread's other caches take theirs where they did.
- * Returns false without memory. */
-static bool is_index_made(clock2q_cache *index, size_t capacity) {
+/* Makes an index, or has the one that is there grow, in SQLite's memory, and has the thread's other caches
+ * take theirs where they did. Returns false without memory. */
+static bool has_index_for(clock2q_cache *index, size_t capacity) {
     const clock2q_memory memory = {taken, given_back};
     begin_benign();
     const clock2q_memory before = clock2q_use_memory(&memory);
-    bool is_made = clock2q_new(index, capacity) == CLOCK2Q_DONE;
+    uint32_t answer = index->at == NULL ? clock2q_new(index, capacity) : clock2q_grow(index, capacity);
     clock2q_use_memory(&before);
     end_benign();
-    return is_made;
+    return answer == CLOCK2Q_DONE;
 }
 
 /* The idle pages. */
@@ -277,7 +277,7 @@ static void make_index(struct cache *cache, size_t capacity) {
     clock2q_cache index = CLOCK2Q_NONE;
     struct page **at = taken_as_benign(capacity * sizeof *at);
     if (at == NULL) return;
-    if (!is_index_made(&index, capacity)) {
+    if (!has_index_for(&index, capacity)) {
         given_back(at);
         return;
     }
@@ -293,11 +293,26 @@ static void make_index(struct cache *cache, size_t capacity) {
     given_back(old_at);
 }
 
+/* Has the index grow to this capacity. Each page keeps its slot. Without memory it stays as it is. */
+static void grow_index(struct cache *cache, size_t capacity) {
+    struct page **at = taken_as_benign(capacity * sizeof *at);
+    if (at == NULL) return;
+    if (!has_index_for(&cache->index, capacity)) {
+        given_back(at);
+        return;
+    }
+    memcpy(at, cache->at, cache->capacity * sizeof *at);
+    memset(at + cache->capacity, 0, (capacity - cache->capacity) * sizeof *at);
+    given_back(cache->at);
+    cache->at = at;
+    cache->capacity = capacity;
+}
+
 static size_t smaller(size_t one, size_t other) {
     return one < other ? one : other;
 }
 
-/* Makes the index when it's needed first, makes it larger when it's full, and smaller when fewer
+/* Makes the index when it's needed first, has it grow when it's full, and makes a smaller one when fewer
  * pages are wanted. */
 static void fit_index(struct cache *cache) {
     size_t largest = cache->is_purgeable ? smaller(cache->wanted, CLOCK2Q_MAX_CAPACITY) : 0;
@@ -308,7 +323,7 @@ static void fit_index(struct cache *cache) {
     } else if (cache->capacity > largest) {
         make_index(cache, largest);
     } else if (cache->capacity < largest && cache->total >= cache->capacity) {
-        make_index(cache, smaller(2 * cache->capacity, largest));
+        grow_index(cache, smaller(2 * cache->capacity, largest));
     }
 }
 

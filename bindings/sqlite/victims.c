@@ -16,7 +16,6 @@ struct model {
     clock2q_cache index;
     size_t capacity, size, pages;
     unsigned at[KEYS]; /* the key of each slot, or 0 */
-    bool was_hit[KEYS + 1];
 };
 
 static uint64_t drawn = 88172645463325252u;
@@ -59,20 +58,12 @@ static void empty(struct model *model) {
     model->capacity = model->pages = 0;
 }
 
-/* Makes the index anew with this capacity: its keys enter by slot, and those that were hit are hit. */
+/* Makes the index, or has it grow. Its keys keep their slots. */
 static void grow(struct model *model, size_t capacity) {
-    unsigned keys[KEYS];
-    size_t slot;
-    memcpy(keys, model->at, sizeof keys);
-    empty(model);
+    clock2q_cache *index = &model->index;
+    uint32_t answer = model->capacity == 0 ? clock2q_new(index, capacity) : clock2q_grow(index, capacity);
+    must(answer == CLOCK2Q_DONE, "no index");
     model->capacity = capacity;
-    must(clock2q_new(&model->index, capacity) == CLOCK2Q_DONE, "no index");
-    for (size_t i = 0; i < KEYS; i++) {
-        if (keys[i] != 0) enter(model, keys[i]);
-    }
-    for (size_t i = 0; i < KEYS; i++) {
-        if (keys[i] != 0 && model->was_hit[keys[i]]) clock2q_find(&model->index, keys[i], &slot);
-    }
 }
 
 /* The index has room for a page more than there are, until it's as large as it may be. */
@@ -81,7 +72,6 @@ static void come(struct model *model, unsigned key) {
     if (capacity > model->size) capacity = model->size;
     if (model->capacity == 0 || (model->pages + 1 >= model->capacity && model->capacity < capacity)) grow(model, capacity);
     enter(model, key);
-    model->was_hit[key] = false;
 }
 
 static void fetch(struct model *model, unsigned key) {
@@ -89,7 +79,7 @@ static void fetch(struct model *model, unsigned key) {
     if (!has(model, key)) {
         come(model, key);
     } else {
-        model->was_hit[key] = clock2q_find(&model->index, key, &slot);
+        clock2q_find(&model->index, key, &slot);
     }
 }
 
