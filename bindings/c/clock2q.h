@@ -213,8 +213,8 @@ uint32_t clock2q_tokens_grow_with_history(clock2q_tokens *cache, size_t capacity
                                           size_t history);
 
 /* Finds the slot that comes after `nth` others among those of the tokens with this hash. Each of them
- * is found for one `nth`, and nothing else; their order is the same until a token enters or leaves.
- * Records nothing. Needs a cache. */
+ * is found for one `nth`, and nothing else; their order is the same until a token enters or leaves, or
+ * the cache grows. Records nothing. Needs a cache. */
 clock2q_found clock2q_tokens_seek(clock2q_tokens *cache, uint64_t hash, size_t nth);
 
 /* Records a hit on the token at this slot and returns true, if there is one; any number will do.
