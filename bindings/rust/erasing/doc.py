@@ -41,4 +41,5 @@ def turned(text, crate, erase_ghosts):
     done = text.done()
     # Links to a crate's page are links to its module's.
     done = re.sub(r'(//[/!][^\n]*)\[crate\]\(crate\)', rf'\1[module](crate::proved::{crate})', done)
-    return re.sub(r'(//[/!][^\n]*\]\()crate::(?!proved)', rf'\1crate::proved::{crate}::', done)
+    links = re.compile(r'\]\(crate::(?!proved)')
+    return re.sub(r'//[/!][^\n]*', lambda comment: links.sub(f'](crate::proved::{crate}::', comment[0]), done)
