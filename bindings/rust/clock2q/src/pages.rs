@@ -90,6 +90,43 @@ impl PageCache {
         Ok(PageCache { cache })
     }
 
+    /// Raises the capacity, with the shares of a cache that [`new`](PageCache::new) makes. Each key keeps its slot and its
+    /// turn to leave, and keys that left stay remembered.
+    ///
+    /// # Errors
+    ///
+    /// [`Refused::Capacity`] and [`Refused::Memory`], and [`Refused::Policy`] if a share would be smaller than it is. The
+    /// cache is as it was then.
+    ///
+    /// ```
+    /// let mut pages = clock2q::PageCache::new(2)?;
+    /// let slot = pages.enter(7).slot;
+    /// pages.grow(1000)?;
+    /// assert!(pages.is_at(slot, 7));
+    /// # Ok::<(), clock2q::Refused>(())
+    /// ```
+    pub fn grow(&mut self, capacity: usize) -> Result<(), Refused> {
+        Ok(self.cache.grow(some(capacity)?)?)
+    }
+
+    /// Raises the capacity, with the shares of [`with_history`](PageCache::with_history).
+    ///
+    /// # Errors
+    ///
+    /// Those of [`grow`](PageCache::grow), and [`Refused::Policy`] if the shares don't fit together.
+    pub fn grow_with_history(
+        &mut self,
+        capacity: usize,
+        small: usize,
+        window: usize,
+        history: usize,
+    ) -> Result<(), Refused> {
+        let capacity = some(capacity)?;
+        Ok(self
+            .cache
+            .grow_with_history(capacity, small, window, history)?)
+    }
+
     /// Returns the slot of a key, after a hit or after giving it one that another key may lose.
     pub fn enter(&mut self, key: u64) -> Place {
         let (slot, occupant) = self.cache.put_slot(key, ());

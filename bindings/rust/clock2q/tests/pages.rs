@@ -13,7 +13,11 @@ fn slots_are_shared_out() {
         let mut pages = PageCache::new(capacity).expect("a cache");
         let mut held = vec![None; capacity];
         let mut draws = Draws(88_172_645_463_325_252);
-        for _ in 0..100_000 {
+        for number in 0..100_000 {
+            if number % 20_000 == 10_000 {
+                held.resize(held.len() + capacity / 2 + 1, None);
+                assert_eq!(pages.grow(held.len()), Ok(()));
+            }
             let key = draws.below(3 * capacity as u64);
             let found = pages.find(key);
             assert_eq!(pages.contains(key), found.is_some());
@@ -38,8 +42,9 @@ fn slots_are_shared_out() {
             assert!(evicted.map_or(true, |key| !pages.contains(key)));
             held[slot] = Some(key);
             assert!(pages.is_at(slot, key));
-            assert!(pages.len() <= capacity);
+            assert!(pages.len() <= pages.capacity());
         }
+        assert_eq!(pages.capacity(), held.len());
     }
 }
 
@@ -78,5 +83,16 @@ fn refusals() {
             .ok(),
         Some(10)
     );
+    let mut pages = PageCache::with_history(10, 3, 2, 6).expect("a cache");
+    for (refused, grown) in [
+        (Refused::Capacity, pages.grow(0)),
+        (Refused::Capacity, pages.grow(MAX_CAPACITY + 1)),
+        (Refused::Policy, pages.grow(20)),
+        (Refused::Policy, pages.grow_with_history(9, 3, 2, 6)),
+        (Refused::Policy, pages.grow_with_history(20, 3, 2, 21)),
+    ] {
+        assert_eq!((grown, pages.capacity()), (Err(refused), 10));
+    }
+    assert_eq!(pages.grow_with_history(20, 3, 2, 6), Ok(()));
     assert_eq!(Refused::Policy.to_string(), "policy refused");
 }
