@@ -4,6 +4,7 @@
 typedef struct {
     PyObject_HEAD
     clock2q_cache slots;
+    Py_ssize_t history; /* how many keys that lost their slots are remembered, or -1 if that wasn't said */
     PyObject *weak_references;
 } Pages;
 
@@ -17,14 +18,14 @@ PyStructSequence_Desc place_description = {
 
 static int pages_init(Pages *self, PyObject *args, PyObject *keywords) {
     static char *names[] = {"capacity", "history", NULL};
-    Py_ssize_t capacity, number;
+    Py_ssize_t capacity;
     PyObject *history = Py_None;
     if (!PyArg_ParseTupleAndKeywords(args, keywords, "n|$O:PageCache", names, &capacity, &history)) return -1;
     if (may_make_slots(self->slots.at != NULL, capacity, 1, "capacity") < 0) return -1;
-    if (read_history(history, capacity, "capacity", &number) < 0) return -1;
+    if (read_history(history, capacity, "capacity", &self->history) < 0) return -1;
     size_t slots = (size_t)capacity;
-    if (number < 0) return made_slots(clock2q_new(&self->slots, slots));
-    return made_slots(clock2q_with_history(&self->slots, slots, usual_small(slots), usual_window(slots), (size_t)number));
+    if (self->history < 0) return made_slots(clock2q_new(&self->slots, slots));
+    return made_slots(clock2q_with_history(&self->slots, slots, usual_small(slots), usual_window(slots), (size_t)self->history));
 }
 
 static void pages_dealloc(Pages *self) {
@@ -124,6 +125,20 @@ static PyObject *pages_capacity(Pages *self, void *unused) {
     return has_slots(self) ? PyLong_FromSize_t(clock2q_capacity(&self->slots)) : NULL;
 }
 
+static PyObject *pages_grow(Pages *self, PyObject *number) {
+    if (!has_slots(self)) return NULL;
+    Py_ssize_t capacity = PyNumber_AsSsize_t(number, PyExc_ValueError), least = (Py_ssize_t)clock2q_capacity(&self->slots);
+    if (capacity == -1 && PyErr_Occurred()) return NULL;
+    if (capacity < least || capacity > CLOCK2Q_MAX_CAPACITY)
+        return PyErr_Format(PyExc_ValueError, "capacity is from %zd to %d", least, CLOCK2Q_MAX_CAPACITY);
+    size_t slots = (size_t)capacity, history = (size_t)self->history;
+    uint32_t status = self->history < 0 ? clock2q_grow(&self->slots, slots)
+                                        : clock2q_grow_with_history(&self->slots, slots, usual_small(slots),
+                                                                    usual_window(slots), history);
+    if (made_slots(status) < 0) return NULL;
+    Py_RETURN_NONE;
+}
+
 static PyMethodDef pages_methods[] = {
     {"enter", (PyCFunction)(void (*)(void))pages_enter, METH_METHOD | METH_FASTCALL | METH_KEYWORDS,
      "enter($self, key, /)\n--\n\nReturn the Place of a key, after a hit or after giving it a slot."},
@@ -137,6 +152,8 @@ static PyMethodDef pages_methods[] = {
      "remove($self, key, /)\n--\n\nTake the slot of a key away. Return False if it has none."},
     {"clear", (PyCFunction)pages_clear, METH_NOARGS,
      "clear($self, /)\n--\n\nTake all slots away, and forget all keys."},
+    {"grow", (PyCFunction)pages_grow, METH_O,
+     "grow($self, capacity, /)\n--\n\nRaise the capacity. Each key keeps its slot, and keys that left stay remembered."},
     {"__reduce__", refuse_copy, METH_NOARGS, NULL},
     {NULL, NULL, 0, NULL}};
 

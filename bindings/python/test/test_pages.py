@@ -41,6 +41,19 @@ class PageCacheTest(unittest.TestCase):
                     self.assertTrue(pages.remove(key))
                     self.assertNotIn(key, pages)
 
+    def test_it_grows(self):
+        for history in (None, 0, 3):
+            pages = PageCache(5, history=history)
+            slots = {key: pages.enter(key).slot for key in range(5)}
+            pages.grow(5)
+            pages.grow(100)
+            self.assertEqual(({key: pages.peek(key) for key in slots}, pages.capacity), (slots, 100))
+            self.assertEqual(sorted(pages.enter(key).slot for key in range(5, 100)), list(range(5, 100)))
+            for capacity in (99, 0, -1, MAX_CAPACITY + 1, 2**70):
+                self.assertRaises(ValueError, pages.grow, capacity)
+            self.assertRaises(TypeError, pages.grow, "100")
+            self.assertEqual((len(pages), pages.capacity), (100, 100))
+
     def test_refusals(self):
         for capacity in (0, -1, MAX_CAPACITY + 1):
             with self.assertRaises(ValueError):
@@ -61,7 +74,7 @@ class PageCacheTest(unittest.TestCase):
 
     def test_without_init(self):
         pages = PageCache.__new__(PageCache)
-        calls = [pages.clear, lambda: pages.enter(1), lambda: pages.find(1), lambda: pages.is_at(0, 1), lambda: pages.remove(1)]
+        calls = [pages.clear, lambda: pages.enter(1), lambda: pages.find(1), lambda: pages.is_at(0, 1), lambda: pages.remove(1), lambda: pages.grow(1)]
         for call in [*calls, lambda: 1 in pages, lambda: len(pages), lambda: pages.capacity]:
             with self.assertRaises(RuntimeError):
                 call()
