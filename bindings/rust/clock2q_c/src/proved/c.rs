@@ -10,6 +10,7 @@
 mod asking;
 mod calls;
 mod evicting;
+mod growing;
 mod handle;
 mod held;
 mod making;
@@ -25,14 +26,15 @@ pub use crate::proved::c::calls::{
     Found, Place, clock2q_at, clock2q_clear, clock2q_enter_key, clock2q_find_key, clock2q_remove,
 };
 pub use crate::proved::c::evicting::clock2q_evict_key;
+pub use crate::proved::c::growing::{clock2q_grow, clock2q_grow_with_history};
 pub use crate::proved::c::handle::Handle;
 pub use crate::proved::c::making::{clock2q_new, clock2q_release, clock2q_with_history, clock2q_with_policy};
 pub use crate::proved::c::status::{BAD_CAPACITY, BAD_POLICY, DONE, NO_MEMORY};
 pub use crate::proved::c::tokens::{
     Admitted, GivenHash, Token, TokensHandle, clock2q_tokens_admit, clock2q_tokens_capacity,
     clock2q_tokens_clear, clock2q_tokens_enter, clock2q_tokens_evict, clock2q_tokens_forget,
-    clock2q_tokens_hit, clock2q_tokens_len, clock2q_tokens_new, clock2q_tokens_next_victim,
-    clock2q_tokens_release, clock2q_tokens_remove, clock2q_tokens_seek,
-    clock2q_tokens_with_history, clock2q_tokens_with_policy,
+    clock2q_tokens_grow, clock2q_tokens_grow_with_history, clock2q_tokens_hit, clock2q_tokens_len,
+    clock2q_tokens_new, clock2q_tokens_next_victim, clock2q_tokens_release, clock2q_tokens_remove,
+    clock2q_tokens_seek, clock2q_tokens_with_history, clock2q_tokens_with_policy,
 };
 pub use crate::proved::c::version::{VERSION, clock2q_version};

@@ -6,6 +6,7 @@ mod debug;
 mod evicting;
 mod fetching;
 mod filling;
+mod growth;
 mod insertion;
 mod iteration;
 mod removal;

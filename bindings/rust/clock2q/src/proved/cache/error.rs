@@ -3,10 +3,10 @@
 
 use crate::proved::rattle::AllocError;
 
-/// The reason why a cache wasn't made, or a list of commands wasn't run.
+/// The reason why a cache wasn't made or its capacity wasn't raised, or a list of commands wasn't run.
 ///
-/// Nothing was done then. Memory that was taken for the cache is given back, and no command has
-/// run.
+/// Nothing was done then. Memory that was taken for a new cache is given back, a cache is as it was,
+/// and no command has run.
 ///
 /// # Example
 ///
@@ -24,10 +24,11 @@ use crate::proved::rattle::AllocError;
 pub enum CacheError {
     /// A request for memory was refused.
     Memory,
-    /// The capacity is above [`MAX_CAPACITY`](crate::proved::cache::MAX_CAPACITY). Only constructors return it.
+    /// The capacity is above [`MAX_CAPACITY`](crate::proved::cache::MAX_CAPACITY). Only constructors,
+    /// [`grow`](crate::proved::cache::Cache::grow) and [`grow_with_history`](crate::proved::cache::Cache::grow_with_history) return it.
     Capacity,
-    /// The chosen shares don't fit together. Only [`with_policy`](crate::proved::cache::Cache::with_policy)
-    /// returns it.
+    /// The chosen shares don't fit together, or one of them is smaller than that of the cache that was
+    /// to grow.
     Policy,
 }
 

@@ -76,4 +76,13 @@ impl Shares {
     pub(crate) fn history(self) -> usize {
         self.history
     }
+
+    /// Returns true if no share is smaller than in `old`.
+    #[inline]
+    pub(crate) fn is_at_least(self, old: Shares) -> bool {
+        old.small <= self.small
+            && old.main() <= self.main()
+            && old.window <= self.window
+            && old.history <= self.history
+    }
 }

@@ -6,6 +6,7 @@ mod asking;
 mod calls;
 mod evicting;
 mod given;
+mod growing;
 mod handle;
 mod held;
 mod making;
@@ -20,6 +21,7 @@ pub use calls::{
 };
 pub use evicting::clock2q_tokens_evict;
 pub use given::GivenHash;
+pub use growing::{clock2q_tokens_grow, clock2q_tokens_grow_with_history};
 pub use handle::TokensHandle;
 pub use making::{
     clock2q_tokens_new, clock2q_tokens_release, clock2q_tokens_with_history,
