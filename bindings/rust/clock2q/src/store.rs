@@ -70,7 +70,9 @@ impl<K, V> Store<K, V> {
             return Err(Refused::Capacity);
         }
         let slots = self.slots.capacity();
-        self.second.reserve_exact(1);
+        self.second
+            .try_reserve_exact(1)
+            .map_err(|_| Refused::Memory)?;
         if capacity > slots {
             self.entries.reserve(capacity)?;
             self.slots.grow(capacity)?;
