@@ -132,6 +132,40 @@ uint32_t (clock2q_bytes_with_history)(clock2q_bytes *handle, size_t capacity, si
     return answer == CLOCK2Q_DONE ? make_over(slots, handle) : answer;
 }
 
+/* Has a cache grow, with three shares or the usual ones for null, to a larger block. */
+static uint32_t grow_to(clock2q_bytes *handle, size_t capacity, const size_t *shares) {
+    struct cache *cache = handle->at;
+    size_t made = clock2q_tokens_capacity(&cache->slots);
+    size_t before = sizeof *cache + made * sizeof(struct held *), size = sizeof *cache + capacity * sizeof(struct held *);
+    if (capacity == 0 || capacity > CLOCK2Q_MAX_CAPACITY) return CLOCK2Q_BAD_CAPACITY;
+    if (capacity < made) return CLOCK2Q_BAD_POLICY;
+    struct cache *larger = cache->memory.take(size);
+    if (larger == NULL) return CLOCK2Q_NO_MEMORY;
+    clock2q_memory others = clock2q_use_memory(&cache->memory);
+    uint32_t answer = shares == NULL ? clock2q_tokens_grow(&cache->slots, capacity)
+                                     : clock2q_tokens_grow_with_history(&cache->slots, capacity, shares[0], shares[1], shares[2]);
+    clock2q_use_memory(&others);
+    if (answer != CLOCK2Q_DONE) {
+        cache->memory.give_back(larger);
+        return answer;
+    }
+    memcpy(larger, cache, before);
+    memset((char *)larger + before, 0, size - before);
+    if (cache->context == cache->secret) larger->context = larger->secret;
+    cache->memory.give_back(cache);
+    handle->at = larger;
+    return CLOCK2Q_DONE;
+}
+
+uint32_t (clock2q_bytes_grow)(clock2q_bytes *handle, size_t capacity) {
+    return grow_to(handle, capacity, NULL);
+}
+
+uint32_t (clock2q_bytes_grow_with_history)(clock2q_bytes *handle, size_t capacity, size_t small, size_t window,
+                                           size_t history) {
+    return grow_to(handle, capacity, (const size_t[]){small, window, history});
+}
+
 bool (clock2q_bytes_use_hash)(clock2q_bytes *handle, clock2q_bytes_hash *hash, const void *context) {
     struct cache *cache = handle->at;
     if (clock2q_tokens_len(&cache->slots) != 0) return false;

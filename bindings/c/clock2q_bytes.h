@@ -59,6 +59,12 @@ uint32_t clock2q_bytes_with_policy(clock2q_bytes *cache, size_t capacity, size_t
 uint32_t clock2q_bytes_with_history(clock2q_bytes *cache, size_t capacity, size_t small, size_t window,
                                     size_t history);
 
+/* Raise the capacity to `capacity` keys, as clock2q_grow and clock2q_grow_with_history do, in memory from where the
+ * cache's was taken, some of which may be asked for before a policy is refused. They need a cache. */
+uint32_t clock2q_bytes_grow(clock2q_bytes *cache, size_t capacity);
+uint32_t clock2q_bytes_grow_with_history(clock2q_bytes *cache, size_t capacity, size_t small, size_t window,
+                                         size_t history);
+
 /* Has a cache hash its keys with a function of yours, which gets `context` each time, and returns true.
  * Returns false, and changes nothing, if there is a key. Needs a cache. */
 bool clock2q_bytes_use_hash(clock2q_bytes *cache, clock2q_bytes_hash *hash, const void *context);
@@ -118,6 +124,9 @@ static inline clock2q_bytes clock2q_bytes_checked_value(clock2q_bytes cache) {
     clock2q_bytes_with_policy(clock2q_bytes_checked(cache, false), capacity, small, window)
 #define clock2q_bytes_with_history(cache, capacity, small, window, history) \
     clock2q_bytes_with_history(clock2q_bytes_checked(cache, false), capacity, small, window, history)
+#define clock2q_bytes_grow(cache, capacity) clock2q_bytes_grow(clock2q_bytes_checked(cache, true), capacity)
+#define clock2q_bytes_grow_with_history(cache, capacity, small, window, history) \
+    clock2q_bytes_grow_with_history(clock2q_bytes_checked(cache, true), capacity, small, window, history)
 #define clock2q_bytes_use_hash(cache, hash, context) \
     clock2q_bytes_use_hash(clock2q_bytes_checked(cache, true), hash, context)
 #define clock2q_bytes_enter(cache, key, length, place) \

@@ -16,6 +16,7 @@ struct run {
     uint64_t *codes;    /* by slot */
     uint64_t number;
     unsigned kind; /* of the hash */
+    size_t most;   /* it doesn't grow from this capacity on */
 };
 
 static uint64_t drawn = 88172645463325252u;
@@ -173,6 +174,23 @@ static bool clears(struct run *run) {
     return clock2q_bytes_len(&run->cache) == 0;
 }
 
+/* Has the cache grow, after which each key is shown at its slot. */
+static bool grows(struct run *run) {
+    size_t before = run->model.capacity;
+    struct shares to = usual_shares(before + (size_t)(draw() % 4));
+    to.history = to.history > run->model.history_share ? to.history : run->model.history_share;
+    bool is_usual = to.history == to.capacity / 2 && draw() % 2 == 0;
+    if (!is_usual) to.history += to.history < to.capacity;
+    uint32_t answer = is_usual ? clock2q_bytes_grow(&run->cache, to.capacity)
+                               : clock2q_bytes_grow_with_history(&run->cache, to.capacity, to.small, to.window, to.history);
+    if (answer != CLOCK2Q_DONE || !model_may_grow(&run->model, to)) return false;
+    run->keys = enlarged(run->keys, before, to.capacity, sizeof *run->keys);
+    run->codes = enlarged(run->codes, before, to.capacity, sizeof *run->codes);
+    for (size_t slot = before; slot < to.capacity; slot++) run->keys[slot] = NOWHERE;
+    model_grow(&run->model, to);
+    return clock2q_bytes_capacity(&run->cache) == to.capacity && lists_keys(run);
+}
+
 static bool call_agrees(struct run *run) {
     long number = (long)(draw() % (3 * run->model.capacity));
     unsigned kind = (unsigned)(draw() % 64);
@@ -183,6 +201,7 @@ static bool call_agrees(struct run *run) {
     if (kind < 60) return removes(run, number);
     if (kind < 62) return draw() % 16 != 0 || lists_keys(run);
     if (kind < 63) return evicts(run);
+    if (run->model.capacity < run->most && draw() % 8 == 0) return grows(run);
     return draw() % 64 != 0 || clears(run);
 }
 
@@ -199,6 +218,7 @@ static bool changes_hash(struct run *run) {
 
 static bool run_agrees(size_t capacity, unsigned kind, size_t calls) {
     struct run run = {.cache = CLOCK2Q_BYTES_NONE, .model = model_of(capacity), .kind = kind};
+    run.most = capacity + capacity / 4 + 8;
     run.keys = calloc(capacity, sizeof *run.keys);
     run.codes = calloc(capacity, sizeof *run.codes);
     if (run.keys == NULL || run.codes == NULL) return false;
@@ -281,6 +301,26 @@ static bool enters_again(clock2q_bytes *cache) {
     return *(const char *)clock2q_bytes_key_at(cache, again.slot).start == key;
 }
 
+/* A cache of four keys grows where it took its memory, and is as it was after each refusal. */
+static bool grows_in_its_memory(clock2q_bytes *cache) {
+    clock2q_bytes_key shown[4];
+    for (size_t slot = 0; slot < 4; slot++) shown[slot] = clock2q_bytes_key_at(cache, slot);
+    long granted = 0, before = blocks;
+    left = -1;
+    if (clock2q_bytes_grow(cache, 0) != CLOCK2Q_BAD_CAPACITY || clock2q_bytes_grow(cache, SIZE_MAX) != CLOCK2Q_BAD_CAPACITY) return false;
+    if (clock2q_bytes_grow(cache, 3) != CLOCK2Q_BAD_POLICY || clock2q_bytes_grow(cache, 5) != CLOCK2Q_BAD_POLICY) return false;
+    for (left = 0; clock2q_bytes_grow_with_history(cache, 40, 2, 1, 20) != CLOCK2Q_DONE; left = ++granted) {
+        if (clock2q_bytes_capacity(cache) != 4 || clock2q_bytes_len(cache) != 4 || blocks != before) return false;
+    }
+    left = -1;
+    bool agrees = granted > 1 && clock2q_bytes_capacity(cache) == 40 && blocks == before;
+    for (size_t slot = 0; slot < 4; slot++) {
+        clock2q_found found = clock2q_bytes_peek(cache, shown[slot].start, shown[slot].length);
+        agrees = agrees && found.is_found && found.slot == slot && clock2q_bytes_key_at(cache, slot).start == shown[slot].start;
+    }
+    return agrees;
+}
+
 static bool refuses(void) {
     const clock2q_memory memory = {take, give_back};
     clock2q_bytes cache = CLOCK2Q_BYTES_NONE;
@@ -291,7 +331,7 @@ static bool refuses(void) {
         agrees = clock2q_bytes_new(&cache, 4) == CLOCK2Q_NO_MEMORY && cache.at == NULL && blocks == 0 && granted < 13;
     }
     left = -1;
-    agrees = agrees && clock2q_use_memory(NULL).take == take && enters_again(&cache);
+    agrees = agrees && clock2q_use_memory(NULL).take == take && enters_again(&cache) && grows_in_its_memory(&cache);
     clock2q_bytes_free(&cache);
     if (!agrees || blocks != 0) printf("refusals differ, or %ld blocks are left\n", blocks);
     return agrees && blocks == 0;
