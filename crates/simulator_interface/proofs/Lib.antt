@@ -2,5 +2,6 @@ mod Amounts
 mod AskedOptions
 mod PolicyNames
 mod WorkedAmounts
+mod WorkedExpected
 mod WorkedShares
 pub mod Zipped

@@ -2,6 +2,7 @@ pub mod Amounts
 pub mod AskedOptions
 pub mod ByteAmounts
 pub mod ChosenShares
+pub mod Expected
 pub mod Help
 pub mod PolicyNames
 pub mod Ratios

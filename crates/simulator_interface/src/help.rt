@@ -26,7 +26,7 @@ sizes, a capacity in bytes, as 64kB, 64MiB or 1GB, is for lru and fifo.
   --size-column=N   takes their sizes in bytes from this one (--help formats)
   --shares=SHARES   gives Clock2Q+ others than small=10%,window=50%,history=50%
   --best-shares     prints the shares that hit most of 24 tried, and their gain
-  --sample=0.01     replays this part of the keys, in caches as much smaller
+  --sample=0.01     replays a part of the keys in smaller caches (SHARDS-adj)
   --skip=COUNT      counts no hits in this many accesses at a trace's beginning
   --window=COUNT    counts the hits of each COUNT accesses, in rows or a picture
   -h, --help        prints this text

@@ -71,7 +71,7 @@ fn write_figures<A: Allocator>(page: &mut Page<A>, outcome: &Outcome<'_, A>, ski
     if let Some(sample) = outcome.sample {
         page.add(", \"sample\": \"");
         page.add_shown(&sample.part());
-        page.add("\"");
+        page.add_number("\", \"all_accesses\": ", summary.all_accesses);
     }
     page.add_number(", \"accesses\": ", summary.accesses);
     if outcome.is_sized {

@@ -1,6 +1,7 @@
 //! The result at one capacity.
-ghost use Rattle.std.specs.Prelude.{◌≡◌};
-ghost use Rattle.simulator_interface.specs.Ratios.{number_of, ratio_of, whole_of};
+ghost use Rattle.std.specs.Prelude.{◌≡◌, ◌+◌, ◌≤◌};
+ghost use Rattle.simulator_interface.specs.Expected.{adjusted};
+ghost use Rattle.simulator_interface.specs.Ratios.{number_of, part_of, ratio_of, whole_of};
 
 use crate::policy::Policy;
 use std::alloc::Allocator;
@@ -71,7 +72,10 @@ pub struct Row<A: Allocator> {
     pub capacity: NonZeroUsize,
     /// The number of counted accesses: those of the trace without the skipped ones.
     pub accesses: usize,
-    /// The sum of their sizes, or 0 if the trace has no sizes.
+    /// The number of accesses that hit ratios are parts of: the counted ones, or of a sample those
+    /// that are expected ([`expected_accesses`](crate::expected_accesses)).
+    pub expected: usize,
+    /// The sum of the sizes of the counted ones, or 0 if the trace has no sizes.
     pub bytes: usize,
     /// The hits with each policy.
     pub hits: Vec<Hits, A>,
@@ -86,7 +90,7 @@ impl<A: Allocator> Row<A> {
     /// Returns what the texts show of the hits with a policy.
     pub(crate) fn figure(&self, hits: &Hits, counted: Counted) -> Figure
         ensures number { result.number ≡ number_of counted hits.now }
-        ensures ratio { result.ratio ≡ ratio_of (number_of counted hits.now) (whole_of counted self.now) }
+        ensures ratio { result.ratio ≡ ratio_of (part_of counted self.now (number_of counted hits.now)) (whole_of counted self.now) }
     {
         let number = counted.of(hits);
         let ratio = match counted {
@@ -96,14 +100,39 @@ impl<A: Allocator> Row<A> {
         Figure { number, ratio }
     }
 
-    /// Returns the hit ratio: `hits` divided by the number of accesses, or 0 for an empty trace.
-    pub fn ratio(&self, hits: usize) -> f64
-        ensures ratio { result ≡ ratio_of hits self.now.accesses }
+    /// Returns the number of expected accesses that hit: `hits`, and those that the counted accesses
+    /// lack of the expected ones, or fewer hits if they have too many. It is `hits` without a sample.
+    pub fn adjusted(&self, hits: usize) -> usize
+        ensures adjusted { result ≡ adjusted self.now.expected self.now.accesses hits }
+        ensures credited { hits ≤ self.now.accesses → self.now.accesses ≤ hits + self.now.expected → result + self.now.accesses ≡ hits + self.now.expected }
+        ensures within { result ≤ self.now.expected }
     {
-        if self.accesses == 0 {
+        let misses = self.accesses.saturating_sub(hits);
+        self.expected.saturating_sub(misses)
+    }
+
+    /// Returns the hit ratio: the expected accesses that hit divided by all expected ones, or 0 if
+    /// there are none. Without a sample it is `hits` divided by the number of accesses.
+    pub fn ratio(&self, hits: usize) -> f64
+        ensures ratio { result ≡ ratio_of (adjusted self.now.expected self.now.accesses hits) self.now.expected }
+    {
+        self.part(self.adjusted(hits))
+    }
+
+    /// Returns what hits gain in the hit ratio over some others.
+    pub(crate) fn gain(&self, hits: usize, others: usize) -> f64 {
+        let others = self.adjusted(others);
+        self.part(self.adjusted(hits).saturating_sub(others))
+    }
+
+    /// Returns a number divided by that of the expected accesses, or 0 if there are none.
+    fn part(&self, number: usize) -> f64
+        ensures part { result ≡ ratio_of number self.now.expected }
+    {
+        if self.expected == 0 {
             return 0.0;
         }
-        nearest_usize_to_f64(hits) / nearest_usize_to_f64(self.accesses)
+        nearest_usize_to_f64(number) / nearest_usize_to_f64(self.expected)
     }
 
     /// Returns the byte hit ratio: `bytes` divided by the sum of the sizes, or 0 if that is 0.

@@ -11,8 +11,10 @@ ghost use Rattle.std.specs.Prelude.{◌≡◌, ◌&&◌, ◌*◌, leb, ltb};
 /// ```
 #[derive(Clone, Copy, Debug, PartialEq, Eq)]
 pub struct Summary {
-    /// The number of accesses.
+    /// The number of accesses: of a sample, to its keys alone.
     pub accesses: usize,
+    /// The number of accesses to keys in the sample and to others.
+    pub all_accesses: usize,
     /// The number of different keys accessed.
     pub keys: usize,
     /// The number of these keys that are accessed once.

@@ -98,6 +98,7 @@ fn write_all_figures<A: Allocator>(page: &mut Page<A>, outcomes: &[Outcome<'_, A
 fn write_figures<A: Allocator>(page: &mut Page<A>, outcome: &Outcome<'_, A>) {
     let Summary {
         accesses,
+        all_accesses,
         keys,
         keys_once,
         bytes,
@@ -105,7 +106,10 @@ fn write_figures<A: Allocator>(page: &mut Page<A>, outcome: &Outcome<'_, A>) {
     if let Some(sample) = outcome.sample {
         page.add("a sample of ");
         page.add_shown(&sample.part());
-        page.add(" of the keys: ");
+        page.add_number(" of the keys in ", all_accesses);
+        page.add(" access");
+        page.add(plural_of(all_accesses));
+        page.add(": ");
     }
     page.add_number("", accesses);
     page.add(" access");
@@ -279,7 +283,7 @@ fn write_best_shares<A: Allocator>(
     width: usize,
 ) {
     page.add_cell(row.ratio(best.hits) * 100.0);
-    page.add_cell(row.ratio(best.hits.saturating_sub(best.usual)) * 100.0);
+    page.add_cell(row.gain(best.hits, best.usual) * 100.0);
     page.add("  ");
     let start = page.len();
     best.write(page);

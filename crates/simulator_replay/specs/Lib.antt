@@ -2,6 +2,7 @@ pub mod BestShares
 pub mod ByteRows
 pub mod CacheRefusals
 pub mod Curves
+pub mod ExpectedRows
 pub mod KnownHits
 pub mod MachineHits
 pub mod RowBytes

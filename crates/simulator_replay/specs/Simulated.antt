@@ -9,6 +9,7 @@ use Rattle.simulator_interface.specs.declared.outcome.Outcome.{Outcome}
 use Rattle.simulator_interface.specs.declared.shares.ChosenShares.{ChosenShares}
 use Rattle.simulator_replay.specs.BestShares.{AreAskedBest}
 use Rattle.simulator_traces.specs.Bytes.{asked_between}
+use Rattle.simulator_replay.specs.ExpectedRows.{AllWindowsAreExpected, AreExpected}
 use Rattle.simulator_replay.specs.RowBytes.{AllHaveBytes, HaveBytes}
 use Rattle.simulator_replay.specs.ByteRows.{AreAskedByteRows}
 use Rattle.simulator_traces.specs.Formats.{Access}
@@ -17,7 +18,7 @@ use Rattle.simulator_traces.specs.Sampled.{sampled}
 use Rattle.simulator_interface.specs.Sample.{scaled, scaled_shares, shown}
 use Rattle.simulator_interface.specs.Written.{IsWritten}
 use Rattle.simulator_traces.specs.Uses.{keys_once}
-use Rattle.simulator_traces.specs.Trace.{AreNumbers, Numbered, keys_of, sizes_of}
+use Rattle.simulator_traces.specs.Trace.{AreNumbers, Numbered, all_accesses, keys_of, sizes_of}
 use Rattle.simulator_replay.specs.Windows.{AreAskedWindows}
 
 -- the trace of the sampled keys alone, without a sample
@@ -46,13 +47,17 @@ module _ (given gives : Traffic) (left remain : Option (List ℕ)) (format : Tra
 
 module _ (given gives : Traffic) (left remain : Option (List ℕ)) where
   -- the whole input was read, and the result is the run on the trace of the sampled keys alone, with every capacity and
-  -- share as much smaller as the sample is
+  -- share as much smaller as the sample is; its hit ratios are parts of the accesses that the sample is expected to have
   pub record IsReplayed {A : Type 0} (tried : List ChosenShares) (options : Options A) (outcome : Outcome A) : Type 0 where
     pub trace : Numbered
     pub read : AreRead given gives left remain options.trace_format trace.accesses
     pub sampled : trace.sample ≡ options.sample
     pub run : IsRun tried options (filtered trace) (scaled_shares options.sample options.shares) (map (scaled options.sample) options.capacities.items) outcome
     pub capacities : outcome.capacities.items ≡ map (shown options.sample trace.different) options.capacities.items
+    pub all : outcome.summary.all_accesses ≡ all_accesses trace
+    pub expected : AreExpected trace outcome.rows.items
+    pub expected_in_bytes : AreExpected trace outcome.byte_rows.items
+    pub expected_in_windows : AllWindowsAreExpected trace outcome.windows.items
 
 -- the whole input was read, and a whole text was written and flushed
 pub record IsSimulated (given gives : Traffic) (left remain : Option (List ℕ)) (format : TraceFormat) (took takes : Traffic) (held holds : Option (List ℕ)) : Type 0 where

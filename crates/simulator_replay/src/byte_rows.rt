@@ -3,6 +3,7 @@ ghost use Rattle.std.specs.Prelude.{◌≡◌, IfErr, IfOk, IsTrue, Some, is_som
 ghost use Rattle.simulator_interface.specs.PolicyNames.{has_bytes};
 ghost use Rattle.std.specs.NonZero.{non_zero_usize_get};
 ghost use Rattle.simulator_replay.specs.ByteRows.{AreByteHits, AreByteRows, in_bytes, IsByteRow};
+ghost use Rattle.simulator_replay.specs.ExpectedRows.{AreExpected, IsExpected};
 ghost use Rattle.simulator_interface.specs.SimulationError.{IsOfNoDevice};
 ghost use Rattle.simulator_traces.specs.Trace.{sizes_of};
 
@@ -33,6 +34,7 @@ pub fn byte_rows_of<A: Allocator + Copy>(
     requires sized { IsTrue trace.now.is_sized }
     ensures rows { IfOk result (λ rows. AreByteRows skipped trace.now.numbers (sizes_of trace.now)
         policies.now capacities.now rows.items) }
+    ensures expected { IfOk result (λ rows. AreExpected trace.now rows.items) }
     ensures devices { IfErr result IsOfNoDevice }
 {
     let mut rows = Vec::new(alloc);
@@ -58,6 +60,7 @@ fn byte_row_of<A: Allocator + Copy>(
     ensures row { IfOk result (IsByteRow skipped trace.now.numbers (sizes_of trace.now)
         policies.now) }
     ensures capacity { IfOk result (λ row. row.capacity ≡ capacity) }
+    ensures expected { IfOk result (IsExpected trace.now) }
     ensures devices { IfErr result IsOfNoDevice }
 {
     let mut hits = Vec::new(alloc);
@@ -72,9 +75,11 @@ fn byte_row_of<A: Allocator + Copy>(
         }
     }
     let accesses = trace.numbers().len();
+    let counted = accesses.saturating_sub(skipped);
     Ok(Row {
         capacity,
-        accesses: accesses.saturating_sub(skipped),
+        accesses: counted,
+        expected: trace.expected(counted),
         bytes: asked_bytes(trace.sizes(), skipped, accesses),
         hits,
     })

@@ -6,6 +6,7 @@ ghost use Rattle.simulator_interface.specs.SimulationError.{IsOfNoDevice};
 ghost use Rattle.simulator_traces.specs.Trace.{sizes_of};
 ghost use Rattle.simulator_replay.specs.BestShares.{AreAskedBest};
 ghost use Rattle.simulator_replay.specs.ByteRows.{AreAskedByteRows};
+ghost use Rattle.simulator_replay.specs.ExpectedRows.{AllWindowsAreExpected, AreExpected};
 ghost use Rattle.simulator_replay.specs.RowBytes.{AllHaveBytes, HaveBytes};
 ghost use Rattle.simulator_replay.specs.Rows.{AreRows};
 ghost use Rattle.simulator_replay.specs.Simulated.{IsReplayed, filtered};
@@ -111,6 +112,7 @@ fn asked_rows<P: Write, C: Clock, A: Allocator + Copy>(
         (map (scaled options.now.sample) options.now.capacities.items) rows.items) }
     ensures bytes { IfOk result (λ rows. HaveBytes (scaled_shares options.now.sample options.now.shares) trace.now.numbers
         (sizes_of trace.now) options.now.skipped rows.items) }
+    ensures expected { IfOk result (λ rows. AreExpected trace.now rows.items) }
     ensures devices { IfErr result IsOfNoDevice }
 {
     let capacities = all_scaled(alloc, options.sample, &options.capacities)?;
@@ -163,6 +165,7 @@ fn asked_byte_rows<A: Allocator + Copy>(
 ) -> Result<Vec<Row<A>, A>, SimulationError>
     ensures rows { IfOk result (λ rows. AreAskedByteRows options.now.skipped (filtered trace.now)
         options.now.policies.items options.now.byte_capacities.items rows.items) }
+    ensures expected { IfOk result (λ rows. AreExpected trace.now rows.items) }
     ensures devices { IfErr result IsOfNoDevice }
 {
     if !trace.has_sizes() {
@@ -188,6 +191,7 @@ fn asked_windows<A: Allocator + Copy>(
         (scaled_shares options.now.sample options.now.shares) trace.now.numbers options.now.skipped options.now.window rows.now all.items) }
     ensures bytes { IfOk result (λ all. AllHaveBytes (scaled_shares options.now.sample options.now.shares) trace.now.numbers
         (sizes_of trace.now) all.items) }
+    ensures expected { IfOk result (λ all. AllWindowsAreExpected trace.now all.items) }
     ensures devices { IfErr result IsOfNoDevice }
 {
     let Some(size) = options.window else {

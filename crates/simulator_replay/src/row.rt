@@ -4,6 +4,7 @@ ghost use Rattle.std.specs.NonZero.{non_zero_usize_get};
 ghost use Rattle.clock2q_machine.specs.Hits.{hit_count};
 ghost use Rattle.simulator_interface.specs.SimulationError.{IsOfNoDevice};
 ghost use Rattle.simulator_traces.specs.Trace.{sizes_of};
+ghost use Rattle.simulator_replay.specs.ExpectedRows.{IsExpected};
 ghost use Rattle.simulator_replay.specs.KnownHits.{AreKnown};
 ghost use Rattle.simulator_replay.specs.RowBytes.{AreBytes, HasBytes};
 ghost use Rattle.simulator_replay.specs.Rows.{AreHitsAfter, IsReplay, IsRow};
@@ -37,6 +38,7 @@ pub fn replay<A: Allocator + Copy>(
 ) -> Result<Row<A>, SimulationError>
     ensures row { IfOk result (IsRow policies.now shares skipped trace.now.numbers (non_zero_usize_get capacity)) }
     ensures bytes { IfOk result (HasBytes shares trace.now.numbers (sizes_of trace.now) (non_zero_usize_get capacity) skipped (length trace.now.numbers)) }
+    ensures expected { IfOk result (IsExpected trace.now) }
     ensures devices { IfErr result IsOfNoDevice }
 {
     let known = KnownHits::NONE;
@@ -56,6 +58,7 @@ pub(crate) fn replay_with_known<A: Allocator + Copy>(
     requires known { AreKnown skipped trace.now.numbers (non_zero_usize_get capacity) known }
     ensures row { IfOk result (IsRow policies.now shares skipped trace.now.numbers (non_zero_usize_get capacity)) }
     ensures bytes { IfOk result (HasBytes shares trace.now.numbers (sizes_of trace.now) (non_zero_usize_get capacity) skipped (length trace.now.numbers)) }
+    ensures expected { IfOk result (IsExpected trace.now) }
     ensures devices { IfErr result IsOfNoDevice }
 {
     let mut hits = Vec::new(alloc);
@@ -67,9 +70,11 @@ pub(crate) fn replay_with_known<A: Allocator + Copy>(
         }
     }
     let accesses = trace.numbers().len();
+    let counted = accesses.saturating_sub(skipped);
     Ok(Row {
         capacity,
-        accesses: accesses.saturating_sub(skipped),
+        accesses: counted,
+        expected: trace.expected(counted),
         bytes: asked_bytes(trace.sizes(), skipped, accesses),
         hits,
     })

@@ -4,6 +4,7 @@ ghost use Rattle.std.specs.NonZero.{non_zero_usize_get};
 ghost use Rattle.simulator_interface.specs.Amounts.{IsFor, keys_of};
 ghost use Rattle.simulator_interface.specs.SimulationError.{IsOfNoDevice};
 ghost use Rattle.simulator_traces.specs.Trace.{sizes_of};
+ghost use Rattle.simulator_replay.specs.ExpectedRows.{AreExpected};
 ghost use Rattle.simulator_replay.specs.RowBytes.{HaveBytes};
 ghost use Rattle.simulator_replay.specs.Rows.{AreRows};
 ghost use Rattle.simulator_replay.specs.Simulated.{IsSimulated};
@@ -86,6 +87,7 @@ pub fn rows_of<P: Write, C: Clock, A: Allocator + Copy>(
 ) -> Result<Vec<Row<A>, A>, SimulationError>
     ensures rows { IfOk result (λ rows. AreRows policies.now shares skipped trace.now capacities.now rows.items) }
     ensures bytes { IfOk result (λ rows. HaveBytes shares trace.now.numbers (sizes_of trace.now) skipped rows.items) }
+    ensures expected { IfOk result (λ rows. AreExpected trace.now rows.items) }
     ensures devices { IfErr result IsOfNoDevice }
 {
     let rooms = rooms_of(alloc, trace, capacities)?;

@@ -5,6 +5,7 @@ ghost use Rattle.std.specs.List.{All};
 ghost use Rattle.simulator_traces.specs.Bytes.{asked_between};
 ghost use Rattle.simulator_interface.specs.SimulationError.{IsOfNoDevice};
 ghost use Rattle.simulator_traces.specs.Trace.{sizes_of};
+ghost use Rattle.simulator_replay.specs.ExpectedRows.{AllWindowsAreExpected, WindowsAreExpected};
 ghost use Rattle.simulator_replay.specs.RowBytes.{AllHaveBytes, WindowsHaveBytes};
 ghost use Rattle.simulator_replay.specs.Windows.{counted, AreAllWindows, AreReplays, AreWindows};
 
@@ -34,6 +35,7 @@ pub fn all_windows_of<A: Allocator + Copy>(
 ) -> Result<Vec<Windows<A>, A>, SimulationError>
     ensures windows { IfOk result (λ all. AreAllWindows policies.now shares trace.now.numbers skipped (non_zero_usize_get size) rows.now all.items) }
     ensures bytes { IfOk result (λ all. AllHaveBytes shares trace.now.numbers (sizes_of trace.now) all.items) }
+    ensures expected { IfOk result (λ all. AllWindowsAreExpected trace.now all.items) }
     ensures devices { IfErr result IsOfNoDevice }
 {
     let mut all = Vec::new(alloc);
@@ -74,6 +76,7 @@ pub fn windows_of<A: Allocator + Copy>(
         (non_zero_usize_get capacity) (non_zero_usize_get size) windows.items) }
     ensures bytes { IfOk result (λ windows. WindowsHaveBytes shares trace.now.numbers (sizes_of trace.now)
         (non_zero_usize_get capacity) windows.items) }
+    ensures expected { IfOk result (λ windows. WindowsAreExpected trace.now windows.items) }
     ensures devices { IfErr result IsOfNoDevice }
 {
     let replays = replays_of(alloc, capacity, policies, shares, trace)?;
@@ -83,7 +86,9 @@ pub fn windows_of<A: Allocator + Copy>(
     while first < accesses {
         let count = size.get().min(accesses - first);
         let last = first + count;
-        let row = row_between(alloc, capacity, &replays, trace.sizes(), first, last)?;
+        let sizes = trace.sizes();
+        let expected = trace.expected(count);
+        let row = row_between(alloc, capacity, &replays, sizes, first, last, expected)?;
         match windows.push(Window { first, row }) {
             Ok(()) => {}
             Err(_) => return Err(SimulationError::Memory),
@@ -123,6 +128,7 @@ fn row_between<A: Allocator + Copy>(
     sizes: &[usize],
     first: usize,
     last: usize,
+    expected: usize,
 ) -> Result<Row<A>, SimulationError>
     requires order { first ≤ last }
     requires within { All (λ replay. last ≤ length replay.outcomes.items) replays.now }
@@ -130,6 +136,7 @@ fn row_between<A: Allocator + Copy>(
     ensures bytes { IfOk result (λ row. row.bytes ≡ asked_between first last sizes.now) }
     ensures capacity { IfOk result (λ row. row.capacity ≡ capacity) }
     ensures accesses { IfOk result (λ row. row.accesses ≡ last - first) }
+    ensures expected { IfOk result (λ row. row.expected ≡ expected) }
     ensures devices { IfErr result IsOfNoDevice }
 {
     let mut hits = Vec::new(alloc);
@@ -149,6 +156,7 @@ fn row_between<A: Allocator + Copy>(
     Ok(Row {
         capacity,
         accesses: last - first,
+        expected,
         bytes: asked_bytes(sizes, first, last),
         hits,
     })

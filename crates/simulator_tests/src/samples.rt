@@ -90,20 +90,20 @@ const SCALED: [(&str, &str); 6] = [
     ),
 ];
 
-/// A sample's rows are those of a trace of its keys alone in smaller caches, whose shares are as much
+/// A sample's hits are those of a trace of its keys alone in smaller caches, whose shares are as much
 /// smaller too if they are numbers of keys.
 pub(crate) fn replay_as_alone(alloc: Global) -> Result<(), Fail> {
     let sample = Sample::written("0.25").ok_or("no sample")?;
     let (mut all, mut kept) = (String::new(alloc), String::new(alloc));
     push_lines(alloc, &mut all, &mut kept, sample)?;
     for (larger, smaller) in SCALED {
-        have_same_rows(alloc, (larger, &all), (smaller, &kept))?;
+        have_same_hits(alloc, (larger, &all), (smaller, &kept))?;
     }
     Ok(())
 }
 
-/// Checks that a sample of a trace has the rows that the sample has alone.
-fn have_same_rows(
+/// Checks that a sample of a trace has the hits that the sample has alone.
+fn have_same_hits(
     alloc: Global,
     (larger, all): (&str, &str),
     (smaller, kept): (&str, &str),
@@ -111,8 +111,8 @@ fn have_same_rows(
     let sampled = text_of(alloc, larger, all)?;
     let alone = text_of(alloc, smaller, kept)?;
     same_at(
-        rows_after(&sampled, "\"capacity\": 40"),
-        rows_after(&alone, "\"capacity\": 10"),
+        hits_in(alloc, &sampled, "\"capacity\": 40")?.as_str(),
+        hits_in(alloc, &alone, "\"capacity\": 10")?.as_str(),
         larger,
     )
 }
@@ -124,7 +124,13 @@ fn text_of(alloc: Global, line: &str, trace: &str) -> Result<String, Fail> {
     Ok(String::from_utf8(bytes)?)
 }
 
-/// Returns what is written after some words.
-fn rows_after<'a>(text: &'a str, words: &str) -> Option<&'a str> {
-    text.split_once(words).map(|parts| parts.1)
+/// Returns the numbers of hits that are written after some words.
+fn hits_in(alloc: Global, text: &str, words: &str) -> Result<String, Fail> {
+    let mut hits = String::new(alloc);
+    let (_, rows) = text.split_once(words).ok_or("no such capacity")?;
+    for part in rows.split("\"hits\": ").skip(1) {
+        hits.push_str(part.split(',').next().unwrap_or(part))?;
+        hits.push(' ')?;
+    }
+    Ok(hits)
 }

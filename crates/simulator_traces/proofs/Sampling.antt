@@ -1,10 +1,11 @@
 -- The accesses whose keys are in a sample, with one more.
-use Rattle.std.proofs.Common.{◌≡◌, ℕ, Bool, true, false, cond, List, [], ◌∷◌, ◌++◌, append-nil, refl, sym, ap, ◌∙◌}
+use Rattle.std.proofs.Common.{◌≡◌, ℕ, ◌+◌, ◌-◌, ◌^◌, min, Bool, true, false, cond, List, [], ◌∷◌, ◌++◌, length, length-append, append-nil, refl, sym, ap, ◌∙◌, arith}
 use Rattle.std.proofs.lemmas.List.{map-append}
 use Rattle.std.specs.Prelude.{Option, Some, None}
 use Rattle.std.specs.List.{filter}
 use Rattle.std.proofs.lemmas.List.Elements.{filter-append}
 use Rattle.simulator_interface.specs.declared.sample.Sample.{Sample}
+use Rattle.simulator_traces.specs.Bytes.{capped}
 use Rattle.simulator_traces.specs.Formats.{Access}
 use Rattle.simulator_interface.specs.Sample.{is_in_sample}
 use Rattle.simulator_traces.specs.Sampled.{is_sampled, sampled}
@@ -38,3 +39,11 @@ sampled_same None keys key is = absurd (cc)
 sampled_same (Some sample) keys key is =
     let test = λ (access : Access). is_in_sample sample access.key in
     filter-append test keys (key ∷ []) ∙ ap (λ more. filter test keys ++ more) (one_dropped test key is) ∙ append-nil (filter test keys)
+
+-- one more access is counted, in the sample or not
+pub counted_more : (every : List Access) (more : Access) (new : List Access) (all count : ℕ)
+    → new ≡ every ++ more ∷ [] → all ≡ capped (length every) → count ≡ min (all + 1) (2 ^ 64 - 1)
+    → count ≡ capped (length new)
+counted_more every more new all count pushed counted next =
+    let long : length new ≡ length every + 1 = ap length pushed ∙ length-append every (more ∷ []) in
+    omega (arith, long, counted, next)

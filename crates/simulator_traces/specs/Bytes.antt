@@ -8,9 +8,9 @@ hit_bytes [] sizes = 0
 hit_bytes (hit ∷ outcomes) [] = 0
 hit_bytes (hit ∷ outcomes) (size ∷ sizes) = (if hit then size else 0) + hit_bytes outcomes sizes
 
--- a sum of bytes is capped at the largest number of 64 bits
+-- a sum is capped at the largest number of 64 bits
 abbrev pub capped : ℕ → ℕ
-capped bytes = min bytes (2 ^ 64 - 1)
+capped sum = min sum (2 ^ 64 - 1)
 
 -- what belongs to the accesses from one up to another
 abbrev pub between : {X : Type 0} → ℕ → ℕ → List X → List X

@@ -2,6 +2,8 @@
 use Rattle.std.specs.Prelude.{◌≡◌, ℕ, ◌<◌, ◌≤◌, ◌^◌, ◌↔◌, Bool, if◌then◌else◌, List, [], length, map, get_or, slice_get, Option, Some}
 use Rattle.std.specs.List.{Contains}
 use Rattle.simulator_interface.specs.declared.sample.Sample.{Sample}
+use Rattle.simulator_interface.specs.Expected.{expected_among}
+use Rattle.simulator_traces.specs.Bytes.{capped}
 use Rattle.simulator_traces.specs.Formats.{Access}
 use Rattle.simulator_traces.specs.KnownKeys.{AreApart}
 use Rattle.simulator_traces.specs.Sampled.{sampled}
@@ -28,6 +30,14 @@ kept_sizes is_sized accesses = if is_sized then map (λ access. access.size) acc
 
 abbrev pub sizes_of : Numbered → List ℕ
 sizes_of trace = kept_sizes trace.is_sized (sampled trace.sample trace.accesses)
+
+-- the number of accesses to keys in the sample and to others
+abbrev pub all_accesses : Numbered → ℕ
+all_accesses trace = capped (length trace.accesses)
+
+-- the accesses that hit ratios of some of the trace's accesses are parts of
+abbrev pub expected_of : Numbered → ℕ → ℕ
+expected_of trace counted = expected_among trace.sample (all_accesses trace) (length trace.numbers) counted
 
 -- there is a number for each key; equal keys have the same one, and different keys different ones
 pub record AreNumbers (keys : List (List ℕ)) (numbers : List ℕ) : Type 0 where
@@ -56,12 +66,14 @@ pub record IsNumbering (known : List (List ℕ)) (numbers : List ℕ) (keys : Li
   pub each : (place : ℕ) → place < length keys → slice_get known (get_or numbers place 0) ≡ Some (get_or keys place [])
   pub used : AreUsed numbers (length known)
 
--- the numbers of the keys of accesses, and the sizes that are kept
-pub record IsTraceOf (accesses : List Access) (is_sized : Bool) (numbers sizes : List ℕ) (different : ℕ) : Type 0 where
+-- the numbers of the keys of sampled accesses, the sizes that are kept, and the number of all accesses
+pub record IsTraceOf (accesses : List Access) (is_sized : Bool) (numbers sizes : List ℕ) (different : ℕ) (every : List Access) (all : ℕ) : Type 0 where
   pub numbered : AreNumbersOf (keys_of accesses) numbers different
   pub kept : sizes ≡ kept_sizes is_sized accesses
+  pub counted : all ≡ capped (length every)
 
 -- the same while keys are added
-pub record IsGrowing (accesses : List Access) (is_sized : Bool) (known : List (List ℕ)) (numbers sizes : List ℕ) : Type 0 where
+pub record IsGrowing (accesses : List Access) (is_sized : Bool) (known : List (List ℕ)) (numbers sizes : List ℕ) (every : List Access) (all : ℕ) : Type 0 where
   pub numbered : IsNumbering known numbers (keys_of accesses)
   pub kept : sizes ≡ kept_sizes is_sized accesses
+  pub counted : all ≡ capped (length every)

@@ -2,7 +2,7 @@
 ghost use Rattle.std.specs.Prelude.{◌≡◌, IfOk, length};
 ghost use Rattle.simulator_traces.specs.Bytes.{asked_between};
 ghost use Rattle.simulator_traces.specs.Uses.{keys_once, ones};
-ghost use Rattle.simulator_traces.specs.Trace.{sizes_of};
+ghost use Rattle.simulator_traces.specs.Trace.{all_accesses, sizes_of};
 
 use crate::sums::asked_bytes;
 use crate::trace::Trace;
@@ -16,6 +16,7 @@ use std::alloc::{AllocError, Allocator};
 /// `AllocError` if a request for memory is refused.
 pub fn summary_of<A: Allocator + Copy>(alloc: A, trace: &Trace<A>) -> Result<Summary, AllocError>
     ensures accesses { IfOk result (λ summary. summary.accesses ≡ length trace.now.numbers) }
+    ensures all { IfOk result (λ summary. summary.all_accesses ≡ all_accesses trace.now) }
     ensures keys { IfOk result (λ summary. summary.keys ≡ trace.now.different) }
     ensures once { IfOk result (λ summary. summary.keys_once ≡ keys_once trace.now.different trace.now.numbers) }
     ensures bytes { IfOk result (λ summary. summary.bytes ≡ asked_between 0 (length trace.now.numbers) (sizes_of trace.now)) }
@@ -28,6 +29,7 @@ pub fn summary_of<A: Allocator + Copy>(alloc: A, trace: &Trace<A>) -> Result<Sum
     }
     Ok(Summary {
         accesses: trace.numbers().len(),
+        all_accesses: trace.all_accesses(),
         keys: trace.key_count(),
         keys_once: ones_in(&uses),
         bytes: asked_bytes(trace.sizes(), 0, trace.numbers().len()),

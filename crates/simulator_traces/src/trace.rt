@@ -2,11 +2,11 @@
 ghost use Rattle.std.specs.Prelude.{◌≡◌, ◌≤◌, ◌^◌, [], ◌∷◌, ◌++◌, ◌<◌, false, true, if◌then◌else◌, IsTrue, None, OnOk, OnErr, length, vec_len, vec_capacity};
 ghost use Rattle.simulator_traces.specs.Formats.{access, unsized};
 ghost use Rattle.simulator_traces.specs.Sampled.{is_sampled};
-ghost use Rattle.simulator_traces.specs.Trace.{AreNumbers, AreNumbersBelow, AreUsed, sampled_keys, sizes_of};
+ghost use Rattle.simulator_traces.specs.Trace.{AreNumbers, AreNumbersBelow, AreUsed, all_accesses, expected_of, sampled_keys, sizes_of};
 
 use crate::known_keys::KnownKeys;
 use clock2q_count::GhostValue;
-use simulator_interface::Sample;
+use simulator_interface::{Sample, expected_accesses};
 use std::alloc::{AllocError, Allocator, Global};
 use std::hash::{BuildHasher, BuildHasherDefault, FoldHasher};
 use std::marker::Model;
@@ -49,6 +49,8 @@ pub struct Trace<A: Allocator> {
     is_sized: bool,
     different: usize,
     sample: Option<Sample>,
+    // The number of accesses to keys in the sample and to others.
+    all_accesses: usize,
     accesses: GhostValue<Accesses>,
 }
 
@@ -60,7 +62,7 @@ impl<A: Allocator> Model for Trace<A> {
 
     ghost view = { λ t. record { accesses = t.accesses.value; sample = t.sample; is_sized = t.is_sized; numbers = t.numbers.items; different = t.different } };
 
-    ghost invariant = { λ t. IsTraceOf (sampled t.sample t.accesses.value) t.is_sized t.numbers.items t.sizes.items t.different };
+    ghost invariant = { λ t. IsTraceOf (sampled t.sample t.accesses.value) t.is_sized t.numbers.items t.sizes.items t.different t.accesses.value t.all_accesses };
 }
 
 impl<A: Allocator> Trace<A> {
@@ -96,6 +98,21 @@ impl<A: Allocator> Trace<A> {
     {
         self.different
     }
+
+    /// Returns the number of accesses to keys in the sample and to others.
+    pub fn all_accesses(&self) -> usize
+        ensures all { result ≡ all_accesses self.now }
+    {
+        self.all_accesses
+    }
+
+    /// Returns the number of accesses that hit ratios of `counted` ones are parts of: those of
+    /// [`expected_accesses`].
+    pub fn expected(&self, counted: usize) -> usize
+        ensures expected { result ≡ expected_of self.now counted }
+    {
+        expected_accesses(self.sample, self.all_accesses, self.numbers.len(), counted)
+    }
 }
 
 /// A trace that keys are still added to. It holds the bytes of the different ones, which the
@@ -117,6 +134,8 @@ pub struct GrowingTrace<S: BuildHasher = DefaultHashBuilder, A: Allocator = Glob
     is_sized: bool,
     known: KnownKeys<S, A>,
     sample: Option<Sample>,
+    // The number of accesses so far to keys in the sample and to others.
+    all: usize,
     accesses: GhostValue<Accesses>,
 }
 
@@ -129,7 +148,7 @@ impl<S: BuildHasher, A: Allocator> Model for GrowingTrace<S, A> {
 
     ghost view = { λ t. record { accesses = t.accesses.value; sample = t.sample; is_sized = t.is_sized; numbers = t.numbers.items; different = length t.known } };
 
-    ghost invariant = { λ t. IsGrowing (sampled t.sample t.accesses.value) t.is_sized t.known t.numbers.items t.sizes.items };
+    ghost invariant = { λ t. IsGrowing (sampled t.sample t.accesses.value) t.is_sized t.known t.numbers.items t.sizes.items t.accesses.value t.all };
 }
 
 impl<A: Allocator + Copy> GrowingTrace<DefaultHashBuilder, A> {
@@ -178,6 +197,7 @@ impl<S: BuildHasher, A: Allocator + Copy> GrowingTrace<S, A> {
             is_sized,
             known: KnownKeys::new(alloc, hasher),
             sample,
+            all: 0,
             accesses: GhostValue::new(&()),
         }
     }
@@ -219,6 +239,7 @@ impl<S: BuildHasher, A: Allocator + Copy> GrowingTrace<S, A> {
     {
         if !is_sampled(self.sample, key) {
             self.accesses.set(&(key, size));
+            self.all = self.all.saturating_add(1);
             return Ok(());
         }
         self.numbers.reserve(1)?;
@@ -227,6 +248,7 @@ impl<S: BuildHasher, A: Allocator + Copy> GrowingTrace<S, A> {
         self.numbers.push_reserved(number);
         keep_size(&mut self.sizes, self.is_sized, size);
         self.accesses.set(&(key, size));
+        self.all = self.all.saturating_add(1);
         Ok(())
     }
 }
@@ -269,6 +291,7 @@ impl<S: BuildHasher + Drop, A: Allocator> GrowingTrace<S, A> {
             is_sized,
             known,
             sample,
+            all,
             accesses,
         } = self;
         Trace {
@@ -277,6 +300,7 @@ impl<S: BuildHasher + Drop, A: Allocator> GrowingTrace<S, A> {
             is_sized,
             different: known.len(),
             sample,
+            all_accesses: all,
             accesses,
         }
     }

@@ -1,6 +1,7 @@
 use Rattle.std.proofs.Common.{◌∙◌, ap, sym, subst, length, map, rules, arith}
 use Rattle.std.specs.NonZero.{non_zero_usize_get}
 use Rattle.std.proofs.lemmas.List.{take_all}
+use Rattle.simulator_replay.specs.ExpectedRows.{IsExpected}
 use Rattle.simulator_replay.specs.RowBytes.{HasBytes}
 use Rattle.simulator_replay.specs.Rows.{IsRow}
 use Rattle.simulator_traces.specs.Trace.{sizes_of}
@@ -19,6 +20,7 @@ loop-index-preserved g c =
           (subst (λ room. HasBytes c.args.shares c.args.trace.now.numbers
           (sizes_of c.args.trace.now) room c.args.skipped (length c.args.trace.now.numbers) row)
           (sym is.capacity) c.in_ok-row.ensures.bytes);
+      expected = All-more (λ row. IsExpected c.args.trace.now row) c.loop-index.rows.items row c.push.new.self.items c.in-Ok.ensures.items c.loop-index.invariant.expected c.in_ok-row.ensures.expected;
       each = All-more (λ row. IsRow c.args.policies.now c.args.shares c.args.skipped c.args.trace.now.numbers (non_zero_usize_get row.capacity) row) c.loop-index.rows.items row c.push.new.self.items
           c.in-Ok.ensures.items c.loop-index.invariant.each (subst (λ room. IsRow c.args.policies.now c.args.shares c.args.skipped c.args.trace.now.numbers room row) (sym is.capacity) is);
     }
@@ -33,5 +35,6 @@ returns g c = record {
     each = c.loop-index.invariant.each;
   };
   bytes = c.loop-index.invariant.bytes;
+  expected = c.loop-index.invariant.expected;
   devices = search rules;
 }

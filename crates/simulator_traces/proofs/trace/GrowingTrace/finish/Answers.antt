@@ -10,4 +10,5 @@ invariant_of-result g c =
     record {
       numbered = subst (AreNumbersOf keys c.self.inside.numbers.items) (sym c.len.ensures.len) (numbers_are c.self.inside.known c.self.inside.numbers.items keys c.self.invariant.numbered);
       kept = c.self.invariant.kept;
+      counted = c.self.invariant.counted;
     }

@@ -4,7 +4,7 @@ use Rattle.simulator_traces.specs.Formats.{access}
 use Rattle.simulator_traces.specs.Sampled.{is_sampled, sampled}
 use Rattle.simulator_traces.specs.Trace.{kept_sizes, keys_of}
 use Rattle.simulator_traces.proofs.Numbering.{numbering_more}
-use Rattle.simulator_traces.proofs.Sampling.{kept_more, sampled_more, sampled_same}
+use Rattle.simulator_traces.proofs.Sampling.{counted_more, kept_more, sampled_more, sampled_same}
 use Rattle.simulator_traces.proofs.trace.GrowingTrace.push_sized.Goals as goal
 
 pub invariant_of-self : goal.invariant_of-self
@@ -14,7 +14,11 @@ invariant_of-self g c =
     let more = access c.args.key.now c.args.size in
     let is : is_sampled sample c.args.key.now ≡ false = sym c.is_sampled.ensures.sampled ∙ c.if-not-is_sampled.true in
     let accesses : sampled sample c.set.new.self.value ≡ sampled sample old = ap (sampled sample) c.set.ensures.value ∙ sampled_same sample old more is in
-    rw accesses c.self.invariant
+    record {
+      numbered = rw accesses c.self.invariant.numbered;
+      kept = rw accesses c.self.invariant.kept;
+      counted = counted_more old more c.set.new.self.value c.self.inside.all c.saturating_add-self-inside.result c.set.ensures.value c.self.invariant.counted c.saturating_add-self-inside.ensures;
+    }
 
 pub invariant_of-self-2 : goal.invariant_of-self-2
 invariant_of-self-2 g c =
@@ -38,4 +42,5 @@ invariant_of-self-2 g c =
           numbered.apart numbered.number numbered.kept numbered.only);
       kept = kept_more c.self.inside.is_sized (sampled sample old) more c.self.inside.sizes.items c.keep_size.new.sizes.items c.self.invariant.kept kept
           ∙ ap (kept_sizes c.self.inside.is_sized) (sym accesses);
+      counted = counted_more old more c.set-2.new.self.value c.self.inside.all c.saturating_add-self-inside-2.result c.set-2.ensures.value c.self.invariant.counted c.saturating_add-self-inside-2.ensures;
     }
