@@ -2,6 +2,8 @@
 //! return, and to have an outcome for each access.
 
 mod arc;
+mod byte_replayed;
+mod byte_sieve;
 mod index_set;
 mod lirs;
 mod lists;
@@ -10,11 +12,13 @@ mod queue;
 mod replayed;
 mod s3_fifo;
 mod sieve;
+mod sized_lists;
 mod sketch;
 mod states;
 mod two_q;
 mod w_tiny_lfu;
 
+pub use byte_replayed::sieve_byte_outcomes;
 pub use lru_2::lru_2_outcomes;
 pub use replayed::{
     arc_outcomes, lirs_outcomes, s3_fifo_outcomes, sieve_outcomes, two_q_outcomes,

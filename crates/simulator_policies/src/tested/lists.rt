@@ -64,6 +64,14 @@ impl<A: Allocator> Lists<A> {
         }
     }
 
+    /// Returns the list of a key, or the number of no list if it is in none.
+    pub(crate) fn list_of(&self, key: u32) -> u8 {
+        match self.nodes.get(key as usize) {
+            Some(node) => node.list,
+            None => NONE,
+        }
+    }
+
     /// Returns the oldest key of a list.
     pub(crate) fn oldest(&self, list: u8) -> Option<u32> {
         self.newer(self.ring(list))
