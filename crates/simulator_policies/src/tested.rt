@@ -2,6 +2,7 @@
 //! return, and to have an outcome for each access.
 
 mod arc;
+mod byte_clock;
 mod byte_replayed;
 mod byte_sieve;
 mod index_set;
@@ -18,7 +19,7 @@ mod states;
 mod two_q;
 mod w_tiny_lfu;
 
-pub use byte_replayed::sieve_byte_outcomes;
+pub use byte_replayed::{clock_byte_outcomes, sieve_byte_outcomes};
 pub use lru_2::lru_2_outcomes;
 pub use replayed::{
     arc_outcomes, lirs_outcomes, s3_fifo_outcomes, sieve_outcomes, two_q_outcomes,

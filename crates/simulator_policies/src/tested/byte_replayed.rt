@@ -1,6 +1,7 @@
 //! Policies that go through a trace with sizes, in caches for a number of bytes.
 ghost use Rattle.std.specs.Prelude.{◌≡◌, IfOk, length};
 
+use crate::tested::byte_clock::ByteClock;
 use crate::tested::byte_sieve::ByteSieve;
 use std::alloc::{AllocError, Allocator};
 
@@ -62,4 +63,35 @@ pub fn sieve_byte_outcomes<A: Allocator + Copy>(
     ensures long { IfOk result (λ outcomes. length outcomes.items ≡ length trace.now) }
 {
     byte_outcomes_of(alloc, ByteSieve::new(alloc, capacity, keys)?, trace, sizes)
+}
+
+/// Returns whether each access of a trace hits in a new CLOCK cache, of 'A Paging Experiment with the
+/// Multics System' (1968), for `capacity` bytes. Sizes are those of [`sieve_byte_outcomes`].
+///
+/// # Errors
+///
+/// `AllocError` if a request for memory is refused.
+///
+/// # Cost
+///
+/// That of [`sieve_byte_outcomes`].
+///
+/// # Example
+///
+/// ```
+/// let (trace, sizes) = ([0, 1, 0, 2, 0], [40, 50, 40, 30, 40]); // the hand evicts 1 for 2
+/// let outcomes = clock_byte_outcomes(rt.alloc(), 100, &trace, &sizes, 3)?;
+/// assert_eq!(rt; outcomes.as_slice(), [false, false, true, false, true].as_slice());
+/// ```
+pub fn clock_byte_outcomes<A: Allocator + Copy>(
+    alloc: A,
+    capacity: usize,
+    trace: &[u32],
+    sizes: &[usize],
+    keys: u32,
+) -> Result<Vec<bool, A>, AllocError>
+    requires sized { length sizes.now ≡ length trace.now }
+    ensures long { IfOk result (λ outcomes. length outcomes.items ≡ length trace.now) }
+{
+    byte_outcomes_of(alloc, ByteClock::new(alloc, capacity, keys)?, trace, sizes)
 }
