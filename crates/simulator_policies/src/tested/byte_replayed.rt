@@ -2,6 +2,7 @@
 ghost use Rattle.std.specs.Prelude.{◌≡◌, IfOk, length};
 
 use crate::tested::byte_clock::ByteClock;
+use crate::tested::byte_s3_fifo::ByteS3Fifo;
 use crate::tested::byte_sieve::ByteSieve;
 use std::alloc::{AllocError, Allocator};
 
@@ -94,4 +95,38 @@ pub fn clock_byte_outcomes<A: Allocator + Copy>(
     ensures long { IfOk result (λ outcomes. length outcomes.items ≡ length trace.now) }
 {
     byte_outcomes_of(alloc, ByteClock::new(alloc, capacity, keys)?, trace, sizes)
+}
+
+/// Returns whether each access of a trace hits in a new S3-FIFO cache, of 'FIFO Queues are All You
+/// Need for Cache Eviction' (2023), for `capacity` bytes, of which the small queue has a tenth. As in
+/// libCacheSim a key larger than that tenth isn't admitted, and the keys that are remembered have at
+/// most as many bytes as the main queue has room for. Sizes are otherwise those of
+/// [`sieve_byte_outcomes`].
+///
+/// # Errors
+///
+/// `AllocError` if a request for memory is refused.
+///
+/// # Cost
+///
+/// That of [`sieve_byte_outcomes`].
+///
+/// # Example
+///
+/// ```
+/// let (trace, sizes) = ([0, 1, 0, 1], [10, 11, 10, 11]); // 1 is larger than a tenth
+/// let outcomes = s3_fifo_byte_outcomes(rt.alloc(), 100, &trace, &sizes, 2)?;
+/// assert_eq!(rt; outcomes.as_slice(), [false, false, true, false].as_slice());
+/// ```
+pub fn s3_fifo_byte_outcomes<A: Allocator + Copy>(
+    alloc: A,
+    capacity: usize,
+    trace: &[u32],
+    sizes: &[usize],
+    keys: u32,
+) -> Result<Vec<bool, A>, AllocError>
+    requires sized { length sizes.now ≡ length trace.now }
+    ensures long { IfOk result (λ outcomes. length outcomes.items ≡ length trace.now) }
+{
+    byte_outcomes_of(alloc, ByteS3Fifo::new(alloc, capacity, keys)?, trace, sizes)
 }
