@@ -3,6 +3,7 @@
 
 mod arc;
 mod byte_clock;
+mod byte_clock2q;
 mod byte_replayed;
 mod byte_s3_fifo;
 mod byte_sieve;
@@ -20,7 +21,10 @@ mod states;
 mod two_q;
 mod w_tiny_lfu;
 
-pub use byte_replayed::{clock_byte_outcomes, s3_fifo_byte_outcomes, sieve_byte_outcomes};
+pub use byte_clock2q::ByteShares;
+pub use byte_replayed::{
+    clock_byte_outcomes, clock2q_byte_outcomes, s3_fifo_byte_outcomes, sieve_byte_outcomes,
+};
 pub use lru_2::lru_2_outcomes;
 pub use replayed::{
     arc_outcomes, lirs_outcomes, s3_fifo_outcomes, sieve_outcomes, two_q_outcomes,

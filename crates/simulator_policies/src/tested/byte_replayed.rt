@@ -2,6 +2,7 @@
 ghost use Rattle.std.specs.Prelude.{◌≡◌, IfOk, length};
 
 use crate::tested::byte_clock::ByteClock;
+use crate::tested::byte_clock2q::{ByteClock2Q, ByteShares};
 use crate::tested::byte_s3_fifo::ByteS3Fifo;
 use crate::tested::byte_sieve::ByteSieve;
 use std::alloc::{AllocError, Allocator};
@@ -129,4 +130,40 @@ pub fn s3_fifo_byte_outcomes<A: Allocator + Copy>(
     ensures long { IfOk result (λ outcomes. length outcomes.items ≡ length trace.now) }
 {
     byte_outcomes_of(alloc, ByteS3Fifo::new(alloc, capacity, keys)?, trace, sizes)
+}
+
+/// Returns whether each access of a trace hits in a new Clock2Q+ cache for `capacity` bytes, with
+/// shares of them. Small's oldest keys leave until a new key fits in Small, and those that Main's
+/// hand comes to until it fits in the cache. With sizes of 1 the outcomes are those of a cache for as
+/// many keys with the same shares. Sizes are otherwise those of [`sieve_byte_outcomes`].
+///
+/// # Errors
+///
+/// `AllocError` if a request for memory is refused.
+///
+/// # Cost
+///
+/// That of [`sieve_byte_outcomes`], and 8 bytes a key.
+///
+/// # Example
+///
+/// ```
+/// let (trace, sizes) = ([0, 1, 0, 2, 0], [40, 50, 40, 30, 40]);
+/// let shares = ByteShares::usual(100); // 0 and 1 enter Main, and its hand evicts 1 for 2
+/// let outcomes = clock2q_byte_outcomes(rt.alloc(), 100, shares, &trace, &sizes, 3)?;
+/// assert_eq!(rt; outcomes.as_slice(), [false, false, true, false, true].as_slice());
+/// ```
+pub fn clock2q_byte_outcomes<A: Allocator + Copy>(
+    alloc: A,
+    capacity: usize,
+    shares: ByteShares,
+    trace: &[u32],
+    sizes: &[usize],
+    keys: u32,
+) -> Result<Vec<bool, A>, AllocError>
+    requires sized { length sizes.now ≡ length trace.now }
+    ensures long { IfOk result (λ outcomes. length outcomes.items ≡ length trace.now) }
+{
+    let cache = ByteClock2Q::new(alloc, capacity, shares, keys)?;
+    byte_outcomes_of(alloc, cache, trace, sizes)
 }
