@@ -324,25 +324,191 @@ def optimal(room, trace):
     return outcomes
 
 
-class OfBytes:
-    """LRU or FIFO in a number of bytes, over keys and sizes, newest first. A hit has the size that it came with, and a
-    key with a larger size than the cache isn't held."""
+def total(queue):
+    """The bytes of a queue of lists of a key, a size and a mark."""
+    return sum(entry[1] for entry in queue)
 
-    def __init__(self, room, moves):
-        self.room, self.moves, self.held = room, moves, []
+
+def hit_of(queue, key, most=1):
+    """Marks a key of such a queue if it is there, and returns whether it is."""
+    for entry in queue:
+        if entry[0] == key:
+            entry[2] = min(entry[2] + 1, most)
+            return True
+    return False
+
+
+def swept(queue, room):
+    """Evicts keys without a mark until the queue has room bytes. The keys before them go to the end, with a mark less."""
+    while total(queue) > room:
+        key, size, mark = queue.pop(0)
+        if mark:
+            queue.append([key, size, mark - 1])
+
+
+class OfBytes:
+    """A number of bytes. A key with a larger size than the cache isn't held."""
+
+    def __init__(self, room):
+        self.room, self.queue = room, []
 
     def access(self, key, size):
-        for entry in self.held:
-            if entry[0] == key:
-                if self.moves:
-                    self.held.remove(entry)
-                    self.held.insert(0, entry)
-                return True
+        if self.hit(key):
+            return True
         if size <= self.room:
-            self.held.insert(0, (key, size))
-            while sum(size for _, size in self.held) > self.room:
-                self.held.pop()
+            self.make_room(self.room - size)
+            self.queue.append([key, size, 0])
         return False
+
+
+class ClockOfBytes(OfBytes):
+    def hit(self, key):
+        return hit_of(self.queue, key)
+
+    def make_room(self, room):
+        swept(self.queue, room)
+
+
+class FifoOfBytes(OfBytes):
+    def hit(self, key):
+        return any(entry[0] == key for entry in self.queue)
+
+    def make_room(self, room):
+        while total(self.queue) > room:
+            self.queue.pop(0)
+
+
+class LruOfBytes(FifoOfBytes):
+    def hit(self, key):
+        self.queue.sort(key=lambda entry: entry[0] == key)
+        return bool(self.queue) and self.queue[-1][0] == key
+
+
+class SieveOfBytes(OfBytes):
+    def __init__(self, room):
+        super().__init__(room)
+        self.hand = 0
+
+    def hit(self, key):
+        return hit_of(self.queue, key)
+
+    def make_room(self, room):
+        while total(self.queue) > room:
+            entry = self.queue[self.hand]
+            if entry[2]:
+                entry[2] = 0
+                self.hand += 1
+            else:
+                del self.queue[self.hand]
+            if self.hand == len(self.queue):
+                self.hand = 0
+
+
+def remembered(left, entry, room):
+    """The remembered keys with one more, of which the last have room bytes."""
+    left = [*left, entry]
+    while left and total(left) > room:
+        left = left[1:]
+    return left
+
+
+def recalled(left, key):
+    """Removes a key from those that are remembered, and returns whether it was there."""
+    there = [entry for entry in left if entry[0] == key]
+    for entry in there:
+        left.remove(entry)
+    return bool(there)
+
+
+class S3FifoOfBytes:
+    """No key larger than the small queue is held."""
+
+    def __init__(self, room):
+        self.room, self.tenth = room, max(room // 10, 1)
+        self.small, self.main, self.left = [], [], []
+
+    def access(self, key, size):
+        if hit_of(self.small, key, 3) or hit_of(self.main, key, 3):
+            return True
+        if size > self.tenth:
+            return False
+        while total(self.small) + total(self.main) > self.room - size:
+            self.evict()
+        (self.main if recalled(self.left, key) else self.small).append([key, size, 0])
+        return False
+
+    def evict(self):
+        rest = self.room - self.tenth
+        if total(self.small) < self.tenth:
+            evicted = len(self.main) - 1
+            while len(self.main) > evicted:
+                key, size, mark = self.main.pop(0)
+                self.main += [[key, size, mark - 1]] if mark else []
+            return
+        while self.small:
+            key, size, mark = self.small.pop(0)
+            if mark <= 1:
+                self.left = remembered(self.left, [key, size, 0], rest)
+                return
+            swept(self.main, max(rest - size, 0))
+            self.main.append([key, size, 0])
+
+
+class Clock2QOfBytes:
+    """An entry of the small queue also has the bytes that entered it later, until which it is young."""
+
+    def __init__(self, room, small=None, window=None, history=None):
+        self.room, self.queue, self.main, self.left, self.is_full = room, [], [], [], False
+        self.small = (room > 1 and max(room // 10, 1)) if small is None else small
+        self.window = (self.small + 1) // 2 if window is None else window
+        self.history = room // 2 if history is None else history
+
+    def access(self, key, size):
+        for entry in self.queue:
+            if entry[0] == key:
+                entry[2] = int(entry[3] >= self.window) or entry[2]
+                return True
+        if hit_of(self.main, key):
+            return True
+        if size <= self.room:
+            self.admit(key, size)
+        return False
+
+    def used(self):
+        return total(self.queue) + total(self.main)
+
+    def admit(self, key, size):
+        lacks = total(self.queue) + size > self.small
+        fills = not self.is_full and self.used() + size <= self.room
+        goes_to_main = recalled(self.left, key) or not self.small or (fills and lacks)
+        while self.used() + size > self.room:
+            self.is_full = True
+            self.evict(goes_to_main, size)
+        if goes_to_main:
+            self.main.append([key, size, 0])
+            return
+        for entry in self.queue:
+            entry[3] += size
+        self.queue.append([key, size, 0, 0])
+
+    def evict(self, goes_to_main, size):
+        rest = self.room - self.small
+        if goes_to_main:
+            is_from_main = total(self.main) + size > rest
+        else:
+            is_from_main = total(self.queue) + size <= self.small
+        if self.main and (is_from_main or not self.queue):
+            evicted = len(self.main) - 1
+            while len(self.main) > evicted:
+                key, size, mark = self.main.pop(0)
+                self.main += [[key, size, 0]] if mark else []
+            return
+        key, size, mark, _ = self.queue.pop(0)
+        if mark:
+            swept(self.main, max(rest - size, 0))
+            self.main.append([key, size, 0])
+        else:
+            self.left = remembered(self.left, [key, size, 0], self.history)
 
 
 POLICIES = {
@@ -422,22 +588,36 @@ def show(words, trace, sizes, rows, skipped):
     print(" ".join(words), text, "".join(row + ";" for row in rows) + warning, sep="|")
 
 
-def case_of_bytes(rooms, trace, sizes, skipped=0):
-    """Prints the case of LRU and FIFO in caches for numbers of bytes, beside a policy that isn't defined there."""
-    policies = ("lru", "sieve", "fifo")
+OF_BYTES = {
+    "lru": LruOfBytes,
+    "fifo": FifoOfBytes,
+    "clock": ClockOfBytes,
+    "sieve": SieveOfBytes,
+    "s3fifo": S3FifoOfBytes,
+    "clock2q": Clock2QOfBytes,
+}
+
+
+def byte_row(policies, room, trace, sizes, skipped):
+    """The columns of a row after its capacity, which are empty for a policy that isn't defined in bytes."""
+    row = f",{len(trace) - skipped},{sum(sizes[skipped:])}"
+    for policy in policies:
+        if policy not in OF_BYTES:
+            row += ",,,,"
+            continue
+        cache = OF_BYTES[policy](room)
+        outcomes = [cache.access(key, size) for key, size in zip(trace, sizes)]
+        row += hits(outcomes, sizes, skipped, len(trace))
+    return row
+
+
+def case_of_bytes(rooms, policies, trace, sizes, skipped=0):
+    """Prints the case of policies in caches for numbers of bytes, or of keys that all have one byte."""
     rows = ["capacity,accesses,bytes"]
     rows[0] += "".join(f",{it}_hits,{it}_ratio,{it}_hit_bytes,{it}_byte_ratio" for it in policies)
     for room in rooms:
-        row = f"{room}B,{len(trace) - skipped},{sum(sizes[skipped:])}"
-        for policy in policies:
-            if policy == "sieve":
-                row += ",,,,"
-                continue
-            cache = OfBytes(room, policy == "lru")
-            outcomes = [cache.access(key, size) for key, size in zip(trace, sizes)]
-            row += hits(outcomes, sizes, skipped, len(trace))
-        rows.append(row)
-    words = [*(f"{room}B" for room in rooms), "--csv", "--policies=" + ",".join(policies), f"--skip={skipped}"]
+        rows.append(room + byte_row(policies, int(room.rstrip("B")), trace, sizes, skipped))
+    words = [*rooms, "--csv", "--policies=" + ",".join(policies), f"--skip={skipped}"]
     show(words, trace, sizes, rows, skipped)
 
 
@@ -482,9 +662,11 @@ def main():
             case([*others, "lru", "fifo"], [room], keys, sizes, skipped)
     keys, sizes = sized(3, 300, 90)
     case([*others, "lru", "fifo"], [20], keys, sizes, 20, 40)
+    in_bytes = ["lru", "fifo", "clock", "sieve", "s3fifo", "clock2q"]
     for seed in (2, 5, 11):
-        case_of_bytes([1, 400, 501, 3_000, 100_000], *sized(seed, 500, 60))
-    case_of_bytes([3_000, 800], *sized(4, 500, 60), 100)
+        case_of_bytes(["1B", "400B", "501B", "3000B", "100000B"], ["arc", *in_bytes], *sized(seed, 500, 60))
+    case_of_bytes(["3000B", "800B"], ["arc", *in_bytes], *sized(4, 500, 60), 100)
+    case_of_bytes(["2", "7", "30", "2B", "7B", "30B"], in_bytes, mixed(8, 600, 40), [1] * 600)
 
 
 if __name__ == "__main__":

@@ -30,6 +30,10 @@ policy_named word =
 
 -- the policies that are defined over keys of unequal sizes, in a cache for a number of bytes
 abbrev pub has_bytes : Policy → Bool
+has_bytes Clock2Q = true
+has_bytes Sieve = true
+has_bytes S3Fifo = true
 has_bytes LeastRecentlyUsed = true
 has_bytes FirstInFirstOut = true
+has_bytes Clock = true
 has_bytes _ = false

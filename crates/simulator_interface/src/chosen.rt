@@ -233,6 +233,9 @@ impl<A: Allocator> Chosen<A> {
         if !trace_format.has_sizes() {
             return Err(SimulationError::Argument(ArgumentError::UnsizedBytes, index));
         }
+        if self.shares.is_some_and(|shares| shares.are_counted()) {
+            return Err(SimulationError::Argument(ArgumentError::CountedShares, index));
+        }
         match &self.policies {
             Some(policies) if !policies.iter().any(|policy| policy.has_bytes()) => {
                 Err(SimulationError::Argument(ArgumentError::UndefinedBytes, index))

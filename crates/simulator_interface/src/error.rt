@@ -91,8 +91,11 @@ pub enum ArgumentError {
     #[error("a capacity in bytes, and the traces have no sizes (--help formats)")]
     UnsizedBytes,
     /// It is a capacity in bytes, and no policy is defined there.
-    #[error("a capacity in bytes, for which only lru and fifo are defined")]
+    #[error("a capacity in bytes, for which no policy here is defined (--help formats)")]
     UndefinedBytes,
+    /// It is a capacity in bytes, and the shares of Clock2Q+ are numbers of keys.
+    #[error("a capacity in bytes, with --shares that aren't in percent")]
+    CountedShares,
     /// It is a capacity in bytes, and another argument asks for what has none.
     #[error("a capacity in bytes, not with --window, --svg, --sample or --best-shares")]
     CrowdedBytes,

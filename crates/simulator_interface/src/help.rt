@@ -13,7 +13,7 @@ files, blocks or pages that were asked for. It is a file, or - or nothing for
 standard input. A capacity is how many keys a cache holds, up to 16777215, as
 500, 64k or 1M, or a part of the trace's keys, as 10% or 0.1%. A range, as
 10..1k or 1%..50%, adds 20, 50, 100 and so on between its ends. If keys have
-sizes, a capacity in bytes, as 64kB, 64MiB or 1GB, is for lru and fifo.
+sizes, a capacity can be in bytes, as 64kB, 64MiB or 1GB (--help formats).
 
     printf 'a\\nb\\na\\nc\\nb\\nd\\na\\nb\\n' | clock2q-simulate 2 75%
     zstd -dc trace.zst | clock2q-simulate --svg 1%..50% >hits.svg
@@ -53,9 +53,14 @@ The formats of traces, for --format:
 With sizes each policy has a second figure: the bytes of its hits as a part of
 the bytes asked for. Each access counts with its own size. OPT has the most
 hits, not the most bytes. A capacity in bytes, as 500B, 64kB (64,000) or 64KiB
-(65,536), up to TB and TiB, is for lru and fifo: the other policies aren't
-defined over keys of unequal sizes, and have a dash there. A key keeps the size
-of the access that admitted it, and one larger than the cache isn't admitted.
+(65,536), up to TB and TiB, is for lru and fifo, whose hits are proved there,
+and for clock, sieve, s3fifo and clock2q, whose hits are tested. Others have a
+dash. A key keeps the size of the access that admitted it. One larger than the
+cache isn't admitted; for another one keys are evicted until it fits. Shares
+are of the bytes, and those of clock2q are in percent. Its key is young until
+the window's part of the small queue's bytes were admitted there after it, and
+its history is the keys evicted last that had so many bytes. s3fifo admits no
+key larger than its small queue, a tenth, as libCacheSim does.
 
     clock2q-simulate --format=csv --column=2 --size-column=3 10% trace.csv
     zcat trace.gz | clock2q-simulate 1k -

@@ -105,11 +105,15 @@ impl Policy {
         }
     }
 
-    /// Returns true if the policy is defined for a cache for a number of bytes: LRU and FIFO.
+    /// Returns true if the policy is defined for a cache for a number of bytes.
     pub fn has_bytes(self) -> bool
         ensures defined { result ≡ has_bytes self }
     {
-        matches!(self, Policy::LeastRecentlyUsed | Policy::FirstInFirstOut)
+        match self {
+            Policy::Clock2Q | Policy::Sieve | Policy::S3Fifo => true,
+            Policy::LeastRecentlyUsed | Policy::FirstInFirstOut | Policy::Clock => true,
+            _ => false,
+        }
     }
 
     /// Returns the name by which tables and pictures show the policy.

@@ -80,6 +80,12 @@ impl ChosenShares {
         small < capacity && (small == 0) == (window == 0) && window <= small && history <= capacity
     }
 
+    /// Returns true if one of the shares is a number of keys, other than 0.
+    pub(crate) fn are_counted(self) -> bool {
+        let has_history = self.history.is_some_and(|history| is_counted(history));
+        is_counted(self.small) || is_counted(self.window) || has_history
+    }
+
     /// Returns true if the shares fit together in a cache of a capacity. A percentage is assumed to
     /// fit, since its number of keys isn't known yet.
     fn may_fit(self, capacity: Amount) -> bool
@@ -173,6 +179,11 @@ fn share_named(word: &str, name: &str) -> Option<Amount>
     }
     let share = Amount::written(value)?;
     is_share(share).then_some(share)
+}
+
+/// Returns true if a share is a number of keys, other than 0.
+fn is_counted(share: Amount) -> bool {
+    share.unit == Unit::Keys && share.number > 0
 }
 
 /// Returns true if an amount can be a share.

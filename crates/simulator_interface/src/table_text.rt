@@ -80,7 +80,7 @@ pub(crate) fn row_text<A: Allocator + Copy>(
 fn write_undefined<A: Allocator>(page: &mut Page<A>, options: &Options<A>) {
     let is_undefined = |policy: &Policy| !policy.has_bytes();
     if !options.byte_capacities.is_empty() && options.policies.iter().any(is_undefined) {
-        page.add("-: not defined over keys of unequal sizes, as lru and fifo are\n");
+        page.add("-: not defined over keys of unequal sizes (--help formats)\n");
     }
 }
 

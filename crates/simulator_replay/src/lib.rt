@@ -3,6 +3,7 @@
 
 mod best_shares;
 mod byte_rows;
+mod byte_shares;
 mod clock;
 mod curve;
 mod known_hits;

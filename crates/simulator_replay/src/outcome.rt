@@ -176,6 +176,7 @@ fn asked_byte_rows<A: Allocator + Copy>(
         trace,
         &options.byte_capacities,
         &options.policies,
+        options.shares,
         options.skipped,
     )
 }
