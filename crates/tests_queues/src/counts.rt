@@ -72,7 +72,7 @@ fn come_in_any_order(queues: &mut Queues<&Refusing<Global>>)
 }
 
 /// Plays the runs, and returns the victims of the second and the third one.
-fn play_each(queues: &mut Queues<&Refusing<Global>>) -> (u32, u32)
+fn play_each(queues: &mut Queues<&Refusing<Global>>) -> [u64; 2]
     requires slots { queues.old.slots ≡ 20 }
     requires none { queues.old.made ≡ 0 }
     requires small { queues.old.small ≡ [] }
@@ -82,11 +82,11 @@ fn play_each(queues: &mut Queues<&Refusing<Global>>) -> (u32, u32)
     queues.clear();
     let first = go_round(queues);
     queues.clear();
-    (first, look_twice(queues))
+    [u64::from(first), u64::from(look_twice(queues))]
 }
 
 /// Plays the runs on new queues. What they leave is proved.
-pub(crate) fn count(memory: &Refusing<Global>) -> Result<(u32, u32), AllocError> {
+pub(crate) fn count(memory: &Refusing<Global>) -> Result<[u64; 2], AllocError> {
     let mut queues = Queues::new(memory, 20, 0)?;
     Ok(play_each(&mut queues))
 }

@@ -11,7 +11,7 @@ use clock2q_directory::keys::Keys;
 use clock2q_handles::Table;
 use std::alloc::{AllocError, Global};
 use std::test::Fail;
-use testing::{same, same_at};
+use testing::same;
 
 /// Writes a value through the reference that is lent.
 fn set_value(keys: &mut Keys<u64, u64>, place: u32, value: u64)
@@ -21,8 +21,8 @@ fn set_value(keys: &mut Keys<u64, u64>, place: u32, value: u64)
     *keys.value_mut(place) = value;
 }
 
-/// The keys and values at the first two places, and whether each key equals another one.
-type Held = ([u64; 4], [bool; 2]);
+/// The keys and values at the first two places, and for each key 1 if it equals another one, and otherwise 0.
+type Held = [u64; 6];
 
 /// Returns what is held, and whether each key equals `key`.
 fn held(keys: &mut Keys<u64, u64>, key: u64) -> Held
@@ -30,11 +30,15 @@ fn held(keys: &mut Keys<u64, u64>, key: u64) -> Held
     ensures len { length keys.new.entries ≡ length keys.old.entries }
     ensures room { keys.new.room ≡ keys.old.room }
 {
-    let equal = [keys.key_equals(0, &key), keys.key_equals(1, &key)];
-    (
-        [*keys.key(0), *keys.value(0), *keys.key(1), *keys.value(1)],
-        equal,
-    )
+    let (first, second) = (keys.key_equals(0, &key), keys.key_equals(1, &key));
+    [
+        *keys.key(0),
+        *keys.value(0),
+        *keys.key(1),
+        *keys.value(1),
+        u64::from(first),
+        u64::from(second),
+    ]
 }
 
 /// Replaces the key at the first place, which keeps its value. Returns the old one and its hash, and the
@@ -59,9 +63,9 @@ fn replace_first_value(keys: &mut Keys<u64, u64>) -> u64
 }
 
 /// Replaces one of two keys, overwrites the other, and clears both. Returns what is held before, between and
-/// after the two, the hash and the key that left, the new hash and the value that left, and the numbers of
-/// keys before and after they are cleared.
-fn replace_both(keys: &mut Keys<u64, u64>) -> ([Held; 3], [u64; 4], [usize; 2])
+/// after the two, and then the hash and the key that left, the new hash and the value that left, and the
+/// numbers of keys before and after they are cleared.
+fn replace_both(keys: &mut Keys<u64, u64>) -> [Held; 4]
     requires two { length keys.old.entries ≡ 2 }
     requires room { keys.old.room ≡ 2 }
 {
@@ -70,18 +74,15 @@ fn replace_both(keys: &mut Keys<u64, u64>) -> ([Held; 3], [u64; 4], [usize; 2])
     let then = held(keys, 90);
     let value = replace_first_value(keys);
     keys.put(1, 6, 60, Some(600));
-    let count = keys.len();
+    let count = keys.len() as u64;
     let at_last = held(keys, 90);
     keys.clear();
-    (
-        [at_first, then, at_last],
-        [hash, key, new_hash, value],
-        [count, keys.len()],
-    )
+    let replaced = [hash, key, new_hash, value, count, keys.len() as u64];
+    [at_first, then, at_last, replaced]
 }
 
 /// Two keys are pushed and put, replaced, and cleared.
-fn two_keys(alloc: Global) -> Result<([Held; 3], [u64; 4], [usize; 2]), AllocError> {
+pub(crate) fn two_keys(alloc: Global) -> Result<[Held; 4], AllocError> {
     let mut keys: Keys<u64, u64> = Keys::new(alloc, 2)?;
     keys.push(7, 70, 700);
     keys.put(1, 8, 80, Some(800));
@@ -144,33 +145,10 @@ fn keys_of_one_hash(alloc: Global) -> Result<[Option<u32>; 5], Fail> {
     Ok(places_of(&mut keys, &index))
 }
 
-/// Compares what calls of keys return.
-pub(crate) fn by_place(alloc: Global) -> Result<(), Fail> {
-    let held = [
-        ([70, 700, 80, 800], [true, false]),
-        ([90, 700, 80, 800], [true, false]),
-        ([90, 901, 60, 600], [true, false]),
-    ];
-    same(two_keys(alloc)?, (held, [7, 70, 9, 900], [2, 0]))?;
+/// Compares the places of five keys, of which three are there.
+pub(crate) fn look_up_one_hash(alloc: Global) -> Result<(), Fail> {
     same(
         keys_of_one_hash(alloc)?,
         [Some(0), Some(1), None, Some(2), None],
     )
-}
-
-/// A small index is made for three times as many entries, one of medium size for twice as many, and
-/// a large one for one more.
-pub(crate) fn room_of_an_index() -> Result<(), Fail> {
-    for (entries, room) in [
-        (0, 0),
-        (1, 3),
-        (16_384, 49_152),
-        (16_385, 32_770),
-        (262_144, 524_288),
-        (262_145, 262_146),
-        (16_777_215, 16_777_216),
-    ] {
-        same_at(index_room(entries), room, entries)?;
-    }
-    Ok(())
 }

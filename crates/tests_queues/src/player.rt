@@ -5,7 +5,8 @@ use crate::compared::Difference;
 use crate::history::beside_list;
 use crate::played::{Played, TestedQueues};
 use crate::seeded::beside_lists;
-use crate::verb::{Refusal, Reply, Verb, flag};
+use crate::verb::{Made, Refusal, Reply, Verb, flag};
+use crate::worked::play_worked;
 use std::alloc::{AllocError, Global};
 use testing::{Refusing, SpellingError, number_of, other_than, two_numbers, two_words};
 
@@ -36,9 +37,10 @@ fn play(
     replies: &mut String,
 ) -> Result<(), AllocError> {
     let (made, calls) = line.split_once(';').unwrap_or((line, ""));
-    match made.strip_prefix("history ") {
-        Some(sizes) => play_history(memory, lists, sizes, calls, replies),
-        None => play_queues(memory, lists, made, calls, replies),
+    match Made::named(made) {
+        (Made::History, sizes) => play_history(memory, lists, sizes, calls, replies),
+        (Made::Worked, run) => play_worked(memory, lists, run, replies),
+        (Made::Queues, sizes) => play_queues(memory, lists, sizes, calls, replies),
     }
 }
 
@@ -160,12 +162,12 @@ fn limit_of(word: &str) -> u8 {
 }
 
 /// Returns the slot that a word spells, or 0.
-fn slot_of(word: &str) -> u32 {
+pub(crate) fn slot_of(word: &str) -> u32 {
     word.parse().unwrap_or(0)
 }
 
 /// Writes a reply, or that there is none.
-fn write_reply(reply: Reply, replies: &mut String) -> Result<(), AllocError> {
+pub(crate) fn write_reply(reply: Reply, replies: &mut String) -> Result<(), AllocError> {
     match reply {
         Some(number) => write!(replies, "{number}\n"),
         None => replies.push_str("none\n"),

@@ -1,6 +1,6 @@
 //! Calls of queues and of histories, the words that name them, and what they reply.
 
-use testing::named_in;
+use testing::{named_in, two_words};
 
 /// A call of queues or of a history. Some have a slot or a key.
 #[derive(Clone, Copy)]
@@ -91,5 +91,54 @@ impl Refusal {
     /// Returns what has this name.
     pub(crate) fn named(name: &str) -> Option<Refusal> {
         named_in(REFUSALS, name)
+    }
+}
+
+/// What is made for a line.
+#[derive(Clone, Copy)]
+pub(crate) enum Made {
+    Queues,
+    History,
+    /// What a run in the code makes for itself.
+    Worked,
+}
+
+impl Made {
+    /// Returns what the first words of a line make, and the words that say more.
+    pub(crate) fn named(words: &str) -> (Made, &str) {
+        let (name, rest) = two_words(words);
+        match name {
+            "history" => (Made::History, rest),
+            "worked" => (Made::Worked, rest),
+            _ => (Made::Queues, words),
+        }
+    }
+}
+
+/// A run in the code.
+#[derive(Clone, Copy)]
+pub(crate) enum Run {
+    Counts,
+    Growth,
+    Slot,
+    SlotMore,
+    TwoKeys,
+    /// Not a run, but how much room an index has that is made for some entries.
+    IndexRoom,
+}
+
+const RUNS: &[(&str, Run)] = &[
+    ("counts", Run::Counts),
+    ("growth", Run::Growth),
+    ("slot", Run::Slot),
+    ("slot_more", Run::SlotMore),
+    ("two_keys", Run::TwoKeys),
+    ("index_room", Run::IndexRoom),
+];
+
+impl Run {
+    /// Returns the run with this name.
+    pub(crate) fn named(name: &str) -> Option<Run> {
+        named_in(RUNS, name)
     }
 }
