@@ -311,6 +311,93 @@ class WTinyLfu:
         return True
 
 
+class Clock2Q:
+    """Clock2Q+ with shares: of Small, as a number of keys, of its window and of the history. Each entry of Small has its
+    admissions since, up to the window, and whether it was hit from then on."""
+
+    def __init__(self, room, small, window, history):
+        self.room, self.share, self.window, self.most_left = room, small, window, history
+        self.small, self.main, self.left = [], [], []
+
+    def access(self, key):
+        for entry in self.small:
+            if entry[0] == key:
+                entry[2] = entry[1] == self.window
+                return True
+        if marked(self.main, key, 1):
+            return True
+        came_again = taken(self.left, key)
+        has_room = len(self.small) + len(self.main) < self.room
+        if came_again or self.share == 0 or (has_room and len(self.small) >= self.share):
+            self.join_main(key)
+        else:
+            if not has_room:
+                self.evict()
+            self.admit(key)
+        return False
+
+    def join_main(self, key):
+        if len(self.main) >= self.room - self.share:
+            evict_unmarked(self.main)
+        self.main.append([key, 0])
+
+    def evict(self):
+        """Evicts the oldest key of Small, or of Main if that one moves there."""
+        key, _, hit = self.small.pop(0)
+        if hit:
+            self.join_main(key)
+            return
+        self.left.append(key)
+        del self.left[: max(len(self.left) - self.most_left, 0)]
+
+    def admit(self, key):
+        for entry in self.small:
+            entry[1] = min(entry[1] + 1, self.window)
+        self.small.append([key, 0, False])
+
+
+def percent(part, whole):
+    return max(part * whole // 100, 1)
+
+
+def usual_shares(room):
+    small = percent(10, room) if room > 1 else 0
+    return small, (small + 1) // 2, room // 2
+
+
+def tried_shares():
+    """The shares that are tried, as written: percentages of the capacity, of Small, and of the capacity."""
+    tried = [(small, window, None) for small in (1, 2, 5, 10, 20, 50) for window in (25, 50, 100)]
+    return tried + [(small, 50, history) for small in (1, 10) for history in (0, 25, 90)]
+
+
+def shares_for(room, small, window, history):
+    """The numbers of keys of shares, if they fit together."""
+    keys = percent(small, room)
+    shares = keys, percent(window, min(keys, room)), room // 2 if history is None else history and percent(history, room)
+    return shares if keys < room and shares[1] <= keys and shares[2] <= room else None
+
+
+def spelled(small, window, history):
+    text = f"small={small}%,window={window}%"
+    return text if history is None else f"{text},history={history}%" if history else f"{text},history=0"
+
+
+def best_of(room, trace, skipped):
+    """The hits of the usual shares, the most hits of the tried ones, and the first that have them."""
+    def counted(shares):
+        cache = Clock2Q(room, *shares)
+        return sum([cache.access(key) for key in trace][skipped:])
+
+    usual = counted(usual_shares(room))
+    most, best = usual, "usual"
+    for tried in tried_shares():
+        shares = shares_for(room, *tried)
+        if shares and (found := counted(shares)) > most:
+            most, best = found, spelled(*tried)
+    return usual, most, best
+
+
 def optimal(room, trace):
     """The outcomes of Belady's optimum, which evicts the key that is accessed last or not at all."""
     held, outcomes = [], []
@@ -621,6 +708,17 @@ def case_of_bytes(rooms, policies, trace, sizes, skipped=0):
     show(words, trace, sizes, rows, skipped)
 
 
+def case_of_best_shares(rooms, trace, skipped):
+    """Prints the case of Clock2Q+ beside the shares that hit most."""
+    rows = ["capacity,accesses,clock2q_hits,clock2q_ratio,best_hits,best_ratio,best_shares"]
+    counted = max(len(trace) - skipped, 0)
+    for room in rooms:
+        usual, most, best = best_of(room, trace, skipped)
+        rows.append(f'{room},{counted},{usual},{ratio(usual, counted)},{most},{ratio(most, counted)},"{best}"')
+    words = [*map(str, rooms), "--csv", "--policies=clock2q", f"--skip={skipped}", "--best-shares"]
+    show(words, trace, (), rows, skipped)
+
+
 def drawn(seed):
     """Numbers of 64 bits that a seed determines."""
     while True:
@@ -667,6 +765,8 @@ def main():
         case_of_bytes(["1B", "400B", "501B", "3000B", "100000B"], ["arc", *in_bytes], *sized(seed, 500, 60))
     case_of_bytes(["3000B", "800B"], ["arc", *in_bytes], *sized(4, 500, 60), 100)
     case_of_bytes(["2", "7", "30", "2B", "7B", "30B"], in_bytes, mixed(8, 600, 40), [1] * 600)
+    for skipped in (0, 700, 1_500):
+        case_of_best_shares([1, 2, 10, 21, 100, 300], mixed(7, 1_500, 400), skipped)
 
 
 if __name__ == "__main__":

@@ -6,7 +6,7 @@ use simulator_interface::{
 };
 use std::alloc::{AllocError, Global};
 use std::fmt::{Debug, Display};
-use testing::SpellingError;
+use testing::{SpellingError, named_in};
 
 /// What is asked of a word or of arguments.
 #[derive(Clone, Copy)]
@@ -60,22 +60,12 @@ const QUESTIONS: &[(&str, Question)] = &[
 pub(crate) fn other_answer(alloc: Global, line: &str) -> Result<Option<Vec<u8>>, SpellingError> {
     let (name, rest) = line.split_once('|').unwrap_or((line, ""));
     let (asked, wanted) = rest.split_once('|').unwrap_or((rest, "no bar"));
-    let answer = answer_to(alloc, question_named(name), asked)?;
+    let answer = answer_to(alloc, named_in(QUESTIONS, name), asked)?;
     Ok(if answer.trim_start() == wanted {
         None
     } else {
         Some(answer.into_bytes())
     })
-}
-
-/// Returns the question with a name.
-fn question_named(name: &str) -> Option<Question> {
-    for (word, question) in QUESTIONS {
-        if *word == name {
-            return Some(*question);
-        }
-    }
-    None
 }
 
 /// Returns the answer to a question about a word or arguments.
@@ -128,39 +118,45 @@ fn help_on(alloc: Global, line: &str) -> Result<String, SpellingError> {
     Ok(String::from_str(alloc, name)?)
 }
 
+/// The help texts and their names.
+const HELPS: [(&str, &str); 3] = [
+    ("help", HELP),
+    ("formats", FORMATS_HELP),
+    ("policies", POLICIES_HELP),
+];
+
 /// Returns the name of the first help text with a phrase.
 fn help_with(phrase: &str) -> &'static str {
-    if HELP.contains(phrase) {
-        "help"
-    } else if FORMATS_HELP.contains(phrase) {
-        "formats"
-    } else if POLICIES_HELP.contains(phrase) {
-        "policies"
-    } else {
-        "none"
+    for (name, help) in HELPS {
+        if help.contains(phrase) {
+            return name;
+        }
     }
+    "none"
 }
 
 /// Returns the name of a help text.
 fn name_of_help(text: &str) -> &'static str {
-    if text == HELP {
-        "help"
-    } else if text == FORMATS_HELP {
-        "formats"
-    } else if text == POLICIES_HELP {
-        "policies"
-    } else {
-        "another text"
+    for (name, help) in HELPS {
+        if help == text {
+            return name;
+        }
     }
+    "another text"
 }
 
 /// Returns a choice that arguments make.
 fn choice_of(alloc: Global, choice: Choice, line: &str) -> Result<String, SpellingError> {
     let words = words_of(alloc, line)?;
-    Ok(match parse_options(alloc, &words) {
-        Ok(options) => choice_in(alloc, choice, &options)?,
-        Err(refusal) => format!(in alloc; "{refusal}")?,
-    })
+    Ok(choice_by(alloc, choice, &words)?)
+}
+
+/// Returns a choice that arguments make, or the refusal.
+fn choice_by(alloc: Global, choice: Choice, words: &[String]) -> Result<String, AllocError> {
+    match parse_options(alloc, words) {
+        Ok(options) => choice_in(alloc, choice, &options),
+        Err(refusal) => format!(in alloc; "{refusal}"),
+    }
 }
 
 /// Returns a choice in options.

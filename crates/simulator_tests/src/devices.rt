@@ -1,28 +1,181 @@
-//! Traces from readers and texts to writers that fail at one of their calls.
+//! Traces from readers and texts to writers that fail at one of their calls: cases of a file, a line each.
 
-use crate::player::options_of;
+use crate::player::words_of;
 use clock2q_cache::DefaultHashBuilder;
 use clock2q_ports::Device;
-use simulator_interface::{Progress, SimulationError};
+use simulator_interface::{Progress, SimulationError, parse_options};
 use simulator_replay::simulate;
-use std::alloc::Global;
+use std::alloc::{AllocError, Global};
 use std::io::{Error, ErrorKind, Read, Result as IoResult, Write};
-use std::test::Fail;
-use testing::same;
+use testing::{SpellingError, number_of, spelled};
 
 const TRACE: &[u8] = b"a\nbb\na\n\nbb\n";
 
-/// Each form, and the text that is written for the trace.
-const TEXTS: [(&str, &str); 2] = [
-    (
-        "2 --policies lru",
-        "5 accesses, 3 keys, 1 asked for once, hits in percent, the best of a row with *\ncapacity      LRU\n       2    20.00\n",
-    ),
-    (
-        "2 --csv --policies lru",
-        "capacity,accesses,lru_hits,lru_ratio\n2,5,1,0.2000\n",
-    ),
+/// The errors with which calls fail.
+const KINDS: [ErrorKind; 4] = [
+    ErrorKind::BrokenPipe,
+    ErrorKind::Interrupted,
+    ErrorKind::WouldBlock,
+    ErrorKind::OutOfMemory,
 ];
+
+/// Returns the first plan of a line that a simulation doesn't end by as it should, if there is one.
+pub(crate) fn other_ending(alloc: Global, line: &str) -> Result<Option<Vec<u8>>, SpellingError> {
+    let (words, rest) = line.split_once('|').unwrap_or((line, ""));
+    let (step, text) = rest.split_once('|').unwrap_or((rest, "no bar"));
+    let words = words_of(alloc, words)?;
+    let text = spelled(alloc, text)?;
+    let case = Case {
+        words: &words,
+        text: &text,
+        step: number_of(step) as usize,
+    };
+    Ok(shown(alloc, case.wrong_plan(alloc))?)
+}
+
+/// Returns what debugging shows of a plan, if there is one.
+fn shown(alloc: Global, plan: Option<Plan>) -> Result<Option<Vec<u8>>, AllocError> {
+    match plan {
+        Some(plan) => Ok(Some(format!(in alloc; "{plan:?}")?.into_bytes())),
+        None => Ok(None),
+    }
+}
+
+/// The calls at which the devices fail, from 0 on, and how.
+#[derive(Clone, Copy, Debug)]
+struct Plan {
+    reads: usize,
+    writes: usize,
+    kind: ErrorKind,
+}
+
+/// Arguments, the text that is written for the trace, and the number of bytes that a call moves.
+#[derive(Clone, Copy)]
+struct Case<'a> {
+    words: &'a [String],
+    text: &'a [u8],
+    step: usize,
+}
+
+impl Case<'_> {
+    /// Returns a plan that a simulation doesn't end by as it should.
+    fn wrong_plan(&self, alloc: Global) -> Option<Plan> {
+        for kind in KINDS {
+            let wrong = self.wrong_plan_of(alloc, kind);
+            if wrong.is_some() {
+                return wrong;
+            }
+        }
+        None
+    }
+
+    /// Returns such a plan with this error, or with none.
+    fn wrong_plan_of(&self, alloc: Global, kind: ErrorKind) -> Option<Plan> {
+        match self.wrong_read(alloc, kind) {
+            None => self.wrong_write(alloc, kind),
+            wrong => wrong,
+        }
+    }
+
+    /// Lets each read fail in turn.
+    fn wrong_read(&self, alloc: Global, kind: ErrorKind) -> Option<Plan> {
+        for reads in 0..=self.calls_for(TRACE) {
+            let plan = Plan {
+                reads,
+                writes: usize::MAX,
+                kind,
+            };
+            let ended = self.ended(alloc, plan);
+            if !ended.is_after_read(reads) {
+                return Some(plan);
+            }
+        }
+        None
+    }
+
+    /// Lets each write fail in turn, then the flush, and then nothing.
+    fn wrong_write(&self, alloc: Global, kind: ErrorKind) -> Option<Plan> {
+        let flush = self.calls_for(self.text);
+        for writes in 0..=flush.saturating_add(1) {
+            let plan = Plan {
+                reads: usize::MAX,
+                writes,
+                kind,
+            };
+            let ended = self.ended(alloc, plan);
+            if !self.is_after_write(&ended, writes, flush) {
+                return Some(plan);
+            }
+        }
+        None
+    }
+
+    /// Returns how a simulation with this plan ends.
+    fn ended(&self, alloc: Global, plan: Plan) -> Ended {
+        let mut reader = failing_at(alloc, TRACE, self.step, plan.reads, plan.kind);
+        let mut writer = failing_at(alloc, b"", self.step, plan.writes, plan.kind);
+        let result = simulated(alloc, self.words, &mut reader, &mut writer);
+        let writer = writer.into_inner();
+        Ended {
+            result,
+            reads: reader.into_inner().calls,
+            writes: writer.calls,
+            text: writer.taken,
+        }
+    }
+
+    /// Returns true if a simulation ended as it should if a write fails, or the flush or nothing after all writes.
+    fn is_after_write(&self, ended: &Ended, writes: usize, flush: usize) -> bool {
+        let taken = self.text.len().min(writes.saturating_mul(self.step));
+        if ended.text.as_slice() != &self.text[..taken] {
+            return false;
+        }
+        match ended.result {
+            Ok(()) => writes > flush,
+            Err(SimulationError::Write) => ended.writes == writes.saturating_add(1),
+            Err(_) => false,
+        }
+    }
+
+    /// Returns the number of calls that move some bytes.
+    fn calls_for(&self, bytes: &[u8]) -> usize {
+        bytes.len().div_ceil(self.step.max(1))
+    }
+}
+
+/// Reads the trace and writes the hits.
+fn simulated(
+    alloc: Global,
+    words: &[String],
+    reader: &mut Device<Failing<'_>>,
+    writer: &mut Device<Failing<'_>>,
+) -> Result<(), SimulationError> {
+    let options = parse_options(alloc, words)?;
+    let mut progress = Progress::new(Vec::new(alloc), false);
+    let hasher = DefaultHashBuilder::new();
+    simulate(alloc, &options, hasher, reader, writer, &mut progress)
+}
+
+/// How a simulation ended: its result, the calls of both devices, and the text written.
+#[derive(Drop)]
+struct Ended {
+    result: Result<(), SimulationError>,
+    reads: usize,
+    writes: usize,
+    text: Vec<u8>,
+}
+
+impl Ended {
+    /// Returns true if it ended as it should if a read fails.
+    fn is_after_read(&self, reads: usize) -> bool {
+        match self.result {
+            Err(SimulationError::Read) => {
+                self.reads == reads.saturating_add(1) && self.writes == 0 && self.text.is_empty()
+            }
+            _ => false,
+        }
+    }
+}
 
 /// A reader or writer that moves a few bytes at a time and fails at a call, counted from 0.
 #[derive(Drop)]
@@ -33,6 +186,24 @@ struct Failing<'a> {
     fails_at: usize,
     kind: ErrorKind,
     calls: usize,
+}
+
+/// Returns a device that fails at a call.
+fn failing_at<'a>(
+    alloc: Global,
+    left: &'a [u8],
+    step: usize,
+    fails_at: usize,
+    kind: ErrorKind,
+) -> Device<Failing<'a>> {
+    Device::new(Failing {
+        left,
+        taken: Vec::new(alloc),
+        step,
+        fails_at,
+        kind,
+        calls: 0,
+    })
 }
 
 impl Failing<'_> {
@@ -68,171 +239,4 @@ impl Write for Failing<'_> {
     fn flush(&mut self) -> IoResult<()> {
         self.call()
     }
-}
-
-const KINDS: [ErrorKind; 4] = [
-    ErrorKind::BrokenPipe,
-    ErrorKind::Interrupted,
-    ErrorKind::WouldBlock,
-    ErrorKind::OutOfMemory,
-];
-
-/// The calls at which the devices fail, and the number of bytes they move at a time.
-#[derive(Clone, Copy)]
-struct Plan {
-    step: usize,
-    reads: usize,
-    writes: usize,
-    kind: ErrorKind,
-}
-
-/// How a simulation ended: its result, the calls of both devices, and the text written.
-#[derive(Drop)]
-struct Ended {
-    result: Result<(), SimulationError>,
-    reads: usize,
-    writes: usize,
-    text: Vec<u8>,
-}
-
-/// Returns a device that fails at a call.
-fn failing_at<'a>(
-    alloc: Global,
-    left: &'a [u8],
-    plan: Plan,
-    fails_at: usize,
-) -> Device<Failing<'a>> {
-    Device::new(Failing {
-        left,
-        taken: Vec::new(alloc),
-        step: plan.step,
-        fails_at,
-        kind: plan.kind,
-        calls: 0,
-    })
-}
-
-fn run_with(alloc: Global, line: &str, plan: Plan) -> Result<Ended, Fail> {
-    let options = options_of(alloc, line)?;
-    let mut reader = failing_at(alloc, TRACE, plan, plan.reads);
-    let mut writer = failing_at(alloc, b"", plan, plan.writes);
-    let mut progress = Progress::new(Vec::new(alloc), false);
-    let hasher = DefaultHashBuilder::new();
-    let result = simulate(
-        alloc,
-        &options,
-        hasher,
-        &mut reader,
-        &mut writer,
-        &mut progress,
-    );
-    let writer = writer.into_inner();
-    Ok(Ended {
-        result,
-        reads: reader.into_inner().calls,
-        writes: writer.calls,
-        text: writer.taken,
-    })
-}
-
-/// Returns the number of calls that move a number of bytes.
-fn calls_for(bytes: usize, step: usize) -> usize {
-    bytes.div_ceil(step.max(1))
-}
-
-/// Lets each read fail in turn.
-fn each_read_fails(alloc: Global, line: &str, step: usize, kind: ErrorKind) -> Result<(), Fail> {
-    for reads in 0..=calls_for(TRACE.len(), step) {
-        let plan = Plan {
-            step,
-            reads,
-            writes: usize::MAX,
-            kind,
-        };
-        let ended = run_with(alloc, line, plan)?;
-        let given = (ended.result, ended.reads, ended.writes);
-        let wanted = (Err(SimulationError::Read), reads.saturating_add(1), 0);
-        same(given, wanted)?;
-    }
-    Ok(())
-}
-
-/// Does so with errors of each kind.
-fn each_kind_of_read_fails(alloc: Global, line: &str, step: usize) -> Result<(), Fail> {
-    for kind in KINDS {
-        each_read_fails(alloc, line, step, kind)?;
-    }
-    Ok(())
-}
-
-/// Lets each read fail, in each form and in pieces of several lengths.
-pub(crate) fn fail_reads(alloc: Global) -> Result<(), Fail> {
-    for (line, _) in TEXTS {
-        for step in [1, 3, 100] {
-            each_kind_of_read_fails(alloc, line, step)?;
-        }
-    }
-    same(SimulationError::Read.status(), 4)
-}
-
-/// Lets each write fail in turn, and then the flush.
-fn each_write_fails(
-    alloc: Global,
-    (line, text): (&str, &str),
-    step: usize,
-    kind: ErrorKind,
-) -> Result<(), Fail> {
-    for writes in 0..=calls_for(text.len(), step) {
-        let plan = Plan {
-            step,
-            reads: usize::MAX,
-            writes,
-            kind,
-        };
-        let ended = run_with(alloc, line, plan)?;
-        let taken = text.len().min(writes.saturating_mul(step));
-        let given = (ended.result, ended.writes, ended.text.as_slice());
-        let refused = Err(SimulationError::Write);
-        same(
-            given,
-            (refused, writes.saturating_add(1), &text.as_bytes()[..taken]),
-        )?;
-    }
-    Ok(())
-}
-
-/// Does so with errors of each kind.
-fn each_kind_of_write_fails(alloc: Global, of_line: (&str, &str), step: usize) -> Result<(), Fail> {
-    for kind in KINDS {
-        each_write_fails(alloc, of_line, step, kind)?;
-    }
-    Ok(())
-}
-
-/// Lets each write fail, in each form and in pieces of several lengths.
-pub(crate) fn fail_writes(alloc: Global) -> Result<(), Fail> {
-    for of_line in TEXTS {
-        for step in [1, 7, 1000] {
-            each_kind_of_write_fails(alloc, of_line, step)?;
-        }
-    }
-    same(SimulationError::Write.status(), 4)
-}
-
-/// Checks each form if nothing fails.
-pub(crate) fn fail_nothing(alloc: Global) -> Result<(), Fail> {
-    for (line, text) in TEXTS {
-        let plan = Plan {
-            step: 2,
-            reads: usize::MAX,
-            writes: usize::MAX,
-            kind: ErrorKind::Other,
-        };
-        let ended = run_with(alloc, line, plan)?;
-        same(
-            (ended.result, ended.text.as_slice()),
-            (Ok(()), text.as_bytes()),
-        )?;
-    }
-    Ok(())
 }

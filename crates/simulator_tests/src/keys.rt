@@ -57,7 +57,8 @@ fn keys_of(alloc: Global, trace: &Trace<Global>) -> Result<String, AllocError> {
     Ok(text)
 }
 
-fn write_keys(text: &mut String, trace: &Trace<Global>) -> Result<(), AllocError> {
+/// Writes how many keys a trace has, their numbers, and the sizes if it has some.
+pub(crate) fn write_keys(text: &mut String, trace: &Trace<Global>) -> Result<(), AllocError> {
     list(text, &[trace.key_count()])?;
     text.push_str(":")?;
     list(text, trace.numbers())?;
@@ -69,7 +70,7 @@ fn write_keys(text: &mut String, trace: &Trace<Global>) -> Result<(), AllocError
 }
 
 /// Reads a trace in the format and sample that arguments ask for, a few bytes at a time.
-pub(crate) fn read(
+fn read(
     alloc: Global,
     words: &[String],
     bytes: &[u8],

@@ -8,8 +8,8 @@
 
 mod arguments;
 mod asked;
-mod best_shares;
 mod devices;
+mod growth;
 mod hits;
 mod keys;
 mod numbers;
@@ -24,6 +24,7 @@ mod texts;
 mod traces;
 
 use std::alloc::Global;
+use std::hash::RandomState;
 use std::test::Fail;
 use std::{env, io};
 use testing::{SpellingError, play_cases};
@@ -35,29 +36,39 @@ enum Cases {
     Keys,
     Outcomes,
     OutcomesAtOnce,
+    Growth,
+    Progress,
     TextsOfTwo,
     Pictures,
+    Devices,
     Refusals,
 }
 
 /// The files of cases.
-const FILES: [(&str, Cases); 8] = [
+const FILES: [(&str, Cases); 11] = [
     ("asked", Cases::Answers),
     ("keys", Cases::Keys),
+    ("growth", Cases::Growth),
     ("cases", Cases::Outcomes),
     ("modelled", Cases::Outcomes),
     ("at_once", Cases::OutcomesAtOnce),
     ("pairs", Cases::TextsOfTwo),
+    ("progress", Cases::Progress),
     ("pictures", Cases::Pictures),
+    ("devices", Cases::Devices),
     ("refused", Cases::Refusals),
 ];
 
 fn main(rt: HostRuntime) -> Result<(), Fail> {
     let names: Vec<String> = env::args(&rt)?.skip(1).collect(rt.alloc())?;
-    play_files(&rt, &names)?;
+    run(&rt, &names)
+}
+
+/// Plays the cases of files, or of all if there are no names, and then checks the rest.
+fn run(rt: &HostRuntime, names: &[String]) -> Result<(), Fail> {
+    play_files(rt, names)?;
     if names.is_empty() {
-        texts::other_hashers(&rt)?;
-        refused::refuse_arguments(&rt)?;
+        refused::refuse_arguments(rt)?;
         check(rt.alloc())?;
         println!(rt; "the rest: checked")?;
     }
@@ -87,22 +98,27 @@ fn has_name(names: &[String], name: &str) -> bool {
 /// Plays the cases of a file.
 fn play(rt: &HostRuntime, name: &str, cases: Cases) -> io::Result<()> {
     let alloc = rt.alloc();
-    play_cases(rt, name, |line| other_outcome(alloc, cases, line))
+    let random = RandomState::new(rt)?;
+    play_cases(rt, name, |line| other_outcome(alloc, random, cases, line))
 }
 
 /// Returns what a case gives in place of what it should, if it does.
 fn other_outcome(
     alloc: Global,
+    random: RandomState,
     cases: Cases,
     line: &str,
 ) -> Result<Option<Vec<u8>>, SpellingError> {
     match cases {
         Cases::Answers => asked::other_answer(alloc, line),
         Cases::Keys => keys::other_keys(alloc, line),
-        Cases::Outcomes => player::other_outcome(alloc, line),
+        Cases::Growth => growth::other_growth(alloc, line),
+        Cases::Outcomes => player::other_outcome(alloc, random, line),
         Cases::OutcomesAtOnce => player::other_outcome_at_once(alloc, line),
         Cases::TextsOfTwo => texts::other_text_of_two(alloc, line),
+        Cases::Progress => progress::other_progress(alloc, line),
         Cases::Pictures => pictures::other_picture(alloc, line),
+        Cases::Devices => devices::other_ending(alloc, line),
         Cases::Refusals => refused::wrong_refusal(alloc, line),
     }
 }
@@ -110,24 +126,13 @@ fn other_outcome(
 /// Checks what no file has cases of.
 fn check(alloc: Global) -> Result<(), Fail> {
     arguments::report_refusals(alloc)?;
-    arguments::show_help(alloc)?;
-    numbers::number_prefixes(alloc)?;
+    arguments::show_help()?;
     numbers::number_long_keys(alloc)?;
     numbers::number_many_keys(alloc)?;
-    sizes::grow_with_sizes(alloc)?;
-    sizes::keep_sizes_of_a_sample(alloc)?;
     sizes::add_sizes()?;
     sizes::add_large_sizes()?;
     samples::keep_their_part(alloc)?;
     samples::replay_as_alone(alloc)?;
     policies::count_outcomes(alloc)?;
-    hits::refuse_shares(alloc)?;
-    best_shares::try_shares(alloc)?;
-    devices::fail_nothing(alloc)?;
-    devices::fail_reads(alloc)?;
-    devices::fail_writes(alloc)?;
-    progress::show_percents(alloc)?;
-    progress::show_rows(alloc)?;
-    progress::show_rows_of_a_sample(alloc)?;
-    progress::show_time_left(alloc)
+    hits::refuse_shares(alloc)
 }

@@ -3,7 +3,7 @@
 use clock2q_cache::DefaultHashBuilder;
 use clock2q_ports::Device;
 use simulator_interface::{Progress, SimulationError, TraceFormat};
-use simulator_traces::{GrowingTrace, Trace, read_trace};
+use simulator_traces::{Trace, read_trace};
 use std::alloc::{AllocError, Global};
 use std::test::Fail;
 use testing::{same, same_at};
@@ -17,36 +17,25 @@ pub(crate) fn trace_of(alloc: Global, input: &[u8]) -> Result<Trace<Global>, Sim
     read_trace(alloc, hasher, "-", lines, &mut reader, &mut progress)
 }
 
-/// Keys that are prefixes of others, and an empty one.
-const PREFIXES: [&[u8]; 8] = [b"", b"a", b"aa", b"", b"aaa", b"a", b"aa", b"aaa"];
-
-/// Adds such keys, and checks how many there are before each.
-fn push_prefixes(growing: &mut GrowingTrace<DefaultHashBuilder, Global>) -> Result<(), Fail> {
-    for (count, key) in PREFIXES.iter().enumerate() {
-        same(growing.len(), count)?;
-        growing.push(key)?;
-    }
-    Ok(())
-}
-
-/// Numbers keys that only their starts distinguish.
-pub(crate) fn number_prefixes(alloc: Global) -> Result<(), Fail> {
-    let mut growing = GrowingTrace::new(alloc);
-    push_prefixes(&mut growing)?;
-    let trace = growing.finish();
-    let wanted = [0, 1, 2, 0, 3, 1, 2, 3];
-    same((trace.numbers(), trace.key_count()), (wanted.as_slice(), 4))
-}
-
-/// Numbers long keys that differ in their last byte.
-pub(crate) fn number_long_keys(alloc: Global) -> Result<(), Fail> {
+/// Returns long keys that differ in their last byte, as lines.
+fn long_lines(alloc: Global) -> Result<Vec<u8>, AllocError> {
     let mut input = vec![in alloc; b'k'; 200_003]?;
-    for end in [100_000, 200_002] {
+    end_lines(&mut input, [100_000, 200_002]);
+    Ok(input)
+}
+
+/// Puts line ends at some places.
+fn end_lines(input: &mut [u8], ends: [usize; 2]) {
+    for end in ends {
         if let Some(byte) = input.get_mut(end) {
             *byte = b'\n';
         }
     }
-    let trace = trace_of(alloc, &input)?;
+}
+
+/// Numbers long keys.
+pub(crate) fn number_long_keys(alloc: Global) -> Result<(), Fail> {
+    let trace = trace_of(alloc, &long_lines(alloc)?)?;
     same(trace.numbers(), [0, 1].as_slice())
 }
 

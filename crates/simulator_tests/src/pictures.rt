@@ -10,13 +10,21 @@ use testing::SpellingError;
 pub(crate) fn other_picture(alloc: Global, line: &str) -> Result<Option<Vec<u8>>, SpellingError> {
     let (words, rest) = line.split_once('|').unwrap_or((line, ""));
     let (pieces, wanted) = rest.split_once('|').unwrap_or((rest, "no bar"));
-    let words = words_of(alloc, words)?;
-    let picture = written(alloc, &words, TRACE).unwrap_or(Vec::new(alloc));
+    let picture = picture_of(alloc, words)?;
     Ok(if place_of(&picture, pieces) == wanted {
         None
     } else {
         Some(picture)
     })
+}
+
+/// Returns what is written for a trace, or nothing if that is refused.
+fn picture_of(alloc: Global, words: &str) -> Result<Vec<u8>, SpellingError> {
+    let words = words_of(alloc, words)?;
+    match written(alloc, &words, TRACE) {
+        Ok(picture) => Ok(picture),
+        Err(_) => Ok(Vec::new(alloc)),
+    }
 }
 
 /// Returns whether pieces are in a picture, one after another.

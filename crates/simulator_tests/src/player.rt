@@ -5,9 +5,8 @@ use clock2q_ports::Device;
 use simulator_interface::{ErrorReport, Options, Progress, SimulationError, parse_options};
 use simulator_replay::simulate;
 use std::alloc::{AllocError, Global};
-use std::hash::BuildHasher;
+use std::hash::{BuildHasher, RandomState};
 use std::io::{Read, Result as IoResult, Write};
-use std::test::Fail;
 use std::time::Clock;
 use testing::{LinearHashBuilder, SpellingError, spelled};
 
@@ -18,8 +17,20 @@ const STEPS: [usize; 2] = [1, 23];
 /// time.
 const SHORT: usize = 1000;
 
-/// One hash for all keys.
-const ALIKE: LinearHashBuilder = LinearHashBuilder { times: 0, more: 7 };
+/// Hashers that spread keys badly: one hash for all, or a number's own value.
+const SPREADS: [LinearHashBuilder; 5] = [
+    LinearHashBuilder { times: 0, more: 7 },
+    LinearHashBuilder { times: 0, more: 0 },
+    LinearHashBuilder {
+        times: 0,
+        more: 0xAB00_0000_0000_000F,
+    },
+    LinearHashBuilder {
+        times: 0,
+        more: u64::MAX,
+    },
+    LinearHashBuilder { times: 1, more: 0 },
+];
 
 /// A reader that gives a few bytes at a time.
 #[derive(Drop)]
@@ -39,9 +50,13 @@ impl Read for Slow<'_> {
 }
 
 /// Returns what a line gives in place of what it should, if it does.
-pub(crate) fn other_outcome(alloc: Global, line: &str) -> Result<Option<Vec<u8>>, SpellingError> {
+pub(crate) fn other_outcome(
+    alloc: Global,
+    random: RandomState,
+    line: &str,
+) -> Result<Option<Vec<u8>>, SpellingError> {
     let case = Case::from_line(alloc, line)?;
-    Ok(case.other_outcome(alloc)?)
+    Ok(case.other_outcome(alloc, random)?)
 }
 
 /// Does so with the usual hasher and the whole trace at once.
@@ -74,22 +89,45 @@ impl Case {
     }
 
     /// Returns what the case gives in place of what it should, if it does.
-    fn other_outcome(&self, alloc: Global) -> Result<Option<Vec<u8>>, AllocError> {
+    fn other_outcome(
+        &self,
+        alloc: Global,
+        random: RandomState,
+    ) -> Result<Option<Vec<u8>>, AllocError> {
         match self.other_outcome_with(alloc, DefaultHashBuilder::new(), SHORT)? {
-            None if self.trace.len() <= SHORT => self.other_outcome_of_short(alloc),
+            None if self.trace.len() <= SHORT => self.other_outcome_of_short(alloc, random),
             other => Ok(other),
         }
     }
 
-    /// Does so in pieces of several lengths, and with one hash for all keys.
-    fn other_outcome_of_short(&self, alloc: Global) -> Result<Option<Vec<u8>>, AllocError> {
+    /// Does so in pieces of several lengths, and with other hashers.
+    fn other_outcome_of_short(
+        &self,
+        alloc: Global,
+        random: RandomState,
+    ) -> Result<Option<Vec<u8>>, AllocError> {
         for step in STEPS {
             let other = self.other_outcome_with(alloc, DefaultHashBuilder::new(), step)?;
             if other.is_some() {
                 return Ok(other);
             }
         }
-        self.other_outcome_with(alloc, ALIKE, SHORT)
+        self.other_outcome_spread(alloc, random)
+    }
+
+    /// Does so with hashers that spread the keys badly, and with random numbers.
+    fn other_outcome_spread(
+        &self,
+        alloc: Global,
+        random: RandomState,
+    ) -> Result<Option<Vec<u8>>, AllocError> {
+        for spread in SPREADS {
+            let other = self.other_outcome_with(alloc, spread, SHORT)?;
+            if other.is_some() {
+                return Ok(other);
+            }
+        }
+        self.other_outcome_with(alloc, random, SHORT)
     }
 
     /// Does so with a hasher, and in pieces of some length.
@@ -173,10 +211,16 @@ where
 /// Returns the words of a line of arguments.
 pub(crate) fn words_of(alloc: Global, line: &str) -> Result<Vec<String>, SpellingError> {
     let mut words = Vec::new(alloc);
-    for word in line.split_whitespace() {
-        push(&mut words, String::from_str(alloc, word)?)?;
-    }
+    push_words(alloc, &mut words, line)?;
     Ok(words)
+}
+
+/// Adds the words of a line.
+fn push_words(alloc: Global, words: &mut Vec<String>, line: &str) -> Result<(), SpellingError> {
+    for word in line.split_whitespace() {
+        push(words, String::from_str(alloc, word)?)?;
+    }
+    Ok(())
 }
 
 /// Adds a word.
@@ -184,14 +228,5 @@ fn push(words: &mut Vec<String>, word: String) -> Result<(), SpellingError> {
     match words.push(word) {
         Ok(()) => Ok(()),
         Err(_) => Err(SpellingError::Memory),
-    }
-}
-
-/// Parses the words of a line.
-pub(crate) fn options_of(alloc: Global, line: &str) -> Result<Options<Global>, Fail> {
-    let words = words_of(alloc, line)?;
-    match parse_options(alloc, &words) {
-        Ok(options) => Ok(options),
-        Err(refusal) => Err(Fail::from(refusal)),
     }
 }

@@ -1,66 +1,120 @@
-//! The progress of a simulation, in one line that is written over, and rows above it.
+//! The progress of a simulation, in one line that is written over, and rows above it: cases of a file, a
+//! line each.
 
-use crate::player::{options_of, simulated};
+use crate::player::{simulated, words_of};
 use clock2q_cache::DefaultHashBuilder;
-use simulator_interface::Progress;
-use std::alloc::Global;
+use simulator_interface::{Progress, SimulationError, parse_options};
+use std::alloc::{AllocError, Global};
 use std::cell::Cell;
 use std::io;
-use std::test::Fail;
 use std::time::{Clock, Duration};
-use testing::{same, same_at};
+use testing::{SpellingError, named_in, number_of, other_than, two_words};
 
-/// Checks what is shown while a trace is replayed, whose length may be known.
-fn shows(
+/// Returns what a line shows in place of what it should, if it does.
+pub(crate) fn other_progress(alloc: Global, line: &str) -> Result<Option<Vec<u8>>, SpellingError> {
+    let (words, rest) = line.split_once('|').unwrap_or((line, ""));
+    let (run, wanted) = rest.split_once('|').unwrap_or((rest, "no bar"));
+    other_than(alloc, wanted, shown(alloc, words, run)?)
+}
+
+/// How progress is shown.
+#[derive(Clone, Copy)]
+enum Way {
+    Hidden,
+    Shown,
+    /// Shown, with a clock.
+    Timed,
+}
+
+const WAYS: &[(&str, Way)] = &[
+    ("hidden", Way::Hidden),
+    ("shown", Way::Shown),
+    ("timed", Way::Timed),
+];
+
+/// Returns what is shown while a trace is replayed, or nothing if that is refused.
+fn shown(alloc: Global, words: &str, run: &str) -> Result<Vec<u8>, SpellingError> {
+    let words = words_of(alloc, words)?;
+    Ok(shown_with(alloc, &words, run).unwrap_or(Vec::new(alloc)))
+}
+
+/// Returns what is shown of a run: how it is shown, the bytes of the trace, and the length that is known.
+fn shown_with(alloc: Global, words: &[String], run: &str) -> Result<Vec<u8>, SimulationError> {
+    let (way, rest) = two_words(run);
+    let (trace, length) = two_words(rest);
+    let trace = trace_of(alloc, trace)?;
+    shown_of(alloc, words, named_in(WAYS, way), &trace, length)
+}
+
+/// Returns what is shown while a trace is replayed.
+fn shown_of(
     alloc: Global,
-    line: &str,
+    words: &[String],
+    way: Option<Way>,
     trace: &[u8],
-    (length, is_shown): (Option<u64>, bool),
-    wanted: &str,
-) -> Result<(), Fail> {
+    length: &str,
+) -> Result<Vec<u8>, SimulationError> {
     let mut shown = Vec::new(alloc);
-    {
-        let mut progress = Progress::new(&mut shown, is_shown);
-        replay_with(alloc, line, trace, length, &mut progress)?;
-        progress.end();
+    let replayed = match way {
+        Some(Way::Timed) => show_timed(alloc, words, trace, length, &mut shown),
+        Some(Way::Shown) => show(alloc, words, trace, length, true, &mut shown),
+        _ => show(alloc, words, trace, length, false, &mut shown),
+    };
+    match replayed {
+        Ok(()) => Ok(shown),
+        Err(refusal) => Err(refusal),
     }
-    same_at(shown.as_slice(), wanted.as_bytes(), line)
 }
 
-/// Replays a trace with some progress.
-fn replay_with<C: Clock>(
+/// Shows how much of a trace is read, and how much time is left.
+fn show_timed(
     alloc: Global,
-    line: &str,
+    words: &[String],
     trace: &[u8],
-    length: Option<u64>,
+    length: &str,
+    shown: &mut Vec<u8>,
+) -> Result<(), SimulationError> {
+    let clock = Ticking { tens: Cell::new(0) };
+    let mut progress = Progress::with_clock(shown, true, clock);
+    replay(alloc, words, trace, length, &mut progress)
+}
+
+/// Shows how much of a trace is read, and the rows.
+fn show(
+    alloc: Global,
+    words: &[String],
+    trace: &[u8],
+    length: &str,
+    is_shown: bool,
+    shown: &mut Vec<u8>,
+) -> Result<(), SimulationError> {
+    let mut progress = Progress::new(shown, is_shown);
+    let replayed = replay(alloc, words, trace, length, &mut progress);
+    progress.end();
+    replayed
+}
+
+/// Returns as many bytes as a word says: it begins with the byte.
+fn trace_of(alloc: Global, word: &str) -> Result<Vec<u8>, AllocError> {
+    let (byte, length) = match word.strip_prefix('a') {
+        Some(length) => (b'a', length),
+        None => (b'\n', word),
+    };
+    vec![in alloc; byte; number_of(length) as usize]
+}
+
+/// Replays a trace, whose length may be known, with some progress.
+fn replay<C: Clock>(
+    alloc: Global,
+    words: &[String],
+    trace: &[u8],
+    length: &str,
     progress: &mut Progress<&mut Vec<u8>, C>,
-) -> Result<(), Fail> {
-    let options = options_of(alloc, line)?;
-    progress.begin(length);
-    let _ = simulated(alloc, &options, DefaultHashBuilder::new(), trace, progress)?;
-    Ok(())
-}
-
-/// Seventeen blocks of one long key, half of the length that is given: nothing is shown of the first
-/// million bytes.
-pub(crate) fn show_percents(alloc: Global) -> Result<(), Fail> {
-    let trace = vec![in alloc; b'a'; 1_114_112]?;
-    let length = Some(2_228_224);
-    let lines = "\r\x1b[Kclock2q-simulate: 47% read\r\x1b[Kclock2q-simulate: 50% read\r\x1b[K";
-    let cases = [(length, true, lines), (length, false, ""), (None, true, "")];
-    show_each(alloc, "5", &trace, &cases)
-}
-
-/// Checks what is shown in cases: with lengths of the trace, and if it is to be shown.
-fn show_each(
-    alloc: Global,
-    line: &str,
-    trace: &[u8],
-    cases: &[(Option<u64>, bool, &str)],
-) -> Result<(), Fail> {
-    for (length, is_shown, wanted) in cases {
-        shows(alloc, line, trace, (*length, *is_shown), wanted)?;
-    }
+) -> Result<(), SimulationError> {
+    let options = parse_options(alloc, words)?;
+    progress.begin(length.parse().ok());
+    let hasher = DefaultHashBuilder::new();
+    let _ = simulated(alloc, &options, hasher, trace, progress)?;
     Ok(())
 }
 
@@ -79,45 +133,4 @@ impl Clock for Ticking {
     fn since_1970(&self) -> io::Result<Duration> {
         self.monotonic()
     }
-}
-
-/// A million accesses to one key. A line is erased before another is written there, and a row isn't
-/// wrapped.
-pub(crate) fn show_rows(alloc: Global) -> Result<(), Fail> {
-    let trace = vec![in alloc; b'\n'; 1_000_000]?;
-    let length = Some(1_000_000_000);
-    let lines = "\r\x1b[Kclock2q-simulate: capacity 5, 1 of 2\
-        \r\x1b[K\x1b[?7lcapacity      LRU\x1b[?7h\n\
-        \r\x1b[K\x1b[?7l       5   100.00\x1b[?7h\n\
-        \r\x1b[Kclock2q-simulate: capacity 7, 2 of 2\
-        \r\x1b[K\x1b[?7l       7   100.00\x1b[?7h\n\
-        \r\x1b[K\x1b[3A\x1b[J";
-    let line = "5 7 --policies=lru";
-    let cases = [(length, true, lines), (length, false, "")];
-    show_each(alloc, line, &trace, &cases)
-}
-
-/// Of a sample the capacity for all keys is shown, which is replayed as one for three keys.
-pub(crate) fn show_rows_of_a_sample(alloc: Global) -> Result<(), Fail> {
-    let trace = vec![in alloc; b'\n'; 1_000_000]?;
-    let lines = "\r\x1b[Kclock2q-simulate: capacity 7, 1 of 1\
-        \r\x1b[K\x1b[?7lcapacity      LRU\x1b[?7h\n\
-        \r\x1b[K\x1b[?7l       7   100.00\x1b[?7h\n\
-        \r\x1b[K\x1b[2A\x1b[J";
-    let line = "7 --policies=lru --sample=0.5";
-    shows(alloc, line, &trace, (Some(1_000_000_000), true), lines)
-}
-
-/// Of 2,228,224 bytes 1,048,576 are read after 10 seconds, and half after 20.
-pub(crate) fn show_time_left(alloc: Global) -> Result<(), Fail> {
-    let trace = vec![in alloc; b'a'; 1_114_112]?;
-    let mut shown = Vec::new(alloc);
-    {
-        let clock = Ticking { tens: Cell::new(0) };
-        let mut progress = Progress::with_clock(&mut shown, true, clock);
-        replay_with(alloc, "5", &trace, Some(2_228_224), &mut progress)?;
-    }
-    let lines =
-        "\r\x1b[Kclock2q-simulate: 47% read, 11 s left\r\x1b[Kclock2q-simulate: 50% read, 20 s left";
-    same(shown.as_slice(), lines.as_bytes())
 }

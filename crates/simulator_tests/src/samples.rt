@@ -96,8 +96,13 @@ pub(crate) fn replay_as_alone(alloc: Global) -> Result<(), Fail> {
     let sample = Sample::written("0.25").ok_or("no sample")?;
     let (mut all, mut kept) = (String::new(alloc), String::new(alloc));
     push_lines(alloc, &mut all, &mut kept, sample)?;
+    all_have_same_rows(alloc, &all, &kept)
+}
+
+/// Checks that a sample of a trace has the rows that the sample has alone, at each of the arguments.
+fn all_have_same_rows(alloc: Global, all: &str, kept: &str) -> Result<(), Fail> {
     for (larger, smaller) in SCALED {
-        have_same_hits(alloc, (larger, &all), (smaller, &kept))?;
+        have_same_hits(alloc, (larger, all), (smaller, kept))?;
     }
     Ok(())
 }

@@ -1,4 +1,4 @@
-//! Texts under other hashers, and of two traces.
+//! Texts, and those of two traces.
 
 use crate::player::{simulated, words_of};
 use clock2q_cache::DefaultHashBuilder;
@@ -8,9 +8,7 @@ use simulator_interface::{
 };
 use simulator_replay::replay_source;
 use std::alloc::Global;
-use std::hash::{BuildHasher, RandomState};
-use std::test::Fail;
-use testing::{LinearHashBuilder, SpellingError, other_than, same};
+use testing::{SpellingError, other_than};
 
 /// Returns what a simulation with these arguments writes.
 pub(crate) fn written(
@@ -18,45 +16,10 @@ pub(crate) fn written(
     words: &[String],
     input: &[u8],
 ) -> Result<Vec<u8>, SimulationError> {
-    written_with(alloc, words, input, DefaultHashBuilder::new())
-}
-
-/// Returns what a simulation with a hasher writes.
-fn written_with<S: BuildHasher + Drop>(
-    alloc: Global,
-    words: &[String],
-    input: &[u8],
-    hasher: S,
-) -> Result<Vec<u8>, SimulationError> {
     let options = parse_options(alloc, words)?;
     let mut progress = Progress::new(Vec::new(alloc), true);
+    let hasher = DefaultHashBuilder::new();
     simulated(alloc, &options, hasher, input, &mut progress)
-}
-
-/// A trace with an empty key.
-const HASHED: &[u8] = b"a\nb\na\nc\n\nb\nd\na\nb\n";
-
-/// Checks a text with random numbers, and with hashers that spread the keys badly.
-pub(crate) fn other_hashers(rt: &HostRuntime) -> Result<(), Fail> {
-    let words = words_of(rt.alloc(), "2 100%")?;
-    let wanted = written(rt.alloc(), &words, HASHED)?;
-    writes_with(rt.alloc(), &words, RandomState::new(rt)?, &wanted)?;
-    for (times, more) in [(0, 0), (0, 0xAB00_0000_0000_000F), (0, u64::MAX), (1, 0)] {
-        let spread = LinearHashBuilder { times, more };
-        writes_with(rt.alloc(), &words, spread, &wanted)?;
-    }
-    Ok(())
-}
-
-/// Checks a text with a hasher.
-fn writes_with<S: BuildHasher + Drop>(
-    alloc: Global,
-    words: &[String],
-    hasher: S,
-    wanted: &[u8],
-) -> Result<(), Fail> {
-    let text = written_with(alloc, words, HASHED, hasher)?;
-    same(text.as_slice(), wanted)
 }
 
 /// A trace that others are written for, too.
