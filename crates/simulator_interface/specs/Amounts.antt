@@ -66,11 +66,15 @@ keys_by Millionths number keys = max (keys * min number 1000000 / 1000000) 1
 abbrev pub keys_of : Amount → ℕ → ℕ
 keys_of amount keys = keys_by amount.unit amount.number keys
 
--- the most keys that a cache can hold
+-- the most keys that a capacity can be
 abbrev pub most_keys : ℕ
-most_keys = 16777215
+most_keys = 4294967295
 
--- a cache can hold this number of keys
+-- the most keys that a cache of Clock2Q+ or of CLOCK can hold
+abbrev pub most_clock_keys : ℕ
+most_clock_keys = 16777215
+
+-- a capacity can be this number of keys
 pub record IsFor (keys : ℕ) : Type 0 where
   pub some : 0 < keys
   pub within : keys ≤ most_keys
@@ -84,11 +88,20 @@ pub record IsCapacity (amount : Amount) : Type 0 where
   pub some : 0 < amount.number
   pub within : amount.number ≤ most_of amount.unit
 
+-- a cache of Clock2Q+ or of CLOCK can hold an amount of keys; those in a percentage are known only with the trace
+abbrev pub IsForClockBy : Counted → ℕ → Type 0
+IsForClockBy Keys number = number ≤ most_clock_keys
+IsForClockBy Millionths number = Unit {0}
+
+abbrev pub IsForClock : Amount → Type 0
+IsForClock amount = IsForClockBy amount.unit amount.number
+
 -- the numbers 1, 2 and 5 times a power of ten, up to the largest capacity
 unfoldable pub round_numbers : List ℕ
 round_numbers =
     1 ∷ 2 ∷ 5 ∷ 10 ∷ 20 ∷ 50 ∷ 100 ∷ 200 ∷ 500 ∷ 1000 ∷ 2000 ∷ 5000 ∷ 10000 ∷ 20000 ∷ 50000 ∷ 100000
-    ∷ 200000 ∷ 500000 ∷ 1000000 ∷ 2000000 ∷ 5000000 ∷ 10000000 ∷ []
+    ∷ 200000 ∷ 500000 ∷ 1000000 ∷ 2000000 ∷ 5000000 ∷ 10000000 ∷ 20000000 ∷ 50000000 ∷ 100000000 ∷ 200000000 ∷ 500000000
+    ∷ 1000000000 ∷ 2000000000 ∷ []
 
 -- the ends of a range and those of the other numbers that are between them, each once
 abbrev pub between : List ℕ → ℕ → ℕ → List ℕ

@@ -7,7 +7,7 @@ use Rattle.simulator_interface.specs.declared.amount.Unit.{Unit as Counted}
 use Rattle.simulator_interface.specs.declared.amount.Unit.TheVariants.{Keys, Millionths}
 use Rattle.simulator_interface.specs.declared.sample.Sample.{Sample}
 use Rattle.simulator_interface.specs.declared.shares.ChosenShares.{ChosenShares}
-use Rattle.simulator_interface.specs.Amounts.{amount, ends_in, front, keys_by, millionths_in, most_keys, number_in, times}
+use Rattle.simulator_interface.specs.Amounts.{IsForClock, amount, ends_in, front, keys_by, millionths_in, most_keys, number_in, times}
 
 -- one to six decimals of a part of one, in millionths
 abbrev pub six_decimals_in : List ℕ → Option ℕ
@@ -61,6 +61,10 @@ scaled_by Millionths sample number = amount Millionths number
 abbrev pub scaled : Option Sample → Amount → Amount
 scaled None capacity = capacity
 scaled (Some sample) capacity = scaled_by capacity.unit sample capacity.number
+
+-- a cache of Clock2Q+ or of CLOCK that is as much smaller as a sample can hold a capacity
+abbrev pub IsForSampledClock : Option Sample → Amount → Type 0
+IsForSampledClock sample capacity = IsForClock (scaled sample capacity)
 
 -- a share of a cache becomes the same part of it, if it is a number of keys, but none stays none; a percentage is of the
 -- smaller cache

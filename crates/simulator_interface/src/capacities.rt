@@ -1,19 +1,52 @@
 //! The capacities that an argument asks for.
 ghost use Rattle.std.specs.List.{All};
-ghost use Rattle.std.specs.Prelude.{◌≡◌, ◌≤◌, [], ◌∷◌, ◌++◌, Some, IfOk, OnOk, map};
-ghost use Rattle.simulator_interface.specs.Amounts.{IsCapacity, amount, amount_in, asked_by, between, range, rest_of};
+ghost use Rattle.std.specs.Prelude.{◌≡◌, ◌≤◌, ◌↔◌, [], ◌∷◌, ◌++◌, Some, IfOk, IsTrue, OnOk, map};
+ghost use Rattle.simulator_interface.specs.Sample.{IsForSampledClock};
+ghost use Rattle.simulator_interface.specs.Amounts.{IsCapacity, IsForClock, amount, amount_in, asked_by, between, range, rest_of};
 
 use crate::amount::{Amount, Unit};
+use crate::chosen::Chosen;
 use crate::error::{ArgumentError, SimulationError};
+use crate::sample::{Sample, scaled};
 use std::alloc::{AllocError, Allocator};
 
-/// The largest number of keys that a capacity can be: that of a cache of `clock2q_cache`.
-pub const MAX_CAPACITY: usize = 16_777_215;
+/// The largest number of keys that a capacity can be. A trace has at most one more.
+pub const MAX_CAPACITY: usize = 4_294_967_295;
+
+/// The largest number of keys for Clock2Q+ and CLOCK: that of a cache of `clock2q_cache`.
+pub const MAX_CLOCK_CAPACITY: usize = 16_777_215;
 
 /// The numbers 1, 2 and 5 times a power of ten that are capacities.
-const ROUND_NUMBERS: [usize; 22] = [
-    1, 2, 5, 10, 20, 50, 100, 200, 500, 1_000, 2_000, 5_000, 10_000, 20_000, 50_000, 100_000,
-    200_000, 500_000, 1_000_000, 2_000_000, 5_000_000, 10_000_000,
+const ROUND_NUMBERS: [usize; 29] = [
+    1,
+    2,
+    5,
+    10,
+    20,
+    50,
+    100,
+    200,
+    500,
+    1_000,
+    2_000,
+    5_000,
+    10_000,
+    20_000,
+    50_000,
+    100_000,
+    200_000,
+    500_000,
+    1_000_000,
+    2_000_000,
+    5_000_000,
+    10_000_000,
+    20_000_000,
+    50_000_000,
+    100_000_000,
+    200_000_000,
+    500_000_000,
+    1_000_000_000,
+    2_000_000_000,
 ];
 
 /// Returns the capacities that an argument asks for: a single amount, or those of a range, such as
@@ -142,5 +175,40 @@ fn capacity_of(word: &str, fault: ArgumentError, index: usize) -> Result<Amount,
         }
         _ if capacity.number == 0 => Err(SimulationError::Argument(fault, index)),
         _ => Ok(capacity),
+    }
+}
+
+/// Refuses a number of keys that a cache of Clock2Q+ or of CLOCK can't hold, if one of them is among
+/// the policies. With a sample it is that of a cache as much smaller.
+pub(crate) fn check_for_clock<A: Allocator + Copy>(
+    chosen: &Chosen<A>,
+    capacities: &[Amount],
+) -> Result<(), SimulationError> {
+    if !chosen.compares_clock() {
+        return Ok(());
+    }
+    check_sampled(chosen.sample, capacities)
+}
+
+/// Refuses a number of keys that a cache of Clock2Q+ or of CLOCK can't hold.
+fn check_sampled(sample: Option<Sample>, capacities: &[Amount]) -> Result<(), SimulationError>
+    ensures held { OnOk result (All (IsForSampledClock sample) capacities.now) }
+{
+    for capacity in capacities {
+        if !may_be_for_clock(scaled(sample, *capacity)) {
+            return Err(SimulationError::Capacity(*capacity));
+        }
+    }
+    Ok(())
+}
+
+/// Returns true if a cache of Clock2Q+ or of CLOCK can hold an amount. A percentage is assumed to be
+/// such an amount, since its number of keys isn't known yet.
+fn may_be_for_clock(capacity: Amount) -> bool
+    ensures held { IsTrue result ↔ IsForClock capacity }
+{
+    match capacity.unit {
+        Unit::Keys => capacity.number <= MAX_CLOCK_CAPACITY,
+        Unit::Millionths => true,
     }
 }

@@ -6,7 +6,7 @@ ghost use Rattle.simulator_interface.specs.AskedOptions.{Flag, Value, choices_so
 ghost use Rattle.simulator_interface.specs.Sample.{sample_in};
 
 use crate::amount::{plain_of, positive_of};
-use crate::capacities::MAX_CAPACITY;
+use crate::capacities::MAX_CLOCK_CAPACITY;
 use crate::error::{ArgumentError, SimulationError};
 use crate::format::{AskedFormat, TraceFormat};
 use crate::options::Format;
@@ -188,6 +188,15 @@ impl<A: Allocator + Copy> Chosen<A> {
         }
     }
 
+    /// Returns true if Clock2Q+ or CLOCK is among the policies.
+    pub(crate) fn compares_clock(&self) -> bool {
+        let has_clock = match &self.policies {
+            Some(policies) => policies.contains(&Policy::Clock),
+            None => false,
+        };
+        has_clock || self.compares_clock2q()
+    }
+
     /// Refuses the best shares beside an option that leaves them no room.
     pub(crate) fn check_best_shares(&self) -> Result<(), SimulationError> {
         let Some(index) = self.best_shares else {
@@ -282,7 +291,7 @@ fn shares_of(value: &str, index: usize) -> Result<ChosenShares, SimulationError>
     let Some(shares) = ChosenShares::written(value) else {
         return Err(SimulationError::Argument(ArgumentError::NotShares, index));
     };
-    if !shares.fit(MAX_CAPACITY) {
+    if !shares.fit(MAX_CLOCK_CAPACITY) {
         return Err(SimulationError::Argument(ArgumentError::UnfitShares, index));
     }
     Ok(shares)

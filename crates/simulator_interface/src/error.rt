@@ -21,13 +21,13 @@ pub enum ArgumentError {
     #[error("unknown option")]
     UnknownOption,
     /// It isn't an amount of at least 1, and has no two dots either.
-    #[error("not a capacity (1 to 16777215, 1k, 1M, 0.0001% to 100%, or 10..1M); before a trace's name put ./")]
+    #[error("not a capacity (1 to 4294967295, 1k, 1M, 0.0001% to 100%, or 10..1M); before a trace's name put ./")]
     NotCapacity,
     /// It is more than [`MAX_CAPACITY`](crate::MAX_CAPACITY) keys, or an end of it is.
-    #[error("a capacity above 16777215")]
+    #[error("a capacity above 4294967295")]
     LargeCapacity,
     /// An end of the range isn't an amount of at least 1, or only one end is a percentage.
-    #[error("not a range (of keys from 1 to 16777215, as 10..1M, or of percents, as 0.1%..50%)")]
+    #[error("not a range (of keys from 1 to 4294967295, as 10..1M, or of percents, as 0.1%..50%)")]
     NotRange,
     /// The range ends below its beginning.
     #[error("range whose ends are the wrong way round")]
@@ -142,8 +142,10 @@ pub enum SimulationError {
     /// capacity.
     #[error("clock2q-simulate: --shares: shares that don't fit the sample's part of a capacity of {0}")]
     SampledShares(Amount),
-    /// This capacity is no key, or more than [`MAX_CAPACITY`](crate::MAX_CAPACITY).
-    #[error("clock2q-simulate: {0}: a capacity above 16777215")]
+    /// This capacity is more than [`MAX_CLOCK_CAPACITY`](crate::MAX_CLOCK_CAPACITY), and Clock2Q+ or
+    /// CLOCK is among the policies; or it is no key, or more than
+    /// [`MAX_CAPACITY`](crate::MAX_CAPACITY).
+    #[error("clock2q-simulate: {0}: a capacity above 16777215, which clock2q and clock can't have (choose others by --policies)")]
     Capacity(Amount),
     /// A request for memory was refused, at any step.
     #[error("clock2q-simulate: no memory")]

@@ -10,10 +10,10 @@ Reports which part of a trace's accesses hit in a cache of each capacity.
 
 A trace is a list of accesses in their order, a key a line: the names of the
 files, blocks or pages that were asked for. It is a file, or - or nothing for
-standard input. A capacity is how many keys a cache holds, up to 16777215, as
-500, 64k or 1M, or a part of the trace's keys, as 10% or 0.1%. A range, as
-10..1k or 1%..50%, adds 20, 50, 100 and so on between its ends. If keys have
-sizes, a capacity can be in bytes, as 64kB, 64MiB or 1GB (--help formats).
+standard input. A capacity is how many keys a cache holds, as 500, 64k or 1M,
+up to 16777215 for clock2q and clock, or a part of the trace's keys, as 10% or
+0.1%. A range, as 10..1k or 1%..50%, adds 20, 50, 100 and so on between its
+ends. If keys have sizes, it can be in bytes, as 64kB or 1GB (--help formats).
 
     printf 'a\\nb\\na\\nc\\nb\\nd\\na\\nb\\n' | clock2q-simulate 2 75%
     zstd -dc trace.zst | clock2q-simulate --svg 1%..50% >hits.svg
@@ -97,6 +97,9 @@ first five are the default.
              (1993), with K = 2
   wtinylfu   TinyLFU: A Highly Efficient Cache Admission Policy (2017), with a
              window of a hundredth
+
+clock2q and clock have capacities up to 16777215 keys, of the sample if there is
+one. The others have up to 4294967295, if --policies leaves out these two.
 
     clock2q-simulate --policies=clock2q,lru 1%..50% trace
 ";

@@ -36,7 +36,7 @@ mod window;
 pub use amount::{Amount, Unit, number_of};
 pub use best_shares::BestShares;
 pub use byte_amount::bytes_of;
-pub use capacities::MAX_CAPACITY;
+pub use capacities::{MAX_CAPACITY, MAX_CLOCK_CAPACITY};
 pub use error::{ArgumentError, ErrorReport, SimulationError};
 pub use expected::expected_accesses;
 pub use format::{Columns, TraceFormat};

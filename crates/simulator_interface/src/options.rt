@@ -10,7 +10,7 @@ ghost use Rattle.simulator_interface.specs.ByteAmounts.{bytes_from, bytes_in, jo
 
 use crate::amount::Amount;
 use crate::byte_amount::{capacity_in_bytes, ends_in};
-use crate::capacities::capacities_of;
+use crate::capacities::{capacities_of, check_for_clock};
 use crate::chosen::{Chosen, Valued};
 use crate::error::{ArgumentError, SimulationError};
 use crate::format::TraceFormat;
@@ -82,10 +82,10 @@ pub struct Options<A: Allocator> {
 /// # Errors
 ///
 /// `Argument` if an argument is none of these, is repeated, contradicts an earlier one, or asks for
-/// more than `MAX_CAPACITY` keys: what is wrong, and its index. `NoCapacity` if there is no
-/// capacity; `UnusedShares` if there are shares, but Clock2Q+ isn't among the policies; `Shares` if
-/// the shares don't fit together in a cache of a capacity that is a number of keys; `Memory` if a
-/// request for memory is refused. The error is that of the first bad argument.
+/// more than `MAX_CAPACITY` keys: what is wrong, and its index. `NoCapacity` without a capacity;
+/// `Capacity` if Clock2Q+ or CLOCK can't hold one; `UnusedShares` if there are shares, but Clock2Q+
+/// isn't among the policies; `Shares` if they don't fit together in a cache of a number of keys;
+/// `Memory` if a request for memory is refused. The error is that of the first bad argument.
 ///
 /// # Cost
 ///
@@ -309,6 +309,7 @@ impl<A: Allocator + Copy> Asked<A> {
         if self.capacities.is_empty() && self.byte_capacities.is_empty() {
             return Err(SimulationError::NoCapacity);
         }
+        check_for_clock(&self.chosen, &self.capacities)?;
         if let Some(shares) = self.chosen.shares {
             if !self.chosen.compares_clock2q() {
                 return Err(SimulationError::UnusedShares);

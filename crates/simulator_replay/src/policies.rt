@@ -26,9 +26,9 @@ use std::num::NonZeroUsize;
 ///
 /// # Errors
 ///
-/// `Capacity` if the policy is Clock2Q+ and the capacity is above `MAX_CAPACITY`, `Shares` if
-/// its shares don't fit together, and `Memory` if a request for memory is refused or the trace
-/// has 2^32 different keys.
+/// `Capacity` if the policy is Clock2Q+ or CLOCK and the capacity is above `MAX_CLOCK_CAPACITY`,
+/// `Shares` if Clock2Q+'s shares don't fit together, and `Memory` if a request for memory is refused
+/// or the trace has 2^32 different keys.
 ///
 /// # Cost
 ///

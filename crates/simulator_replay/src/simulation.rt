@@ -13,11 +13,10 @@ use crate::curve::Curve;
 use crate::known_hits::KnownHits;
 use crate::outcome::replay_source;
 use crate::row::replay_with_known;
-use clock2q_cache::MAX_CAPACITY;
 use clock2q_ports::{Sink, Source};
 use simulator_interface::{
-    Amount, ChosenShares, Options, Policy, Progress, Row, STANDARD_INPUT, SimulationError,
-    show_row, write_outcomes,
+    Amount, ChosenShares, MAX_CAPACITY, Options, Policy, Progress, Row, STANDARD_INPUT,
+    SimulationError, show_row, write_outcomes,
 };
 use simulator_traces::Trace;
 use std::alloc::Allocator;

@@ -37,7 +37,7 @@ const REFUSALS: [(SimulationError, Option<usize>, &str, u8); 4] = [
     (
         SimulationError::Capacity(ALL),
         None,
-        "clock2q-simulate: 100%: a capacity above 16777215",
+        "clock2q-simulate: 100%: a capacity above 16777215, which clock2q and clock can't have (choose others by --policies)",
         3,
     ),
 ];
