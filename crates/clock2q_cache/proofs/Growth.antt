@@ -70,7 +70,7 @@ module _ {K V : Type 0} {eq : K → K → Bool} {hash : K → ℕ} {shares : Sha
       → q'.accesses ≡ q.accesses + 2 * q.made + 2 * q.window → q'.made ≤ q.slots
       → keys' ≡ record keys { room = keys'.room } → free' ≡ free → directory.Grows capacity history (record { history = h; residents = keys }) h'
       → Grows shares' (cache_state (machine_of shares q keys.entries h.entries free) h.places hasher (counts_of q h keys))
-          (cache_state (machine_of shares' q' keys'.entries h'.entries free') h'.places hasher (counts_of q' h' keys'))
+      (cache_state (machine_of shares' q' keys'.entries h'.entries free') h'.places hasher (counts_of q' h' keys'))
   grows {S} {hasher} {shares'} {q'} {h'} kept policy queues accesses made same free_same d = record {
     machine = rw (ap (λ (z : QueueState). z.small) queues, ap (λ (z : QueueState). z.main) queues, ap (λ (z : KeyPlaces K V). z.entries) same, ap (λ (z : Remembered K). z.entries) d.becomes, free_same) refl;
     hasher = refl;

@@ -122,7 +122,14 @@ fn grown_is_same(alloc: Global, list: u64) -> Result<(), Fail> {
         drive(&mut tested, end, &mut draws)?;
         tested.grow(list.saturating_mul(times) as usize)?;
     }
-    drive_and_look(&mut tested, Position { list, number: CALLS }, &mut draws)
+    drive_and_look(
+        &mut tested,
+        Position {
+            list,
+            number: CALLS,
+        },
+        &mut draws,
+    )
 }
 
 #[test]

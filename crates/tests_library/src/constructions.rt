@@ -52,8 +52,9 @@ fn square(key: &u64) -> u64 {
 /// Makes a cache for half as many keys, raises its capacity, and returns that.
 fn grown(alloc: &Refusing<Global>, capacity: NonZeroUsize) -> Result<usize, CacheError> {
     let half = NonZeroUsize::new(capacity.get() / 2).unwrap_or(NonZeroUsize::MIN);
-    let mut cache: Cache<u64, u64, DefaultHashBuilder, &Refusing<Global>> =
-        Cache::new(alloc, half)?;
+    let mut cache: Cache<u64, u64, DefaultHashBuilder, &Refusing<Global>> = Cache::new(
+        alloc, half,
+    )?;
     cache.grow(capacity)?;
     Ok(cache.capacity())
 }

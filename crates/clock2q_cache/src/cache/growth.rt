@@ -104,8 +104,7 @@ impl<K: Hash + Eq + Drop, V: Drop, S: BuildHasher, A: Allocator + Copy> Cache<K,
             .queues
             .grown(alloc, slots as u32, shares.window() as u32)?;
         self.free.reserve_exact(slots - self.free.len())?;
-        self.directory
-            .grow(alloc, slots, shares.history())?;
+        self.directory.grow(alloc, slots, shares.history())?;
         self.queues = queues;
         self.shares = shares;
         Ok(())

@@ -32,6 +32,6 @@ returns-clause-grown g c =
     rw (← c.self.view_is) (grows c.self.invariant c.is_at_least.ensures.policy c.in_ok-queues.ensures.grown c.in_ok-queues.ensures.accesses c.in_ok-queues.ensures.within c.grow.ensures.residents c.reserve_exact.ensures.items c.in_ok-grow.ensures.grown)
 
 pub returns-clause-policy : goal.returns-clause-policy
-returns-clause-policy g c = 
+returns-clause-policy g c =
     let least : IsAtLeast c.args.self.now.machine.shares c.args.shares = rw (← c.self.view_is) (c.is_at_least.ensures.least.0 c.if-not-is_at_least.false) in
     ((λ e at. search rules), (λ no. absurd (no least)))
