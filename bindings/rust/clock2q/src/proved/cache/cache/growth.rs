@@ -74,8 +74,7 @@ impl<K: Hash + Eq, V, S: BuildHasher, A: Allocator + Copy> Cache<K, V, S, A> {
             .queues
             .grown(alloc, slots as u32, shares.window() as u32)?;
         self.free.reserve_exact(slots - self.free.len())?;
-        self.directory
-            .grow(alloc, slots, shares.history())?;
+        self.directory.grow(alloc, slots, shares.history())?;
         self.queues = queues;
         self.shares = shares;
         Ok(())
