@@ -15,8 +15,8 @@
 //! | 100 | 10 | 90 | 5 | 50 |
 //! | 1,000,000 | 100,000 | 900,000 | 50,000 | 500,000 |
 //!
-//! [`Cache::with_policy`] takes other shares. The constructor takes all memory: no later call asks
-//! for any or refuses anything.
+//! [`Cache::with_policy`] takes other shares. The constructor takes all memory: no later call but
+//! [`Cache::grow`] asks for any or refuses anything.
 //!
 //! # Example
 //!

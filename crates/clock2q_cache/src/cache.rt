@@ -33,7 +33,8 @@ pub type DefaultHashBuilder = BuildHasherDefault<FoldHasher>;
 /// A key-value cache of fixed capacity.
 ///
 /// No reply depends on a hash, since only `Eq` decides whether two keys are the same. The
-/// constructor takes all memory, and no later call asks for any.
+/// constructor takes all memory, and only [`grow`](Cache::grow) and
+/// [`grow_with_history`](Cache::grow_with_history) ask for more.
 ///
 /// # Cost
 ///

@@ -15,8 +15,9 @@ impl<K: Hash + Eq + Drop, V: Drop, A: Allocator + Copy> Cache<K, V, DefaultHashB
     ghost use Rattle.clock2q_cache.specs.CacheState.{uncounted};
     ghost use Rattle.clock2q_machine.specs.Machine.{empty};
 
-    /// Makes an empty cache for `capacity` keys. It takes all the memory that the cache will ever
-    /// use, for `capacity` keys with their values and for half as many evicted keys.
+    /// Makes an empty cache for `capacity` keys. It takes all the memory that the cache will use
+    /// unless it [grows](Cache::grow), for `capacity` keys with their values and for half as many evicted
+    /// keys.
     ///
     /// The hasher's seed is fixed ([`DefaultHashBuilder`]), so whoever chooses the keys can make
     /// calls slow. If strangers do, use [`with_hasher`](Cache::with_hasher).

@@ -11,8 +11,9 @@ use core::hash::{BuildHasher, BuildHasherDefault, Hash};
 use core::num::NonZeroUsize;
 
 impl<K: Hash + Eq, V, A: Allocator + Copy> Cache<K, V, DefaultHashBuilder, A> {
-    /// Makes an empty cache for `capacity` keys. It takes all the memory that the cache will ever
-    /// use, for `capacity` keys with their values and for half as many evicted keys.
+    /// Makes an empty cache for `capacity` keys. It takes all the memory that the cache will use
+    /// unless it [grows](Cache::grow), for `capacity` keys with their values and for half as many evicted
+    /// keys.
     ///
     /// The hasher's seed is fixed ([`DefaultHashBuilder`]), so whoever chooses the keys can make
     /// calls slow. If strangers do, use [`with_hasher`](Cache::with_hasher).
