@@ -5,6 +5,7 @@ ghost use Rattle.std.specs.Option.{option_map};
 ghost use Rattle.simulator_interface.specs.AskedOptions as asked;
 ghost use Rattle.simulator_interface.specs.Amounts.{amount_in, count_in, decimals_in, keys_of, millionths_in, number_in};
 
+use simulator_charts::Percentage;
 use std::fmt;
 use std::num::NonZeroUsize;
 
@@ -86,33 +87,11 @@ impl fmt::Display for Amount {
     fn fmt<W: fmt::Write>(&self, f: &mut fmt::Formatter<W>) -> fmt::Result {
         match self.unit {
             Unit::Keys => write!(f, "{}", self.number),
-            Unit::Millionths => write_percentage(f, self.number),
+            Unit::Millionths => {
+                let millionths = self.number;
+                write!(f, "{}", Percentage { millionths })
+            }
         }
-    }
-}
-
-/// Writes millionths as a percentage, with the decimals that it needs.
-fn write_percentage<W: fmt::Write>(f: &mut fmt::Formatter<W>, number: usize) -> fmt::Result {
-    write!(f, "{}", number / 10_000)?;
-    let (decimals, digits) = trimmed(number % 10_000);
-    if digits > 0 {
-        write!(f, ".{decimals:0digits$}")?;
-    }
-    f.write_str("%")
-}
-
-/// Returns four decimals without the zeros at their end, and how many are left.
-fn trimmed(decimals: usize) -> (usize, usize) {
-    if decimals == 0 {
-        (0, 0)
-    } else if decimals % 1_000 == 0 {
-        (decimals / 1_000, 1)
-    } else if decimals % 100 == 0 {
-        (decimals / 100, 2)
-    } else if decimals % 10 == 0 {
-        (decimals / 10, 3)
-    } else {
-        (decimals, 4)
     }
 }
 

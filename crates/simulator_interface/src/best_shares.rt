@@ -1,7 +1,7 @@
 //! The shares of Clock2Q+ that hit most of a trace.
 
-use crate::page::Page;
 use crate::shares::ChosenShares;
+use simulator_charts::Page;
 use std::alloc::Allocator;
 use std::num::NonZeroUsize;
 

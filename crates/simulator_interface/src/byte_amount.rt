@@ -5,7 +5,7 @@ ghost use Rattle.simulator_interface.specs.Amounts.{ends_in, front};
 ghost use Rattle.simulator_interface.specs.ByteAmounts.{binary_in, bytes_in, decimal_in, unit_in};
 
 use crate::amount::number_of;
-use crate::page::Page;
+use simulator_charts::Page;
 use std::alloc::Allocator;
 use std::num::NonZeroUsize;
 

@@ -3,10 +3,10 @@
 use crate::best_shares::BestShares;
 use crate::options::Options;
 use crate::outcome::Outcome;
-use crate::page::Page;
 use crate::policy::Policy;
 use crate::row::{Counted, Figure, Hits, Row};
 use crate::window::Windows;
+use simulator_charts::Page;
 use std::alloc::{AllocError, Allocator};
 
 /// Returns the rows as CSV, below a header line: a row for each capacity, or for each window. If

@@ -4,9 +4,9 @@ ghost use Rattle.std.specs.Prelude.{◌≡◌, ◌==◌, ◌||◌};
 use crate::best_shares::BestShares;
 use crate::options::Options;
 use crate::outcome::Outcome;
-use crate::page::Page;
 use crate::row::{Counted, Figure, Hits, Row};
 use crate::window::{Window, Windows};
+use simulator_charts::Page;
 use std::alloc::{AllocError, Allocator};
 
 /// Returns an object with the traces in order, each with its name, its figures and its rows. A row

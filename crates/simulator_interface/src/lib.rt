@@ -3,11 +3,9 @@
 #![tactic(auto)]
 
 mod amount;
-mod axis;
 mod best_shares;
 mod byte_amount;
 mod capacities;
-mod chart;
 mod chosen;
 mod csv_text;
 mod error;
@@ -17,7 +15,6 @@ mod help;
 mod json_text;
 mod options;
 mod outcome;
-mod page;
 mod pen;
 mod picture;
 mod policy;
@@ -25,12 +22,10 @@ mod progress;
 mod results;
 mod row;
 mod sample;
-mod scale;
 mod shares;
 mod shown_rows;
 mod summary;
 mod table_text;
-mod title;
 mod window;
 
 pub use amount::{Amount, Unit, number_of};

@@ -1,16 +1,13 @@
 //! A picture of hit ratios over capacities, or over windows of accesses.
 
 use crate::amount::{Amount, Unit};
-use crate::axis::Axis;
-use crate::chart::{Chart, Curve, HEIGHT, Point, WIDTH};
 use crate::options::Options;
 use crate::outcome::Outcome;
-use crate::page::Page;
+use crate::pen::pen_of;
 use crate::policy::Policy;
 use crate::row::{Hits, Row};
-use crate::scale::Scale;
-use crate::title::Title;
 use crate::window::Windows;
+use simulator_charts::{Axis, Chart, Curve, HEIGHT, Page, Point, Scale, Title, WIDTH};
 use std::alloc::{AllocError, Allocator};
 
 /// Returns the hit ratio of each policy over the capacities, or over the windows at each capacity
@@ -208,7 +205,8 @@ fn curves_of<A: Allocator + Copy>(
     order.sort_by_key(|hits| usize::MAX - hits.hits)?;
     for hits in order.iter() {
         curves.push(Curve {
-            policy: hits.policy,
+            name: hits.policy.heading(),
+            pen: pen_of(hits.policy),
             points: points_of(alloc, placed, hits.policy)?,
         })?;
     }

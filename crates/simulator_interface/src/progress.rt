@@ -1,6 +1,7 @@
 //! The progress of a long simulation, shown to a person.
 
 use crate::summary::Summary;
+use simulator_charts::plural_of;
 use std::io;
 use std::io::Write;
 use std::time::{Clock, Duration, Instant};
@@ -270,11 +271,6 @@ fn command_for(bytes: &[u8]) -> Option<&'static str> {
     }
     let is_bzip2 = bytes.starts_with(b"BZh") && bytes.get(4..10) == Some(b"1AY&SY".as_slice());
     is_bzip2.then_some("bzcat")
-}
-
-/// Returns the letters that make more than one of a number of accesses.
-pub(crate) fn plural_of(accesses: usize) -> &'static str {
-    if accesses == 1 { "" } else { "es" }
 }
 
 /// Returns how many seconds the rest of a whole takes, if its part took some time.

@@ -4,12 +4,11 @@ use crate::best_shares::BestShares;
 use crate::byte_amount::write_bytes;
 use crate::options::Options;
 use crate::outcome::Outcome;
-use crate::page::Page;
 use crate::policy::Policy;
-use crate::progress::plural_of;
 use crate::row::{Counted, Hits, Row};
 use crate::summary::Summary;
 use crate::window::Windows;
+use simulator_charts::{Page, plural_of};
 use std::alloc::{AllocError, Allocator};
 
 /// Returns the hit ratios in columns, in percent, below a line of headings and the figures of each

@@ -1,12 +1,17 @@
 //! What is above a chart.
 
 use crate::page::Page;
-use crate::progress::plural_of;
 use std::alloc::Allocator;
 
 /// What is above a chart.
+///
+/// # Example
+///
+/// ```
+/// let title = Title::OfWindows(1_000, 200);
+/// ```
 #[derive(Clone, Copy)]
-pub(crate) enum Title {
+pub enum Title {
     /// The number of accesses whose hits it shows over capacities, and whether they are a sample.
     OfCapacities(usize, bool),
     /// The number of accesses of each window, and the capacity.
@@ -31,4 +36,17 @@ impl Title {
             }
         }
     }
+}
+
+/// Returns the letters that make more than one of a number of accesses.
+///
+/// # Example
+///
+/// ```
+/// page.add_number("", accesses);
+/// page.add(" access");
+/// page.add(plural_of(accesses));
+/// ```
+pub fn plural_of(accesses: usize) -> &'static str {
+    if accesses == 1 { "" } else { "es" }
 }

@@ -1,21 +1,19 @@
 //! Curves of hit ratios in a frame.
 ghost use Rattle.std.specs.Prelude.{◌<◌};
 
-use crate::amount::{Amount, Unit};
 use crate::axis::Axis;
 use crate::page::Page;
 use crate::pen::Pen;
-use crate::policy::Policy;
 use crate::scale::Scale;
 use crate::title::Title;
 use std::alloc::{AllocError, Allocator};
 use std::num::nearest_usize_to_f64;
 
 /// The width of a chart, in the units of the picture.
-pub(crate) const WIDTH: usize = 780;
+pub const WIDTH: usize = 780;
 
 /// The height of a chart.
-pub(crate) const HEIGHT: usize = 470;
+pub const HEIGHT: usize = 470;
 
 /// The frame of the curves. On its right are their names.
 const LEFT: f64 = 80.0;
@@ -30,26 +28,55 @@ const BOTTOM: f64 = 400.0;
 const MARKED: usize = 30;
 
 /// A hit ratio in percent, and its place on the horizontal axis.
+///
+/// # Example
+///
+/// ```
+/// let half_at_100 = Point { place: 100, percent: 50.0 };
+/// ```
 #[derive(Clone, Copy)]
-pub(crate) struct Point {
-    pub(crate) place: usize,
-    pub(crate) percent: f64,
+pub struct Point {
+    /// The place.
+    pub place: usize,
+    /// The ratio.
+    pub percent: f64,
 }
 
 /// The hit ratios of a policy, by their places.
+///
+/// # Example
+///
+/// ```
+/// let curve = Curve { name: "LRU", pen, points };
+/// ```
 #[derive(Drop)]
-pub(crate) struct Curve<A: Allocator> {
-    pub(crate) policy: Policy,
-    pub(crate) points: Vec<Point, A>,
+pub struct Curve<A: Allocator> {
+    /// The policy's name.
+    pub name: &'static str,
+    /// How it is drawn.
+    pub pen: Pen,
+    /// The ratios, the lowest place first.
+    pub points: Vec<Point, A>,
 }
 
 /// Curves, with what is written around them.
+///
+/// # Example
+///
+/// ```
+/// let chart = Chart { title, scale: Scale::Keys, axis: Axis::of(&capacities), curves };
+/// chart.write(alloc, &mut page)?;
+/// ```
 #[derive(Drop)]
-pub(crate) struct Chart<A: Allocator> {
-    pub(crate) title: Title,
-    pub(crate) scale: Scale,
-    pub(crate) axis: Axis,
-    pub(crate) curves: Vec<Curve<A>, A>,
+pub struct Chart<A: Allocator> {
+    /// What is above them.
+    pub title: Title,
+    /// What the horizontal axis counts.
+    pub scale: Scale,
+    /// The horizontal axis.
+    pub axis: Axis,
+    /// The curves, in the order of their names.
+    pub curves: Vec<Curve<A>, A>,
 }
 
 impl<A: Allocator + Copy> Chart<A> {
@@ -58,7 +85,7 @@ impl<A: Allocator + Copy> Chart<A> {
     /// # Errors
     ///
     /// `AllocError` if there is no memory for the numbers to label.
-    pub(crate) fn write(&self, alloc: A, page: &mut Page<A>) -> Result<(), AllocError> {
+    pub fn write(&self, alloc: A, page: &mut Page<A>) -> Result<(), AllocError> {
         let ticks = self.axis.ticks(alloc)?;
         self.write_with(&ticks, page);
         Ok(())
@@ -93,7 +120,7 @@ impl<A: Allocator> Chart<A> {
         page.add_decimals(" H ", RIGHT, 0);
         page.add("\" fill=\"none\" stroke=\"black\"/>\n");
         for tick in ticks {
-            write_place(page, frame.x(*tick), self.scale.place(*tick));
+            write_place(page, frame.x(*tick), self.scale, *tick);
         }
         page.add("<text x=\"350\" y=\"452\" text-anchor=\"middle\">");
         self.scale.write(page);
@@ -136,19 +163,18 @@ impl<A: Allocator> Curve<A> {
 
     /// Writes the line and the points.
     fn write(&self, page: &mut Page<A>, frame: &Frame) {
-        let pen = Pen::of(self.policy);
         if self.has_line() {
-            self.write_line(page, frame, &pen);
+            self.write_line(page, frame);
         }
         if self.has_marks() {
-            self.write_points(page, frame, &pen);
+            self.write_points(page, frame);
         }
     }
 
     /// Writes a line through the points.
-    fn write_line(&self, page: &mut Page<A>, frame: &Frame, pen: &Pen) {
+    fn write_line(&self, page: &mut Page<A>, frame: &Frame) {
         page.add("<polyline ");
-        pen.write_line(page);
+        self.pen.write_line(page);
         page.add(" points=\"");
         for point in self.points.iter() {
             page.add_decimals(" ", frame.x(point.place), 1);
@@ -158,28 +184,28 @@ impl<A: Allocator> Curve<A> {
     }
 
     /// Writes the points.
-    fn write_points(&self, page: &mut Page<A>, frame: &Frame, pen: &Pen) {
+    fn write_points(&self, page: &mut Page<A>, frame: &Frame) {
         for point in self.points.iter() {
-            pen.write_point(page, frame.x(point.place), frame.y(point.percent));
+            self.pen
+                .write_point(page, frame.x(point.place), frame.y(point.percent));
         }
     }
 
     /// Writes the policy's name on the right, beside a piece of its line with a point.
     fn write_name(&self, page: &mut Page<A>, index: usize) {
-        let pen = Pen::of(self.policy);
         let middle = TOP + 8.0 + nearest_usize_to_f64(index) * 26.0;
         if self.has_line() {
             page.add_decimals("<path d=\"M 640 ", middle, 0);
             page.add(" h 44\" ");
-            pen.write_line(page);
+            self.pen.write_line(page);
             page.add("/>\n");
         }
         if self.has_marks() {
-            pen.write_point(page, 662.0, middle);
+            self.pen.write_point(page, 662.0, middle);
         }
         page.add_decimals("<text x=\"694\" y=\"", middle + 4.5, 1);
         page.add("\">");
-        page.add(self.policy.heading());
+        page.add(self.name);
         page.add("</text>\n");
     }
 }
@@ -267,33 +293,12 @@ fn write_ratio<A: Allocator>(page: &mut Page<A>, y: f64, percent: u8) {
     page.add("%</text>\n");
 }
 
-/// Writes a number below the horizontal axis, as a percentage if it is one of millionths.
-fn write_place<A: Allocator>(page: &mut Page<A>, x: f64, place: Amount) {
+/// Writes a number below the horizontal axis.
+fn write_place<A: Allocator>(page: &mut Page<A>, x: f64, scale: Scale, number: usize) {
     page.add_decimals("<path d=\"M ", x, 1);
     page.add_decimals(" ", BOTTOM, 0);
     page.add_decimals(" v 6\" stroke=\"black\"/>\n<text x=\"", x, 1);
     page.add("\" y=\"422\" text-anchor=\"middle\">");
-    match place.unit {
-        Unit::Keys => write_short(page, place.number),
-        Unit::Millionths => page.add_shown(&place),
-    }
+    scale.write_place(page, number);
     page.add("</text>\n");
-}
-
-/// Writes a number, in thousands or millions if it is a multiple of them.
-fn write_short<A: Allocator>(page: &mut Page<A>, number: usize) {
-    let (count, thousands) = short(number);
-    page.add_number("", count);
-    page.add(thousands);
-}
-
-/// Returns a number in thousands or millions, if it is a multiple of them, and their letter.
-fn short(number: usize) -> (usize, &'static str) {
-    if number >= 1_000_000 && number % 1_000_000 == 0 {
-        (number / 1_000_000, "M")
-    } else if number >= 1_000 && number % 1_000 == 0 {
-        (number / 1_000, "k")
-    } else {
-        (number, "")
-    }
 }

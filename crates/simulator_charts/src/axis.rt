@@ -43,17 +43,23 @@ const NAMED: usize = 10;
 const CLEAR: f64 = 0.08;
 
 /// The numbers from `low` to `high`, on a linear or logarithmic scale.
+///
+/// # Example
+///
+/// ```
+/// let axis = Axis::of(&[10, 100, 1_000]);
+/// ```
 #[derive(Clone, Copy)]
-pub(crate) struct Axis {
-    pub(crate) low: usize,
-    pub(crate) high: usize,
+pub struct Axis {
+    low: usize,
+    high: usize,
     pub(crate) is_logarithmic: bool,
 }
 
 impl Axis {
     /// Returns an axis for these numbers, logarithmic if the highest is at least eight times the
     /// lowest.
-    pub(crate) fn of(numbers: &[usize]) -> Axis {
+    pub fn of(numbers: &[usize]) -> Axis {
         let low = numbers.iter().copied().min().unwrap_or(1);
         let high = numbers.iter().copied().max().unwrap_or(1);
         Axis {
@@ -64,7 +70,7 @@ impl Axis {
     }
 
     /// Returns a linear axis from one number to another.
-    pub(crate) fn linear(low: usize, high: usize) -> Axis {
+    pub fn linear(low: usize, high: usize) -> Axis {
         Axis {
             low,
             high,
@@ -92,6 +98,10 @@ impl Axis {
     }
 
     /// Returns the numbers to label: both ends, and round ones between them.
+    ///
+    /// # Errors
+    ///
+    /// `AllocError` if there is no memory for them.
     pub(crate) fn ticks<A: Allocator + Copy>(&self, alloc: A) -> Result<Vec<usize, A>, AllocError> {
         let mut ticks = vec![in alloc; self.low]?;
         if self.low >= self.high {
