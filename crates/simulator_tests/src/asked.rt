@@ -2,10 +2,11 @@
 
 use crate::player::words_of;
 use simulator_interface::{
-    Amount, FORMATS_HELP, HELP, Options, POLICIES_HELP, Sample, bytes_of, help_for, parse_options,
+    Amount, ChosenShares, FORMATS_HELP, HELP, Options, POLICIES_HELP, Policy, Sample, bytes_of,
+    help_for, parse_options,
 };
 use std::alloc::{AllocError, Global};
-use std::fmt::{Debug, Display};
+use std::fmt::Display;
 use testing::{SpellingError, named_in};
 
 /// What is asked of a word or of arguments.
@@ -60,45 +61,57 @@ const QUESTIONS: &[(&str, Question)] = &[
 pub(crate) fn other_answer(alloc: Global, line: &str) -> Result<Option<Vec<u8>>, SpellingError> {
     let (name, rest) = line.split_once('|').unwrap_or((line, ""));
     let (asked, wanted) = rest.split_once('|').unwrap_or((rest, "no bar"));
-    let answer = answer_to(alloc, named_in(QUESTIONS, name), asked)?;
-    Ok(if answer.trim_start() == wanted {
+    let mut answer = String::new(alloc);
+    write_answer(alloc, &mut answer, named_in(QUESTIONS, name), asked)?;
+    Ok(other_text(answer, wanted))
+}
+
+/// Returns a text but for the blank that it may begin with, unless it is this one.
+pub(crate) fn other_text(text: String, wanted: &str) -> Option<Vec<u8>> {
+    if text.trim_start() == wanted {
         None
     } else {
-        Some(answer.into_bytes())
-    })
+        Some(text.into_bytes())
+    }
 }
 
-/// Returns the answer to a question about a word or arguments.
-fn answer_to(
+/// Writes the answer to a question about a word or arguments.
+fn write_answer(
     alloc: Global,
+    text: &mut String,
     question: Option<Question>,
     asked: &str,
-) -> Result<String, SpellingError> {
+) -> Result<(), SpellingError> {
     match question {
-        Some(Question::OfWord(property)) => Ok(property_of(alloc, property, asked)?),
-        Some(Question::Help) => help_on(alloc, asked),
-        Some(Question::Phrase) => Ok(String::from_str(alloc, help_with(asked))?),
-        Some(Question::OfArguments(choice)) => choice_of(alloc, choice, asked),
-        None => Ok(String::from_str(alloc, "no question")?),
+        Some(Question::OfWord(property)) => Ok(write_property(text, property, asked)?),
+        Some(Question::Help) => Ok(text.push_str(help_on(alloc, asked)?)?),
+        Some(Question::Phrase) => Ok(text.push_str(help_with(asked))?),
+        Some(Question::OfArguments(choice)) => write_choice_of(alloc, text, choice, asked),
+        None => Ok(text.push_str("no question")?),
     }
 }
 
-/// Returns a property of a word.
-fn property_of(alloc: Global, property: Property, word: &str) -> Result<String, AllocError> {
+/// Writes a property of a word.
+fn write_property(text: &mut String, property: Property, word: &str) -> Result<(), AllocError> {
     match property {
-        Property::Bytes => text_of(alloc, bytes_of(word)),
-        Property::Sample => text_of(alloc, Sample::written(word).map(|sample| sample.millionths)),
-        Property::Part => text_of(alloc, part_of(word)),
-        Property::Amount => text_of(alloc, Amount::written(word)),
+        Property::Bytes => write_if_any(text, bytes_of(word)),
+        Property::Sample => write_if_any(text, millionths_of(word)),
+        Property::Part => write_if_any(text, part_of(word)),
+        Property::Amount => write_if_any(text, Amount::written(word)),
     }
 }
 
-/// Returns a text of a value, if there is one.
-fn text_of<T: Display + Drop>(alloc: Global, value: Option<T>) -> Result<String, AllocError> {
+/// Writes a value, if there is one.
+fn write_if_any<T: Display + Drop>(text: &mut String, value: Option<T>) -> Result<(), AllocError> {
     match value {
-        Some(value) => format!(in alloc; "{value}"),
-        None => String::from_str(alloc, "none"),
+        Some(value) => write!(text, "{value}"),
+        None => text.push_str("none"),
     }
+}
+
+/// Returns the millionths of the keys that a sample has.
+fn millionths_of(word: &str) -> Option<usize> {
+    Some(Sample::written(word)?.millionths)
 }
 
 /// Returns the number of keys in an amount of some number of keys.
@@ -108,14 +121,13 @@ fn part_of(words: &str) -> Option<usize> {
     Some(Amount::written(amount)?.of(keys as usize))
 }
 
-/// Returns which help text arguments ask for.
-fn help_on(alloc: Global, line: &str) -> Result<String, SpellingError> {
+/// Returns the name of the help text that arguments ask for.
+fn help_on(alloc: Global, line: &str) -> Result<&'static str, SpellingError> {
     let words = words_of(alloc, line)?;
-    let name = match help_for(&words) {
-        Some(text) => name_of_help(text),
-        None => "none",
-    };
-    Ok(String::from_str(alloc, name)?)
+    match help_for(&words) {
+        Some(text) => Ok(name_of_help(text)),
+        None => Ok("none"),
+    }
 }
 
 /// The help texts and their names.
@@ -145,46 +157,49 @@ fn name_of_help(text: &str) -> &'static str {
     "another text"
 }
 
-/// Returns a choice that arguments make.
-fn choice_of(alloc: Global, choice: Choice, line: &str) -> Result<String, SpellingError> {
+/// Writes a choice that arguments make.
+fn write_choice_of(
+    alloc: Global,
+    text: &mut String,
+    choice: Choice,
+    line: &str,
+) -> Result<(), SpellingError> {
     let words = words_of(alloc, line)?;
-    Ok(choice_by(alloc, choice, &words)?)
+    Ok(write_choice_by(alloc, text, choice, &words)?)
 }
 
-/// Returns a choice that arguments make, or the refusal.
-fn choice_by(alloc: Global, choice: Choice, words: &[String]) -> Result<String, AllocError> {
+/// Writes a choice that arguments make, or the refusal.
+fn write_choice_by(
+    alloc: Global,
+    text: &mut String,
+    choice: Choice,
+    words: &[String],
+) -> Result<(), AllocError> {
     match parse_options(alloc, words) {
-        Ok(options) => choice_in(alloc, choice, &options),
-        Err(refusal) => format!(in alloc; "{refusal}"),
+        Ok(options) => write_choice(text, choice, &options),
+        Err(refusal) => write!(text, "{refusal}"),
     }
 }
 
-/// Returns a choice in options.
-fn choice_in(
-    alloc: Global,
+/// Writes a choice in options.
+fn write_choice(
+    text: &mut String,
     choice: Choice,
     options: &Options<Global>,
-) -> Result<String, AllocError> {
+) -> Result<(), AllocError> {
     match choice {
-        Choice::Keys => listed(alloc, &options.capacities),
-        Choice::Bytes => listed(alloc, &options.byte_capacities),
-        Choice::Traces => listed(alloc, &options.traces),
-        Choice::Policies => policies_in(alloc, options),
-        Choice::Form => shown(alloc, options.format),
-        Choice::Shares => shares_in(alloc, options),
-        Choice::Skipped => listed(alloc, &[options.skipped]),
-        Choice::Format => shown(alloc, options.trace_format),
+        Choice::Keys => list(text, &options.capacities),
+        Choice::Bytes => list(text, &options.byte_capacities),
+        Choice::Traces => list(text, &options.traces),
+        Choice::Policies => list_policies(text, &options.policies),
+        Choice::Form => write!(text, "{:?}", options.format),
+        Choice::Shares => write_shares(text, options.shares),
+        Choice::Skipped => list(text, &[options.skipped]),
+        Choice::Format => write!(text, "{:?}", options.trace_format),
     }
 }
 
-/// Returns items with a blank before each.
-fn listed<T: Display>(alloc: Global, items: &[T]) -> Result<String, AllocError> {
-    let mut text = String::new(alloc);
-    list(&mut text, items)?;
-    Ok(text)
-}
-
-/// Adds items with a blank before each.
+/// Writes items with a blank before each.
 pub(crate) fn list<T: Display>(text: &mut String, items: &[T]) -> Result<(), AllocError> {
     for item in items {
         write!(text, " {item}")?;
@@ -192,27 +207,21 @@ pub(crate) fn list<T: Display>(text: &mut String, items: &[T]) -> Result<(), All
     Ok(())
 }
 
-/// Returns what debugging shows of a value.
-fn shown<T: Debug + Drop>(alloc: Global, value: T) -> Result<String, AllocError> {
-    format!(in alloc; "{value:?}")
-}
-
-/// Returns the names of the policies.
-fn policies_in(alloc: Global, options: &Options<Global>) -> Result<String, AllocError> {
-    let mut text = String::new(alloc);
-    for policy in options.policies.iter() {
-        list(&mut text, &[policy.name()])?;
+/// Writes the names of policies.
+fn list_policies(text: &mut String, policies: &[Policy]) -> Result<(), AllocError> {
+    for policy in policies {
+        list(text, &[policy.name()])?;
     }
-    Ok(text)
+    Ok(())
 }
 
-/// Returns the shares of Small, of the window and of the history in a cache for 400 keys.
-fn shares_in(alloc: Global, options: &Options<Global>) -> Result<String, AllocError> {
-    match options.shares {
+/// Writes the shares of Small, of the window and of the history in a cache for 400 keys.
+fn write_shares(text: &mut String, shares: Option<ChosenShares>) -> Result<(), AllocError> {
+    match shares {
         Some(shares) => {
             let (small, window) = (shares.small(400), shares.window(400));
-            listed(alloc, &[small, window, shares.history(400)])
+            list(text, &[small, window, shares.history(400)])
         }
-        None => String::from_str(alloc, "none"),
+        None => text.push_str("none"),
     }
 }

@@ -1,6 +1,6 @@
 //! Traces that grow key by key: cases of a file, a line each.
 
-use crate::asked::list;
+use crate::asked::{list, other_text};
 use crate::keys::write_keys;
 use clock2q_cache::DefaultHashBuilder;
 use simulator_traces::{GrowingTrace, Trace};
@@ -16,11 +16,7 @@ pub(crate) fn other_growth(alloc: Global, line: &str) -> Result<Option<Vec<u8>>,
     let (keys, wanted) = rest.split_once('|').unwrap_or((rest, "no bar"));
     let mut text = String::new(alloc);
     write_growth(&mut text, new_trace(alloc, made), keys)?;
-    Ok(if text.trim_start() == wanted {
-        None
-    } else {
-        Some(text.into_bytes())
-    })
+    Ok(other_text(text, wanted))
 }
 
 /// Makes a trace with sizes or without.
