@@ -1,7 +1,7 @@
-use Rattle.std.proofs.Common.{◌≡◌, ◌+◌, ◌%◌, [], ◌∷◌, ◌++◌, length, false, None, IfSome, refl, sym, ap, ◌∙◌, subst, arith}
+use Rattle.std.proofs.Common.{◌≡◌, ◌+◌, ◌%◌, [], ◌∷◌, ◌++◌, length, true, false, Some, None, IfSome, refl, sym, ap, ◌∙◌, subst, arith}
 use Rattle.std.proofs.lemmas.List.{append_assoc}
 use Rattle.std.specs.Fn.{Called}
-use Rattle.clock2q_handles.specs.Candidates.{left_at, IsWalkFor}
+use Rattle.clock2q_handles.specs.Candidates.{left_at, unread_at, EndsAt, IsLookup, IsWalkFor}
 use Rattle.clock2q_handles.specs.Layout.{slot_at}
 use Rattle.clock2q_handles.specs.Offers.{Offers, TakesInTurn}
 use Rattle.clock2q_handles.specs.Slots.{sought, mark_of, mark_on}
@@ -18,8 +18,29 @@ loop-gap-init g c =
     let whole = begins_whole c.args.self.now.slots c.args.hash c.home-slot.result c.requires.tidy c.requires.near c.requires.some (c.home-slot.ensures.home c.requires.some) in
     grind (arith, lookup_begins c.args.self.now.slots c.args.hash, walks_begin c.args.self.now.slots c.requires.tidy c.args.hash)
 
-pub returns-in-Err-clause-ends : goal.returns-in-Err-clause-ends
-returns-in-Err-clause-ends g c = grind (arith, c.in-Err.ensures.ends c.args.hash)
+pub candidate-requires : goal.candidate-requires
+candidate-requires g c =
+    let l = c.loop-gap.invariant in record { lookup = subst (λ s. IsLookup s (sought c.loop-gap.wanted) c.loop-gap.slot) (sym l.same) l.lookup; some = l.some }
+
+pub returns-in-Err : goal.returns-in-Err
+returns-in-Err g c =
+    let n = c.loop-gap.slot in
+    let f = c.loop-gap.matches in
+    let l = c.loop-gap.invariant in
+    let ended = c.in-Err.ensures in
+    let none = ap (λ s. left_at s (sought c.loop-gap.wanted) n) (sym l.same) ∙ ended.none in
+    let unread = ap (λ s. unread_at s (sought c.loop-gap.wanted) n) l.same in
+    let walk = subst (λ s. IsWalkFor s c.args.hash (sought c.loop-gap.wanted) n) (sym l.same) l.walk in
+    record {
+      offers = l.offers None f (subst (λ hs. Offers g.F.FnMut f hs None f) (sym none) (refl, refl));
+      at = tt;
+      same = c.candidate.ensures.same ∙ l.same;
+      ends = subst (λ s. EndsAt s c.args.hash c.in-Err.gap.mark c.in-Err.gap.position) l.same (ended.ends c.args.hash walk);
+      reads = omega (arith, l.reads, c.candidate.ensures.reads);
+      read = omega (arith, l.read, ended.read_all, unread);
+      handles = omega (arith, l.handles, c.candidate.ensures.handles);
+      read_all = omega (arith, l.read, ended.read_all, unread);
+    }
 
 -- the candidate that was found
 found : (g : Over) (c : After-handle-handle g)
@@ -32,7 +53,10 @@ found g c =
 
 -- the walk reached it
 came : (g : Over) (c : After-handle-handle g) → IsWalkFor c.args.self.now.slots c.args.hash (sought c.in-Ok.found) c.in-Ok.here
-came g c = grind arith
+came g c =
+    let l = c.loop-gap.invariant in
+    let walk = subst (λ s. IsWalkFor s c.args.hash (sought c.loop-gap.wanted) c.loop-gap.slot) (sym l.same) l.walk in
+    subst (λ s. IsWalkFor s c.args.hash (sought c.in-Ok.found) c.in-Ok.here) l.same (c.in-Ok.ensures.walks c.args.hash walk)
 
 -- it is the first that is left, and the walk goes on after it
 first : (g : Over) (c : After-handle-handle g) → let slots = c.args.self.now.slots in let next = (c.in-Ok.here + 1) % length slots in
@@ -60,19 +84,39 @@ returns-then-matches-clause-at g c =
     }
 
 pub matches-requires : goal.matches-requires
-matches-requires g c = grind (arith, first)
+matches-requires g c =
+    let next = first g (goal.at.matches-requires g c).After-handle-handle in (subst (λ hs. TakesInTurn g.F.FnMut c.loop-gap.matches hs) next.1 c.loop-gap.invariant.callable).0
 
 pub returns-then-matches-clause-offers : goal.returns-then-matches-clause-offers
-returns-then-matches-clause-offers g c = grind (arith, first)
+returns-then-matches-clause-offers g c =
+    let next = first g (goal.at.returns-then-matches-clause-offers g c).After-handle-handle in
+    let r = c.handle-handle.result in
+    let f = c.matches.new.self in
+    let called = subst (λ b. Called g.F.FnMut c.loop-gap.matches (r, tt) b f) c.if-matches.true c.matches.ensures in
+    c.loop-gap.invariant.offers (Some r) f (subst (λ hs. Offers g.F.FnMut c.loop-gap.matches hs (Some r) f) (sym next.1) (true, f, called, (refl, refl)))
+
+pub returns-then-matches-clause-same : goal.returns-then-matches-clause-same
+returns-then-matches-clause-same g c = c.handle-handle.ensures.same ∙ c.candidate.ensures.same ∙ c.loop-gap.invariant.same
+
+pub returns-then-matches-clause-reads : goal.returns-then-matches-clause-reads
+returns-then-matches-clause-reads g c = omega (arith, c.loop-gap.invariant.reads, c.candidate.ensures.reads, c.handle-handle.ensures.reads)
 
 pub returns-then-matches-clause-read : goal.returns-then-matches-clause-read
-returns-then-matches-clause-read g c = grind (arith, found, first)
+returns-then-matches-clause-read g c =
+    let before = (goal.at.returns-then-matches-clause-read g c).After-handle-handle in
+    omega (arith, c.loop-gap.invariant.read, (found g before).read, (first g before).0.read, c.handle-handle.ensures.reads)
 
 pub returns-then-matches-clause-handles : goal.returns-then-matches-clause-handles
-returns-then-matches-clause-handles g c = grind (arith, first)
+returns-then-matches-clause-handles g c =
+    let next = first g (goal.at.returns-then-matches-clause-handles g c).After-handle-handle in
+    omega (arith, c.loop-gap.invariant.handles, ap length next.1, c.candidate.ensures.handles, c.handle-handle.ensures.counted)
 
 pub loop-gap-smaller : goal.loop-gap-smaller
-loop-gap-smaller g c = grind (arith, found, first)
+loop-gap-smaller g c =
+    let here = found g (goal.at.loop-gap-smaller g c).After-handle-handle in
+    let at : c.after-slot.result ≡ (c.in-Ok.here + 1) % length c.args.self.now.slots = cc in
+    let next = here.on (sought c.next-wanted.result) c.after-slot.result c.next-wanted.ensures at in
+    omega (arith, here.read, next.0.read, c.candidate.ensures.reads)
 
 pub loop-gap-preserved : goal.loop-gap-preserved
 loop-gap-preserved g c =
