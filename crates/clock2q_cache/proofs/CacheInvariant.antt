@@ -1,6 +1,7 @@
 -- A cache's fields keep their invariant after each change of the layers, and the machine becomes what it should.
-use Rattle.std.proofs.Common.{◌≡◌, ℕ, suc, ◌+◌, ◌^◌, ◌<◌, ◌≤◌, Bool, true, false, Option, Some, None, List, [], ◌∷◌, ◌++◌, map, length, drop, reverse, refl, sym, ap, ◌∙◌, arith, length-append, eqb}
-use Rattle.clock2q_cache.proofs.Names.{Entry, length-written, made_below, key_at-own, key_at-others, values-written, length-values, IfNone, IsEquivalence, last_or, AllByRecursion, total, capacity, with_handle, KeyPlaces, entry, written, key_at, admitted, QueueState, slots_of, IndexState, is_shared, slots, Remembered, most_beside, list_any-append, length-put, or_parts, Shares, main_share, Machine, Placement, vacancy, vacant_slot, into_main, into_small, into_small_at, joining_main, into_queue, stored, known_count, Fills, Writes, machine_of, queued_slots, with_keys_small, with_keys_main, IsStored, IsSized, IsCache, IsPlaced, whole-stored, placed-admitted, placed-joining, slots-entered, slots-left, without_handle, left, list_any}
+use Rattle.std.proofs.Common.{◌≡◌, ℕ, suc, ◌+◌, ◌^◌, ◌<◌, ◌≤◌, Bool, true, false, Option, Some, None, List, [], ◌∷◌, ◌++◌, map, length, drop, reverse, refl, sym, ap, ◌∙◌, ◌↔◌, arith, length-append, eqb}
+use Rattle.std.specs.Option.{option_to_list, unwrap_or}
+use Rattle.clock2q_cache.proofs.Names.{Entry, length-written, made_below, key_at-own, key_at-others, values-written, length-values, IfNone, IsSome, IsEquivalence, last_or, AllByRecursion, total, capacity, with_handle, KeyPlaces, entry, written, key_at, admitted, QueueState, slots_of, IndexState, is_shared, slots, Remembered, most_beside, list_any-append, length-put, or_parts, Shares, main_share, Machine, Placement, vacancy, vacant_slot, into_main, into_small, into_small_at, joining_main, into_queue, stored, known_count, Fills, Writes, machine_of, queued_slots, with_keys_small, with_keys_main, IsStored, IsSized, IsCache, IsPlaced, whole-stored, placed-admitted, placed-joining, slots-entered, slots-left, without_handle, left, list_any, reverse-append, append-nil}
 use Rattle.clock2q_directory.specs.Index as known
 use Rattle.clock2q_machine.specs.Entries as machine
 use Rattle.clock2q_cache.proofs.WithKeys.{small-admitted, main-behind, small_with, main_with, keys-agree, length-small, length-main}
@@ -39,6 +40,17 @@ pub kept-reindexed : {K V : Type 0} {eq : K → K → Bool} {hash : K → ℕ} {
     {free : List ℕ} {room : ℕ} → IsReindexed h h' → IsCache eq hash shares q h index keys free room → IsCache eq hash shares q h' index keys free room
 kept-reindexed moved kept = grind (arith, kept.whole, kept.stored, kept.hashed, kept.linked, sized-same, kept.sized)
 
+-- the slot that a key takes is the last of the free ones, otherwise the next that was never made
+picked : (free free' : List ℕ) (last : Option ℕ) (made : ℕ) → free ≡ free' ++ option_to_list last → (IsSome last ↔ (0 < length free)) → vacant_slot (reverse free) made (made + 1) ≡ Some (unwrap_or last made)
+picked free free' (Some slot) made popped some = rw (popped, reverse-append free' (slot ∷ [])) refl
+picked [] free' None made popped some = grind arith
+picked (f ∷ fs) free' None made popped some = absurd (grind (arith, some.1))
+
+pub left-free : (free free' : List ℕ) (last : Option ℕ) → free ≡ free' ++ option_to_list last → (IsSome last ↔ (0 < length free)) → reverse free' ≡ drop 1 (reverse free)
+left-free free free' (Some slot) popped some = rw (popped, reverse-append free' (slot ∷ [])) refl
+left-free [] free' None popped some = grind (arith, append-nil free')
+left-free (f ∷ fs) free' None popped some = absurd (grind (arith, some.1))
+
 module _ {K V : Type 0} {eq : K → K → Bool} {hash : K → ℕ} {shares : Shares} {q : QueueState} {h : Remembered K} {index : List (List (ℕ × ℕ))} {keys : KeyPlaces K V} {free : List ℕ} {room : ℕ}
     (laws : IsEquivalence eq) (kept : IsCache eq hash shares q h index keys free room) where
   abbrev pub m : Machine K V
@@ -74,9 +86,10 @@ module _ {K V : Type 0} {eq : K → K → Bool} {hash : K → ℕ} {shares : Sha
       let v = vacant laws kept slot taken in
       grind (arith, taken, v, or_parts, list_any-append (eqb slot) (slots_of q.small) (slots_of q.main), kept.whole.made_within, length-values keys.entries, kept.sized, kept.stored.indexed.counted, length-places q)
 
-  pub free-to-join : {slot made : ℕ} (main : Bool) → made ≡ length keys.entries → vacant_slot (reverse free) made (made + 1) ≡ Some slot
+  pub free-to-join : (free' : List ℕ) {slot made : ℕ} (last : Option ℕ) (main : Bool) → free ≡ free' ++ option_to_list last → (IsSome last ↔ (0 < length free)) → made ≡ length keys.entries → slot ≡ unwrap_or last made
       → (main ≡ true → length m.main < main_share shares) → (main ≡ false → length m.small < shares.small) → IsFree slot
-  free-to-join main is picked room some = grind (arith, is-free is picked, room, some, kept.whole, length_in_small, length_in_main)
+  free-to-join free' {slot} {made} last main popped any is taken room some =
+      grind (arith, is-free is (picked free free' last made popped any ∙ ap Some (sym taken)), room, some, kept.whole, length_in_small, length_in_main)
 
   -- no link record is made for a slot that was made
   pub made-still : {slot : ℕ} → slot < length keys.entries → made_below (slot + 1) q.made ≡ q.made

@@ -1,6 +1,6 @@
 -- A cache's fields keep their invariant when there is more room.
-use Rattle.std.proofs.Common.{◌≡◌, ℕ, ◌+◌, ◌*◌, ◌^◌, ◌<◌, ◌≤◌, Bool, true, false, List, map, length, refl, sym, ap, ◌∙◌, arith, ⊎_elim}
-use Rattle.clock2q_cache.proofs.Names.{cases_lt, length-values, IsEquivalence, KeyPlaces, QueueState, Remembered, Shares, Machine, Known, slots, for-new, IsWhole, machine_of, queued_slots, IsSized, IsCache, cache_state, counts_of}
+use Rattle.std.proofs.Common.{◌≡◌, ℕ, ◌+◌, ◌*◌, ◌^◌, ◌<◌, ◌≤◌, Bool, List, refl, ap, ◌∙◌, arith, ⊎_elim}
+use Rattle.clock2q_cache.proofs.Names.{cases_lt, IsEquivalence, KeyPlaces, QueueState, Remembered, Shares, Machine, slots, for-new, IsWhole, machine_of, queued_slots, IsCache, cache_state, counts_of}
 use Rattle.clock2q_cache.proofs.Slots.{apart}
 use Rattle.clock2q_machine.specs.Policies.{IsPolicy}
 use Rattle.clock2q_machine.specs.Growth.{IsAtLeast, grown}

@@ -1,5 +1,5 @@
 -- What a cache is after its capacity was raised.
-use Rattle.std.specs.Prelude.{◌≡◌, ℕ, ◌*◌, ◌≤◌}
+use Rattle.std.specs.Prelude.{◌≡◌, ◌*◌, ◌≤◌}
 use Rattle.clock2q_machine.specs.Shares.{Shares}
 use Rattle.clock2q_machine.specs.Growth.{grown}
 use Rattle.clock2q_cache.specs.CacheState.{CacheState}

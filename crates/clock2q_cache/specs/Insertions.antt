@@ -57,6 +57,10 @@ module _ {K V : Type 0} where
   abbrev pub placed_inspections : Bool → Machine K V → ℕ
   placed_inspections main m = if main then main_inspections m else small_inspections m
 
+  -- whether a key can go into Main, or into Small, and take no other's slot
+  abbrev pub has_room : Bool → Machine K V → Bool
+  has_room main m = if main then not (length m.main == main_share m.shares) else is_some (vacancy m)
+
   -- whether no slot is free, and one was never made
   abbrev pub next_is_vacant : Machine K V → Bool
   next_is_vacant m = (length m.free == 0) && nat_lt (length m.values) m.shares.capacity

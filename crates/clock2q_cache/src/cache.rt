@@ -104,7 +104,7 @@ impl<K: Hash + Eq, V, S: BuildHasher, A: Allocator> Cache<K, V, S, A> {
     pub fn capacity(&self) -> usize
         ensures capacity { result ≡ self.now.machine.shares.capacity }
     {
-        self.shares.capacity()
+        self.shares.capacity
     }
 
     /// Returns the number of keys in the cache, at most its capacity. Evicted keys don't count.

@@ -10,10 +10,10 @@ use std::marker::Model;
 /// which an entry is young) and the number of evicted keys that the history remembers.
 #[derive(Clone, Copy)]
 pub(crate) struct Shares {
-    capacity: usize,
-    small: usize,
-    window: usize,
-    history: usize,
+    pub(crate) capacity: usize,
+    pub(crate) small: usize,
+    pub(crate) window: usize,
+    pub(crate) history: usize,
 }
 
 impl Model for Shares {
@@ -76,37 +76,11 @@ impl Shares {
         })
     }
 
-    pub(crate) fn capacity(self) -> usize
-        ensures { result ≡ self.capacity }
-    {
-        self.capacity
-    }
-
-    pub(crate) fn small(self) -> usize
-        ensures share { result ≡ self.small }
-        ensures below { result < self.capacity }
-    {
-        self.small
-    }
-
-    pub(crate) fn window(self) -> usize
-        ensures window { result ≡ self.window }
-        ensures policy { IsPolicy self }
-    {
-        self.window
-    }
-
+    /// Returns what Small leaves.
     pub(crate) fn main(self) -> usize
         ensures { result ≡ main_share self }
     {
         self.capacity - self.small
-    }
-
-    pub(crate) fn history(self) -> usize
-        ensures share { result ≡ self.history }
-        ensures within { result ≤ self.capacity }
-    {
-        self.history
     }
 
     /// Returns true if no share is smaller than in `old`.

@@ -54,8 +54,8 @@ impl Shares {
         let usual = usual::Shares::usual(capacity);
         let (small, window) = self
             .small_and_window
-            .unwrap_or((usual.small(), usual.window()));
-        (small, window, self.history.unwrap_or(usual.history()))
+            .unwrap_or((usual.small, usual.window));
+        (small, window, self.history.unwrap_or(usual.history))
     }
 }
 

@@ -164,10 +164,10 @@ impl<K: Hash + Eq + Drop, V: Drop, S: BuildHasher + Drop, A: Allocator + Copy> C
         ensures counts { IfOk result (λ cache. cache.counts ≡ uncounted) }
         ensures only { IsOkUnless result CacheError.Memory }
     {
-        let slots = shares.capacity();
-        let queues = Queues::new(alloc, slots as u32, shares.window() as u32)?;
+        let slots = shares.capacity;
         let free = Vec::with_capacity(alloc, slots)?;
-        let directory = Directory::new(alloc, slots, shares.history())?;
+        let queues = Queues::new(alloc, slots as u32, shares.window as u32)?;
+        let directory = Directory::new(alloc, slots, shares.history)?;
         Ok(Cache {
             shares,
             queues,

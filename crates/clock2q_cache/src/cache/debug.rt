@@ -11,11 +11,11 @@ impl<K: Hash + Eq, V, S: BuildHasher, A: Allocator> Debug for Cache<K, V, S, A> 
             .field("len", &self.len())
             .field("capacity", &self.capacity())
             .field("small", &self.queues.small_len())
-            .field("small_capacity", &self.shares.small())
+            .field("small_capacity", &self.shares.small)
             .field("main", &self.queues.main_len())
             .field("main_capacity", &self.shares.main())
             .field("ghost", &self.directory.remembered_len())
-            .field("ghost_capacity", &self.shares.history())
+            .field("ghost_capacity", &self.shares.history)
             .finish()
     }
 }

@@ -1,6 +1,5 @@
 //! Insertion of a key that is not resident.
-ghost use Rattle.std.specs.Prelude.{◌≡◌, ◌+◌, ◌<◌, ◌^◌, drop, reverse, Some, vec_capacity};
-ghost use Rattle.clock2q_machine.specs.Machine.{vacant_slot};
+ghost use Rattle.std.specs.Prelude.{◌≡◌};
 ghost use Rattle.clock2q_cache.specs.Insertions.{is_main};
 
 use crate::cache::Cache;
@@ -46,7 +45,7 @@ impl<K: Hash + Eq + Drop, V: Drop, S: BuildHasher, A: Allocator> Cache<K, V, S, 
     ghost use Rattle.clock2q_machine.specs.Entries.{inspections};
     ghost use Rattle.clock2q_cache.specs.Closures.{Reuses};
     ghost use Rattle.clock2q_cache.specs.Places.{known_at, looked_for};
-    ghost use Rattle.clock2q_cache.specs.Insertions.{Enters, EntersMain, EntersQueue, EntersSmall, IsAbsent, IsFoundFor, IsUnknown, Notes, Admits, into_queue, makes_slot, next_is_vacant, leaves_placed, is_main};
+    ghost use Rattle.clock2q_cache.specs.Insertions.{Enters, EntersMain, EntersQueue, EntersSmall, IsAbsent, IsFoundFor, IsUnknown, Notes, Admits, into_queue, has_room, makes_slot, leaves_placed, is_main};
     ghost use Rattle.clock2q_machine.specs.Leaving.{leaves_for, leaves_for_main};
     ghost use Rattle.clock2q_machine.specs.Machine.{vacancy, goes_to_main, placement, inserted};
 
@@ -131,18 +130,13 @@ impl<K: Hash + Eq + Drop, V: Drop, S: BuildHasher, A: Allocator> Cache<K, V, S, 
         ensures left { Notes F.FnOnce leaves
             (leaves_placed (is_main admission) self.old.machine) result.0 result.1 }
     {
+        if self.has_room(admission) {
+            return (self.join(newcomer, admission), None);
+        }
         match admission {
-            Admission::Main => {
-                if self.main_is_full() {
-                    self.replace_victim(newcomer, leaves)
-                } else {
-                    (self.join(newcomer, Admission::Main), None)
-                }
-            }
+            Admission::Main => self.replace_victim(newcomer, leaves),
             Admission::Small => {
-                if self.has_vacancy() {
-                    (self.join(newcomer, Admission::Small), None)
-                } else if self.tail_is_promoted() {
+                if self.tail_is_promoted() {
                     self.promote_tail(newcomer, leaves)
                 } else {
                     self.replace_tail(newcomer, leaves)
@@ -156,35 +150,22 @@ impl<K: Hash + Eq + Drop, V: Drop, S: BuildHasher, A: Allocator> Cache<K, V, S, 
         ensures makes { result ≡ makes_slot (is_main admission) self.now.machine }
         ensures whole { IsWhole K.eq self.now.machine }
     {
+        self.free.is_empty()
+            && self.directory.made() < self.shares.capacity
+            && self.has_room(admission)
+    }
+
+    /// Returns true if a key can go into a queue without taking another's slot.
+    fn has_room(&self, admission: Admission) -> bool
+        ensures room { result ≡ has_room (is_main admission) self.now.machine }
+        ensures whole { IsWhole K.eq self.now.machine }
+    {
         match admission {
-            Admission::Main => self.next_is_vacant() && !self.main_is_full(),
-            Admission::Small => self.next_is_vacant(),
+            Admission::Main => self.queues.main_len() != self.shares.main(),
+            Admission::Small => {
+                self.directory.made() < self.shares.capacity || !self.free.is_empty()
+            }
         }
-    }
-
-    /// Returns true if no slot is free and one was never made.
-    fn next_is_vacant(&self) -> bool
-        ensures next { result ≡ next_is_vacant self.now.machine }
-        ensures whole { IsWhole K.eq self.now.machine }
-    {
-        self.free.is_empty() && self.directory.made() < self.shares.capacity()
-    }
-
-    /// Returns true if Main has as many entries as its share.
-    fn main_is_full(&self) -> bool
-        ensures full { result ≡
-            (length self.now.machine.main == main_share self.now.machine.shares) }
-        ensures whole { IsWhole K.eq self.now.machine }
-    {
-        self.queues.main_len() == self.shares.main()
-    }
-
-    /// Returns true if there is a slot for a new resident.
-    fn has_vacancy(&self) -> bool
-        ensures vacant { result ≡ is_some (vacancy self.now.machine) }
-        ensures whole { IsWhole K.eq self.now.machine }
-    {
-        self.directory.made() < self.shares.capacity() || !self.free.is_empty()
     }
 
     /// Chooses the queue for a key that is not resident, for which a lookup found `found`, and erases
@@ -200,8 +181,8 @@ impl<K: Hash + Eq + Drop, V: Drop, S: BuildHasher, A: Allocator> Cache<K, V, S, 
         if self.forget(hash, key, found) {
             return Admission::Main;
         }
-        let share = self.shares.small();
-        if self.has_vacancy() {
+        let share = self.shares.small;
+        if self.has_room(Admission::Small) {
             return Admission::main_if(share <= self.queues.small_len());
         }
         Admission::main_if(share == 0)
@@ -240,7 +221,8 @@ impl<K: Hash + Eq + Drop, V: Drop, S: BuildHasher, A: Allocator> Cache<K, V, S, 
             (into_queue (is_main admission) newcomer.key self.old.machine) (is_some newcomer.gap)
             None 0 10 result self.old self.new }
     {
-        let slot = take_vacancy(&mut self.free, self.directory.made());
+        // the slot that was freed last, otherwise the lowest that has no value yet
+        let slot = self.free.pop().unwrap_or(self.directory.made() as u32);
         self.directory.enter(slot, newcomer);
         match admission {
             Admission::Main => {
@@ -316,19 +298,5 @@ impl<K: Hash + Eq + Drop, V: Drop, S: BuildHasher, A: Allocator> Cache<K, V, S, 
         let old = self.directory.replace(slot, newcomer);
         self.queues.admit(slot);
         (slot, Some(leaves(&old.1)))
-    }
-}
-
-/// Returns the slot for a new resident: the one that was freed last, otherwise the lowest that has
-/// no value yet.
-fn take_vacancy<A: Allocator>(free: &mut Vec<u32, A>, made: usize) -> u32
-    requires { made < 2 ^ 32 }
-    ensures slot { vacant_slot (reverse free.old.items) made (made + 1) ≡ Some result }
-    ensures others { reverse free.new.items ≡ drop 1 (reverse free.old.items) }
-    ensures capacity { vec_capacity free.new ≡ vec_capacity free.old }
-{
-    match free.pop() {
-        Some(slot) => slot,
-        None => made as u32,
     }
 }

@@ -73,7 +73,7 @@ impl<K: Hash + Eq, V, S: BuildHasher, A: Allocator> Cache<K, V, S, A> {
     /// Returns the capacity that the cache was made with, in keys.
     #[inline]
     pub fn capacity(&self) -> usize {
-        self.shares.capacity()
+        self.shares.capacity
     }
 
     /// Returns the number of keys in the cache, at most its capacity. Evicted keys don't count.

@@ -5,10 +5,10 @@
 /// which an entry is young) and the number of evicted keys that the history remembers.
 #[derive(Clone, Copy)]
 pub(crate) struct Shares {
-    capacity: usize,
-    small: usize,
-    window: usize,
-    history: usize,
+    pub(crate) capacity: usize,
+    pub(crate) small: usize,
+    pub(crate) window: usize,
+    pub(crate) history: usize,
 }
 
 impl Shares {
@@ -52,29 +52,10 @@ impl Shares {
         })
     }
 
-    #[inline]
-    pub(crate) fn capacity(self) -> usize {
-        self.capacity
-    }
-
-    #[inline]
-    pub(crate) fn small(self) -> usize {
-        self.small
-    }
-
-    #[inline]
-    pub(crate) fn window(self) -> usize {
-        self.window
-    }
-
+    /// Returns what Small leaves.
     #[inline]
     pub(crate) fn main(self) -> usize {
         self.capacity - self.small
-    }
-
-    #[inline]
-    pub(crate) fn history(self) -> usize {
-        self.history
     }
 
     /// Returns true if no share is smaller than in `old`.

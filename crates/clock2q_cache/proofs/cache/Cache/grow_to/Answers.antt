@@ -1,5 +1,5 @@
 -- Every layer has more room, and keeps what it holds.
-use Rattle.std.proofs.Common.{rules, refl, arith}
+use Rattle.std.proofs.Common.{rules, refl, arith, ap}
 use Rattle.clock2q_machine.specs.Growth.{IsAtLeast}
 use Rattle.clock2q_cache.proofs.Growth.{kept-roomier, kept-grown, grows}
 use Rattle.clock2q_cache.proofs.cache.Cache.grow_to.Goals as goal
@@ -8,10 +8,16 @@ pub invariant_of-self : goal.invariant_of-self
 invariant_of-self g c = kept-roomier c.self.invariant refl refl c.reserve_exact.ensures.items (omega arith) (omega (arith, c.reserve_exact.ensures.capacity))
 
 pub returns-in_err-reserve_exact-clause-policy : goal.returns-in_err-reserve_exact-clause-policy
-returns-in_err-reserve_exact-clause-policy g c = search (rules, c.is_at_least.ensures.least.0 c.if-not-is_at_least.false, c.from_residual-in_err-reserve_exact.ensures)
+returns-in_err-reserve_exact-clause-policy g c = search (rules, c.is_at_least.ensures.least.0 c.if-not-is_at_least.false, c.from_residual.ensures)
+
+pub invariant_of-self-in_err-queues : goal.invariant_of-self-in_err-queues
+invariant_of-self-in_err-queues g c = kept-roomier c.self.invariant refl refl c.reserve_exact.ensures.items (omega arith) (omega (arith, c.reserve_exact.ensures.capacity))
+
+pub returns-in_err-queues-clause-policy : goal.returns-in_err-queues-clause-policy
+returns-in_err-queues-clause-policy g c = search (rules, c.is_at_least.ensures.least.0 c.if-not-is_at_least.false, c.from_residual-in_err-queues.ensures)
 
 pub grow-requires-clause-longer : goal.grow-requires-clause-longer
-grow-requires-clause-longer g c = omega (arith, c.self.invariant.sized.remembers, c.history.ensures.share, (c.is_at_least.ensures.least.0 c.if-not-is_at_least.false).history)
+grow-requires-clause-longer g c = omega (arith, c.self.invariant.sized.remembers, ap (λ z. z.history) c.shares.view_is, (c.is_at_least.ensures.least.0 c.if-not-is_at_least.false).history)
 
 pub invariant_of-self-in_err-grow : goal.invariant_of-self-in_err-grow
 invariant_of-self-in_err-grow g c = kept-roomier c.self.invariant c.in_err-grow.ensures.refused c.grow.ensures.residents c.reserve_exact.ensures.items c.grow.ensures.more (omega (arith, c.reserve_exact.ensures.capacity))
@@ -24,8 +30,9 @@ returns-in_err-grow-clause-policy g c = search (rules, c.is_at_least.ensures.lea
 
 pub invariant_of-self-2 : goal.invariant_of-self-2
 invariant_of-self-2 g c =
-    kept-grown g.met.K.Eq.laws c.self.invariant c.window.ensures.policy (omega (arith, c.requires)) (c.is_at_least.ensures.least.0 c.if-not-is_at_least.false) c.capacity-slots.ensures c.window.ensures.window c.history.ensures.share c.in_ok-queues.ensures.grown
-    c.grow.ensures.residents c.reserve_exact.ensures.items c.in_ok-grow.ensures.grown c.in_ok-grow.ensures.room (omega (arith, c.in_ok-reserve_exact.ensures.ok, c.len.ensures, c.capacity-slots.ensures))
+    let is = c.shares.view_is in
+    kept-grown g.met.K.Eq.laws c.self.invariant (rw is at c.shares.invariant) (omega (arith, c.requires)) (c.is_at_least.ensures.least.0 c.if-not-is_at_least.false) (ap (λ z. z.capacity) is) (ap (λ z. z.window) is) (ap (λ z. z.history) is) c.in_ok-queues.ensures.grown
+    c.grow.ensures.residents c.reserve_exact.ensures.items c.in_ok-grow.ensures.grown c.in_ok-grow.ensures.room (omega (arith, c.in_ok-reserve_exact.ensures.ok, c.len.ensures, ap (λ z. z.capacity) is))
 
 pub returns-clause-grown : goal.returns-clause-grown
 returns-clause-grown g c =

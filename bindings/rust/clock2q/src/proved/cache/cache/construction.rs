@@ -111,10 +111,10 @@ impl<K: Hash + Eq, V, S: BuildHasher, A: Allocator + Copy> Cache<K, V, S, A> {
     /// Makes an empty cache with these shares.
     #[inline]
     fn with_shares(alloc: A, shares: Shares, hasher: S) -> Result<Self, CacheError> {
-        let slots = shares.capacity();
-        let queues = Queues::new(alloc, slots as u32, shares.window() as u32)?;
+        let slots = shares.capacity;
         let free = Vec::with_capacity(alloc, slots)?;
-        let directory = Directory::new(alloc, slots, shares.history())?;
+        let queues = Queues::new(alloc, slots as u32, shares.window as u32)?;
+        let directory = Directory::new(alloc, slots, shares.history)?;
         Ok(Cache {
             shares,
             queues,

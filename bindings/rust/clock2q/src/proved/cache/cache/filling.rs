@@ -20,10 +20,10 @@ impl<K: Hash + Eq + Default, V, S: BuildHasher, A: Allocator> Cache<K, V, S, A> 
     #[inline]
     pub fn prefill<F: FnMut() -> V>(&mut self, make: F) {
         let made = self.directory.made();
-        let capacity = self.shares.capacity();
-        fill(&mut self.directory, &self.hasher, capacity, make);
-        free_down(&mut self.free, made, capacity);
-        self.queues.make_below(capacity as u32);
+        let shares = self.shares;
+        fill(&mut self.directory, &self.hasher, shares.capacity, make);
+        free_down(&mut self.free, made, shares.capacity);
+        self.queues.make_below(shares.capacity as u32);
     }
 }
 

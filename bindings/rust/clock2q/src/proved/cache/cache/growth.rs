@@ -69,12 +69,12 @@ impl<K: Hash + Eq, V, S: BuildHasher, A: Allocator + Copy> Cache<K, V, S, A> {
             return Err(CacheError::Policy);
         }
         let alloc = *self.free.allocator();
-        let slots = shares.capacity();
+        let slots = shares.capacity;
+        self.free.reserve_exact(slots - self.free.len())?;
         let queues = self
             .queues
-            .grown(alloc, slots as u32, shares.window() as u32)?;
-        self.free.reserve_exact(slots - self.free.len())?;
-        self.directory.grow(alloc, slots, shares.history())?;
+            .grown(alloc, slots as u32, shares.window as u32)?;
+        self.directory.grow(alloc, slots, shares.history)?;
         self.queues = queues;
         self.shares = shares;
         Ok(())

@@ -1,7 +1,6 @@
 // Written by bindings/rust/erase from crates/clock2q_cache/src/cache/insertion.rt; change that, and run erase.
 //! Insertion of a key that is not resident.
 
-use crate::proved::rattle::Vec;
 use crate::proved::cache::cache::Cache;
 use crate::proved::directory::handle::Found;
 use crate::proved::directory::newcomer::Newcomer;
@@ -76,18 +75,13 @@ impl<K: Hash + Eq, V, S: BuildHasher, A: Allocator> Cache<K, V, S, A> {
         admission: Admission,
         leaves: F,
     ) -> (u32, Option<R>) {
+        if self.has_room(admission) {
+            return (self.join(newcomer, admission), None);
+        }
         match admission {
-            Admission::Main => {
-                if self.main_is_full() {
-                    self.replace_victim(newcomer, leaves)
-                } else {
-                    (self.join(newcomer, Admission::Main), None)
-                }
-            }
+            Admission::Main => self.replace_victim(newcomer, leaves),
             Admission::Small => {
-                if self.has_vacancy() {
-                    (self.join(newcomer, Admission::Small), None)
-                } else if self.tail_is_promoted() {
+                if self.tail_is_promoted() {
                     self.promote_tail(newcomer, leaves)
                 } else {
                     self.replace_tail(newcomer, leaves)
@@ -99,28 +93,20 @@ impl<K: Hash + Eq, V, S: BuildHasher, A: Allocator> Cache<K, V, S, A> {
     /// Returns true if a slot is made for a key that goes into this queue.
     #[inline]
     pub(super) fn makes_slot(&self, admission: Admission) -> bool {
+        self.free.is_empty()
+            && self.directory.made() < self.shares.capacity
+            && self.has_room(admission)
+    }
+
+    /// Returns true if a key can go into a queue without taking another's slot.
+    #[inline]
+    fn has_room(&self, admission: Admission) -> bool {
         match admission {
-            Admission::Main => self.next_is_vacant() && !self.main_is_full(),
-            Admission::Small => self.next_is_vacant(),
+            Admission::Main => self.queues.main_len() != self.shares.main(),
+            Admission::Small => {
+                self.directory.made() < self.shares.capacity || !self.free.is_empty()
+            }
         }
-    }
-
-    /// Returns true if no slot is free and one was never made.
-    #[inline]
-    fn next_is_vacant(&self) -> bool {
-        self.free.is_empty() && self.directory.made() < self.shares.capacity()
-    }
-
-    /// Returns true if Main has as many entries as its share.
-    #[inline]
-    fn main_is_full(&self) -> bool {
-        self.queues.main_len() == self.shares.main()
-    }
-
-    /// Returns true if there is a slot for a new resident.
-    #[inline]
-    fn has_vacancy(&self) -> bool {
-        self.directory.made() < self.shares.capacity() || !self.free.is_empty()
     }
 
     /// Chooses the queue for a key that is not resident, for which a lookup found `found`, and erases
@@ -130,8 +116,8 @@ impl<K: Hash + Eq, V, S: BuildHasher, A: Allocator> Cache<K, V, S, A> {
         if self.forget(hash, key, found) {
             return Admission::Main;
         }
-        let share = self.shares.small();
-        if self.has_vacancy() {
+        let share = self.shares.small;
+        if self.has_room(Admission::Small) {
             return Admission::main_if(share <= self.queues.small_len());
         }
         Admission::main_if(share == 0)
@@ -152,7 +138,8 @@ impl<K: Hash + Eq, V, S: BuildHasher, A: Allocator> Cache<K, V, S, A> {
     /// Inserts a key into a queue that has room, at a vacancy.
     #[inline(always)]
     fn join(&mut self, newcomer: Newcomer<K, V>, admission: Admission) -> u32 {
-        let slot = take_vacancy(&mut self.free, self.directory.made());
+        // the slot that was freed last, otherwise the lowest that has no value yet
+        let slot = self.free.pop().unwrap_or(self.directory.made() as u32);
         self.directory.enter(slot, newcomer);
         match admission {
             Admission::Main => {
@@ -201,15 +188,5 @@ impl<K: Hash + Eq, V, S: BuildHasher, A: Allocator> Cache<K, V, S, A> {
         let old = self.directory.replace(slot, newcomer);
         self.queues.admit(slot);
         (slot, Some(leaves(&old.1)))
-    }
-}
-
-/// Returns the slot for a new resident: the one that was freed last, otherwise the lowest that has
-/// no value yet.
-#[inline]
-fn take_vacancy<A: Allocator>(free: &mut Vec<u32, A>, made: usize) -> u32 {
-    match free.pop() {
-        Some(slot) => slot,
-        None => made as u32,
     }
 }
