@@ -1,5 +1,5 @@
 -- Which slots have a resident, and what a cache's fields become when one of them leaves.
-use Rattle.std.proofs.Common.{◌≡◌, ℕ, ◌+◌, ◌<◌, ◌≤◌, ◌==◌, Bool, true, false, not, eqb, Option, Some, None, List, [], ◌∷◌, ◌++◌, map, length, reverse, inl, inr, refl, sym, ap, ◌∙◌, subst, arith, eq-eqb}
+use Rattle.std.proofs.Common.{◌≡◌, ℕ, ◌+◌, ◌<◌, ◌≤◌, ◌==◌, Bool, true, not, eqb, Option, Some, None, List, [], ◌∷◌, ◌++◌, map, length, reverse, inl, inr, refl, sym, ap, ◌∙◌, subst, arith, eq-eqb}
 use Rattle.std.proofs.lemmas.List.Sums.{length-filter, count_by-le-length}
 use Rattle.clock2q_cache.proofs.Names.{length-values, is_some, IsSome, IfSome, IsEquivalence, option_map, filter, find, count_by, cases_Bool, both_ways, slots_of-filter, some_is, filter-append, without_handle, without, KeyPlaces, hash_at, key_at, QueueState, slots_of, without_slot, Remembered, below_of, length-taken, Shares, Machine, residents, resident_at, resident_count, slot_of, vacated, SmallEntry, MainEntry, append-nil, IsWhole, machine_of, queued_slots, with_keys_small, with_keys_main, IsStored, IsCache, whole-vacated, list_any}
 use Rattle.clock2q_cache.proofs.WithKeys.{standing-keyed, small-without, main-without}
@@ -54,12 +54,6 @@ module _ {K V : Type 0} {eq : K → K → Bool} {hash : K → ℕ} {shares : Sha
     | inl g ↦ let k = have_keys keys.entries (queued_slots q) kept.stored.made t g in ap (λ (z : Option (K × ℕ)). is_some z) (resident-there laws kept t k.0 g k.1) ∙ sym g
     | inr g ↦ ap (λ (z : Option (K × ℕ)). is_some z) (resident-none laws kept t g) ∙ sym g
   ]
-
-  -- past the slots that were made there is no resident
-  pub past-none : (slot : ℕ) → length keys.entries ≤ slot → false ≡ is_some (resident_at m slot)
-  past-none slot past =
-      let absent : list_any (eqb slot) (queued_slots q) ≡ false = grind (arith, below_of (length keys.entries) (queued_slots q) kept.stored.made slot) in
-      sym (resident-some slot ∙ absent)
 
   module _ (slot : ℕ) (there : IsSome (resident_at m slot)) where
     pub slot-used : list_any (eqb slot) (queued_slots q) ≡ true

@@ -148,7 +148,7 @@ impl<K: Hash + Eq, V, S: BuildHasher, A: Allocator> Cache<K, V, S, A> {
     {
         for slot in from..self.made() {
             looks.tick();
-            if self.is_resident(slot) {
+            if self.is_resident(slot as usize) {
                 return Some(slot);
             }
         }

@@ -7,7 +7,7 @@ use std::alloc::Allocator;
 use std::hash::{BuildHasher, Hash};
 
 impl<K: Hash + Eq, V, S: BuildHasher, A: Allocator> Cache<K, V, S, A> {
-    ghost use Rattle.std.specs.Prelude.{◌≡◌, ◌+◌, ◌*◌, ◌≤◌, IsTrue, ◌↔◌, IsSome, ◌<◌, length, Some, is_some, List, Bool};
+    ghost use Rattle.std.specs.Prelude.{◌≡◌, ◌+◌, ◌*◌, ◌^◌, ◌≤◌, IsTrue, ◌↔◌, IsSome, IfSome, ◌<◌, length, Some, is_some, List, Bool};
     ghost use Rattle.clock2q_machine.specs.Calls.{Remove, Retain};
     ghost use Rattle.clock2q_cache.specs.Closures.{MayBeAsked, Retains};
     ghost use Rattle.clock2q_cache.specs.Costs.{Spends, Costs};
@@ -68,7 +68,7 @@ impl<K: Hash + Eq, V, S: BuildHasher, A: Allocator> Cache<K, V, S, A> {
     {
         self.facts();
         for slot in 0..self.made() {
-            if self.is_resident(slot) {
+            if self.is_resident(slot as usize) {
                 let stays = keep(self.key(slot), self.value(slot));
                 if !stays {
                     self.vacate(slot);
@@ -84,12 +84,14 @@ impl<K: Hash + Eq, V, S: BuildHasher, A: Allocator> Cache<K, V, S, A> {
         self.directory.made() as u32
     }
 
-    /// Returns true if a slot has a resident.
-    pub(super) fn is_resident(&self, slot: u32) -> bool
-        requires { slot < length self.now.machine.values }
-        ensures { result ≡ is_some (resident_at self.now.machine slot) }
+    /// Returns true if there is a resident at this slot. Any number is allowed.
+    pub(super) fn is_resident(&self, slot: usize) -> bool
+        ensures resident { result ≡ is_some (resident_at self.now.machine slot) }
+        ensures own { IfSome (resident_at self.now.machine slot)
+            (λ r. slot_of (K.eq r.0) self.now.machine ≡ Some slot) }
+        ensures small { IsTrue result → slot < 2 ^ 32 }
     {
-        self.queues.is_resident(slot as usize)
+        self.queues.is_resident(slot)
     }
 
     /// Returns the key of the resident at a slot.

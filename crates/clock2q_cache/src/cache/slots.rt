@@ -55,7 +55,7 @@ impl<K: Hash + Eq, V, S: BuildHasher, A: Allocator> Cache<K, V, S, A> {
         ensures costs { IfSome (resident_at self.old.machine slot)
             (λ r. Costs K.Hash S.BuildHasher S.Hasher.Hasher (Get r.0) self.old self.new) }
     {
-        if !self.has_resident(slot) {
+        if !self.is_resident(slot) {
             return false;
         }
         self.queues.hit(slot as u32);
@@ -82,24 +82,11 @@ impl<K: Hash + Eq, V, S: BuildHasher, A: Allocator> Cache<K, V, S, A> {
         ensures costs { IfSome (resident_at self.old.machine slot)
             (λ r. Costs K.Hash S.BuildHasher S.Hasher.Hasher (Remove r.0) self.old self.new) }
     {
-        if !self.has_resident(slot) {
+        if !self.is_resident(slot) {
             return false;
         }
         self.vacate(slot as u32);
         true
-    }
-
-    /// Returns true if there is a resident at a slot.
-    fn has_resident(&self, slot: usize) -> bool
-        ensures resident { result ≡ is_some (resident_at self.now.machine slot) }
-        ensures own { IfSome (resident_at self.now.machine slot)
-            (λ r. slot_of (K.eq r.0) self.now.machine ≡ Some slot) }
-        ensures small { IsTrue result → slot < 2 ^ 32 }
-    {
-        if slot >= self.directory.made() {
-            return false;
-        }
-        self.is_resident(slot as u32)
     }
 
     /// Returns slot number `nth` of those of the residents whose keys have a hash.

@@ -6,17 +6,17 @@ use Rattle.clock2q_cache.proofs.Vacated.{slot-used, own-key, own-slot, own-resid
 use Rattle.clock2q_cache.proofs.cache.Cache.hit_slot.Goals as goal
 
 pub hit-requires : goal.hit-requires
-hit-requires g c = record { resident = either-queue c.self.inside.queues c.args.slot (slot-used g.met.K.Eq.laws c.self.invariant c.args.slot (rw (← c.self.view_is) at (sym c.if-not-has_resident.ensures.resident))) }
+hit-requires g c = record { resident = either-queue c.self.inside.queues c.args.slot (slot-used g.met.K.Eq.laws c.self.invariant c.args.slot (rw (← c.self.view_is) at (sym c.if-not-is_resident.ensures.resident))) }
 
 pub invariant_of-self : goal.invariant_of-self
 invariant_of-self g c =
-    let there = rw (← c.self.view_is) at (sym c.if-not-has_resident.ensures.resident) in
+    let there = rw (← c.self.view_is) at (sym c.if-not-is_resident.ensures.resident) in
     let laws = g.met.K.Eq.laws in
     kept-hit laws c.self.invariant (own-key laws c.self.invariant c.args.slot there).0 c.args.slot (own-slot laws c.self.invariant c.args.slot there) c.hit.ensures.queues
 
 pub returns-clause-machine : goal.returns-clause-machine
 returns-clause-machine g c =
-    let there = rw (← c.self.view_is) at (sym c.if-not-has_resident.ensures.resident) in
+    let there = rw (← c.self.view_is) at (sym c.if-not-is_resident.ensures.resident) in
     let laws = g.met.K.Eq.laws in
     rw (← c.self.view_is, own-resident laws c.self.invariant c.args.slot there)
     (hit-machine laws c.self.invariant (own-key laws c.self.invariant c.args.slot there).0 c.args.slot (own-slot laws c.self.invariant c.args.slot there) c.hit.ensures.queues)

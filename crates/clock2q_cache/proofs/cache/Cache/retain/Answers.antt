@@ -20,9 +20,6 @@ loop-slot-init g c = (
   refl,
 )
 
-pub is_resident-requires : goal.is_resident-requires
-is_resident-requires g c = omega (arith, c.loop-slot-test.true, c.made-slot-end.ensures, ap (λ (z : List _). length z) c.loop-slot.invariant.0.values)
-
 pub value-requires : goal.value-requires
 value-requires g c = omega (arith, c.loop-slot-test.true, c.made-slot-end.ensures, ap (λ (z : List _). length z) c.loop-slot.invariant.0.values)
 
@@ -46,7 +43,7 @@ loop-slot-preserved g c =
           arith,
           c.loop-slot.invariant.3,
           w.vacate.ensures.counts.accesses.1,
-          fewer-residents c.loop-slot.self.machine c.loop-slot.slot (sym c.is_resident.ensures ∙ w.if-is_resident.true),
+          fewer-residents c.loop-slot.self.machine c.loop-slot.slot (sym c.is_resident.ensures.resident ∙ w.if-is_resident.true),
         )),
         left-more c.loop-slot.invariant.4 c.loop-slot.self w.vacate.new.self refl c.loop-slot.invariant.1 (h.later c.loop-slot.slot (omega arith)) w.vacate.ensures.known,
         rw w.vacate.ensures.machine (gone-left _ c.args.self.now.machine _ c.loop-slot.self.machine c.loop-slot.slot (h.later c.loop-slot.slot (omega arith)) c.loop-slot.invariant.5
@@ -63,13 +60,13 @@ loop-slot-preserved g c =
       )
       | else-is_resident w ↦ rw (w.keep-is, w.self-is) (
         retains-past g.F.FnMut c.args.keep c.args.self.now.machine c.loop-slot.slot c.loop-slot.keep c.loop-slot.self.machine h made
-            (none-there (resident_at c.loop-slot.self.machine c.loop-slot.slot) (sym c.is_resident.ensures ∙ w.if-is_resident.false)),
+            (none-there (resident_at c.loop-slot.self.machine c.loop-slot.slot) (sym c.is_resident.ensures.resident ∙ w.if-is_resident.false)),
         c.loop-slot.invariant.1,
         slot-stays c.loop-slot.slot c.loop-slot.invariant.2,
         c.loop-slot.invariant.3,
         left-stays c.loop-slot.invariant.4,
         gone-none _ c.args.self.now.machine _ c.loop-slot.self.machine c.loop-slot.slot (h.later c.loop-slot.slot (omega arith)) c.loop-slot.invariant.5
-            (none-there (resident_at c.loop-slot.self.machine c.loop-slot.slot) (sym c.is_resident.ensures ∙ w.if-is_resident.false)),
+            (none-there (resident_at c.loop-slot.self.machine c.loop-slot.slot) (sym c.is_resident.ensures.resident ∙ w.if-is_resident.false)),
       )
     ]
   where

@@ -114,7 +114,7 @@ impl<K: Hash + Eq, V, S: BuildHasher, A: Allocator> Cache<K, V, S, A> {
     fn next_resident(&self, from: u32, looks: &mut Count) -> Option<u32> {
         for slot in from..self.made() {
             looks.tick();
-            if self.is_resident(slot) {
+            if self.is_resident(slot as usize) {
                 return Some(slot);
             }
         }

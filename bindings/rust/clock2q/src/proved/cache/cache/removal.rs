@@ -43,7 +43,7 @@ impl<K: Hash + Eq, V, S: BuildHasher, A: Allocator> Cache<K, V, S, A> {
     #[inline]
     pub fn retain<F: FnMut(&K, &V) -> bool>(&mut self, mut keep: F) {
         for slot in 0..self.made() {
-            if self.is_resident(slot) {
+            if self.is_resident(slot as usize) {
                 let stays = keep(self.key(slot), self.value(slot));
                 if !stays {
                     self.vacate(slot);
@@ -58,10 +58,10 @@ impl<K: Hash + Eq, V, S: BuildHasher, A: Allocator> Cache<K, V, S, A> {
         self.directory.made() as u32
     }
 
-    /// Returns true if a slot has a resident.
+    /// Returns true if there is a resident at this slot. Any number is allowed.
     #[inline]
-    pub(super) fn is_resident(&self, slot: u32) -> bool {
-        self.queues.is_resident(slot as usize)
+    pub(super) fn is_resident(&self, slot: usize) -> bool {
+        self.queues.is_resident(slot)
     }
 
     /// Returns the key of the resident at a slot.

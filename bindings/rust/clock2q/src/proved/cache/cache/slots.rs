@@ -36,7 +36,7 @@ impl<K: Hash + Eq, V, S: BuildHasher, A: Allocator> Cache<K, V, S, A> {
     /// No hash, no comparison, and no access to a link.
     #[inline]
     pub fn hit_slot(&mut self, slot: usize) -> bool {
-        if !self.has_resident(slot) {
+        if !self.is_resident(slot) {
             return false;
         }
         self.queues.hit(slot as u32);
@@ -52,20 +52,11 @@ impl<K: Hash + Eq, V, S: BuildHasher, A: Allocator> Cache<K, V, S, A> {
     /// No hash and no comparison. At most eight accesses to links, and one change of the index.
     #[inline]
     pub fn remove_slot(&mut self, slot: usize) -> bool {
-        if !self.has_resident(slot) {
+        if !self.is_resident(slot) {
             return false;
         }
         self.vacate(slot as u32);
         true
-    }
-
-    /// Returns true if there is a resident at a slot.
-    #[inline]
-    fn has_resident(&self, slot: usize) -> bool {
-        if slot >= self.directory.made() {
-            return false;
-        }
-        self.is_resident(slot as u32)
     }
 
     /// Returns slot number `nth` of those of the residents whose keys have a hash.
