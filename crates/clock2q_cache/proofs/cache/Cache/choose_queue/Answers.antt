@@ -16,7 +16,12 @@ returns-then-has_room-clause-sent g c =
     let f = c.if-forget.ensures in
     let at = ap (λ z. z.shares.small) c.self-inside.view_is ∙ ap (λ (z : CacheState _ _ _). z.machine.shares.small) c.self.view_is in
     let is = c.small_len.ensures.len ∙ sym (length_in_small g.met.K.Eq.laws c.self.invariant) ∙ ap (λ (z : CacheState _ _ _). length z.machine.small) c.self.view_is in
-    record { sent = sent-by f.known f.machine (c.main_if.ensures ∙ admits-vacant c.forget.new.self.machine refl at (sym c.if-has_room.ensures.room) is); known = f.places; hasher = f.hasher; counts = spends-more f.counts (omega arith) (omega arith) }
+    record {
+      sent = sent-by f.known f.machine (c.main_if.ensures ∙ admits-vacant c.forget.new.self.machine refl at (sym c.if-has_room.ensures.room) is);
+      known = f.places;
+      hasher = f.hasher;
+      counts = spends-more f.counts (omega arith) (omega arith);
+    }
 
 pub returns-then-has_room-clause-unknown : goal.returns-then-has_room-clause-unknown
 returns-then-has_room-clause-unknown g c = let f = c.if-forget.ensures in still-unknown c.requires.found c.requires.absent f.machine f.hasher f.places

@@ -31,7 +31,8 @@ returns-in_err-grow-clause-policy g c = search (rules, c.is_at_least.ensures.lea
 pub invariant_of-self-2 : goal.invariant_of-self-2
 invariant_of-self-2 g c =
     let is = c.shares.view_is in
-    kept-grown g.met.K.Eq.laws c.self.invariant (rw is at c.shares.invariant) (omega (arith, c.requires)) (c.is_at_least.ensures.least.0 c.if-not-is_at_least.false) (ap (λ z. z.capacity) is) (ap (λ z. z.window) is) (ap (λ z. z.history) is) c.in_ok-queues.ensures.grown
+    kept-grown g.met.K.Eq.laws c.self.invariant (rw is at c.shares.invariant) (omega (arith, c.requires)) (c.is_at_least.ensures.least.0 c.if-not-is_at_least.false)
+    (ap (λ z. z.capacity) is) (ap (λ z. z.window) is) (ap (λ z. z.history) is) c.in_ok-queues.ensures.grown
     c.grow.ensures.residents c.reserve_exact.ensures.items c.in_ok-grow.ensures.grown c.in_ok-grow.ensures.room (omega (arith, c.in_ok-reserve_exact.ensures.ok, c.len.ensures, ap (λ z. z.capacity) is))
 
 pub returns-clause-grown : goal.returns-clause-grown

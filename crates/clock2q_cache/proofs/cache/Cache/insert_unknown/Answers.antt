@@ -21,10 +21,12 @@ pub tail_is_promoted-requires : goal.tail_is_promoted-requires
 tail_is_promoted-requires g c = small-some _ c.args.self.now.machine c.has_room.ensures.whole (rw c.in-Small.is at (sym c.if-has_room.ensures.room)) (c.requires.small (ap is_main c.in-Small.is))
 
 pub promote_tail-requires-clause-some : goal.promote_tail-requires-clause-some
-promote_tail-requires-clause-some g c = grind (arith, c.tail_is_promoted.ensures.machine, small-some, c.has_room.ensures.whole, (rw c.in-Small.is at (sym c.if-has_room.ensures.room)), c.requires.small, (ap is_main c.in-Small.is))
+promote_tail-requires-clause-some g c =
+    grind (arith, c.tail_is_promoted.ensures.machine, small-some, c.has_room.ensures.whole, (rw c.in-Small.is at (sym c.if-has_room.ensures.room)), c.requires.small, (ap is_main c.in-Small.is))
 
 pub replace_tail-requires-clause-some : goal.replace_tail-requires-clause-some
-replace_tail-requires-clause-some g c = grind (arith, c.tail_is_promoted.ensures.machine, small-some, c.has_room.ensures.whole, (rw c.in-Small.is at (sym c.if-has_room.ensures.room)), c.requires.small, (ap is_main c.in-Small.is))
+replace_tail-requires-clause-some g c =
+    grind (arith, c.tail_is_promoted.ensures.machine, small-some, c.has_room.ensures.whole, (rw c.in-Small.is at (sym c.if-has_room.ensures.room)), c.requires.small, (ap is_main c.in-Small.is))
 
 pub returns-then-tail_is_promoted-clause-entered : goal.returns-then-tail_is_promoted-clause-entered
 returns-then-tail_is_promoted-clause-entered g c =

@@ -17,7 +17,9 @@ others : (g : Over) (c : After-unwrap_or-slot g) → reverse c.pop.new.self.item
 others g c = left-free c.self.inside.free.items c.pop.new.self.items c.pop.result c.pop.ensures.items (any g c)
 
 free : (g : Over) (c : After-unwrap_or-slot g) → IsFree g.met.K.Eq.laws c.self.invariant c.unwrap_or-slot.result
-free g c = free-to-join g.met.K.Eq.laws c.self.invariant c.pop.new.self.items c.pop.result (is_main c.args.admission) c.pop.ensures.items (any g c) c.made.ensures.made c.unwrap_or-slot.ensures (rw (← c.self.view_is) at c.requires.main) (rw (← c.self.view_is) at c.requires.small)
+free g c =
+    free-to-join g.met.K.Eq.laws c.self.invariant c.pop.new.self.items c.pop.result (is_main c.args.admission) c.pop.ensures.items (any g c) c.made.ensures.made c.unwrap_or-slot.ensures
+    (rw (← c.self.view_is) at c.requires.main) (rw (← c.self.view_is) at c.requires.small)
 
 pub enter-requires : goal.enter-requires
 enter-requires g c =
