@@ -1,5 +1,6 @@
 //! Slots of a directory.
 ghost use Rattle.std.specs.Prelude.{◌≡◌, ◌<◌, []};
+ghost use Rattle.clock2q_directory.specs.Directory.{nothing_known};
 
 use clock2q_directory::directory::Directory;
 use std::alloc::{AllocError, Global};
@@ -35,10 +36,11 @@ pub(crate) fn a_slot(alloc: Global) -> Result<[u64; 9], AllocError> {
     Ok(make_and_replace(&mut directory))
 }
 
-/// Makes the only slot of a directory, and one more once the directory has grown. Returns how many slots
-/// are made, the key and the value of the first, and the key of the second.
-pub(crate) fn a_slot_more(alloc: Global) -> Result<[u64; 4], AllocError> {
-    let mut directory: Directory<u64, u64> = Directory::new(alloc, 1, 0)?;
+/// Makes the only slot, and one more once the directory has grown. Returns how many slots are made, the key
+/// and the value of the first, and the key of the second.
+fn make_one_more(directory: &mut Directory<u64, u64>, alloc: Global) -> Result<[u64; 4], AllocError>
+    requires empty { directory.old ≡ nothing_known 1 0 }
+{
     directory.prepare(7, 70, 700);
     directory.grow(alloc, 2, 3)?;
     directory.prepare(8, 80, 800);
@@ -48,4 +50,10 @@ pub(crate) fn a_slot_more(alloc: Global) -> Result<[u64; 4], AllocError> {
         *directory.value(0),
         *directory.key(1),
     ])
+}
+
+/// Does so in a new directory for one slot.
+pub(crate) fn a_slot_more(alloc: Global) -> Result<[u64; 4], AllocError> {
+    let mut directory = Directory::new(alloc, 1, 0)?;
+    make_one_more(&mut directory, alloc)
 }
