@@ -719,6 +719,44 @@ def case_of_best_shares(rooms, trace, skipped):
     show(words, trace, (), rows, skipped)
 
 
+def is_in_fourth(key):
+    """Whether a fourth of all keys, chosen by their hashes, has this one."""
+    factor, hashed = 11400714819323198485, 1
+    for byte in str(key).encode():
+        hashed = (hashed + byte) * factor % (1 << 64)
+    for _ in range(2):
+        hashed = (hashed + (hashed >> 32)) * factor % (1 << 64)
+    return (hashed >> 32) * 1_000_000 >> 32 < 250_000
+
+
+def cases_of_sample(trace, larger, smaller, shares):
+    """Prints the case of a fourth of the keys in caches for 40, and of these keys alone in caches for 10: with the shares
+    of Clock2Q+ that both have, as written, and as numbers of keys."""
+    kept = [key for key in trace if is_in_fourth(key)]
+    policies = ["sieve", "s3fifo", "lru", "opt"]
+    cache = Clock2Q(10, *shares)
+    found = [sum(cache.access(key) for key in kept), *(sum(outcomes_of(it, 10, kept)) for it in policies)]
+    head = "capacity,accesses" + "".join(f",{it}_hits,{it}_ratio" for it in ["clock2q", *policies])
+    for words, keys, expected in (["40", "--sample=0.25", *larger], trace, len(trace) // 4), (["10", *smaller], kept, len(kept)):
+        row = f"{words[0]},{len(kept)}"
+        row += "".join(f",{it},{ratio(max(expected - (len(kept) - it), 0), expected)}" for it in found)
+        show([*words, "--csv"], keys, (), [head, row], 0)
+
+
+def cases_of_samples():
+    """Prints cases of a sample with each form of shares."""
+    trace = [(state >> 33) % 200 for _, state in zip(range(2_000), drawn(1))]
+    cases_of_sample(trace, [], [], usual_shares(10))
+    for larger, smaller, shares in [
+        ("small=20,window=9", "small=5,window=2", (5, 2, 5)),
+        ("small=50%,window=9", "small=50%,window=2", (5, 2, 5)),
+        ("small=0,window=0", "small=0,window=0", (0, 0, 5)),
+        ("small=20,window=9,history=30", "small=5,window=2,history=7", (5, 2, 7)),
+        ("history=0,small=10%,window=50%", "history=0,small=10%,window=50%", (1, 1, 0)),
+    ]:
+        cases_of_sample(trace, [f"--shares={larger}"], [f"--shares={smaller}"], shares)
+
+
 def drawn(seed):
     """Numbers of 64 bits that a seed determines."""
     while True:
@@ -767,6 +805,7 @@ def main():
     case_of_bytes(["2", "7", "30", "2B", "7B", "30B"], in_bytes, mixed(8, 600, 40), [1] * 600)
     for skipped in (0, 700, 1_500):
         case_of_best_shares([1, 2, 10, 21, 100, 300], mixed(7, 1_500, 400), skipped)
+    cases_of_samples()
 
 
 if __name__ == "__main__":

@@ -132,7 +132,6 @@ fn check(alloc: Global) -> Result<(), Fail> {
     sizes::add_sizes()?;
     sizes::add_large_sizes()?;
     samples::keep_their_part(alloc)?;
-    samples::replay_as_alone(alloc)?;
     policies::count_outcomes(alloc)?;
     hits::refuse_shares(alloc)
 }

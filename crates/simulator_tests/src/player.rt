@@ -183,12 +183,21 @@ fn with_warnings<S: BuildHasher + Drop>(
     trace: Slow<'_>,
 ) -> Result<Vec<u8>, SimulationError> {
     let mut warnings = Vec::new(alloc);
-    let mut written = {
+    let written = {
         let mut progress = Progress::new(&mut warnings, false);
-        simulated(alloc, options, hasher, trace, &mut progress)?
+        simulated(alloc, options, hasher, trace, &mut progress)
     };
-    written.extend_from_slice(&warnings)?;
-    Ok(written)
+    followed_by(written, &warnings)
+}
+
+/// Returns what was written, and then some more.
+fn followed_by(
+    written: Result<Vec<u8>, SimulationError>,
+    more: &[u8],
+) -> Result<Vec<u8>, SimulationError> {
+    let mut all = written?;
+    all.extend_from_slice(more)?;
+    Ok(all)
 }
 
 /// Returns what a simulation writes to standard output.
