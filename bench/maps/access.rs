@@ -2,11 +2,11 @@
 //! Prints the nanoseconds an access, of the thread's processor time, the hit ratio, and the nanoseconds of a get
 //! of what is there: of the accesses whose key is there at the end.
 //!
-//! usage: access FORM sip|ahash u64|string CAPACITY, of the forms `clock2q`, `entry`, `lru` and `hashlink`;
-//! access shared|lru sip|ahash threads CAPACITY THREADS, where each thread has its part of the trace and the
-//! time is that of the clock, and no gets are timed.
+//! usage: access FORM sip|ahash|product u64|string CAPACITY, of the forms `clock2q`, `entry`, `lru` and `hashlink`;
+//! access shared|lru|sixteen sip|ahash|product threads CAPACITY THREADS, where each thread has its part of the trace
+//! and the time is that of the clock, and no gets are timed.
 
-use std::hash::{BuildHasher, Hash};
+use std::hash::{BuildHasher, BuildHasherDefault, Hash, Hasher};
 use std::sync::Mutex;
 use std::time::Instant;
 
@@ -18,12 +18,13 @@ fn mix(mut x: u64) -> u64 {
     x ^ (x >> 31)
 }
 
-/// The keys of the bench's trace, wider at larger capacities.
+/// The keys of the bench's trace, wider at larger capacities, and longer at those above 100,000.
 fn trace(capacity: usize) -> Vec<u64> {
-    let levels = match capacity {
-        0..=1000 => 13,
-        1001..=10_000 => 17,
-        _ => 20,
+    let (levels, accesses) = match capacity {
+        0..=1000 => (13, ACCESSES),
+        1001..=10_000 => (17, ACCESSES),
+        10_001..=100_000 => (20, ACCESSES),
+        _ => (23, 5 * ACCESSES),
     };
     let mut state = 1u64;
     let draw = |_| {
@@ -32,7 +33,30 @@ fn trace(capacity: usize) -> Vec<u64> {
         let range = 1u64 << (drawn % levels);
         mix(range.wrapping_add((drawn >> 32) & (range - 1)))
     };
-    (0..ACCESSES).map(draw).collect()
+    (0..accesses).map(draw).collect()
+}
+
+/// A hasher that multiplies once, for a number.
+#[derive(Clone, Copy, Default)]
+struct Product(u64);
+
+impl Hasher for Product {
+    fn write(&mut self, bytes: &[u8]) {
+        for part in bytes.chunks(8) {
+            let mut number = [0; 8];
+            number[..part.len()].copy_from_slice(part);
+            self.write_u64(u64::from_le_bytes(number));
+        }
+    }
+
+    fn write_u64(&mut self, number: u64) {
+        let product = u128::from(self.0 ^ number) * 0x9E37_79B9_7F4A_7C15;
+        self.0 = product as u64 ^ (product >> 64) as u64;
+    }
+
+    fn finish(&self) -> u64 {
+        self.0
+    }
 }
 
 #[repr(C)]
@@ -189,7 +213,7 @@ fn run_threads(threads: usize, keys: &[u64], access: impl Fn(&u64) -> bool + Syn
     );
 }
 
-fn share<S: BuildHasher + Sync + Send>(form: &str, capacity: usize, threads: usize, hasher: S) {
+fn share<S: BuildHasher + Clone + Sync + Send>(form: &str, capacity: usize, threads: usize, hasher: S) {
     let keys = trace(capacity);
     match form {
         "shared" => {
@@ -208,11 +232,19 @@ fn share<S: BuildHasher + Sync + Send>(form: &str, capacity: usize, threads: usi
                 cache.lock().expect("no panic").access(key, 1)
             });
         }
+        "sixteen" => {
+            let part = |_| Mutex::new(lru::LruCache::with_hasher(capacity / 16, hasher.clone()));
+            let parts: Vec<_> = (0..16).map(part).collect();
+            run_threads(threads, &keys, |key| {
+                let part = &parts[(hasher.hash_one(key) >> 60) as usize];
+                part.lock().expect("no panic").access(key, 1)
+            });
+        }
         _ => panic!("no form {form}"),
     }
 }
 
-fn begin<S: BuildHasher + Sync + Send>(arguments: &[String], hasher: S) {
+fn begin<S: BuildHasher + Clone + Sync + Send>(arguments: &[String], hasher: S) {
     let (form, capacity) = (&arguments[1], arguments[4].parse().expect("a capacity"));
     match arguments[3].as_str() {
         "u64" => run(form, capacity, hasher, &trace(capacity)),
@@ -236,6 +268,7 @@ fn main() {
     match arguments[2].as_str() {
         "sip" => begin(&arguments, std::collections::hash_map::RandomState::new()),
         "ahash" => begin(&arguments, ahash::RandomState::new()),
+        "product" => begin(&arguments, BuildHasherDefault::<Product>::default()),
         hasher => panic!("no hasher {hasher}"),
     }
 }
