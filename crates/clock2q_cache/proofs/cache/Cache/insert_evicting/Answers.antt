@@ -1,5 +1,6 @@
 -- A key that takes the slot of another: the other comes back with the value of the slot.
-use Rattle.std.proofs.Common.{arith, false, refl, ◌∙◌, rules}
+use Rattle.std.proofs.Common.{arith, false, refl, ap, ◌∙◌, rules}
+use Rattle.clock2q_directory.specs.History.{Places}
 use Rattle.clock2q_cache.proofs.Names.{ltb-true}
 use Rattle.clock2q_cache.proofs.Making.{makes-here}
 use Rattle.clock2q_cache.proofs.Evicting.{leaver-there, map-gives, hands-over, slot-made, slot-had, slot-stored}
@@ -25,3 +26,10 @@ returns-clause-evicted g c =
     ∙ hands-over c.args.self.now.machine c.insert_unknown-slot.ensures.left (leaver-there s) (λ key note called. search rules)
     (slot-had g.K.PartialEq.eq c.args.key s c.makes_slot.ensures.whole e.slot e.machine c.replace_value-before.ensures.value)
     c.insert_unknown-slot.result.1 refl
+
+pub returns-clause-known : goal.returns-clause-known
+returns-clause-known g c =
+    let s = c.choose_queue-admission.ensures.sent in
+    let e = c.insert_unknown-slot.ensures.entered in
+    let known = ap {B = Places} (λ z. z.known) c.replace_value-before.ensures.kept ∙ e.indexes in
+    rw (e.slot, c.gap-gap.ensures.gap, s.hasher, s.sent.erased, s.sent.goes, s.known, c.requires.absent.hashed) at known
