@@ -4,11 +4,10 @@ ghost use Rattle.clock2q_handles.specs.TableStep.{fit};
 ghost use Rattle.std.specs.Prelude.{◌≡◌, ◌≢◌, Some, Err, ◌^◌, ◌<◌, ◌≤◌, ◌↔◌, [], IsTrue, IsOk, IsErrOf, IfOk, length};
 
 mod clearing;
-mod exchange;
 mod growth;
+mod infallible;
 mod insertion;
 mod removal;
-mod replacement;
 mod searching;
 
 use crate::candidates::Candidates;

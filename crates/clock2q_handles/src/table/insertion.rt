@@ -145,25 +145,6 @@ impl<H: Copy + Eq + Default, A: Allocator> Table<H, A> {
         self.insert_at(gap, hash, handle)
     }
 
-    /// Inserts `handle` under `hash` as [insert_within_capacity](Table::insert_within_capacity)
-    /// does, in a table with so few entries that no run becomes too long. It is for callers whose
-    /// contracts bound the number of entries, which it doesn't check.
-    #[inline(always)]
-    #[tactic(auto, using(crate::proofs::layout::TidyLayout::homes_length))]
-    pub fn insert_infallible(&mut self, hash: u64, handle: H)
-        requires room { IsBelowCapacity self.old.homes }
-        requires few { total self.old.homes + 1 < 2 ^ 24 }
-        ensures put { self.new.homes ≡ with_handle self.old.homes hash handle }
-        ensures writes { WritesAtMost (run self.old.slots hash + 1) self.old self.new }
-        ensures reads { ReadsWalk (walk self.old.homes hash) self.old self.new }
-        ensures restores { Restores H.PartialEq.eq hash handle self.old self.new }
-        ensures laid { IsLaidOut self.new }
-    {
-        let gap = self.slots.gap(hash, &mut self.reads);
-        self.slots.put_at(&gap, handle, &mut self.reads);
-        self.len += 1;
-    }
-
     /// Returns the first candidate that is accepted, or inserts the handle if none is.
     fn find_or_put<M: FnMut(H) -> bool>(
         &mut self,

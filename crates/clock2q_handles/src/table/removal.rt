@@ -36,28 +36,4 @@ impl<H: Copy + Eq + Default, A: Allocator> Table<H, A> {
         self.len -= 1;
         true
     }
-
-    /// Removes the first candidate of `hash` that equals `handle`, as [remove](Table::remove) does,
-    /// given that there is one. Its walk doesn't test for an end.
-    ///
-    /// # Cost
-    ///
-    /// That of [remove](Table::remove).
-    #[inline(never)]
-    #[tactic(auto, using(crate::proofs::shifts::Steps::home_lists))]
-    pub fn remove_existing(&mut self, hash: u64, handle: H)
-        requires held { list_any (is_entry_of H.PartialEq.eq hash handle)
-            (listed self.old.homes hash) ≡ true }
-        ensures removed { self.new.homes ≡ without_handle H.PartialEq.eq self.old.homes hash handle }
-        ensures writes { WritesAtMost (run self.old.slots hash) self.old self.new }
-        ensures reads { ReadsAtMost (walk self.old.homes hash) self.old self.new }
-        ensures laid { IsLaidOut self.new }
-        ensures shorter { (x : ℕ) → walk self.new.homes x ≤ walk self.old.homes x }
-    {
-        // It is out of line, so that a caller that removes one entry to insert another spills fewer
-        // registers.
-        let held = self.slots.find_existing(hash, handle, &mut self.reads);
-        self.slots.take_out(held, &mut self.reads);
-        self.len -= 1;
-    }
 }
