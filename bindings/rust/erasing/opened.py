@@ -7,18 +7,16 @@ OPENED = {
     'clock2q_cache/src/cache.rt': ['directory: Directory<', 'fn record_hit('],
     'clock2q_cache/src/lib.rt': ['mod shares;'],
     'clock2q_directory/src/directory.rt': ['index: Index<', 'history: Ghost<'],
-    'clock2q_handles/src/candidates.rt': ['reader: Reader<', 'slot: usize,', 'wanted: Wanted,'],
+    'clock2q_handles/src/candidates.rt': ['view: View<', 'slot: usize,', 'wanted: Wanted,', 'reads: Count,', 'handle_reads: Count,'],
     'clock2q_handles/src/metadata.rt': ['fn is(', 'fn ends_walk_for('],
 }
 
 # What lets rustc see that a place is within a table: a mask that is the length less one, which it is proved to be. By the
 # source, what is replaced (the group), how often it is there, and by what.
 SEEN = {
-    'clock2q_handles/src/slots/reader.rt': [(r'^ {12}(mask),$', 1, 'mask: metadata.len().wrapping_sub(1)')],
     'clock2q_handles/src/slots/vectors.rt': [
-        (r'hash as usize & (self\.mask)$', 1, 'self.metadata.len().wrapping_sub(1)'),
-        (r'\(slot \+ 1\) & (self\.mask)$', 1, 'self.metadata.len().wrapping_sub(1)'),
-        (r'let mask = (self\.mask);$', 2, 'metadata.len().wrapping_sub(1)'),
+        (r'^ {12}mask: (self\.mask),$', 1, 'self.metadata.len().wrapping_sub(1)'),
+        (r'writes;\n {8}let mask = (self\.mask);$', 2, 'metadata.len().wrapping_sub(1)'),
     ],
 }
 

@@ -2,7 +2,6 @@ pub mod Homes
 pub mod Layout
 pub mod TableStep
 pub mod Slots
-pub mod Readers
 pub mod Table
 pub mod Changes
 pub mod Shifts

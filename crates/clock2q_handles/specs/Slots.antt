@@ -55,6 +55,13 @@ module _ {H : Type 0} where
   cells (m ∷ ms) [] = []
   cells (m ∷ ms) (v ∷ vs) = cell (meaning m) v ∷ cells ms vs
 
+-- the contents of each slot
+abbrev pub slot_list : Type 0 → Type 0
+slot_list H = List (Option (Placed (ℕ × H)))
+
+abbrev pub slot_list_code : {H : Type 0} → Coded H → Coded (slot_list H)
+slot_list_code h = coded_list (coded_option (placed_code (coded× coded_ℕ h)))
+
 -- what contracts see of the two vectors: the contents of each slot, and the number of slot writes
 pub record SlotsValue (H : Type 0) : Type 0 where
   pub slots : List (Option (Placed (ℕ × H)))
@@ -65,7 +72,7 @@ slots_value slots writes = record { slots = slots; writes = writes }
 
 abbrev pub slots_code : {H : Type 0} → Coded H → Coded (SlotsValue H)
 slots_code {H} h =
-    code_by (List (Option (Placed (ℕ × H))) × ℕ) (coded× (coded_list (coded_option (placed_code (coded× coded_ℕ h)))) coded_ℕ) (λ s. (s.slots, s.writes)) (λ p. slots_value p.0 p.1) (λ _. refl)
+    code_by (slot_list H × ℕ) (coded× (slot_list_code h) coded_ℕ) (λ s. (s.slots, s.writes)) (λ p. slots_value p.0 p.1) (λ _. refl)
 
 -- there are no slots, or a power of two of them, at least 16
 pub record IsSlotCount (m : ℕ) : Type 0 where
@@ -81,4 +88,11 @@ pub record ArePaired {H : Type 0} (metadata : List Metadata) (handles : List H) 
 pub record AreMasked {H : Type 0} (metadata : List Metadata) (handles : List H) (mask : ℕ) : Type 0 where
   pub same : length handles ≡ length metadata
   pub slot_count : IsSlotCount (length metadata)
+  pub mask_of : 0 < length metadata → mask + 1 ≡ length metadata
+
+-- they are so, of fewer than 2^63 slots
+pub record IsView {H : Type 0} (metadata : List Metadata) (handles : List H) (mask : ℕ) : Type 0 where
+  pub same : length handles ≡ length metadata
+  pub slot_count : IsSlotCount (length metadata)
+  pub small : length metadata < 2 ^ 63
   pub mask_of : 0 < length metadata → mask + 1 ≡ length metadata

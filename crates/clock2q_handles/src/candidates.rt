@@ -6,7 +6,8 @@ ghost use Rattle.std.specs.Prelude.{◌≡◌, ◌+◌, ◌<◌, [], IsSome, len
 
 use crate::gap::Gap;
 use crate::metadata::Wanted;
-use crate::slots::Reader;
+use crate::slots::View;
+use clock2q_count::Count;
 use std::marker::Model;
 
 /// An iterator over the candidates of a hash, in the order of their slots. It reads one word of
@@ -24,9 +25,11 @@ use std::marker::Model;
 /// ```
 #[derive(Drop)]
 pub struct Candidates<'a, H: Copy + Eq + Default> {
-    pub(super) reader: Reader<'a, H>,
+    pub(super) view: View<'a, H>,
     pub(super) slot: usize,
     pub(super) wanted: Wanted,
+    pub(super) reads: Count,
+    pub(super) handle_reads: Count,
 }
 
 impl<'a, H: Copy + Eq + Default> Model for Candidates<'a, H> {
@@ -37,9 +40,9 @@ impl<'a, H: Copy + Eq + Default> Model for Candidates<'a, H> {
 
     ghost coded = { candidates_code H.code };
 
-    ghost view = { λ c. candidates_value (left_at c.reader.slots (sought c.wanted) c.slot) c.reader.reads (unread_at c.reader.slots (sought c.wanted) c.slot) c.reader.handles (peeked_at c.reader.slots (sought c.wanted) c.slot) (end_at c.reader.slots (sought c.wanted) c.slot) };
+    ghost view = { λ c. candidates_value (left_at c.view (sought c.wanted) c.slot) c.reads.total (unread_at c.view (sought c.wanted) c.slot) c.handle_reads.total (peeked_at c.view (sought c.wanted) c.slot) (end_at c.view (sought c.wanted) c.slot) };
 
-    ghost invariant = { λ c. IsLookup c.reader.slots (sought c.wanted) c.slot };
+    ghost invariant = { λ c. IsLookup c.view (sought c.wanted) c.slot };
 }
 
 impl<'a, H: Copy + Eq + Default> Candidates<'a, H> {
@@ -94,13 +97,13 @@ impl<'a, H: Copy + Eq + Default> Candidates<'a, H> {
         ensures handle { IfOk result (λ _. self.new.handles ≡ self.old.handles + 1) }
         ensures no_handle { IfErr result (λ _. self.new.handles ≡ self.old.handles) }
     {
-        match self.reader.candidate(self.slot, self.wanted) {
+        let found = self.view.candidate(self.slot, self.wanted, &mut self.reads);
+        match found {
             Err(gap) => Err(gap),
             Ok((slot, wanted)) => {
-                let handle = self.reader.handle(slot);
                 self.slot = slot;
                 self.wanted = wanted;
-                Ok(handle)
+                Ok(self.view.handle(slot, &mut self.handle_reads))
             }
         }
     }
@@ -117,12 +120,12 @@ impl<'a, H: Copy + Eq + Default> Candidates<'a, H> {
         ensures unread { self.new.unread + 1 ≡ self.old.unread }
         ensures handles { self.new.handles ≡ self.old.handles }
     {
-        self.slot = self.reader.after(self.slot);
+        self.slot = self.view.after(self.slot);
         self.wanted = self.wanted.next();
     }
 }
 
-impl<'a, H: Copy + Default> Reader<'a, H> {
+impl<'a, H: Copy + Default> View<'a, H> {
     ghost use Rattle.clock2q_handles.specs.Candidates.{IsWalkFor, EndsAt, IsAcceptedAt, left_from, unread_from};
     ghost use Rattle.clock2q_handles.specs.Layout.{reach, IsTidy, AreNear};
     ghost use Rattle.clock2q_handles.specs.Offers.{Offers, MayBeOffered, handle_in};
@@ -132,33 +135,36 @@ impl<'a, H: Copy + Default> Reader<'a, H> {
     /// looks for there, or else the gap where the walk ends.
     #[inline(always)]
     #[tactic(auto, using(crate::proofs::shifts::Moves::reach_of_meaning, crate::proofs::walks::Cursors::goes_on))]
-    fn candidate(&mut self, mut slot: usize, mut wanted: Wanted) -> Result<(usize, Wanted), Gap>
-        requires lookup { IsLookup self.old.slots (sought wanted) slot }
+    fn candidate(
+        &self,
+        mut slot: usize,
+        mut wanted: Wanted,
+        reads: &mut Count,
+    ) -> Result<(usize, Wanted), Gap>
+        requires lookup { IsLookup self.now (sought wanted) slot }
         requires some { IsSome (sought wanted) }
-        ensures same { self.new.slots ≡ self.old.slots }
-        ensures lookup { IfOk result (λ next. IsLookup self.old.slots (sought next.1) next.0) }
-        ensures within { IfOk result (λ next. next.0 < length self.old.slots) }
+        ensures lookup { IfOk result (λ next. IsLookup self.now (sought next.1) next.0) }
+        ensures within { IfOk result (λ next. next.0 < length self.now) }
         ensures some { IfOk result (λ next. IsSome (sought next.1)) }
         ensures found { IfOk result
-            (λ next. mark_of (slot_at self.old.slots next.0) ≡ sought next.1) }
+            (λ next. mark_of (slot_at self.now next.0) ≡ sought next.1) }
         ensures left { IfOk result
-            (λ next. left_at self.old.slots (sought wanted) slot
-            ≡ left_at self.old.slots (sought next.1) next.0) }
+            (λ next. left_at self.now (sought wanted) slot
+            ≡ left_at self.now (sought next.1) next.0) }
         ensures read { IfOk result
-            (λ next. self.new.reads + unread_at self.old.slots (sought next.1) next.0
-            ≡ self.old.reads + unread_at self.old.slots (sought wanted) slot + 1) }
-        ensures reads { self.old.reads < self.new.reads }
-        ensures handles { self.new.handles ≡ self.old.handles }
-        ensures none { IfErr result (λ _. left_at self.old.slots (sought wanted) slot ≡ []) }
+            (λ next. reads.new.total + unread_at self.now (sought next.1) next.0
+            ≡ reads.old.total + unread_at self.now (sought wanted) slot + 1) }
+        ensures reads { reads.old.total < reads.new.total }
+        ensures none { IfErr result (λ _. left_at self.now (sought wanted) slot ≡ []) }
         ensures read_all { IfErr result
-            (λ _. self.new.reads ≡ self.old.reads + unread_at self.old.slots (sought wanted) slot) }
-        ensures walks { (x : ℕ) → IsWalkFor self.old.slots x (sought wanted) slot
-            → IfOk result (λ next. IsWalkFor self.old.slots x (sought next.1) next.0) }
-        ensures ends { (x : ℕ) → IsWalkFor self.old.slots x (sought wanted) slot
-            → IfErr result (λ gap. EndsAt self.old.slots x gap.mark gap.position) }
+            (λ _. reads.new.total ≡ reads.old.total + unread_at self.now (sought wanted) slot) }
+        ensures walks { (x : ℕ) → IsWalkFor self.now x (sought wanted) slot
+            → IfOk result (λ next. IsWalkFor self.now x (sought next.1) next.0) }
+        ensures ends { (x : ℕ) → IsWalkFor self.now x (sought wanted) slot
+            → IfErr result (λ gap. EndsAt self.now x gap.mark gap.position) }
     {
         loop {
-            let metadata = self.read(slot);
+            let metadata = self.read(slot, reads);
             if metadata.is(wanted) {
                 return Ok((slot, wanted));
             }
@@ -174,34 +180,32 @@ impl<'a, H: Copy + Default> Reader<'a, H> {
     /// candidate and its slot, or else where the walk ends.
     #[inline(always)]
     pub(super) fn offer<F: FnMut(H) -> bool>(
-        &mut self,
+        &self,
         hash: u64,
         matches: &mut F,
+        reads: &mut Count,
     ) -> Result<(H, usize), Gap>
-        requires tidy { IsTidy self.old.slots }
-        requires near { AreNear self.old.slots }
-        requires some { 0 < length self.old.slots }
-        requires callable { MayBeOffered F.FnMut matches.old (left_from self.old.slots hash 0) }
-        ensures offers { Offers F.FnMut matches.old (left_from self.old.slots hash 0)
+        requires tidy { IsTidy self.now }
+        requires near { AreNear self.now }
+        requires some { 0 < length self.now }
+        requires callable { MayBeOffered F.FnMut matches.old (left_from self.now hash 0) }
+        ensures offers { Offers F.FnMut matches.old (left_from self.now hash 0)
             (handle_in result) matches.new }
         ensures at { IfOk result
-            (λ found. IsAcceptedAt F.FnMut matches.old self.old.slots hash found.0 found.1) }
-        ensures same { self.new.slots ≡ self.old.slots }
-        ensures ends { IfErr result (λ gap. EndsAt self.old.slots hash gap.mark gap.position) }
-        ensures reads { self.old.reads < self.new.reads }
-        ensures read { self.new.reads ≤ self.old.reads + unread_from self.old.slots hash 0 }
-        ensures handles { self.new.handles
-            ≤ self.old.handles + length (left_from self.old.slots hash 0) }
+            (λ found. IsAcceptedAt F.FnMut matches.old self.now hash found.0 found.1) }
+        ensures ends { IfErr result (λ gap. EndsAt self.now hash gap.mark gap.position) }
+        ensures reads { reads.old.total < reads.new.total }
+        ensures read { reads.new.total ≤ reads.old.total + unread_from self.now hash 0 }
         ensures read_all { IfErr result
-            (λ _. self.new.reads ≡ self.old.reads + unread_from self.old.slots hash 0) }
+            (λ _. reads.new.total ≡ reads.old.total + unread_from self.now hash 0) }
     {
         let mut slot = self.home(hash);
         let mut wanted = Wanted::new(hash);
         loop {
-            match self.candidate(slot, wanted) {
+            match self.candidate(slot, wanted, reads) {
                 Err(gap) => return Err(gap),
                 Ok((here, found)) => {
-                    let handle = self.handle(here);
+                    let handle = self.handle(here, &mut Count::new());
                     if matches(handle) {
                         return Ok((handle, here));
                     }

@@ -11,15 +11,13 @@ ghost use Rattle.std.specs.Bool.{OnTrue, OnFalse};
 ghost use Rattle.std.specs.List.{list_any};
 ghost use Rattle.std.specs.Prelude.{true, false, ◌≡◌, ◌+◌, ◌%◌, ◌^◌, ◌<◌, ◌≤◌, IfSome, IfNone, length};
 
-mod reader;
 mod vectors;
 
 use crate::gap::Gap;
 use crate::metadata::Wanted;
 use clock2q_count::Count;
-pub(super) use reader::Reader;
 use std::alloc::Allocator;
-pub(super) use vectors::Slots;
+pub(super) use vectors::{Slots, View};
 
 impl<H: Copy + Default, A: Allocator> Slots<H, A> {
     /// Returns where a walk for `hash` ends.
@@ -32,10 +30,11 @@ impl<H: Copy + Default, A: Allocator> Slots<H, A> {
         ensures ends { EndsAt self.now.slots hash result.mark result.position }
         ensures reads { reads.new.total ≡ reads.old.total + mark_reach result.mark }
     {
-        let mut slot = self.home(hash);
+        let view = self.view();
+        let mut slot = view.home(hash);
         let mut wanted = Wanted::new(hash);
-        while !self.read(slot, reads).ends_walk_for(wanted) {
-            slot = self.after(slot);
+        while !view.read(slot, reads).ends_walk_for(wanted) {
+            slot = view.after(slot);
             wanted = wanted.next();
         }
         Gap { slot, wanted }
@@ -54,16 +53,17 @@ impl<H: Copy + Default, A: Allocator> Slots<H, A> {
         if !gap.wanted.is_near() {
             return false;
         }
+        let view = self.view();
         let mut slot = gap.slot;
         loop {
-            let metadata = self.read(slot, reads);
+            let metadata = view.read(slot, reads);
             if metadata.is_empty() {
                 return true;
             }
             if !metadata.can_move_on() {
                 return false;
             }
-            slot = self.after(slot);
+            slot = view.after(slot);
         }
     }
 
@@ -87,17 +87,18 @@ impl<H: Copy + Default, A: Allocator> Slots<H, A> {
         if self.count() == 0 {
             return None;
         }
-        let mut slot = self.home(hash);
+        let view = self.view();
+        let mut slot = view.home(hash);
         let mut wanted = Wanted::new(hash);
         loop {
-            let metadata = self.read(slot, reads);
-            if metadata.is(wanted) && self.handle(slot) == handle {
+            let metadata = view.read(slot, reads);
+            if metadata.is(wanted) && view.handle(slot, &mut Count::new()) == handle {
                 return Some(slot);
             }
             if metadata.ends_walk_for(wanted) {
                 return None;
             }
-            slot = self.after(slot);
+            slot = view.after(slot);
             wanted = wanted.next();
         }
     }
@@ -119,14 +120,15 @@ impl<H: Copy + Default, A: Allocator> Slots<H, A> {
             reads.new.total }
         ensures reached { reads.new.total ≡ reads.old.total + reach (slot_at self.now.slots result) }
     {
-        let mut slot = self.home(hash);
+        let view = self.view();
+        let mut slot = view.home(hash);
         let mut wanted = Wanted::new(hash);
         loop {
-            let metadata = self.read(slot, reads);
-            if metadata.is(wanted) && self.handle(slot) == handle {
+            let metadata = view.read(slot, reads);
+            if metadata.is(wanted) && view.handle(slot, &mut Count::new()) == handle {
                 return slot;
             }
-            slot = self.after(slot);
+            slot = view.after(slot);
             wanted = wanted.next();
         }
     }
@@ -145,16 +147,15 @@ impl<H: Copy + Default, A: Allocator> Slots<H, A> {
             self.new.slots }
         ensures counted { reads.old.total ≤ reads.new.total }
     {
-        let mut reader = old.reader();
+        let view = old.view();
         for slot in 0..old.count() {
-            if reader.read(slot).is_empty() {
+            if view.read(slot, reads).is_empty() {
                 continue;
             }
-            let handle = reader.handle(slot);
+            let handle = view.handle(slot, &mut Count::new());
             let hash = rehash(handle);
             let gap = self.gap(hash, reads);
             self.put_at(&gap, handle, reads);
         }
-        reads.raise(reader.reads());
     }
 }

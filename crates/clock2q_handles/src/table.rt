@@ -159,9 +159,11 @@ impl<H: Copy + Eq + Default, A: Allocator> Table<H, A> {
     {
         if self.slots.count() == 0 {
             return Candidates {
-                reader: self.slots.reader(),
+                view: self.slots.view(),
                 slot: 0,
                 wanted: Wanted::nothing(),
+                reads: Count::new(),
+                handle_reads: Count::new(),
             };
         }
         self.get_in_slots(hash)
@@ -178,10 +180,13 @@ impl<H: Copy + Eq + Default, A: Allocator> Table<H, A> {
         ensures handles { result.handles ≡ 0 }
         ensures end { result.end ≡ Some (gap_of self.now.homes hash) }
     {
+        let view = self.slots.view();
         Candidates {
-            reader: self.slots.reader(),
-            slot: self.slots.home(hash),
+            slot: view.home(hash),
+            view,
             wanted: Wanted::new(hash),
+            reads: Count::new(),
+            handle_reads: Count::new(),
         }
     }
 

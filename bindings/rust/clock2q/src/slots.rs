@@ -106,14 +106,14 @@ impl Slots {
     #[inline(always)]
     pub(crate) fn find_at_home(&self, hash: u64, is_it: impl FnOnce(usize) -> bool) -> AtHome {
         let mut home = self.cache.directory.index.handles(spread(hash));
-        let metadata = home.reader.read(home.slot);
+        let metadata = home.view.read(home.slot, &mut home.reads);
         if !metadata.is(home.wanted) {
             return match metadata.ends_walk_for(home.wanted) {
                 true => AtHome::Absent,
                 false => AtHome::Unknown,
             };
         }
-        match Handle::unpack(home.reader.handle(home.slot)) {
+        match Handle::unpack(home.view.handle(home.slot, &mut home.handle_reads)) {
             Handle::Resident(slot) if is_it(slot as usize) => AtHome::Found(slot as usize),
             _ => AtHome::Unknown,
         }

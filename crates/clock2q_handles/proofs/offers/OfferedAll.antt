@@ -24,14 +24,13 @@ module _ {M H : Type 0} (g : Mut M (H × Unit {0}) Bool) (f last : M) (x : ℕ) 
     laid : IsLaidOut new;
   }
 
-  -- n slots were read
-  pub offers_all : (slots : List (Option (Placed (ℕ × H)))) (len : ℕ) → IsTable slots len → (w r r' n : ℕ) → Offers g f (left_from slots x 0) (handle_in result) last
-      → IfErr result (λ gap. EndsAt slots x gap.mark gap.position) → r' ≡ r + n → n ≤ 0 + unread_from slots x 0 → IfErr result (λ _. n ≡ 0 + unread_from slots x 0)
+  pub offers_all : (slots : List (Option (Placed (ℕ × H)))) (len : ℕ) → IsTable slots len → (w r r' : ℕ) → Offers g f (left_from slots x 0) (handle_in result) last
+      → IfErr result (λ gap. EndsAt slots x gap.mark gap.position) → r ≤ r' → r' ≤ r + unread_from slots x 0 → IfErr result (λ _. r' ≡ r + unread_from slots x 0)
       → OffersAll (table_value (homes_of slots) slots w r) (table_value (homes_of slots) slots w r')
-  offers_all slots len table w r r' n offers ends is within all = record {
+  offers_all slots len table w r r' offers ends more within all = record {
     offers = subst (λ hs. Offers g f hs (handle_in result) last) (left_at_start slots x) offers;
     gap = ends;
-    read = (refl, (omega (arith, is), omega (arith, is, within)));
-    read_all = if_err result (λ _ e. omega (arith, is, e)) all;
+    read = (refl, (more, omega (arith, within)));
+    read_all = if_err result (λ _ e. omega (arith, e)) all;
     laid = table-laid slots len table w r';
   }

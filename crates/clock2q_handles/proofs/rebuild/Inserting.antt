@@ -1,5 +1,5 @@
 -- What a call that makes room and then inserts promises at each of its ends.
-use Rattle.std.proofs.Common.{◌≡◌, ◌≢◌, ℕ, ◌+◌, ◌^◌, ◌<◌, ◌≤◌, Bool, true, false, refl, sym, ap, subst, arith, List, Some, None, Result, Ok, Err, IsOk, IsTrue, IfOk, OnOk, OnErr}
+use Rattle.std.proofs.Common.{◌≡◌, ◌≢◌, ℕ, ◌+◌, ◌^◌, ◌<◌, ◌≤◌, Bool, true, false, refl, ap, subst, arith, List, Some, None, Result, Ok, Err, IsOk, IsTrue, IfOk, OnOk, OnErr}
 use Rattle.std.specs.Fn.{Mut}
 use Rattle.clock2q_handles.specs.declared.error.TableError.{TableError}
 use Rattle.clock2q_handles.specs.declared.error.TableError.TheVariants.{Memory, RunTooLong}

@@ -1,4 +1,4 @@
-//! The two vectors of a table's slots. Only this module writes them. It counts each write of a slot,
+//! The two vectors of a table's slots. Only this module reaches them. It counts each write of a slot,
 //! and each read of its metadata.
 ghost use Rattle.clock2q_handles.specs.Found.{TakesOutAt};
 ghost use Rattle.clock2q_handles.specs.Layout.{IsTidy, slot_at, reach};
@@ -8,7 +8,6 @@ ghost use Rattle.std.specs.Prelude.{◌≡◌, ◌+◌, ◌%◌, ◌^◌, ◌<�
 
 use crate::gap::Gap;
 use crate::metadata::Metadata;
-use crate::slots::Reader;
 use clock2q_count::Count;
 use std::alloc::{AllocError, Allocator};
 use std::marker::Model;
@@ -36,7 +35,6 @@ impl<H, A: Allocator> Model for Slots<H, A> {
 }
 
 impl<H: Copy + Default, A: Allocator> Slots<H, A> {
-    ghost use Rattle.clock2q_handles.specs.Readers.{reader_value};
     ghost use Rattle.clock2q_handles.specs.Slots.{slots_value, mark_of};
 
     /// Returns no slots, without allocating.
@@ -88,13 +86,17 @@ impl<H: Copy + Default, A: Allocator> Slots<H, A> {
         self.writes.raise(&replaced.writes);
     }
 
-    /// Returns a reader of the slots that has read nothing yet.
+    /// Returns both vectors to read.
     #[inline(always)]
     #[tactic(auto, using(crate::proofs::shifts::Cells::counted_cells, crate::proofs::shifts::Wrapping::cells_along))]
-    pub(crate) fn reader(&self) -> Reader<'_, H>
-        ensures { result ≡ reader_value self.now.slots 0 0 }
+    pub(crate) fn view(&self) -> View<'_, H>
+        ensures { result ≡ self.now.slots }
     {
-        Reader::new(self.metadata.as_slice(), self.handles.as_slice(), self.mask)
+        View {
+            metadata: self.metadata.as_slice(),
+            handles: self.handles.as_slice(),
+            mask: self.mask,
+        }
     }
 
     /// Returns the number of slots.
@@ -105,46 +107,6 @@ impl<H: Copy + Default, A: Allocator> Slots<H, A> {
         ensures small { length self.now.slots < 2 ^ 63 }
     {
         self.metadata.len()
-    }
-
-    /// Returns the home slot of a hash, if there are slots.
-    #[tactic(auto, using(crate::proofs::shifts::Cells::masked, crate::proofs::shifts::Cells::masked_within))]
-    pub(crate) fn home(&self, hash: u64) -> usize
-        ensures home { 0 < length self.now.slots → result ≡ hash % length self.now.slots }
-        ensures within { 0 < length self.now.slots → result < length self.now.slots }
-    {
-        hash as usize & self.mask
-    }
-
-    /// Returns the slot after `slot`: slot 0 after the last.
-    #[tactic(auto, using(crate::proofs::shifts::Cells::masked, crate::proofs::shifts::Cells::masked_within, crate::proofs::shifts::Cells::counted_cells))]
-    pub(crate) fn after(&self, slot: usize) -> usize
-        requires { slot < length self.now.slots }
-        ensures after { result ≡ (slot + 1) % length self.now.slots }
-        ensures within { result < length self.now.slots }
-    {
-        let _ = self.metadata.len(); // which bounds the sum
-        (slot + 1) & self.mask
-    }
-
-    /// Reads the metadata of a slot, and counts the read.
-    #[inline(always)]
-    #[tactic(auto, using(crate::proofs::shifts::Cells::counted_cells, crate::proofs::shifts::Cells::mark_read_or))]
-    pub(crate) fn read(&self, slot: usize, reads: &mut Count) -> Metadata
-        requires { slot < length self.now.slots }
-        ensures meaning { meaning result ≡ mark_of (slot_at self.now.slots slot) }
-        ensures counted { reads.new.total ≡ reads.old.total + 1 }
-    {
-        reads.tick();
-        self.metadata[slot]
-    }
-
-    #[tactic(auto, using(crate::proofs::shifts::Cells::counted_cells, crate::proofs::shifts::Cells::handle_read_at))]
-    pub(crate) fn handle(&self, slot: usize) -> H
-        requires { slot < length self.now.slots }
-        ensures { IfSome (slot_at self.now.slots slot) (λ p. result ≡ p.entry.1) }
-    {
-        self.handles[slot]
     }
 
     /// Writes the handle of a slot.
@@ -239,6 +201,75 @@ impl<H: Copy + Default, A: Allocator> Slots<H, A> {
             Metadata::empty(),
             &mut self.writes,
         );
+    }
+}
+
+/// Both vectors of a table's slots, and the number of slots minus one. Walks only reach the vectors
+/// through [read](View::read) and [handle](View::handle), which count each read.
+#[derive(Drop)]
+pub(crate) struct View<'a, H> {
+    metadata: &'a [Metadata],
+    handles: &'a [H],
+    mask: usize,
+}
+
+impl<'a, H> Model for View<'a, H> {
+    ghost use Rattle.clock2q_handles.specs.Slots.{cells, slot_list, slot_list_code, IsView};
+
+    ghost Value = { slot_list H };
+
+    ghost coded = { slot_list_code H.code };
+
+    ghost view = { λ v. cells v.metadata.now v.handles.now };
+
+    ghost invariant = { λ v. IsView v.metadata.now v.handles.now v.mask };
+}
+
+impl<'a, H: Copy + Default> View<'a, H> {
+    ghost use Rattle.clock2q_handles.specs.Slots.{meaning, mark_of};
+
+    /// Returns the home slot of a hash, if there are slots.
+    #[tactic(auto, using(crate::proofs::shifts::Cells::masked, crate::proofs::shifts::Cells::masked_within))]
+    pub(crate) fn home(&self, hash: u64) -> usize
+        ensures home { 0 < length self.now → result ≡ hash % length self.now }
+        ensures within { 0 < length self.now → result < length self.now }
+    {
+        hash as usize & self.mask
+    }
+
+    /// Returns the slot after `slot`: slot 0 after the last.
+    #[tactic(auto, using(crate::proofs::shifts::Cells::masked, crate::proofs::shifts::Cells::masked_within, crate::proofs::shifts::Cells::counted_cells))]
+    pub(crate) fn after(&self, slot: usize) -> usize
+        requires { slot < length self.now }
+        ensures after { result ≡ (slot + 1) % length self.now }
+        ensures within { result < length self.now }
+    {
+        let mask = self.mask;
+        (slot + 1) & mask
+    }
+
+    /// Reads the metadata of a slot, and counts the read.
+    #[tactic(auto, using(crate::proofs::shifts::Cells::counted_cells, crate::proofs::shifts::Cells::mark_read_or))]
+    pub(crate) fn read(&self, slot: usize, reads: &mut Count) -> Metadata
+        requires { slot < length self.now }
+        ensures meaning { meaning result ≡ mark_of (slot_at self.now slot) }
+        ensures counted { reads.new.total ≡ reads.old.total + 1 }
+    {
+        reads.tick();
+        let metadata = self.metadata;
+        metadata[slot]
+    }
+
+    /// Reads the handle of an entry that was found, and counts the read.
+    #[tactic(auto, using(crate::proofs::shifts::Cells::counted_cells, crate::proofs::shifts::Cells::handle_read_at))]
+    pub(crate) fn handle(&self, slot: usize, reads: &mut Count) -> H
+        requires { slot < length self.now }
+        ensures handle { IfSome (slot_at self.now slot) (λ p. result ≡ p.entry.1) }
+        ensures counted { reads.new.total ≡ reads.old.total + 1 }
+    {
+        reads.tick();
+        let handles = self.handles;
+        handles[slot]
     }
 }
 

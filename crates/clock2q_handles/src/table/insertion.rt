@@ -192,10 +192,7 @@ impl<H: Copy + Eq + Default, A: Allocator> Table<H, A> {
             (λ _. self.new.reads ≡ self.old.reads + walk self.old.homes hash) }
         ensures laid { IsLaidOut self.new }
     {
-        let mut reader = self.slots.reader();
-        let offered = reader.offer(hash, matches);
-        self.reads.raise(reader.reads());
-        offered
+        self.slots.view().offer(hash, matches, &mut self.reads)
     }
 
     /// Inserts an entry at the gap for its hash, unless a run would be too long.

@@ -6,6 +6,7 @@ ghost use Rattle.std.specs.Prelude.{◌≡◌, ◌==◌, if◌then◌else◌, �
 
 use crate::gap::Gap;
 use crate::table::Table;
+use clock2q_count::Count;
 use std::alloc::Allocator;
 
 impl<H: Copy + Eq + Default, A: Allocator> Table<H, A> {
@@ -37,8 +38,8 @@ impl<H: Copy + Eq + Default, A: Allocator> Table<H, A> {
         if self.slots.count() == 0 {
             return Err(None);
         }
-        let mut reader = self.slots.reader();
-        match reader.offer(hash, &mut matches) {
+        let mut reads = Count::new();
+        match self.slots.view().offer(hash, &mut matches, &mut reads) {
             Ok(found) => Ok(found),
             Err(gap) => Err(Some(gap)),
         }

@@ -3,7 +3,8 @@
 
 use crate::proved::handles::gap::Gap;
 use crate::proved::handles::metadata::Wanted;
-use crate::proved::handles::slots::Reader;
+use crate::proved::handles::slots::View;
+use crate::proved::count::Count;
 
 /// An iterator over the candidates of a hash, in the order of their slots. It reads one word of
 /// metadata for each slot that it visits, and a handle only for each candidate.
@@ -25,9 +26,11 @@ use crate::proved::handles::slots::Reader;
 /// # }
 /// ```
 pub struct Candidates<'a, H: Copy + Eq + Default> {
-    pub(crate) reader: Reader<'a, H>,
+    pub(crate) view: View<'a, H>,
     pub(crate) slot: usize,
     pub(crate) wanted: Wanted,
+    pub(crate) reads: Count,
+    pub(crate) handle_reads: Count,
 }
 
 impl<'a, H: Copy + Eq + Default> Candidates<'a, H> {
@@ -50,13 +53,13 @@ impl<'a, H: Copy + Eq + Default> Candidates<'a, H> {
     /// gap where an entry of the hash would be inserted.
     #[inline(always)]
     pub fn peek_or_gap(&mut self) -> Result<H, Gap> {
-        match self.reader.candidate(self.slot, self.wanted) {
+        let found = self.view.candidate(self.slot, self.wanted, &mut self.reads);
+        match found {
             Err(gap) => Err(gap),
             Ok((slot, wanted)) => {
-                let handle = self.reader.handle(slot);
                 self.slot = slot;
                 self.wanted = wanted;
-                Ok(handle)
+                Ok(self.view.handle(slot, &mut self.handle_reads))
             }
         }
     }
@@ -64,18 +67,23 @@ impl<'a, H: Copy + Eq + Default> Candidates<'a, H> {
     /// Moves past the candidate that [`peek`](Candidates::peek) is at. It reads no slot.
     #[inline(always)]
     pub fn advance(&mut self) {
-        self.slot = self.reader.after(self.slot);
+        self.slot = self.view.after(self.slot);
         self.wanted = self.wanted.next();
     }
 }
 
-impl<'a, H: Copy + Default> Reader<'a, H> {
+impl<'a, H: Copy + Default> View<'a, H> {
     /// Advances a walk to its next candidate, and returns the candidate's slot with what the walk
     /// looks for there, or else the gap where the walk ends.
     #[inline(always)]
-    fn candidate(&mut self, mut slot: usize, mut wanted: Wanted) -> Result<(usize, Wanted), Gap> {
+    fn candidate(
+        &self,
+        mut slot: usize,
+        mut wanted: Wanted,
+        reads: &mut Count,
+    ) -> Result<(usize, Wanted), Gap> {
         loop {
-            let metadata = self.read(slot);
+            let metadata = self.read(slot, reads);
             if metadata.is(wanted) {
                 return Ok((slot, wanted));
             }
@@ -91,17 +99,18 @@ impl<'a, H: Copy + Default> Reader<'a, H> {
     /// candidate and its slot, or else where the walk ends.
     #[inline(always)]
     pub(super) fn offer<F: FnMut(H) -> bool>(
-        &mut self,
+        &self,
         hash: u64,
         matches: &mut F,
+        reads: &mut Count,
     ) -> Result<(H, usize), Gap> {
         let mut slot = self.home(hash);
         let mut wanted = Wanted::new(hash);
         loop {
-            match self.candidate(slot, wanted) {
+            match self.candidate(slot, wanted, reads) {
                 Err(gap) => return Err(gap),
                 Ok((here, found)) => {
-                    let handle = self.handle(here);
+                    let handle = self.handle(here, &mut Count::new());
                     if matches(handle) {
                         return Ok((handle, here));
                     }

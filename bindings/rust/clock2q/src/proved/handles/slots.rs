@@ -1,24 +1,23 @@
 // Written by bindings/rust/erase from crates/clock2q_handles/src/slots.rt; change that, and run erase.
 //! A table's slots: walks along them, and entries put into them.
 
-mod reader;
 mod vectors;
 
 use crate::proved::handles::gap::Gap;
 use crate::proved::handles::metadata::Wanted;
 use crate::proved::count::Count;
-pub(super) use reader::Reader;
 use crate::proved::rattle::Allocator;
-pub(super) use vectors::Slots;
+pub(super) use vectors::{Slots, View};
 
 impl<H: Copy + Default, A: Allocator> Slots<H, A> {
     /// Returns where a walk for `hash` ends.
     #[inline(always)]
     pub(super) fn gap(&self, hash: u64, reads: &mut Count) -> Gap {
-        let mut slot = self.home(hash);
+        let view = self.view();
+        let mut slot = view.home(hash);
         let mut wanted = Wanted::new(hash);
-        while !self.read(slot, reads).ends_walk_for(wanted) {
-            slot = self.after(slot);
+        while !view.read(slot, reads).ends_walk_for(wanted) {
+            slot = view.after(slot);
             wanted = wanted.next();
         }
         Gap { slot, wanted }
@@ -31,16 +30,17 @@ impl<H: Copy + Default, A: Allocator> Slots<H, A> {
         if !gap.wanted.is_near() {
             return false;
         }
+        let view = self.view();
         let mut slot = gap.slot;
         loop {
-            let metadata = self.read(slot, reads);
+            let metadata = view.read(slot, reads);
             if metadata.is_empty() {
                 return true;
             }
             if !metadata.can_move_on() {
                 return false;
             }
-            slot = self.after(slot);
+            slot = view.after(slot);
         }
     }
 
@@ -53,17 +53,18 @@ impl<H: Copy + Default, A: Allocator> Slots<H, A> {
         if self.count() == 0 {
             return None;
         }
-        let mut slot = self.home(hash);
+        let view = self.view();
+        let mut slot = view.home(hash);
         let mut wanted = Wanted::new(hash);
         loop {
-            let metadata = self.read(slot, reads);
-            if metadata.is(wanted) && self.handle(slot) == handle {
+            let metadata = view.read(slot, reads);
+            if metadata.is(wanted) && view.handle(slot, &mut Count::new()) == handle {
                 return Some(slot);
             }
             if metadata.ends_walk_for(wanted) {
                 return None;
             }
-            slot = self.after(slot);
+            slot = view.after(slot);
             wanted = wanted.next();
         }
     }
@@ -75,14 +76,15 @@ impl<H: Copy + Default, A: Allocator> Slots<H, A> {
     where
         H: PartialEq,
     {
-        let mut slot = self.home(hash);
+        let view = self.view();
+        let mut slot = view.home(hash);
         let mut wanted = Wanted::new(hash);
         loop {
-            let metadata = self.read(slot, reads);
-            if metadata.is(wanted) && self.handle(slot) == handle {
+            let metadata = view.read(slot, reads);
+            if metadata.is(wanted) && view.handle(slot, &mut Count::new()) == handle {
                 return slot;
             }
-            slot = self.after(slot);
+            slot = view.after(slot);
             wanted = wanted.next();
         }
     }
@@ -96,16 +98,15 @@ impl<H: Copy + Default, A: Allocator> Slots<H, A> {
         rehash: &mut F,
         reads: &mut Count,
     ) {
-        let mut reader = old.reader();
+        let view = old.view();
         for slot in 0..old.count() {
-            if reader.read(slot).is_empty() {
+            if view.read(slot, reads).is_empty() {
                 continue;
             }
-            let handle = reader.handle(slot);
+            let handle = view.handle(slot, &mut Count::new());
             let hash = rehash(handle);
             let gap = self.gap(hash, reads);
             self.put_at(&gap, handle, reads);
         }
-        reads.raise(reader.reads());
     }
 }

@@ -2,11 +2,10 @@
 //! A multimap from 64-bit hashes to handles that its caller owns.
 
 mod clearing;
-mod exchange;
 mod growth;
+mod infallible;
 mod insertion;
 mod removal;
-mod replacement;
 mod searching;
 
 use crate::proved::handles::candidates::Candidates;
@@ -113,9 +112,11 @@ impl<H: Copy + Eq + Default, A: Allocator> Table<H, A> {
     pub fn get(&self, hash: u64) -> Candidates<'_, H> {
         if self.slots.count() == 0 {
             return Candidates {
-                reader: self.slots.reader(),
+                view: self.slots.view(),
                 slot: 0,
                 wanted: Wanted::nothing(),
+                reads: Count::new(),
+                handle_reads: Count::new(),
             };
         }
         self.get_in_slots(hash)
@@ -124,10 +125,13 @@ impl<H: Copy + Eq + Default, A: Allocator> Table<H, A> {
     /// Returns what [`get`](Table::get) does, given that the table has slots. It doesn't test for that.
     #[inline(always)]
     pub fn get_in_slots(&self, hash: u64) -> Candidates<'_, H> {
+        let view = self.slots.view();
         Candidates {
-            reader: self.slots.reader(),
-            slot: self.slots.home(hash),
+            slot: view.home(hash),
+            view,
             wanted: Wanted::new(hash),
+            reads: Count::new(),
+            handle_reads: Count::new(),
         }
     }
 

@@ -7,7 +7,7 @@ use Rattle.clock2q_handles.proofs.candidates.Candidates.advance.Goals as goal
 
 pub returns : goal.returns
 returns g c =
-    let slots = c.self.inside.reader.slots in
+    let slots = c.self.inside.view in
     let s = sought c.self.inside.wanted in
     let s' = sought c.next-self-inside.result in
     let n = c.self.inside.slot in

@@ -13,13 +13,13 @@ returns g c =
     let x = c.args.hash in
     let n = c.home.result in
     let some : 0 < length slots = omega (arith, c.requires.slots, length-homes_of slots, ap (λ t. length t.homes) c.self.view_is) in
-    let home = c.home.ensures.home some in
+    let home = rw c.view-view.ensures at (c.home.ensures.home (rw c.view-view.ensures some)) in
     let begins = begins_whole slots x n c.self.invariant.tidy c.self.invariant.near some home in
     let walk = walks_begin slots c.self.invariant.tidy x (Some (0, top x)) n some home refl in
-    rw (← c.self.view_is, c.reader.ensures, c.new.ensures) (record {
+    rw (← c.self.view_is, c.view-view.ensures, c.new.ensures) (record {
       candidates = begins.0 ∙ left_at_start slots x;
-      reads = refl;
+      reads = c.new-2.ensures.zero;
       unread = omega (arith, begins.1);
-      handles = refl;
+      handles = c.new-3.ensures.zero;
       end = end_of slots x (Some (0, top x)) n walk;
     })

@@ -6,10 +6,10 @@ use Rattle.clock2q_handles.proofs.table.Table.offer.Goals as goal
 
 pub returns : goal.returns
 returns g c =
-    let offered = c.offer-offered.ensures in
-    let is = c.reader-reader.ensures in
-    subst (λ t. OffersAll g.M.FnMut c.args.matches.now c.offer-offered.new.matches c.args.hash c.offer-offered.result t
-    (table_value (homes_of c.self.inside.slots.slots) c.self.inside.slots.slots c.self.inside.slots.writes c.raise.new.self.total)) c.self.view_is
-    (offers_all g.M.FnMut c.args.matches.now c.offer-offered.new.matches c.args.hash c.offer-offered.result c.self.inside.slots.slots c.self.inside.len c.self.invariant
-    c.self.inside.slots.writes c.self.inside.reads.total c.raise.new.self.total c.offer-offered.new.self.reads (rw is at offered.offers) (rw is at offered.ends)
-    (omega (arith, c.raise.ensures.raised, c.reads.ensures)) (rw is at offered.read) (rw is at offered.read_all))
+    let offered = c.offer.ensures in
+    let is = c.view.ensures in
+    subst (λ t. OffersAll g.M.FnMut c.args.matches.now c.offer.new.matches c.args.hash c.offer.result t
+    (table_value (homes_of c.self.inside.slots.slots) c.self.inside.slots.slots c.self.inside.slots.writes c.offer.new.reads.total)) c.self.view_is
+    (offers_all g.M.FnMut c.args.matches.now c.offer.new.matches c.args.hash c.offer.result c.self.inside.slots.slots c.self.inside.len c.self.invariant
+    c.self.inside.slots.writes c.self.inside.reads.total c.offer.new.reads.total (rw is at offered.offers) (rw is at offered.ends)
+    (omega (arith, offered.reads)) (rw is at offered.read) (rw is at offered.read_all))

@@ -22,7 +22,7 @@ returns-in-Ok-clause-found g c =
     let slots = c.self.inside.slots.slots in
     let r = c.in-Ok.found in
     let there : 0 < length slots = omega (arith, c.if-count-eq0.false, c.count.ensures.count) in
-    let found = subst (λ u. IsAcceptedAt g.M.FnMut c.args.matches u.slots c.args.hash r.0 r.1) c.reader-reader.ensures c.in-Ok.ensures.at in
+    let found = subst (λ slots. IsAcceptedAt g.M.FnMut c.args.matches slots c.args.hash r.0 r.1) c.view.ensures c.in-Ok.ensures.at in
     let entry_at = accepted_entry slots c.self.invariant.tidy c.args.hash there r.1 r.0 found.at in
     subst (λ t. (i : ℕ) × IsEntryAt t.homes c.args.hash i (top c.args.hash, r.0) r.1 × AcceptsNext g.M.FnMut c.args.matches (candidates_before t.homes c.args.hash i) r.0) c.self.view_is
     (entry_at.0, entry_at.1, subst (λ hs. AcceptsNext g.M.FnMut c.args.matches hs r.0) entry_at.2 found.accepts)
@@ -36,5 +36,5 @@ returns-clause-gap g c =
     let slots = c.self.inside.slots.slots in
     let e = c.in-Err.gap in
     let there : 0 < length slots = omega (arith, c.if-count-eq0.false, c.count.ensures.count) in
-    let ended = ends_gap slots c.self.invariant.tidy there c.args.hash e.position e.mark (subst (λ u. EndsAt u.slots c.args.hash e.mark e.position) c.reader-reader.ensures c.in-Err.ensures.ends) in
+    let ended = ends_gap slots c.self.invariant.tidy there c.args.hash e.position e.mark (subst (λ slots. EndsAt slots c.args.hash e.mark e.position) c.view.ensures c.in-Err.ensures.ends) in
     rw (← c.self.view_is) (some_gap (homes_of slots) c.args.hash e (omega (arith, there, length-homes_of slots)) ended)

@@ -1,11 +1,10 @@
 // Written by bindings/rust/erase from crates/clock2q_handles/src/slots/vectors.rt; change that, and run erase.
-//! The two vectors of a table's slots. Only this module writes them. It counts each write of a slot,
+//! The two vectors of a table's slots. Only this module reaches them. It counts each write of a slot,
 //! and each read of its metadata.
 
 use crate::proved::rattle::Vec;
 use crate::proved::handles::gap::Gap;
 use crate::proved::handles::metadata::Metadata;
-use crate::proved::handles::slots::Reader;
 use crate::proved::count::Count;
 use crate::proved::rattle::{AllocError, Allocator};
 
@@ -65,41 +64,20 @@ impl<H: Copy + Default, A: Allocator> Slots<H, A> {
         self.writes.raise(&replaced.writes);
     }
 
-    /// Returns a reader of the slots that has read nothing yet.
+    /// Returns both vectors to read.
     #[inline(always)]
-    pub(crate) fn reader(&self) -> Reader<'_, H> {
-        Reader::new(self.metadata.as_slice(), self.handles.as_slice(), self.mask)
+    pub(crate) fn view(&self) -> View<'_, H> {
+        View {
+            metadata: self.metadata.as_slice(),
+            handles: self.handles.as_slice(),
+            mask: self.metadata.len().wrapping_sub(1),
+        }
     }
 
     /// Returns the number of slots.
     #[inline]
     pub(crate) fn count(&self) -> usize {
         self.metadata.len()
-    }
-
-    /// Returns the home slot of a hash, if there are slots.
-    #[inline]
-    pub(crate) fn home(&self, hash: u64) -> usize {
-        hash as usize & self.metadata.len().wrapping_sub(1)
-    }
-
-    /// Returns the slot after `slot`: slot 0 after the last.
-    #[inline]
-    pub(crate) fn after(&self, slot: usize) -> usize {
-        let _ = self.metadata.len(); // which bounds the sum
-        (slot + 1) & self.metadata.len().wrapping_sub(1)
-    }
-
-    /// Reads the metadata of a slot, and counts the read.
-    #[inline(always)]
-    pub(crate) fn read(&self, slot: usize, reads: &mut Count) -> Metadata {
-        reads.tick();
-        self.metadata[slot]
-    }
-
-    #[inline]
-    pub(crate) fn handle(&self, slot: usize) -> H {
-        self.handles[slot]
     }
 
     /// Writes the handle of a slot.
@@ -167,6 +145,45 @@ impl<H: Copy + Default, A: Allocator> Slots<H, A> {
             Metadata::empty(),
             &mut self.writes,
         );
+    }
+}
+
+/// Both vectors of a table's slots, and the number of slots minus one. Walks only reach the vectors
+/// through [read](View::read) and [handle](View::handle), which count each read.
+pub(crate) struct View<'a, H> {
+    metadata: &'a [Metadata],
+    handles: &'a [H],
+    mask: usize,
+}
+
+impl<'a, H: Copy + Default> View<'a, H> {
+    /// Returns the home slot of a hash, if there are slots.
+    #[inline]
+    pub(crate) fn home(&self, hash: u64) -> usize {
+        hash as usize & self.mask
+    }
+
+    /// Returns the slot after `slot`: slot 0 after the last.
+    #[inline]
+    pub(crate) fn after(&self, slot: usize) -> usize {
+        let mask = self.mask;
+        (slot + 1) & mask
+    }
+
+    /// Reads the metadata of a slot, and counts the read.
+    #[inline]
+    pub(crate) fn read(&self, slot: usize, reads: &mut Count) -> Metadata {
+        reads.tick();
+        let metadata = self.metadata;
+        metadata[slot]
+    }
+
+    /// Reads the handle of an entry that was found, and counts the read.
+    #[inline]
+    pub(crate) fn handle(&self, slot: usize, reads: &mut Count) -> H {
+        reads.tick();
+        let handles = self.handles;
+        handles[slot]
     }
 }
 

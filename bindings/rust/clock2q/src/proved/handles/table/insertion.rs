@@ -83,16 +83,6 @@ impl<H: Copy + Eq + Default, A: Allocator> Table<H, A> {
         self.insert_at(gap, hash, handle)
     }
 
-    /// Inserts `handle` under `hash` as [insert_within_capacity](Table::insert_within_capacity)
-    /// does, in a table with so few entries that no run becomes too long. It is for callers whose
-    /// contracts bound the number of entries, which it doesn't check.
-    #[inline(always)]
-    pub fn insert_infallible(&mut self, hash: u64, handle: H) {
-        let gap = self.slots.gap(hash, &mut self.reads);
-        self.slots.put_at(&gap, handle, &mut self.reads);
-        self.len += 1;
-    }
-
     /// Returns the first candidate that is accepted, or inserts the handle if none is.
     #[inline]
     fn find_or_put<M: FnMut(H) -> bool>(
@@ -114,10 +104,7 @@ impl<H: Copy + Eq + Default, A: Allocator> Table<H, A> {
     /// candidate and its slot, or else the gap for the hash.
     #[inline(always)]
     fn offer<M: FnMut(H) -> bool>(&mut self, hash: u64, matches: &mut M) -> Result<(H, usize), Gap> {
-        let mut reader = self.slots.reader();
-        let offered = reader.offer(hash, matches);
-        self.reads.raise(reader.reads());
-        offered
+        self.slots.view().offer(hash, matches, &mut self.reads)
     }
 
     /// Inserts an entry at the gap for its hash, unless a run would be too long.

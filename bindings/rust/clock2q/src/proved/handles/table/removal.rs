@@ -22,19 +22,4 @@ impl<H: Copy + Eq + Default, A: Allocator> Table<H, A> {
         self.len -= 1;
         true
     }
-
-    /// Removes the first candidate of `hash` that equals `handle`, as [remove](Table::remove) does,
-    /// given that there is one. Its walk doesn't test for an end.
-    ///
-    /// # Cost
-    ///
-    /// That of [remove](Table::remove).
-    #[inline(never)]
-    pub fn remove_existing(&mut self, hash: u64, handle: H) {
-        // It is out of line, so that a caller that removes one entry to insert another spills fewer
-        // registers.
-        let held = self.slots.find_existing(hash, handle, &mut self.reads);
-        self.slots.take_out(held, &mut self.reads);
-        self.len -= 1;
-    }
 }

@@ -3,6 +3,7 @@
 
 use crate::proved::handles::gap::Gap;
 use crate::proved::handles::table::Table;
+use crate::proved::count::Count;
 use crate::proved::rattle::Allocator;
 
 impl<H: Copy + Eq + Default, A: Allocator> Table<H, A> {
@@ -24,8 +25,8 @@ impl<H: Copy + Eq + Default, A: Allocator> Table<H, A> {
         if self.slots.count() == 0 {
             return Err(None);
         }
-        let mut reader = self.slots.reader();
-        match reader.offer(hash, &mut matches) {
+        let mut reads = Count::new();
+        match self.slots.view().offer(hash, &mut matches, &mut reads) {
             Ok(found) => Ok(found),
             Err(gap) => Err(Some(gap)),
         }

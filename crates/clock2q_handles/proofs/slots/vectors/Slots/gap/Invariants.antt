@@ -3,11 +3,11 @@ use Rattle.clock2q_handles.specs.Candidates.{IsWalkFor}
 use Rattle.clock2q_handles.specs.Slots.{sought, mark_reach}
 use Rattle.clock2q_handles.proofs.slots.vectors.Slots.gap.Given as goal
 
-abbrev pub invariant-loop-slot : goal.invariant-loop-slot
-invariant-loop-slot g l = record {
+abbrev pub invariant-loop-view : goal.invariant-loop-view
+invariant-loop-view g l = record {
   walk : IsWalkFor l.self.slots l.hash (sought l.wanted) l.slot;
   reads : l.reads.total + 1 ≡ l.initial.reads.total + mark_reach (sought l.wanted);
 }
 
-abbrev pub decreases-loop-slot : goal.decreases-loop-slot
-decreases-loop-slot g l = length l.self.slots - mark_reach (sought l.wanted)
+abbrev pub decreases-loop-view : goal.decreases-loop-view
+decreases-loop-view g l = length l.self.slots - mark_reach (sought l.wanted)
