@@ -2,10 +2,9 @@
 use Rattle.std.proofs.Common.{◌≡◌, ℕ, zero, suc, ◌+◌, ◌-◌, ◌<◌, ◌≤◌, Bool, true, false, List, [], ◌∷◌, ◌++◌, length, get_or, map, set, replicate, refl, sym, ap, ◌∙◌, arith, true≢false}
 use Rattle.std.proofs.lemmas.List.{append_assoc, get_or-map, length-append, length-map, length-replicate, length-set, map-append, map-set, replicate-append-replicate}
 use Rattle.clock2q_queues.specs.declared.links.flags.Flag.{Flag}
-use Rattle.clock2q_queues.specs.declared.entries.Record.{Record}
 use Rattle.clock2q_queues.specs.Cells.{accessed, written}
 use Rattle.clock2q_queues.specs.Flags.{all_flags, is_linked, says_linked}
-use Rattle.clock2q_queues.specs.Links.{all_records, location_at, record_at, vacant}
+use Rattle.clock2q_queues.specs.Links.{Record, all_records, location_at, record_at, vacant}
 use Rattle.clock2q_queues.specs.Ring.{RingState, ring_shown, ring_state}
 use Rattle.clock2q_queues.proofs.Attaching.{with_change}
 use Rattle.clock2q_queues.proofs.Records.{get_or-same}
@@ -62,7 +61,7 @@ module _ (fs : List Flag) (slots : ℕ) where
 
 -- a slot that is in a queue has a record
 pub linked_within : (rs : List Record) (slot : ℕ) → is_linked (location_at rs slot) ≡ true → slot < length rs
-linked_within rs slot linked = found-in vacant (λ (r : Record). is_linked r.location) refl rs slot linked
+linked_within rs slot linked = found-in vacant (λ (r : Record). is_linked r.held) refl rs slot linked
 
 module _ (rs : List Record) (slots : ℕ) where
   -- the record of a slot that isn't in memory is vacant

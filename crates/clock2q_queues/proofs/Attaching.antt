@@ -2,10 +2,9 @@
 use Rattle.std.proofs.Common.{◌≡◌, ℕ, ◌+◌, ◌<◌, false, cond, eqb, List, length, set, inl, inr, refl, sym, ap, ◌∙◌}
 use Rattle.std.proofs.lemmas.Bool.{cases_Bool, eqb-true}
 use Rattle.std.proofs.lemmas.List.{length-set}
-use Rattle.clock2q_queues.specs.declared.entries.Record.{Record}
 use Rattle.clock2q_queues.specs.declared.entries.Location.{Location}
 use Rattle.clock2q_queues.specs.Cells.{cells_state}
-use Rattle.clock2q_queues.specs.Links.{Attaches, Detaches, next_at, previous_at, record_at, vacant}
+use Rattle.clock2q_queues.specs.Links.{Record, Attaches, Detaches, next_at, previous_at, record_at, vacant}
 use Rattle.clock2q_queues.proofs.Records.{changed}
 use Rattle.clock2q_queues.proofs.Rings.{eqb_self}
 
@@ -29,12 +28,12 @@ previous_is previous r = record r { previous = previous }
 
 module _ (rs : List Record) (a b : ℕ) where
   -- the slot is written with its neighbours, then its previous slot's next one, then its next slot's previous one
-  pub attaches : (slot before cost : ℕ) (location : Location) → slot < length rs → before < length rs → previous_at rs before < length rs → b ≡ a + cost
-      → Attaches slot before location cost (cells_state rs a)
-      (cells_state (with_change (with_change (set rs slot (record { previous = previous_at rs before; next = before; location = location })) (previous_at rs before) (next_is slot)) before (previous_is slot)) b)
-  attaches slot before cost location slot_in before_in previous_in counted =
+  pub attaches : (slot before : ℕ) (location : Location) → slot < length rs → before < length rs → previous_at rs before < length rs → b ≡ a + 6
+      → Attaches slot before location (cells_state rs a)
+      (cells_state (with_change (with_change (set rs slot (record { previous = previous_at rs before; next = before; held = location })) (previous_at rs before) (next_is slot)) before (previous_is slot)) b)
+  attaches slot before location slot_in before_in previous_in counted =
       let p = previous_at rs before in
-      let r : Record = record { previous = p; next = before; location = location } in
+      let r : Record = record { previous = p; next = before; held = location } in
       let xs = set rs slot r in
       let ys = with_change xs p (next_is slot) in
       let many_xs : length xs ≡ length rs = length-set rs slot r in
@@ -48,8 +47,8 @@ module _ (rs : List Record) (a b : ℕ) where
         previouses = λ t. changed (λ x. x.previous) ys before (previous_is slot (record_at ys before)) vacant t in_ys
             ∙ ap (λ z. cond (eqb t before) slot z)
             (kept (λ x. x.previous) (next_is slot) (λ x. refl) xs p t in_xs ∙ changed (λ x. x.previous) rs slot r vacant t slot_in);
-        locations = λ t. kept (λ x. x.location) (previous_is slot) (λ x. refl) ys before t in_ys
-            ∙ kept (λ x. x.location) (next_is slot) (λ x. refl) xs p t in_xs ∙ changed (λ x. x.location) rs slot r vacant t slot_in;
+        locations = λ t. kept (λ x. x.held) (previous_is slot) (λ x. refl) ys before t in_ys
+            ∙ kept (λ x. x.held) (next_is slot) (λ x. refl) xs p t in_xs ∙ changed (λ x. x.held) rs slot r vacant t slot_in;
         as_many = length-set ys before (previous_is slot (record_at ys before)) ∙ many_ys;
         accesses = counted;
       }
@@ -74,8 +73,8 @@ module _ (rs : List Record) (a b : ℕ) where
         previouses = λ t other. ap (λ (x : Record). x.previous) (elsewhere t other)
             ∙ changed (λ x. x.previous) xs n (previous_is p (record_at xs n)) vacant t in_xs
             ∙ ap (λ z. cond (eqb t n) p z) (kept (λ x. x.previous) (next_is n) (λ x. refl) rs p t previous_in);
-        locations = λ t other. ap (λ (x : Record). x.location) (elsewhere t other)
-            ∙ kept (λ x. x.location) (previous_is p) (λ x. refl) xs n t in_xs ∙ kept (λ x. x.location) (next_is n) (λ x. refl) rs p t previous_in;
+        locations = λ t other. ap (λ (x : Record). x.held) (elsewhere t other)
+            ∙ kept (λ x. x.held) (previous_is p) (λ x. refl) xs n t in_xs ∙ kept (λ x. x.held) (next_is n) (λ x. refl) rs p t previous_in;
         freed = changed (λ x. x) ys slot vacant vacant slot in_ys ∙ rw (eqb_self slot) refl;
         as_many = length-set ys slot vacant ∙ many_ys;
         accesses = counted;

@@ -2,16 +2,15 @@
 use Rattle.std.proofs.Common.{◌≡◌, ℕ, zero, suc, ◌∷◌, ◌+◌, ◌<◌, ◌≤◌, ◌^◌, Bool, true, false, None, eqb, Option, List, map, length, get_or, set, replicate, inl, inr, refl, sym, ap, ◌∙◌, arith, true≢false}
 use Rattle.std.proofs.lemmas.Bool.{cases_Bool, eqb-true}
 use Rattle.std.proofs.lemmas.List.{get_or-map, length-map, length-replicate, length-set, map-set}
-use Rattle.clock2q_queues.specs.declared.entries.Record.{Record}
 use Rattle.clock2q_queues.specs.declared.links.flags.Flag.{Flag}
 use Rattle.clock2q_queues.specs.declared.entries.Location.{Location}
 use Rattle.clock2q_queues.specs.Cells.{CellsState, cells_state}
-use Rattle.clock2q_queues.specs.Links.{SetsBit, fresh, made_below, Attaches, Detaches, location_at, vacant}
+use Rattle.clock2q_queues.specs.Links.{Record, SetsBit, fresh, made_below, Attaches, Detaches, location_at, vacant}
 use Rattle.clock2q_queues.specs.Ring.{RingState, ring_state}
 use Rattle.clock2q_queues.proofs.AllRecords.{linked_within}
 use Rattle.clock2q_queues.proofs.Records.{changed, get_or-same}
 use Rattle.clock2q_queues.proofs.Rings.{eqb_self}
-use Rattle.clock2q_queues.specs.Flags.{AreLinks, is_linked, is_set, links_shown, says_linked}
+use Rattle.clock2q_queues.specs.Flags.{AreLinks, FlagState, flag_state, is_linked, is_set, links_shown, says_linked}
 
 -- a flag was written that says this
 pub mapped-set : (says : Flag → Bool) (flags : List Flag) (slot : ℕ) (f : Flag) (b : Bool) → says f ≡ b → map says (set flags slot f) ≡ set (map says flags) slot b
@@ -22,82 +21,84 @@ mapped-same says zero f = refl
 mapped-same says (suc n) f = ap (λ z. says f ∷ z) (mapped-same says n f)
 
 -- no slot is in a queue
-pub are_fresh : (n : ℕ) (ring : RingState) (flags : List Flag) (window : List (Option ℕ)) → ring.cells.items ≡ replicate n vacant → flags ≡ replicate n Flag.Free
+pub are_fresh : (n accesses : ℕ) (ring : RingState) (flags : FlagState) (window : List (Option ℕ)) → ring ≡ ring_state (cells_state (replicate n vacant) accesses) 0 → flags ≡ flag_state (replicate n Flag.Free) 0
     → length window < 2 ^ 32 → AreLinks ring flags window
-are_fresh n ring flags window empty free countable =
-    let nowhere : (t : ℕ) → is_linked (location_at ring.cells.items t) ≡ false = λ t. rw empty (ap (λ (r : Record). is_linked r.location) (get_or-same n t vacant)) in
+are_fresh n accesses ring flags window empty free countable =
+    let nowhere : (t : ℕ) → is_linked (location_at ring.cells.items t) ≡ false = λ t. rw empty (ap (λ (r : Record). is_linked r.held) (get_or-same n t vacant)) in
     record {
       as_many = rw (empty, free) (length-replicate n Flag.Free ∙ sym (length-replicate n vacant));
       agree = λ t. rw (free, mapped-same says_linked n Flag.Free) (get_or-same n t false) ∙ sym (nowhere t);
       made = λ t linked. absurd (true≢false (sym linked ∙ nowhere t));
+      together = rw (empty, free) refl;
       countable_positions = countable;
     }
 
 -- the flag of a slot that is in a queue says so
-pub flag_linked : {ring : RingState} {flags : List Flag} {window : List (Option ℕ)} → AreLinks ring flags window → (slot : ℕ) → is_linked (location_at ring.cells.items slot) ≡ true
-    → says_linked (get_or flags slot Flag.Free) ≡ true
+pub flag_linked : {ring : RingState} {flags : FlagState} {window : List (Option ℕ)} → AreLinks ring flags window → (slot : ℕ) → is_linked (location_at ring.cells.items slot) ≡ true
+    → says_linked (get_or flags.items slot Flag.Free) ≡ true
 flag_linked {ring} {flags} were slot linked =
-    sym (get_or-map says_linked flags slot Flag.Free false (rw were.as_many (linked_within ring.cells.items slot linked))) ∙ were.agree slot ∙ linked
+    sym (get_or-map says_linked flags.items slot Flag.Free false (rw were.as_many (linked_within ring.cells.items slot linked))) ∙ were.agree slot ∙ linked
 
 -- the flag of a slot was written, and its record perhaps: they still agree if they do at this slot
-flags_written : (old new : RingState) (flags flags' : List Flag) (window : List (Option ℕ)) (slot : ℕ) (f : Flag) → AreLinks old flags window → slot < length old.cells.items → flags' ≡ set flags slot f
-    → length new.cells.items ≡ length old.cells.items → says_linked f ≡ is_linked (location_at new.cells.items slot)
-    → ((t : ℕ) → eqb t slot ≡ false → is_linked (location_at new.cells.items t) ≡ is_linked (location_at old.cells.items t))
-    → old.made ≤ new.made → (is_linked (location_at new.cells.items slot) ≡ true → slot < new.made) → AreLinks new flags' window
-flags_written old new flags flags' window slot f were within flagged as_many here elsewhere more made = record {
-  as_many = rw flagged (length-set flags slot f) ∙ were.as_many ∙ sym as_many;
-  agree = λ t. ap (λ z. get_or (map says_linked z) t false) flagged ∙ ap (λ z. get_or z t false) (mapped-set says_linked flags slot f (says_linked f) refl)
-      ∙ changed (λ b. b) (map says_linked flags) slot (says_linked f) false t (rw (length-map flags says_linked, were.as_many) within)
-      ∙ elim (cases_Bool (eqb t slot)) [
-        | inl e ↦ rw e (here ∙ ap (λ z. is_linked (location_at new.cells.items z)) (sym (eqb-true t slot e)))
-        | inr e ↦ rw e (were.agree t ∙ sym (elsewhere t e))
-      ];
-  made = λ t linked. elim (cases_Bool (eqb t slot)) [
-    | inl e ↦ rw (eqb-true t slot e) (made (ap (λ z. is_linked (location_at new.cells.items z)) (sym (eqb-true t slot e)) ∙ linked))
-    | inr e ↦ omega (arith, were.made t (sym (elsewhere t e) ∙ linked), more)
-  ];
-  countable_positions = were.countable_positions;
-}
+module _ {old : RingState} {flags flags' : FlagState} {window : List (Option ℕ)} (slot : ℕ) (f : Flag) (were : AreLinks old flags window) (flagged : flags'.items ≡ set flags.items slot f) where
+  flags_written : (new : RingState) → slot < length old.cells.items → length new.cells.items ≡ length old.cells.items → says_linked f ≡ is_linked (location_at new.cells.items slot)
+      → ((t : ℕ) → eqb t slot ≡ false → is_linked (location_at new.cells.items t) ≡ is_linked (location_at old.cells.items t))
+      → old.made ≤ new.made → (is_linked (location_at new.cells.items slot) ≡ true → slot < new.made) → flags'.made ≡ new.made → AreLinks new flags' window
+  flags_written new within as_many here elsewhere more made together = record {
+    as_many = rw flagged (length-set flags.items slot f) ∙ were.as_many ∙ sym as_many;
+    agree = λ t. ap (λ z. get_or (map says_linked z) t false) flagged ∙ ap (λ z. get_or z t false) (mapped-set says_linked flags.items slot f (says_linked f) refl)
+        ∙ changed (λ b. b) (map says_linked flags.items) slot (says_linked f) false t (rw (length-map flags.items says_linked, were.as_many) within)
+        ∙ elim (cases_Bool (eqb t slot)) [
+          | inl e ↦ rw e (here ∙ ap (λ z. is_linked (location_at new.cells.items z)) (sym (eqb-true t slot e)))
+          | inr e ↦ rw e (were.agree t ∙ sym (elsewhere t e))
+        ];
+    made = λ t linked. elim (cases_Bool (eqb t slot)) [
+      | inl e ↦ rw (eqb-true t slot e) (made (ap (λ z. is_linked (location_at new.cells.items z)) (sym (eqb-true t slot e)) ∙ linked))
+      | inr e ↦ omega (arith, were.made t (sym (elsewhere t e) ∙ linked), more)
+    ];
+    together = together;
+    countable_positions = were.countable_positions;
+  }
 
-module _ {old : RingState} {flags flags' : List Flag} {window : List (Option ℕ)} (slot : ℕ) (f : Flag) (were : AreLinks old flags window) (flagged : flags' ≡ set flags slot f) where
   -- its record stays
-  pub flags_changed : is_linked (location_at old.cells.items slot) ≡ true → says_linked f ≡ true → AreLinks old flags' window
-  flags_changed linked says =
-      flags_written old old flags flags' window slot f were (linked_within old.cells.items slot linked) flagged refl (says ∙ sym linked) (λ t other. refl) (omega arith) (were.made slot)
+  pub flags_changed : is_linked (location_at old.cells.items slot) ≡ true → says_linked f ≡ true → flags'.made ≡ flags.made → AreLinks old flags' window
+  flags_changed linked says same =
+      flags_written old (linked_within old.cells.items slot linked) refl (says ∙ sym linked) (λ t other. refl) (omega arith) (were.made slot) (same ∙ were.together)
 
   -- its record is written
-  pub record_written : (new : RingState) (r : Record) → slot < length old.cells.items → says_linked f ≡ is_linked r.location → new.cells.items ≡ set old.cells.items slot r
-      → old.made ≤ new.made → slot < new.made → AreLinks new flags' window
-  record_written new r within here written more made =
-      let is = (λ (t : ℕ). ap (λ z. is_linked (location_at z t)) written ∙ changed (λ (x : Record). is_linked x.location) old.cells.items slot r vacant t within) in
-      flags_written old new flags flags' window slot f were within flagged (ap length written ∙ length-set old.cells.items slot r) (here ∙ sym (is slot ∙ rw (eqb_self slot) refl))
-      (λ t other. is t ∙ rw other refl) more (λ _. made)
+  pub record_written : (new : RingState) (r : Record) → slot < length old.cells.items → says_linked f ≡ is_linked r.held → new.cells.items ≡ set old.cells.items slot r
+      → old.made ≤ new.made → slot < new.made → flags'.made ≡ new.made → AreLinks new flags' window
+  record_written new r within here written more made together =
+      let is = (λ (t : ℕ). ap (λ z. is_linked (location_at z t)) written ∙ changed (λ (x : Record). is_linked x.held) old.cells.items slot r vacant t within) in
+      flags_written new within (ap length written ∙ length-set old.cells.items slot r) (here ∙ sym (is slot ∙ rw (eqb_self slot) refl))
+      (λ t other. is t ∙ rw other refl) more (λ _. made) together
 
   -- it is put before another
-  pub slot_attached : {before : ℕ} {location : Location} {cost : ℕ} (new : RingState) → slot < length old.cells.items → Attaches slot before location cost old.cells new.cells
-      → says_linked f ≡ is_linked location → new.made ≡ made_below (slot + 1) old.made → AreLinks new flags' window
-  slot_attached new within attached here made =
-      flags_written old new flags flags' window slot f were within flagged attached.as_many (here ∙ sym (ap is_linked (attached.locations slot) ∙ rw (eqb_self slot) refl))
-      (λ t other. ap is_linked (attached.locations t) ∙ rw other refl) (omega (arith, made)) (λ _. omega (arith, made))
+  pub slot_attached : {before : ℕ} {location : Location} (new : RingState) → slot < length old.cells.items → Attaches slot before location old.cells new.cells
+      → says_linked f ≡ is_linked location → new.made ≡ made_below (slot + 1) old.made → flags'.made ≡ made_below (slot + 1) flags.made → AreLinks new flags' window
+  slot_attached new within attached here made together =
+      flags_written new within attached.as_many (here ∙ sym (ap is_linked (attached.locations slot) ∙ rw (eqb_self slot) refl))
+      (λ t other. ap is_linked (attached.locations t) ∙ rw other refl) (omega (arith, made)) (λ _. omega (arith, made)) (omega (arith, made, together, were.together))
 
   -- it is taken out
-  pub slot_detached : (new : RingState) → is_linked (location_at old.cells.items slot) ≡ true → Detaches slot old.cells new.cells → says_linked f ≡ false → new.made ≡ old.made → AreLinks new flags' window
-  slot_detached new linked detached here made =
-      flags_written old new flags flags' window slot f were (linked_within old.cells.items slot linked) flagged detached.as_many
-      (here ∙ sym (ap (λ (r : Record). is_linked r.location) detached.freed))
-      (λ t other. ap is_linked (detached.locations t other)) (omega (arith, made)) (λ _. rw made (were.made slot linked))
+  pub slot_detached : (new : RingState) → is_linked (location_at old.cells.items slot) ≡ true → Detaches slot old.cells new.cells → says_linked f ≡ false → new.made ≡ old.made → flags'.made ≡ flags.made → AreLinks new flags' window
+  slot_detached new linked detached here made same =
+      flags_written new (linked_within old.cells.items slot linked) detached.as_many
+      (here ∙ sym (ap (λ (r : Record). is_linked r.held) detached.freed))
+      (λ t other. ap is_linked (detached.locations t other)) (omega (arith, made)) (λ _. rw made (were.made slot linked)) (same ∙ were.together ∙ sym made)
 
-  -- its bit is this one now
-  pub bit_set : (positions : CellsState (Option ℕ)) (inspections : ℕ) (bit : Bool) → slot < length old.cells.items → is_set f ≡ bit
-      → SetsBit slot bit (links_shown old flags positions inspections) (links_shown old flags' positions inspections)
-  bit_set positions inspections bit within e = record {
-    bits = λ t. ap (λ z. get_or (map is_set z) t false) flagged ∙ ap (λ z. get_or z t false) (mapped-set is_set flags slot f bit e)
-        ∙ changed (λ b. b) (map is_set flags) slot bit false t (rw (length-map flags is_set, were.as_many) within);
-    records = refl;
-    made = refl;
-    window = refl;
-    inspections = refl;
-  }
+-- its bit is this one now
+pub bit_set : {old : RingState} {flags : FlagState} {flags' : List Flag} {window : List (Option ℕ)} (slot : ℕ) (f : Flag) → AreLinks old flags window → flags' ≡ set flags.items slot f
+    → (positions : CellsState (Option ℕ)) (inspections : ℕ) (bit : Bool) → slot < length old.cells.items → is_set f ≡ bit
+    → SetsBit slot bit (links_shown old flags.items positions inspections) (links_shown old flags' positions inspections)
+bit_set {old} {flags} slot f were flagged positions inspections bit within e = record {
+  bits = λ t. ap (λ z. get_or (map is_set z) t false) flagged ∙ ap (λ z. get_or z t false) (mapped-set is_set flags.items slot f bit e)
+      ∙ changed (λ b. b) (map is_set flags.items) slot bit false t (rw (length-map flags.items is_set, were.as_many) within);
+  records = refl;
+  made = refl;
+  window = refl;
+  inspections = refl;
+}
 
 -- new links
 pub shown_fresh : (slots window : ℕ) {inspections : ℕ} {ring : RingState} {flags : List Flag} {positions : CellsState (Option ℕ)}

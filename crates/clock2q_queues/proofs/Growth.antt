@@ -7,12 +7,11 @@ use Rattle.clock2q_machine.specs.Ages.{Age}
 use Rattle.clock2q_queues.specs.declared.entries.Location.{Location}
 use Rattle.clock2q_queues.specs.declared.entries.Location.TheVariants.{Free, SmallYoung, SmallOld}
 use Rattle.clock2q_queues.specs.declared.entries.Location.TheVariants as at
-use Rattle.clock2q_queues.specs.declared.entries.Record.{Record}
 use Rattle.clock2q_queues.specs.declared.main_queue.Main.{Main}
 use Rattle.clock2q_queues.specs.declared.order.Chain.{Chain}
 use Rattle.clock2q_queues.specs.declared.small.Small.{Small}
 use Rattle.clock2q_queues.specs.Growth.{GrowsLinks, GrowsRing, moved_location, moved_position, with_gap}
-use Rattle.clock2q_queues.specs.Links.{IsQueue, LinkState, accesses_of, bit_at, location_at, next_at, previous_at, slots_from, young_at}
+use Rattle.clock2q_queues.specs.Links.{Record, IsQueue, LinkState, accesses_of, bit_at, location_at, next_at, previous_at, slots_from, young_at}
 use Rattle.clock2q_queues.specs.Main.{IsMain, main_slots}
 use Rattle.clock2q_queues.specs.Order.{IsOrder, IsOrderOf, free_places}
 use Rattle.clock2q_queues.specs.Queues.{AreQueues, queues_shown}
@@ -138,7 +137,7 @@ module _ (l : LinkState) (small : Small) (main : Main) (new : LinkState) (cursor
   ss = small_slots l small
 
   location_new : (t : ℕ) → location_at new.records.items t ≡ moved_location cursor gap (location_at l.records.items t)
-  location_new t = ap (λ (r : Record). r.location) (g.records t)
+  location_new t = ap (λ (r : Record). r.held) (g.records t)
 
   window_new : length new.window.items ≡ window
   window_new = ap (λ (z : List (Option ℕ)). length z) g.positions ∙ gap-length None cursor gap l.window.items cursor_in ∙ (omega (arith, more_positions))

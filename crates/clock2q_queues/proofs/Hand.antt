@@ -5,12 +5,11 @@ use Rattle.std.proofs.lemmas.List.{append-nil, append_assoc, map-append, take-ap
 use Rattle.std.proofs.lemmas.List.Sums.{prefix_len-le-length}
 use Rattle.std.specs.List.{list_any}
 use Rattle.std.proofs.lemmas.List.Folds.{list_any-append}
-use Rattle.clock2q_queues.specs.declared.entries.Record.{Record}
 use Rattle.clock2q_queues.specs.declared.main_queue.Main.{Main}
 use Rattle.clock2q_queues.specs.Rings.{IsRing}
 use Rattle.clock2q_queues.specs.Cells.{accessed}
 use Rattle.clock2q_queues.specs.Flags.{is_linked}
-use Rattle.clock2q_queues.specs.Links.{LinkState, IsLinked, IsSameBut, slot_at, record_at, location_at, next_at, previous_at, bit_at}
+use Rattle.clock2q_queues.specs.Links.{Record, LinkState, IsLinked, IsSameBut, slot_at, record_at, location_at, next_at, previous_at, bit_at}
 use Rattle.clock2q_queues.specs.Main.{IsMain, IsMainQueue, main_slots, main_entries, set_front, inspections, from_victim}
 use Rattle.clock2q_queues.proofs.Rings.{eqb_self, among_first, among_later, differs, distinct_first}
 use Rattle.clock2q_queues.proofs.Joining.{map-agree, IsLinked-turned}
@@ -70,7 +69,7 @@ module _ (now l : LinkState) (main : Main) (hand : ℕ) (rest : List ℕ) (items
       counted = m.queue.counted ∙ (let e = length_push rest hand in omega arith);
       countable = rw as_many m.queue.countable;
     };
-    location = λ t h. ap (λ (z : List Record). (record_at z t).location) items ∙ m.location t (among-behind t hand rest h);
+    location = λ t h. ap (λ (z : List Record). (record_at z t).held) items ∙ m.location t (among-behind t hand rest h);
   }
 
   stayed : IsMain l (with_hand hand main) (hand ∷ rest)

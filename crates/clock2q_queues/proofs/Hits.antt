@@ -4,13 +4,12 @@ use Rattle.std.proofs.lemmas.Bool.{cases_Bool}
 use Rattle.std.specs.List.{list_any}
 use Rattle.clock2q_machine.specs.Ages.{touched}
 use Rattle.clock2q_queues.specs.Cells.{CellsState, HitBits, bit_in}
-use Rattle.clock2q_queues.specs.declared.entries.Record.{Record}
 use Rattle.clock2q_queues.specs.declared.entries.Location.{Location}
 use Rattle.clock2q_queues.specs.declared.entries.Location.TheVariants.{Free, SmallYoung, SmallOld}
 use Rattle.clock2q_queues.specs.declared.entries.Location.TheVariants as at
 use Rattle.clock2q_queues.specs.declared.main_queue.Main.{Main}
 use Rattle.clock2q_queues.specs.declared.small.Small.{Small}
-use Rattle.clock2q_queues.specs.Links.{LinkState, SetsBit, location_at, bit_at}
+use Rattle.clock2q_queues.specs.Links.{Record, LinkState, SetsBit, location_at, bit_at}
 use Rattle.clock2q_queues.specs.Main.{main_slots, main_entries, main_hit_at}
 use Rattle.clock2q_queues.specs.Small.{small_slots, small_entries, small_hit_at, age_of, age_at}
 use Rattle.clock2q_queues.specs.Queues.{AreQueues, QueueState, queues_shown, slots_of}

@@ -10,11 +10,10 @@ use Rattle.std.proofs.lemmas.List.Elements.{filter-append}
 use Rattle.std.proofs.lemmas.Map.Steps.{length-le_from_distinct_below}
 use Rattle.std.proofs.lemmas.List.Folds.{list_any-append}
 use Rattle.clock2q_machine.proofs.Whole.{last_some}
-use Rattle.clock2q_queues.specs.declared.entries.Record.{Record}
 use Rattle.clock2q_queues.specs.declared.entries.Location.{Location}
 use Rattle.clock2q_queues.specs.Rings.{without, Joins, IsRing}
 use Rattle.clock2q_queues.specs.Cells.{CellsState}
-use Rattle.clock2q_queues.specs.Links.{IsLinked, IsQueue, Attaches, Detaches, end_of, slots_from, record_at, next_at, previous_at, location_at, vacant}
+use Rattle.clock2q_queues.specs.Links.{Record, IsLinked, IsQueue, Attaches, Detaches, end_of, slots_from, record_at, next_at, previous_at, location_at, vacant}
 use Rattle.clock2q_queues.proofs.Rings.{eqb_self, eqb_swap, among_first, among_later, differs, IsDistinct-append, IsDistinct-left, IsDistinct-right, apart_from, IsDistinct-turned, AllByRecursion-append, distinct_more, distinct_alone, distinct_first, distinct_rest}
 use Rattle.clock2q_queues.proofs.Rings.{AllByRecursion-left, AllByRecursion-right, below_of, parted, IsRing-kept, IsRing-put, IsRing-taken, IsRing-turned, before_end, Joins_parts, around-ring, without-parted}
 use Rattle.clock2q_queues.proofs.Booleans.{or_left, or_right, or_parts, or_neither}
@@ -23,7 +22,7 @@ use Rattle.clock2q_queues.proofs.Records.{changed}
 -- Slots
 
 -- a record is its three fields
-pub same_record : (x y : Record) → x.previous ≡ y.previous → x.next ≡ y.next → x.location ≡ y.location → x ≡ y
+pub same_record : (x y : Record) → x.previous ≡ y.previous → x.next ≡ y.next → x.held ≡ y.held → x ≡ y
 same_record x y p n s = grind (arith)
 
 pub map-agree : {X : Type 0} (f g : ℕ → X) (ss : List ℕ) → ((t : ℕ) → list_any (eqb t) ss ≡ true → f t ≡ g t) → map f ss ≡ map g ss
@@ -100,8 +99,8 @@ pub record Inserts (slot : ℕ) (location : Location) (ss : List ℕ) (old new :
   pub as_many : length new ≡ length old
 
 -- into a queue with slots, just before its first one
-Inserts-attached : {cost : ℕ} (old new : CellsState Record) (first : ℕ) (ss : List ℕ) (slot : ℕ) (location : Location)
-    → IsLinked old.items (first ∷ ss) → list_any (eqb slot) (first ∷ ss) ≡ false → slot < length old.items → Attaches slot first location cost old new
+Inserts-attached : (old new : CellsState Record) (first : ℕ) (ss : List ℕ) (slot : ℕ) (location : Location)
+    → IsLinked old.items (first ∷ ss) → list_any (eqb slot) (first ∷ ss) ≡ false → slot < length old.items → Attaches slot first location old new
     → Inserts slot location (first ∷ ss) old.items new.items
 Inserts-attached old new first ss slot location k absent b a =
     let rs = old.items in
@@ -125,9 +124,9 @@ Inserts-attached old new first ss slot location k absent b a =
 
 -- into an empty queue
 Inserts-alone : (rs : List Record) (slot : ℕ) (location : Location) → slot < length rs
-    → Inserts slot location [] rs (set rs slot (record { previous = slot; next = slot; location = location }))
+    → Inserts slot location [] rs (set rs slot (record { previous = slot; next = slot; held = location }))
 Inserts-alone rs slot location b =
-    let r : Record = record { previous = slot; next = slot; location = location } in
+    let r : Record = record { previous = slot; next = slot; held = location } in
     let n = length-set rs slot r in
     record {
       linked = record {
@@ -135,22 +134,22 @@ Inserts-alone rs slot location b =
         apart = distinct_alone eqb slot;
         below = (omega arith, tt);
       };
-      locations = λ t. changed (λ p. p.location) rs slot r vacant t b;
+      locations = λ t. changed (λ p. p.held) rs slot r vacant t b;
       others = λ t h. changed (λ p. p) rs slot r vacant t b ∙ rw ((or_parts (eqb t slot) false h).0) refl;
       as_many = n;
     }
 
 -- a slot is put in before the first slot of a queue, as its owner holds it
-pub Inserts-before : {cost : ℕ} (old new : CellsState Record) (ss : List ℕ) (slot : ℕ) (location : Location) (first : ℕ)
-    → IsLinked old.items ss → Some first ≡ slice_get ss 0 → list_any (eqb slot) ss ≡ false → slot < length old.items → Attaches slot first location cost old new
+pub Inserts-before : (old new : CellsState Record) (ss : List ℕ) (slot : ℕ) (location : Location) (first : ℕ)
+    → IsLinked old.items ss → Some first ≡ slice_get ss 0 → list_any (eqb slot) ss ≡ false → slot < length old.items → Attaches slot first location old new
     → Inserts slot location ss old.items new.items
 Inserts-before old new [] slot location first k e absent b a = absurd (cc)
-Inserts-before {cost} old new (s ∷ ss) slot location first k e absent b a =
+Inserts-before old new (s ∷ ss) slot location first k e absent b a =
     let q : first ≡ s = cc in
-    Inserts-attached old new s ss slot location k absent b (subst (λ z. Attaches slot z location cost old new) q a)
+    Inserts-attached old new s ss slot location k absent b (subst (λ z. Attaches slot z location old new) q a)
 
 pub Inserts-first : (old new : List Record) (ss : List ℕ) (slot : ℕ) (location : Location)
-    → None ≡ slice_get ss 0 → slot < length old → new ≡ set old slot (record { previous = slot; next = slot; location = location })
+    → None ≡ slice_get ss 0 → slot < length old → new ≡ set old slot (record { previous = slot; next = slot; held = location })
     → Inserts slot location ss old new
 Inserts-first old new [] slot location e b n = subst (λ z. Inserts slot location [] old z) (sym n) (Inserts-alone old slot location b)
 Inserts-first old new (s ∷ ss) slot location e b n = absurd (cc)

@@ -4,13 +4,12 @@ use Rattle.std.specs.List.{filter, list_any}
 use Rattle.std.proofs.lemmas.Bool.{eqb-true, eq-eqb, ne_eqb, both_ways, cases_Bool, cases_lt}
 use Rattle.std.proofs.lemmas.List.{length-set, get_or_past, set_past}
 use Rattle.clock2q_machine.specs.Ages.{Age}
-use Rattle.clock2q_queues.specs.declared.entries.Record.{Record}
 use Rattle.clock2q_queues.specs.declared.entries.Location.{Location}
 use Rattle.clock2q_queues.specs.declared.entries.Location.TheVariants.{Free, SmallYoung, SmallOld, Main}
 use Rattle.clock2q_queues.specs.declared.small.Small.{Small}
 use Rattle.clock2q_queues.specs.Cells.{CellsState, HitBits, bit_in}
 use Rattle.clock2q_queues.specs.Rings.{without}
-use Rattle.clock2q_queues.specs.Links.{LinkState, IsLinked, IsSameBut, Detaches, SetsBit, record_at, next_at, previous_at, location_at, bit_at, young_at}
+use Rattle.clock2q_queues.specs.Links.{Record, LinkState, IsLinked, IsSameBut, Detaches, SetsBit, record_at, next_at, previous_at, location_at, bit_at, young_at}
 use Rattle.clock2q_queues.specs.Ends.{position_freed}
 use Rattle.clock2q_queues.specs.Small.{IsSmall, IsSmallQueue, small_slots, small_entries, age_at}
 use Rattle.clock2q_queues.proofs.Records.{changed}
@@ -170,7 +169,7 @@ module _ (slot : ℕ) (old : LinkState) (small : Small) (mid new : LinkState) (m
           ap (λ z. map {B = ℕ × Age} (λ s. (s, age_at new small'.cursor s)) z) (small_slots-is new small' (without slot (small_slots old small)) whole_left)
           ∙ ap (λ z. aged_slots new z (without slot (small_slots old small))) cursor
           ∙ ages_kept slot mid m h removed.locations removed.as_many positions_mid was e bit_mid;
-      freed = ap (λ (z : List Record). location_at z slot) records_left ∙ ap (λ r. r.location) removed.freed;
+      freed = ap (λ (z : List Record). location_at z slot) records_left ∙ ap (λ r. r.held) removed.freed;
       others =
           record {
             others = λ t g.

@@ -50,12 +50,12 @@ module _ (slot : ℕ) (old : LinkState) (main : Main) (new : LinkState) (main' :
   pushed : Inserts slot at.Main (main_slots old main) old.records.items new.records.items → main'.hand ≡ slice_get (main_slots old main ++ slot ∷ []) 0 → PushesMain slot old main new main'
   pushed i h = grind (arith, length_push, or_cases, list_any-append, differs, both_ways, IsMainQueue-from, main_slots-is, map-append, map-agree, bit_new, eqb_self, or_parts)
 
-  pub PushesMain-attached : (cost hand : ℕ) → main.hand ≡ Some hand → Attaches slot hand at.Main cost old.records new.records → main'.hand ≡ Some hand → PushesMain slot old main new main'
-  PushesMain-attached cost hand e a h =
+  pub PushesMain-attached : (hand : ℕ) → main.hand ≡ Some hand → Attaches slot hand at.Main old.records new.records → main'.hand ≡ Some hand → PushesMain slot old main new main'
+  PushesMain-attached hand e a h =
       let starts = sym e ∙ m.queue.starts in
       pushed (Inserts-before old.records new.records (main_slots old main) slot at.Main hand m.queue.linked starts absent b a) (h ∙ slice_get-push (main_slots old main) slot hand starts)
 
-  pub PushesMain-alone : main.hand ≡ None → new.records.items ≡ set old.records.items slot (record { previous = slot; next = slot; location = at.Main })
+  pub PushesMain-alone : main.hand ≡ None → new.records.items ≡ set old.records.items slot (record { previous = slot; next = slot; held = at.Main })
       → main'.hand ≡ Some slot → PushesMain slot old main new main'
   PushesMain-alone e w h = grind (arith, pushed, Inserts-first, slice_get-first)
 
@@ -87,7 +87,7 @@ UnlinksMain-from slot old main new main' m h d cleared s n =
           ap (λ z. map {B = ℕ × Bool} (λ s. (s, bit_at new s)) z) (main_slots-is new main' (without slot ss) is)
           ∙ map-agree {X = ℕ × Bool} (λ s. (s, bit_at new s)) (λ s. (s, bit_at old s)) (without slot ss) (λ t g. ap (λ z. (t, z)) (bit_left t (among-without t slot ss g).1))
           ∙ sym (filter-entries slot (λ s. bit_at old s) ss);
-      freed = ap (λ r. r.location) r.freed;
+      freed = ap (λ r. r.held) r.freed;
       others = record {
         others = λ t g. ap (λ z. (z, bit_at new t)) (r.others t g)
             ∙ ap (λ z. (record_at old.records.items t, z)) (bit_left t (eqb_swap slot t (differs slot t ss h g)));

@@ -5,12 +5,11 @@ use Rattle.std.specs.List.{last_or, list_any, AllByRecursion, IsDistinct}
 use Rattle.std.proofs.lemmas.Bool.{eqb-true, both_ways, cases_Bool}
 use Rattle.std.proofs.lemmas.List.{length-append, length-set}
 use Rattle.std.proofs.lemmas.List.Folds.{list_any-append}
-use Rattle.clock2q_queues.specs.declared.entries.Record.{Record}
 use Rattle.clock2q_queues.specs.declared.entries.Location.TheVariants.{Free}
 use Rattle.clock2q_queues.specs.declared.order.Chain.{Chain}
 use Rattle.clock2q_queues.specs.Rings.{without, around}
 use Rattle.clock2q_queues.specs.Cells.{CellsState, Rises, accessed, cells_state, written}
-use Rattle.clock2q_queues.specs.Links.{IsLinked, Attaches, Detaches, end_of, made_below, slots_from, record_at, next_at, previous_at, vacant}
+use Rattle.clock2q_queues.specs.Links.{Record, IsLinked, Attaches, Detaches, end_of, made_below, slots_from, record_at, next_at, previous_at, vacant}
 use Rattle.clock2q_queues.specs.Ring.{RingState, ring_state}
 use Rattle.clock2q_queues.specs.Order.{PlaceOrder, IsOrderOf, IsOrder, IsWholeOrder, free_places, order_shown, place_for}
 use Rattle.clock2q_queues.proofs.Records.{changed}
@@ -247,16 +246,16 @@ module _ (l : RingState) (newest : Option ℕ) (len : ℕ) (chain : Chain) (o : 
           counted = (omega (arith, n.0, k.counted.0), omega (arith, n.1, k.counted.1));
         }
 
-    pub pushes-attached : (new : RingState) → 0 < len' → Attaches place newest' Free (place - mid.made + 6) mid.cells new.cells → new.made ≡ made_below (place + 1) mid.made → Pushed place len' chain' new
+    pub pushes-attached : (new : RingState) → 0 < len' → Attaches place newest' Free mid.cells new.cells → new.made ≡ made_below (place + 1) mid.made → Pushed place len' chain' new
     pushes-attached new some a m = pushes new m (Inserts-before mid.cells new.cells places_now place Free newest' linked_mid (starts some) fits.absent place_in a)
-        (omega (arith, a.accesses), omega (arith, a.accesses, place_next))
+        (omega (arith, a.accesses), omega (arith, a.accesses))
 
-    pub pushes-alone : (new : RingState) → len' ≡ 0 → new.cells ≡ cells_state (set mid.cells.items place (record { previous = place; next = place; location = Free })) (mid.cells.accesses + (place - mid.made) + 1)
+    pub pushes-alone : (new : RingState) → len' ≡ 0 → new.cells ≡ written place (record { previous = place; next = place; held = Free }) mid.cells
         → new.made ≡ made_below (place + 1) mid.made → Pushed place len' chain' new
     pushes-alone new none w m =
         let first : None ≡ slice_get places_now 0 = ap (λ n. end_of n newest') (sym none) ∙ k.first ∙ o.queue.starts in
         let n = ap (λ (z : CellsState Record). z.accesses) w in
-        pushes new m (Inserts-first mid.cells.items new.cells.items places_now place Free first place_in (ap (λ (z : CellsState Record). z.items) w)) (omega (arith, n), omega (arith, n, place_next))
+        pushes new m (Inserts-first mid.cells.items new.cells.items places_now place Free first place_in (ap (λ (z : CellsState Record). z.items) w)) (omega (arith, n), omega (arith, n))
 
   -- The last place moved to the front
 

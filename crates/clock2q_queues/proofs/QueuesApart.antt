@@ -3,10 +3,9 @@ use Rattle.std.proofs.Common.{arith, ◌≡◌, ℕ, Bool, true, false, get_or, 
 use Rattle.std.proofs.lemmas.Bool.{both_ways, cases_Bool}
 use Rattle.std.specs.List.{list_any}
 use Rattle.clock2q_machine.specs.Ages.{Age}
-use Rattle.clock2q_queues.specs.declared.entries.Record.{Record}
 use Rattle.clock2q_queues.specs.declared.main_queue.Main.{Main}
 use Rattle.clock2q_queues.specs.declared.small.Small.{Small}
-use Rattle.clock2q_queues.specs.Links.{LinkState, IsSameBut, location_at, bit_at}
+use Rattle.clock2q_queues.specs.Links.{Record, LinkState, IsSameBut, location_at, bit_at}
 use Rattle.clock2q_queues.specs.Main.{IsMain, IsMainQueue, main_slots, main_entries}
 use Rattle.clock2q_queues.specs.Small.{IsSmall, IsSmallQueue, IsInSmall, small_slots, small_entries, age_of, age_at}
 use Rattle.clock2q_queues.proofs.Joining.{IsLinked-kept, map-agree}
@@ -30,7 +29,7 @@ KeepsMain-from old main new ss m s d =
         counted = m.queue.counted;
         countable = rw s.as_many m.queue.countable;
       };
-      location = λ t h. ap (λ z. z.0.location) (same t h) ∙ m.location t h;
+      location = λ t h. ap (λ z. z.0.held) (same t h) ∙ m.location t h;
     } in
     let e = main_slots-is new main (main_slots old main) is in
     record {
@@ -59,13 +58,13 @@ KeepsSmall-from old small new ss m s p d =
         countable = rw s.as_many m.queue.countable;
       };
       ends = m.ends;
-      location = λ t h. subst (λ (z : Record × Bool). IsInSmall z.0.location) (sym (same t h)) (m.location t h);
+      location = λ t h. subst (λ (z : Record × Bool). IsInSmall z.0.held) (sym (same t h)) (m.location t h);
       placed = λ t position h y.
-          let q = m.placed t position h (sym (ap (λ z. z.0.location) (same t h)) ∙ y) in
+          let q = m.placed t position h (sym (ap (λ z. z.0.held) (same t h)) ∙ y) in
           (rw window q.0, ap (λ z. get_or z position None) p ∙ q.1);
       occupied = λ position t h.
           let q = m.occupied position t (sym (ap (λ z. get_or z position None) p) ∙ h) in
-          (q.0, ap (λ z. z.0.location) (same t q.0) ∙ q.1);
+          (q.0, ap (λ z. z.0.held) (same t q.0) ∙ q.1);
       cursor_in = λ h. rw window (m.cursor_in (rw window at h));
       countable_positions = rw window m.countable_positions;
     } in
@@ -75,7 +74,7 @@ KeepsSmall-from old small new ss m s p d =
       slots = e;
       entries = ap (λ z. map {B = ℕ × Age} (λ s. (s, age_at new small.cursor s)) z) e
           ∙ map-agree {X = ℕ × Age} (λ s. (s, age_at new small.cursor s)) (λ s. (s, age_at old small.cursor s)) (small_slots old small) (λ t h.
-          ap (λ (z : Record × Bool). (t, age_of (length new.window.items) small.cursor z.0.location z.1)) (same t h)
+          ap (λ (z : Record × Bool). (t, age_of (length new.window.items) small.cursor z.0.held z.1)) (same t h)
           ∙ ap (λ n. (t, age_of n small.cursor (location_at old.records.items t) (bit_at old t))) window);
     }
 

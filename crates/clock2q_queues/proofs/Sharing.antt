@@ -6,12 +6,11 @@ use Rattle.std.proofs.lemmas.List.{length-map, length-replicate}
 use Rattle.std.proofs.lemmas.List.Folds.{list_any-append}
 use Rattle.clock2q_machine.specs.Ages.{Age, grown_older}
 use Rattle.clock2q_queues.specs.Cells.{CellsState, accessed, cells_state}
-use Rattle.clock2q_queues.specs.declared.entries.Record.{Record}
 use Rattle.clock2q_queues.specs.declared.entries.Location.TheVariants.{Free}
 use Rattle.clock2q_queues.specs.declared.main_queue.Main.{Main}
 use Rattle.clock2q_queues.specs.declared.small.Small.{Small}
 use Rattle.clock2q_queues.specs.Rings.{without}
-use Rattle.clock2q_queues.specs.Links.{LinkState, IsBlank, IsSameBut, vacant, accesses_of, location_at, made_below}
+use Rattle.clock2q_queues.specs.Links.{Record, LinkState, IsBlank, IsSameBut, vacant, accesses_of, location_at, made_below}
 use Rattle.clock2q_queues.specs.Main.{IsMainQueue, main_slots, main_entries, from_victim}
 use Rattle.clock2q_queues.specs.Small.{IsSmallQueue, small_slots, small_entries, admitted, age_at}
 use Rattle.clock2q_queues.specs.Queues.{AreQueues, QueueState, IsWholeQueues, slots_of, without_slot, queues_shown}
@@ -68,7 +67,7 @@ module _ (l : LinkState) (small : Small) (main : Main) (q : AreQueues l small ma
   -- a slot that is in neither queue is still free, if it isn't among the changed ones
   stays_free : (new : LinkState) (ss : List ℕ) (t : ℕ) → IsSameBut ss l new → list_any (eqb t) ss ≡ false
       → list_any (eqb t) (small_slots l small) ≡ false → list_any (eqb t) (main_slots l main) ≡ false → location_at new.records.items t ≡ Free
-  stays_free new ss t s n a b = ap (λ (z : Record × Bool). z.0.location) (s.others t n) ∙ q.elsewhere t a b
+  stays_free new ss t s n a b = ap (λ (z : Record × Bool). z.0.held) (s.others t n) ∙ q.elsewhere t a b
 
   -- Small changed at these slots only, and each that isn't in it now is free
   small_changed : {new : LinkState} {small' : Small} {entries : List (ℕ × Age)} {made : ℕ} (ss : List ℕ) → ((t : ℕ) → list_any (eqb t) (main_slots l main) ≡ true → list_any (eqb t) ss ≡ false)

@@ -4,13 +4,12 @@ use Rattle.std.specs.List.{filter, last_or, list_any, IsDistinct, AllByRecursion
 use Rattle.std.proofs.lemmas.Bool.{cases_Bool, eqb-true}
 use Rattle.std.proofs.lemmas.List.{append-nil, length-set}
 use Rattle.std.proofs.lemmas.List.Folds.{list_any-append}
-use Rattle.clock2q_queues.specs.declared.entries.Record.{Record}
 use Rattle.clock2q_queues.specs.declared.entries.Location.{Location}
 use Rattle.clock2q_queues.specs.declared.entries.Location.TheVariants.{SmallYoung}
 use Rattle.clock2q_queues.specs.declared.small.Small.{Small}
 use Rattle.clock2q_queues.specs.Cells.{CellsState, HitBits, accessed, bit_in, written}
 use Rattle.clock2q_queues.specs.Rings.{without}
-use Rattle.clock2q_queues.specs.Links.{LinkState, IsLinked, IsSameBut, end_of, record_at, young_at, next_at, previous_at, location_at, bit_at, with_location, vacant}
+use Rattle.clock2q_queues.specs.Links.{Record, LinkState, IsLinked, IsSameBut, end_of, record_at, young_at, next_at, previous_at, location_at, bit_at, with_location, vacant}
 use Rattle.clock2q_queues.specs.Ends.{position_freed}
 use Rattle.clock2q_queues.specs.Flags.{is_linked}
 use Rattle.clock2q_queues.specs.Small.{IsSmallQueue, GrowsOld, small_slots, small_entries, admitted, next_cursor}
@@ -44,10 +43,10 @@ pub relocated : (rs : CellsState Record) (slot : ℕ) (location : Location) (t :
     → (next_at (with_location slot location rs).items t ≡ next_at rs.items t) × (previous_at (with_location slot location rs).items t ≡ previous_at rs.items t)
     × (location_at (with_location slot location rs).items t ≡ cond (eqb t slot) location (location_at rs.items t))
 relocated rs slot location t fits =
-    let r : Record = record (record_at rs.items slot) { location = location } in
+    let r : Record = record (record_at rs.items slot) { held = location } in
     let nexts = changed (λ p. p.next) rs.items slot r vacant t fits in
     let previouses = changed (λ p. p.previous) rs.items slot r vacant t fits in
-    let locations = changed (λ p. p.location) rs.items slot r vacant t fits in
+    let locations = changed (λ p. p.held) rs.items slot r vacant t fits in
     elim (cases_Bool (eqb t slot)) [
       | inl g ↦
           let q : t ≡ slot = eqb-true t slot g in

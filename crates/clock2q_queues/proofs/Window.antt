@@ -9,10 +9,9 @@ use Rattle.clock2q_machine.specs.Ages.{Age, grown_older}
 use Rattle.clock2q_queues.specs.declared.entries.Location.{Location}
 use Rattle.clock2q_queues.specs.declared.entries.Location.TheVariants.{Free, SmallYoung, SmallOld, Main}
 use Rattle.clock2q_queues.specs.declared.small.Small.{Small}
-use Rattle.clock2q_queues.specs.declared.entries.Record.{Record}
 use Rattle.clock2q_queues.specs.Cells.{CellsState, accessed, written}
 use Rattle.clock2q_queues.specs.Flags.{is_linked}
-use Rattle.clock2q_queues.specs.Links.{LinkState, IsBlank, IsLinked, IsSameBut, Attaches, SetsBit, end_of, record_at, previous_at, location_at, bit_at, young_at}
+use Rattle.clock2q_queues.specs.Links.{Record, LinkState, IsBlank, IsLinked, IsSameBut, Attaches, SetsBit, end_of, record_at, previous_at, location_at, bit_at, young_at}
 use Rattle.clock2q_queues.specs.Small.{IsSmall, IsSmallQueue, IsInSmall, GrowsOld, small_slots, small_entries, admissions_since, next_cursor, age_of, age_at, admitted, is_there}
 use Rattle.clock2q_queues.proofs.InQueue.{in_small_linked}
 use Rattle.clock2q_queues.proofs.Records.{changed}
@@ -270,23 +269,23 @@ module _ (slot : ℕ) (old : LinkState) (small : Small) (mid aged : LinkState) (
     ends_at : (oldest : ℕ) → small'.oldest ≡ oldest → end_of small'.len small'.oldest ≡ Some oldest
     ends_at oldest d = ap (λ z. end_of small'.len z) d ∙ end_some small'.len oldest (omega (arith, c))
 
-    pub Admits-attached : (cost : ℕ) → 0 < small.len
-        → Attaches slot small.newest (SmallYoung small.cursor) cost aged.records new.records → small'.oldest ≡ small.oldest → Admits slot old small.cursor (small_slots old small) new small'
-    Admits-attached cost some a d =
+    pub Admits-attached : 0 < small.len
+        → Attaches slot small.newest (SmallYoung small.cursor) aged.records new.records → small'.oldest ≡ small.oldest → Admits slot old small.cursor (small_slots old small) new small'
+    Admits-attached some a d =
         let newest = small.newest in
         let k = linked_still old mid (small_slots old small) small.cursor m.queue.linked o in
         let s = sym (end_some small.len newest some) ∙ m.queue.starts in
-        let a' : Attaches slot newest (SmallYoung small.cursor) cost mid.records new.records =
-        subst (λ (z : CellsState Record). Attaches slot newest (SmallYoung small.cursor) cost z new.records) records_aged a in
+        let a' : Attaches slot newest (SmallYoung small.cursor) mid.records new.records =
+        subst (λ (z : CellsState Record). Attaches slot newest (SmallYoung small.cursor) z new.records) records_aged a in
         Admits-from small' (all_stay m) absent w o e
         (Inserts-before mid.records new.records (small_slots old small) slot (SmallYoung small.cursor) newest k s absent (rw o.as_many b) a') same
         n (ends_at small.oldest d ∙ sym (end_some small.len small.oldest some) ∙ m.ends ∙ last_behind (small_slots old small) slot newest s) counted r
 
-    pub Admits-alone : small.len ≡ 0 → new.records.items ≡ set aged.records.items slot (record { previous = slot; next = slot; location = SmallYoung small.cursor })
+    pub Admits-alone : small.len ≡ 0 → new.records.items ≡ set aged.records.items slot (record { previous = slot; next = slot; held = SmallYoung small.cursor })
         → small'.oldest ≡ slot → Admits slot old small.cursor (small_slots old small) new small'
     Admits-alone h a d =
         let s : None ≡ slice_get (small_slots old small) 0 = ap (λ n. end_of n small.newest) (sym h) ∙ m.queue.starts in
         Admits-from small' (all_stay m) absent w o e
         (Inserts-first mid.records.items new.records.items (small_slots old small) slot (SmallYoung small.cursor) s (rw o.as_many b)
-        (a ∙ ap (λ (z : CellsState Record). set z.items slot (record { previous = slot; next = slot; location = SmallYoung small.cursor })) records_aged)) same
+        (a ∙ ap (λ (z : CellsState Record). set z.items slot (record { previous = slot; next = slot; held = SmallYoung small.cursor })) records_aged)) same
         n (ends_at slot d ∙ last_alone (small_slots old small) slot s) counted r

@@ -42,9 +42,11 @@ is_linked (SmallYoung position) = true
 is_linked SmallOld = true
 is_linked Main = true
 
--- each slot has a flag, which says whether it is in a queue, as its record does, and a slot in a queue was made
-pub record AreLinks (ring : RingState) (flags : List Flag) (window : List (Option ℕ)) : Type 0 where
-  pub as_many : length flags ≡ length ring.cells.items
-  pub agree : (slot : ℕ) → slice_index_or (map says_linked flags) slot false ≡ is_linked (location_at ring.cells.items slot)
+-- each slot has a flag, which says whether it is in a queue, as its record does. A flag is made with its record, and a slot
+-- in a queue has both
+pub record AreLinks (ring : RingState) (flags : FlagState) (window : List (Option ℕ)) : Type 0 where
+  pub as_many : length flags.items ≡ length ring.cells.items
+  pub agree : (slot : ℕ) → slice_index_or (map says_linked flags.items) slot false ≡ is_linked (location_at ring.cells.items slot)
   pub made : (slot : ℕ) → is_linked (location_at ring.cells.items slot) ≡ true → slot < ring.made
+  pub together : flags.made ≡ ring.made
   pub countable_positions : length window < 2 ^ 32

@@ -1,10 +1,9 @@
 -- What a ring and the links become when they get room for more slots and more positions.
 use Rattle.std.specs.Prelude.{◌≡◌, ℕ, ◌+◌, ◌-◌, ◌*◌, ◌≤◌, nat_lt, if◌then◌else◌, List, ◌++◌, length, take, drop, replicate, None}
-use Rattle.clock2q_queues.specs.Links.{LinkState, accesses_of, bit_at, record_at}
+use Rattle.clock2q_queues.specs.Links.{Record, LinkState, accesses_of, bit_at, record_at}
 use Rattle.clock2q_queues.specs.Ring.{RingState}
 use Rattle.clock2q_queues.specs.declared.entries.Location.{Location}
 use Rattle.clock2q_queues.specs.declared.entries.Location.TheVariants.{Free, SmallYoung, SmallOld, Main}
-use Rattle.clock2q_queues.specs.declared.entries.Record.{Record}
 
 -- a list with `gap` copies of an item put in before the one at `at`
 abbrev pub with_gap : {T : Type 0} → ℕ → ℕ → T → List T → List T
@@ -21,7 +20,7 @@ moved_location cursor gap Free = Free
 moved_location cursor gap Main = Main
 
 abbrev pub moved_record : ℕ → ℕ → Record → Record
-moved_record cursor gap r = record r { location = moved_location cursor gap r.location }
+moved_record cursor gap r = record r { held = moved_location cursor gap r.held }
 
 -- a ring of this many places has another's entries, changed like this. Each entry that was made was read and written
 pub record GrowsRing (change : Record → Record) (places : ℕ) (old new : RingState) : Type 0 where

@@ -4,15 +4,23 @@ use Rattle.std.specs.Bool.{then_some}
 use Rattle.std.specs.List.{list_any, AllByRecursion, IsDistinct}
 use Rattle.clock2q_queues.specs.Cells.{CellsState, HitBits, cells_state, hit_bits, written, bit_in}
 use Rattle.clock2q_queues.specs.Rings.{IsRing, around}
-use Rattle.clock2q_queues.specs.declared.entries.Record.{Record}
+use Rattle.clock2q_queues.specs.declared.entries.Entry.{Entry}
 use Rattle.clock2q_queues.specs.declared.entries.Location.{Location}
 use Rattle.clock2q_queues.specs.declared.entries.Location.TheVariants.{Free, SmallYoung, SmallOld, Main}
 
 -- Records by slot number
 
+-- the neighbours of a slot or a place, and the location of a slot
+abbrev pub Record : Type 0
+Record = Entry Location
+
+-- the record that contracts see in an entry
+abbrev pub record_of : {T : Type 0} → (T → Location) → Entry T → Record
+record_of location_of e = record { previous = e.previous; next = e.next; held = location_of e.held }
+
 -- the record of a slot that is in no queue
 abbrev pub vacant : Record
-vacant = record { previous = 0; next = 0; location = Free }
+vacant = record { previous = 0; next = 0; held = Free }
 
 abbrev pub record_at : List Record → ℕ → Record
 record_at rs slot = slice_index_or rs slot vacant
@@ -28,7 +36,7 @@ abbrev pub previous_at : List Record → ℕ → ℕ
 previous_at rs slot = (record_at rs slot).previous
 
 abbrev pub location_at : List Record → ℕ → Location
-location_at rs slot = (record_at rs slot).location
+location_at rs slot = (record_at rs slot).held
 
 abbrev pub with_next : ℕ → ℕ → CellsState Record → CellsState Record
 with_next slot next rs = written slot (record (record_at rs.items slot) { next = next }) rs
@@ -37,7 +45,7 @@ abbrev pub with_previous : ℕ → ℕ → CellsState Record → CellsState Reco
 with_previous slot previous rs = written slot (record (record_at rs.items slot) { previous = previous }) rs
 
 abbrev pub with_location : ℕ → Location → CellsState Record → CellsState Record
-with_location slot location rs = written slot (record (record_at rs.items slot) { location = location }) rs
+with_location slot location rs = written slot (record (record_at rs.items slot) { held = location }) rs
 
 -- these slots form a ring, each of them once
 pub record IsLinked (rs : List Record) (slots : List ℕ) : Type 0 where
@@ -65,13 +73,13 @@ slots_from rs (Some first) count = around (next_at rs) first count
 abbrev pub made_below : ℕ → ℕ → ℕ
 made_below bound made = made + (bound - made)
 
--- a slot was put just before another, with this number of accesses
-pub record Attaches (slot before : ℕ) (location : Location) (cost : ℕ) (old new : CellsState Record) : Type 0 where
+-- a slot was put just before another
+pub record Attaches (slot before : ℕ) (location : Location) (old new : CellsState Record) : Type 0 where
   pub nexts : (t : ℕ) → next_at new.items t ≡ (if t == previous_at old.items before then slot else (if t == slot then before else next_at old.items t))
   pub previouses : (t : ℕ) → previous_at new.items t ≡ (if t == before then slot else (if t == slot then previous_at old.items before else previous_at old.items t))
   pub locations : (t : ℕ) → location_at new.items t ≡ (if t == slot then location else location_at old.items t)
   pub as_many : length new.items ≡ length old.items
-  pub accesses : new.accesses ≡ old.accesses + cost
+  pub accesses : new.accesses ≡ old.accesses + 6
 
 -- a slot was taken from between its neighbours, and is in no queue now
 pub record Detaches (slot : ℕ) (old new : CellsState Record) : Type 0 where

@@ -2,8 +2,7 @@
 use Rattle.std.specs.Prelude.{◌≡◌, ℕ, ◌+◌, ◌^◌, ◌<◌, ◌≤◌, List, [], ◌∷◌, ◌++◌, length, Option, nat_eq}
 use Rattle.std.specs.List.{AllByRecursion, IsDistinct}
 use Rattle.clock2q_queues.specs.Rings.{around}
-use Rattle.clock2q_queues.specs.declared.entries.Record.{Record}
-use Rattle.clock2q_queues.specs.Links.{IsQueue, slots_from, next_at}
+use Rattle.clock2q_queues.specs.Links.{Record, IsQueue, slots_from, next_at}
 use Rattle.clock2q_queues.specs.Ring.{RingState}
 use Rattle.clock2q_queues.specs.declared.order.Chain.{Chain}
 

@@ -1,8 +1,7 @@
 -- The entries of a ring by place, as records.
 use Rattle.std.specs.Prelude.{ℕ, List, length}
 use Rattle.clock2q_queues.specs.Cells.{CellsState, cells_state}
-use Rattle.clock2q_queues.specs.Links.{all_records}
-use Rattle.clock2q_queues.specs.declared.entries.Record.{Record}
+use Rattle.clock2q_queues.specs.Links.{Record, all_records}
 
 -- the records by place, and the number of places, from 0 on, whose records were made: a place gets its record when it is
 -- first used

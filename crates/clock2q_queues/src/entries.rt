@@ -1,8 +1,7 @@
-//! What a ring links: the record of a slot, and the neighbours of a place.
+//! What a ring links: an entry for each slot of the queues, or for each place of an order.
 ghost use Rattle.std.specs.Prelude.{◌≡◌, ℕ, ◌+◌, ◌^◌, ◌<◌};
-ghost use Rattle.clock2q_queues.specs.declared.entries.Record.{Record};
 ghost use Rattle.clock2q_queues.specs.Growth.{moved_location};
-ghost use Rattle.clock2q_queues.specs.Links.{vacant as no_record};
+ghost use Rattle.clock2q_queues.specs.declared.entries.Location.{Location};
 
 /// Where a slot is: the queue that it is in, if any, and in Small whether it is young.
 #[derive(Clone, Copy, Debug, PartialEq, Eq)]
@@ -33,109 +32,54 @@ impl Location {
     }
 }
 
-/// The neighbours of a place in an order. The places of an order are all in the same one, so in
-/// contracts they have the location of a free slot.
-#[derive(Clone, Copy)]
-pub(crate) struct Neighbours {
-    pub(crate) previous: u32,
-    pub(crate) next: u32,
-}
-
-const _: () = prove!(size_of::<Neighbours>() == 8);
-
-/// The neighbours of a slot in its queue, and its location.
-#[derive(Clone, Copy, Debug)]
-pub(crate) struct Record {
-    pub(crate) previous: u32,
-    pub(crate) next: u32,
-    pub(crate) location: Location,
-}
-
-const _: () = prove!(size_of::<Record>() <= 16);
-
-/// An entry of a [`Ring`](crate::ring::Ring): its neighbours, and maybe more. In contracts it is a
-/// [`Record`].
-pub(crate) trait Linked: Copy {
-    /// The entry of a number that is in no ring.
+/// What is held of a slot or a place beside its neighbours. Contracts see it as a location.
+pub(crate) trait Held: Copy {
+    /// What is held where no ring has the slot or the place.
     const VACANT: Self;
 
     ghost VACANT: { Self };
 
-    // The record that contracts see.
-    ghost record_of: { Self → Record };
+    ghost location_of: { Self → Location };
 
-    /// Returns the numbers before and after it.
-    fn neighbours(&self) -> Neighbours
-        ensures previous { result.previous ≡ (record_of self.now).previous }
-        ensures next { result.next ≡ (record_of self.now).next };
-
-    /// Writes the number before it, and nothing else.
-    fn set_previous(&mut self, previous: u32)
-        ensures { record_of self.new ≡ record (record_of self.old) { previous = previous } };
-
-    /// Writes the number after it, and nothing else.
-    fn set_next(&mut self, next: u32)
-        ensures { record_of self.new ≡ record (record_of self.old) { next = next } };
-
-    ghost vacant: { record_of VACANT ≡ no_record };
+    ghost vacant: { location_of VACANT ≡ Location.Free };
 }
 
-impl Linked for Record {
+impl Held for Location {
     ghost use Rattle.std.specs.Prelude.{refl};
     ghost use Rattle.clock2q_queues.specs.declared.entries.Location.TheVariants.{Free};
 
-    const VACANT: Self = Record {
-        previous: 0,
-        next: 0,
-        location: Location::Free,
-    };
+    const VACANT: Self = Location::Free;
 
-    ghost VACANT = { record { previous = 0; next = 0; location = Free } };
+    ghost VACANT = { Free };
 
-    ghost record_of = { λ r. r };
+    ghost location_of = { λ location. location };
 
     ghost vacant = { refl };
-
-    fn neighbours(&self) -> Neighbours {
-        Neighbours {
-            previous: self.previous,
-            next: self.next,
-        }
-    }
-
-    fn set_previous(&mut self, previous: u32) {
-        self.previous = previous;
-    }
-
-    fn set_next(&mut self, next: u32) {
-        self.next = next;
-    }
 }
 
-impl Linked for Neighbours {
+/// Nothing is held of an order's places, which are all in the same ring. In contracts each has the
+/// location of a free slot.
+impl Held for () {
     ghost use Rattle.std.specs.Prelude.{refl};
     ghost use Rattle.clock2q_queues.specs.declared.entries.Location.TheVariants.{Free};
 
-    const VACANT: Self = Neighbours {
-        previous: 0,
-        next: 0,
-    };
+    const VACANT: Self = ();
 
-    ghost VACANT = { record { previous = 0; next = 0 } };
+    ghost VACANT = { tt };
 
-    ghost record_of = { λ n. record { previous = n.previous; next = n.next; location = Free } };
+    ghost location_of = { λ _. Free };
 
     ghost vacant = { refl };
-
-    fn neighbours(&self) -> Neighbours {
-        *self
-    }
-
-    fn set_previous(&mut self, previous: u32) {
-        self.previous = previous;
-    }
-
-    fn set_next(&mut self, next: u32) {
-        self.next = next;
-    }
 }
+
+/// The neighbours of a slot or a place, and what is held of it.
+#[derive(Clone, Copy)]
+pub(crate) struct Entry<T> {
+    pub(crate) previous: u32,
+    pub(crate) next: u32,
+    pub(crate) held: T,
+}
+
+const _: () = prove!(size_of::<Entry<()>>() == 8);
+
+const _: () = prove!(size_of::<Entry<Location>>() <= 16);

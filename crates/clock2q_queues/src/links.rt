@@ -12,7 +12,7 @@ ghost use Rattle.clock2q_queues.specs.Small.{GrowsOld, next_cursor};
 mod cells;
 mod flags;
 
-use crate::entries::{Linked, Location, Record};
+use crate::entries::{Entry, Location};
 use crate::link::{Link, NOWHERE};
 use crate::ring::Ring;
 pub(crate) use cells::Cells;
@@ -24,7 +24,7 @@ use std::marker::Model;
 /// The records and the hit bits of the slots, which both queues share, and the window's positions.
 #[derive(Drop)]
 pub(crate) struct Links<A: Allocator = Global> {
-    pub(crate) ring: Ring<Record, A>,
+    pub(crate) ring: Ring<Location, A>,
     flags: Flags<A>,
     window: Cells<Link, A>,
     inspections: Count,
@@ -38,7 +38,7 @@ impl<A: Allocator> Model for Links<A> {
 
     ghost view = { λ a. links_shown a.ring a.flags.items a.window a.inspections.total };
 
-    ghost invariant = { λ a. AreLinks a.ring a.flags.items a.window.items };
+    ghost invariant = { λ a. AreLinks a.ring a.flags a.window.items };
 }
 
 impl<A: Allocator> Links<A> {
@@ -116,25 +116,25 @@ impl<A: Allocator> Links<A> {
         ensures value { result ≡ location_at self.old.records.items slot }
         ensures counted { self.new ≡ record self.old { records = accessed self.old.records } }
     {
-        self.ring.read_any(slot).location
+        self.ring.held(slot)
     }
 
     /// Puts a slot, with a clear bit, into an empty queue: it is its own neighbour on both sides.
     pub(crate) fn attach_alone(&mut self, slot: u32, location: Location)
         requires slot_in { slot < length self.old.records.items }
+        requires next { slot ≤ self.old.made }
         requires linked { is_linked location ≡ true }
         ensures items { self.new.records.items ≡ slice_set self.old.records.items slot
-            (record { previous = slot; next = slot; location = location }) }
-        ensures accesses { self.new.records.accesses
-            ≡ self.old.records.accesses + (slot - self.old.made) + 1 }
+            (record { previous = slot; next = slot; held = location }) }
+        ensures accesses { self.new.records.accesses ≡ self.old.records.accesses + 1 }
         ensures made { self.new.made ≡ made_below (slot + 1) self.old.made }
         ensures cleared { SetsBit slot false self.old
             (record self.new { records = self.old.records; made = self.old.made }) }
     {
-        let alone = Record {
+        let alone = Entry {
             previous: slot,
             next: slot,
-            location,
+            held: location,
         };
         self.flags.write(slot, Flag::Clear);
         self.ring.write(slot, alone);
@@ -156,26 +156,22 @@ impl<A: Allocator> Links<A> {
     /// Puts a slot, with a clear bit, just before another.
     pub(crate) fn attach(&mut self, slot: u32, before: u32, location: Location)
         requires slot_in { slot < length self.old.records.items }
+        requires next { slot ≤ self.old.made }
         requires before_in { is_linked (location_at self.old.records.items before) ≡ true }
         requires previous_in { is_linked (location_at self.old.records.items
             (previous_at self.old.records.items before)) ≡ true }
         requires linked { is_linked location ≡ true }
-        ensures attached { Attaches slot before location (slot - self.old.made + 6)
-            self.old.records self.new.records }
+        ensures attached { Attaches slot before location self.old.records self.new.records }
         ensures made { self.new.made ≡ made_below (slot + 1) self.old.made }
         ensures cleared { SetsBit slot false self.old
             (record self.new { records = self.old.records; made = self.old.made }) }
     {
         self.flags.write(slot, Flag::Clear);
-        let entry = Record {
-            location,
-            ..Record::VACANT
-        };
-        self.ring.attach(slot, before, entry);
+        self.ring.attach(slot, before, location);
     }
 
-    /// Removes a slot from between its neighbours, clears its bit, and returns the record that it had.
-    pub(crate) fn detach(&mut self, slot: u32) -> Record
+    /// Removes a slot from between its neighbours, clears its bit, and returns the entry that it had.
+    pub(crate) fn detach(&mut self, slot: u32) -> Entry<Location>
         requires slot_in { is_linked (location_at self.old.records.items slot) ≡ true }
         requires next_in { is_linked (location_at self.old.records.items
             (next_at self.old.records.items slot)) ≡ true }
@@ -262,9 +258,9 @@ impl<A: Allocator> Links<A> {
         ensures left { self.new ≡ position_freed (location_at self.old.records.items slot)
             (record self.old { records = accessed self.old.records }) }
     {
-        let record = self.ring.read(slot);
-        self.leave_position(record.location);
-        record.previous
+        let entry = self.ring.read(slot);
+        self.leave_position(entry.held);
+        entry.previous
     }
 
     /// Returns true if a slot is in a queue. It reads the byte with the slot's bit, and no record.
@@ -305,8 +301,8 @@ impl<A: Allocator> Links<A> {
             ≡ (is_old (location_at self.old.records.items slot) && bit_at self.old slot) }
         ensures counted { self.new ≡ record self.old { records = accessed self.old.records } }
     {
-        let (record, flag) = self.flags.read_with(slot, &mut self.ring);
-        matches!(record.location, Location::SmallOld) && matches!(flag, Flag::Hit)
+        let (entry, flag) = self.flags.read_with(slot, &mut self.ring);
+        matches!(entry.held, Location::SmallOld) && matches!(flag, Flag::Hit)
     }
 
     /// Reads the record of a slot that is in a queue, and returns the slot after it if its bit is set.
@@ -316,8 +312,8 @@ impl<A: Allocator> Links<A> {
             ≡ then_some (bit_at self.old slot) (next_at self.old.records.items slot) }
         ensures counted { self.new ≡ record self.old { records = accessed self.old.records } }
     {
-        let (record, flag) = self.flags.read_with(slot, &mut self.ring);
-        matches!(flag, Flag::Hit).then_some(record.next)
+        let (entry, flag) = self.flags.read_with(slot, &mut self.ring);
+        matches!(flag, Flag::Hit).then_some(entry.next)
     }
 
     /// Resets every record, every position and every bit to its initial state.

@@ -33,6 +33,7 @@ impl Main {
     pub(crate) fn push<A: Allocator>(&mut self, links: &mut Links<A>, slot: u32)
         requires whole { IsMainQueue links.old self.old }
         requires slot_in { slot < length links.old.records.items }
+        requires next { slot ≤ links.old.made }
         requires absent { list_any (nat_eq slot) (main_slots links.old self.old) ≡ false }
         ensures whole { IsMainQueue links.new self.new }
         ensures entries { main_entries links.new self.new
@@ -41,8 +42,7 @@ impl Main {
         ensures window { links.new.window ≡ links.old.window }
         ensures inspections { links.new.bits.inspections ≡ links.old.bits.inspections }
         ensures made { links.new.made ≡ made_below (slot + 1) links.old.made }
-        ensures accesses { Rises 1 (slot - links.old.made + 6)
-            links.old.records.accesses links.new.records.accesses }
+        ensures accesses { Rises 1 6 links.old.records.accesses links.new.records.accesses }
     {
         match self.hand {
             None => {

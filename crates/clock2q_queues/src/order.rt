@@ -4,7 +4,7 @@ ghost use Rattle.std.specs.List.{last_or, list_any};
 ghost use Rattle.clock2q_queues.specs.Cells.{Rises};
 ghost use Rattle.clock2q_queues.specs.Rings.{without};
 
-use crate::entries::{Linked, Neighbours};
+use crate::entries::Entry;
 use crate::ring::Ring;
 use std::alloc::{AllocError, Allocator, Global};
 use std::marker::Model;
@@ -34,7 +34,7 @@ struct Chain {
 /// ```
 #[derive(Drop)]
 pub struct Order<A: Allocator = Global> {
-    ring: Ring<Neighbours, A>,
+    ring: Ring<(), A>,
     newest: u32,
     len: u32,
     chain: Chain,
@@ -133,13 +133,14 @@ impl<A: Allocator> Order<A> {
             self.chain.len -= 1;
         }
         if self.len == 0 {
-            let alone = Neighbours {
+            let alone = Entry {
                 previous: place,
                 next: place,
+                held: (),
             };
             self.ring.write(place, alone);
         } else {
-            self.ring.attach(place, self.newest, Neighbours::VACANT);
+            self.ring.attach(place, self.newest, ());
         }
         self.newest = place;
         self.len += 1;
@@ -174,9 +175,10 @@ impl<A: Allocator> Order<A> {
             } }
     {
         let was = self.ring.detach(place);
-        let before_head = Neighbours {
+        let before_head = Entry {
             previous: 0,
             next: self.chain.head,
+            held: (),
         };
         self.ring.write(place, before_head);
         self.chain.head = place;

@@ -1,11 +1,11 @@
 //! Entries that are linked by number, slots in their queues or places in their order.
-ghost use Rattle.std.specs.Prelude.{◌≡◌, ℕ, ◌+◌, ◌-◌, ◌<◌, ◌≤◌, ◌^◌, IfOk, length, replicate, slice_set};
-ghost use Rattle.clock2q_queues.specs.Cells.{accessed, cells_state};
+ghost use Rattle.std.specs.Prelude.{◌≡◌, ℕ, ◌+◌, ◌-◌, ◌<◌, ◌≤◌, ◌^◌, IfOk, length, replicate};
+ghost use Rattle.clock2q_queues.specs.Cells.{accessed, cells_state, written};
 ghost use Rattle.clock2q_queues.specs.Growth.{GrowsRing, moved_record};
-ghost use Rattle.clock2q_queues.specs.Links.{Attaches, Detaches, location_at, made_below, next_at, previous_at, record_at, vacant, with_location, with_next, with_previous};
+ghost use Rattle.clock2q_queues.specs.Links.{Attaches, Detaches, location_at, made_below, next_at, previous_at, record_at, record_of, vacant, with_location, with_next, with_previous};
 ghost use Rattle.clock2q_queues.specs.Ring.{ring_state};
 
-use crate::entries::{Linked, Location, Neighbours, Record};
+use crate::entries::{Entry, Held, Location};
 use clock2q_count::Count;
 use std::alloc::{AllocError, Allocator, Global};
 use std::marker::Model;
@@ -13,24 +13,25 @@ use std::marker::Model;
 /// The entry of each place, with the number of reads and writes. Only the first ones are made, which
 /// takes one write each: any other place is vacant.
 #[derive(Drop)]
-pub(crate) struct Ring<E: Linked, A: Allocator = Global> {
-    entries: Vec<E, A>,
+pub(crate) struct Ring<T: Held, A: Allocator = Global> {
+    entries: Vec<Entry<T>, A>,
     places: u32,
     accesses: Count,
 }
 
-impl<E: Linked, A: Allocator> Model for Ring<E, A> {
+impl<T: Held, A: Allocator> Model for Ring<T, A> {
     ghost use Rattle.std.specs.Prelude.{◌≤◌, length, map, vec_capacity};
+    ghost use Rattle.clock2q_queues.specs.Links.{record_of};
     ghost use Rattle.clock2q_queues.specs.Ring.{RingState, ring_shown};
 
     ghost Value = { RingState };
 
-    ghost view = { λ r. ring_shown (map E.record_of r.entries.items) r.places r.accesses.total };
+    ghost view = { λ r. ring_shown (map (record_of T.location_of) r.entries.items) r.places r.accesses.total };
 
     ghost invariant = { λ r. (length r.entries.items ≤ r.places) × (r.places ≤ vec_capacity r.entries) };
 }
 
-impl<E: Linked, A: Allocator> Ring<E, A> {
+impl<T: Held, A: Allocator> Ring<T, A> {
     /// Returns a ring of `places` vacant places, with no read or write counted yet. It takes all the
     /// memory that it will ever need.
     pub(crate) fn new(alloc: A, places: u32) -> Result<Self, AllocError>
@@ -72,9 +73,9 @@ impl<E: Linked, A: Allocator> Ring<E, A> {
     }
 
     /// Returns the entry of a place that was made.
-    pub(crate) fn read(&mut self, place: u32) -> E
+    pub(crate) fn read(&mut self, place: u32) -> Entry<T>
         requires { place < self.old.made }
-        ensures value { E.record_of result ≡ record_at self.old.cells.items place }
+        ensures value { record_of T.location_of result ≡ record_at self.old.cells.items place }
         ensures counted { self.new ≡ ring_state (accessed self.old.cells) self.old.made }
         ensures within { self.old.made ≤ length self.old.cells.items }
     {
@@ -82,40 +83,35 @@ impl<E: Linked, A: Allocator> Ring<E, A> {
         self.entries[place as usize]
     }
 
-    /// Returns the entry of any place.
-    pub(crate) fn read_any(&mut self, place: u32) -> E
-        ensures value { E.record_of result ≡ record_at self.old.cells.items place }
+    /// Returns what is held of any place.
+    pub(crate) fn held(&mut self, place: u32) -> T
+        ensures value { T.location_of result ≡ location_at self.old.cells.items place }
         ensures counted { self.new ≡ ring_state (accessed self.old.cells) self.old.made }
     {
         self.accesses.tick();
         match self.entries.get(place as usize) {
-            Some(entry) => *entry,
-            None => E::VACANT,
+            Some(entry) => entry.held,
+            None => T::VACANT,
         }
     }
 
-    /// Writes the entry of a place. If it isn't made yet, it is made, after those of the places below.
+    /// Writes the entry of a place that was made, or makes that of the next place.
     #[inline(always)]
-    pub(crate) fn write(&mut self, place: u32, entry: E)
-        requires { place < length self.old.cells.items }
-        ensures written { self.new.cells ≡ cells_state (slice_set self.old.cells.items place (E.record_of entry))
-            (self.old.cells.accesses + (place - self.old.made) + 1) }
+    pub(crate) fn write(&mut self, place: u32, entry: Entry<T>)
+        requires place_in { place < length self.old.cells.items }
+        requires next { place ≤ self.old.made }
+        ensures written { self.new.cells ≡ written place (record_of T.location_of entry) self.old.cells }
         ensures made { self.new.made ≡ made_below (place + 1) self.old.made }
     {
-        if (place as usize) < self.entries.len() {
-            self.accesses.tick();
-            self.entries[place as usize] = entry;
-            return;
-        }
-        if self.entries.len() < place as usize {
-            self.make_below(place);
-        }
         self.accesses.tick();
-        self.entries.push_reserved(entry);
+        if (place as usize) < self.entries.len() {
+            self.entries[place as usize] = entry;
+        } else {
+            self.entries.push_reserved(entry);
+        }
     }
 
     /// Makes the entries of the places below a bound that have none yet.
-    #[inline(never)]
     pub(crate) fn make_below(&mut self, bound: u32)
         requires { bound ≤ length self.old.cells.items }
         ensures { self.new ≡ ring_state
@@ -124,7 +120,11 @@ impl<E: Linked, A: Allocator> Ring<E, A> {
     {
         while self.entries.len() < bound as usize {
             self.accesses.tick();
-            self.entries.push_reserved(E::VACANT);
+            self.entries.push_reserved(Entry {
+                previous: 0,
+                next: 0,
+                held: T::VACANT,
+            });
         }
     }
 
@@ -136,7 +136,7 @@ impl<E: Linked, A: Allocator> Ring<E, A> {
     {
         self.accesses.tick();
         self.accesses.tick();
-        self.entries[place as usize].set_next(next);
+        self.entries[place as usize].next = next;
     }
 
     /// Writes the place before another, which counts as a read and a write too.
@@ -147,42 +147,48 @@ impl<E: Linked, A: Allocator> Ring<E, A> {
     {
         self.accesses.tick();
         self.accesses.tick();
-        self.entries[place as usize].set_previous(previous);
+        self.entries[place as usize].previous = previous;
     }
 
-    /// Puts a place just before another. What its entry holds beside its links is the caller's.
+    /// Puts a place just before another.
     #[inline(always)]
-    pub(crate) fn attach(&mut self, place: u32, before: u32, entry: E)
+    pub(crate) fn attach(&mut self, place: u32, before: u32, held: T)
         requires place_in { place < length self.old.cells.items }
+        requires next { place ≤ self.old.made }
         requires before_in { before < self.old.made }
         requires previous_in { previous_at self.old.cells.items before < self.old.made }
-        ensures attached { Attaches place before (E.record_of entry).location (place - self.old.made + 6)
-            self.old.cells self.new.cells }
+        ensures attached { Attaches place before (T.location_of held) self.old.cells self.new.cells }
         ensures made { self.new.made ≡ made_below (place + 1) self.old.made }
     {
-        let previous = self.read(before).neighbours().previous;
-        let mut between = entry;
-        between.set_previous(previous);
-        between.set_next(before);
+        let previous = self.read(before).previous;
+        let between = Entry {
+            previous,
+            next: before,
+            held,
+        };
         self.write(place, between);
         self.set_next(previous, place);
         self.set_previous(before, place);
     }
 
     /// Removes a place from between its neighbours, and returns the entry that it had.
-    pub(crate) fn detach(&mut self, place: u32) -> E
+    pub(crate) fn detach(&mut self, place: u32) -> Entry<T>
         requires place_in { place < self.old.made }
         requires next_in { next_at self.old.cells.items place < self.old.made }
         requires previous_in { previous_at self.old.cells.items place < self.old.made }
         ensures detached { Detaches place self.old.cells self.new.cells }
         ensures made { self.new.made ≡ self.old.made }
-        ensures value { E.record_of result ≡ record_at self.old.cells.items place }
+        ensures value { record_of T.location_of result ≡ record_at self.old.cells.items place }
     {
         let was = self.read(place);
-        let Neighbours { previous, next } = was.neighbours();
-        self.set_next(previous, next);
-        self.set_previous(next, previous);
-        self.write(place, E::VACANT);
+        self.set_next(was.previous, was.next);
+        self.set_previous(was.next, was.previous);
+        let vacant = Entry {
+            previous: 0,
+            next: 0,
+            held: T::VACANT,
+        };
+        self.write(place, vacant);
         was
     }
 
@@ -204,7 +210,7 @@ impl<E: Linked, A: Allocator> Ring<E, A> {
     }
 }
 
-impl<A: Allocator> Ring<Record, A> {
+impl<A: Allocator> Ring<Location, A> {
     /// Returns a ring of `slots` slots with the same records, whose locations are
     /// [past a gap](Location::past_gap) at the cursor. Otherwise it is like [`grown`](Ring::grown).
     pub(crate) fn grown_past_gap(
@@ -223,12 +229,12 @@ impl<A: Allocator> Ring<Record, A> {
         let mut entries = Vec::with_capacity(alloc, slots as usize)?;
         let mut accesses = Count::new();
         accesses.raise(&self.accesses);
-        for record in &self.entries {
+        for entry in &self.entries {
             accesses.tick();
             accesses.tick();
-            entries.push_reserved(Record {
-                location: record.location.past_gap(cursor, gap),
-                ..*record
+            entries.push_reserved(Entry {
+                held: entry.held.past_gap(cursor, gap),
+                ..*entry
             });
         }
         Ok(Ring {
@@ -246,6 +252,6 @@ impl<A: Allocator> Ring<Record, A> {
     {
         self.accesses.tick();
         self.accesses.tick();
-        self.entries[slot as usize].location = location;
+        self.entries[slot as usize].held = location;
     }
 }

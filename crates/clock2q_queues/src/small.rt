@@ -47,6 +47,7 @@ impl Small {
     pub(crate) fn push<A: Allocator>(&mut self, links: &mut Links<A>, slot: u32)
         requires whole { IsSmallQueue links.old self.old }
         requires slot_in { slot < length links.old.records.items }
+        requires next { slot ≤ links.old.made }
         requires absent { list_any (nat_eq slot) (small_slots links.old self.old) ≡ false }
         requires window { 0 < length links.old.window.items }
         ensures whole { IsSmallQueue links.new self.new }
@@ -56,8 +57,7 @@ impl Small {
         ensures window { length links.new.window.items ≡ length links.old.window.items }
         ensures inspections { links.new.bits.inspections ≡ links.old.bits.inspections }
         ensures made { links.new.made ≡ made_below (slot + 1) links.old.made }
-        ensures accesses { Rises 3 (slot - links.old.made + 10)
-            (accesses_of links.old) (accesses_of links.new) }
+        ensures accesses { Rises 3 10 (accesses_of links.old) (accesses_of links.new) }
     {
         let cursor = self.cursor;
         self.cursor = links.take_position(cursor, slot);
@@ -113,7 +113,7 @@ impl Small {
         ensures accesses { Rises 6 7 (accesses_of links.old) (accesses_of links.new) }
     {
         let was = links.detach(slot);
-        links.leave_position(was.location);
+        links.leave_position(was.held);
         self.len -= 1;
         if self.newest == slot {
             self.newest = was.next;

@@ -5,7 +5,7 @@ ghost use Rattle.clock2q_queues.specs.Cells.{accessed};
 ghost use Rattle.clock2q_queues.specs.Links.{made_below, record_at};
 ghost use Rattle.clock2q_queues.specs.Ring.{ring_state};
 
-use crate::entries::Record;
+use crate::entries::{Entry, Location};
 use crate::ring::Ring;
 use clock2q_count::Count;
 use std::alloc::{AllocError, Allocator, Global};
@@ -74,8 +74,12 @@ impl<A: Allocator> Flags<A> {
         self.flags[slot as usize]
     }
 
-    /// Returns the record of a slot that is in a queue, and its flag. It is one access of the ring.
-    pub(super) fn read_with(&self, slot: u32, ring: &mut Ring<Record, A>) -> (Record, Flag)
+    /// Returns the entry of a slot that is in a queue, and its flag. It is one access of the ring.
+    pub(super) fn read_with(
+        &self,
+        slot: u32,
+        ring: &mut Ring<Location, A>,
+    ) -> (Entry<Location>, Flag)
         requires made { slot < ring.old.made }
         requires linked { says_linked (slice_index_or self.now.items slot Flag.Free) ≡ true }
         ensures record { result.0 ≡ record_at ring.old.cells.items slot }
@@ -104,25 +108,22 @@ impl<A: Allocator> Flags<A> {
         self.flags[slot as usize] = flag;
     }
 
-    /// Writes the flag of a slot. If it isn't made yet, it is made, after those of the slots below it.
+    /// Writes the flag of a slot that was made, or makes that of the next slot.
     #[inline(always)]
     pub(super) fn write(&mut self, slot: u32, flag: Flag)
-        requires { slot < length self.old.items }
+        requires slot_in { slot < length self.old.items }
+        requires next { slot ≤ self.old.made }
         ensures flags { self.new.items ≡ slice_set self.old.items slot flag }
         ensures made { self.new.made ≡ made_below (slot + 1) self.old.made }
     {
         if (slot as usize) < self.flags.len() {
             self.flags[slot as usize] = flag;
-            return;
+        } else {
+            self.flags.push_reserved(flag);
         }
-        if self.flags.len() < slot as usize {
-            self.make_below(slot);
-        }
-        self.flags.push_reserved(flag);
     }
 
     /// Makes the flags of the slots below a bound that have none yet.
-    #[inline(never)]
     pub(super) fn make_below(&mut self, bound: u32)
         requires { bound ≤ length self.old.items }
         ensures { self.new ≡ flag_state self.old.items (made_below bound self.old.made) }

@@ -18,7 +18,7 @@ detach-requires g c =
 
 pub invariant_of-self : goal.invariant_of-self
 invariant_of-self g c =
-    slot_detached _ _ c.self.invariant c.set.ensures.flags c.detach.new.self (rw (← c.self.view_is) at c.requires.slot_in) c.detach.ensures.detached refl c.detach.ensures.made
+    slot_detached _ _ c.self.invariant c.set.ensures.flags c.detach.new.self (rw (← c.self.view_is) at c.requires.slot_in) c.detach.ensures.detached refl c.detach.ensures.made c.set.ensures.made
 
 pub returns-clause-cleared : goal.returns-clause-cleared
 returns-clause-cleared g c =

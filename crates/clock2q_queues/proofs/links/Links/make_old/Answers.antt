@@ -1,4 +1,4 @@
-use Rattle.std.proofs.Common.{false, refl, ap, arith}
+use Rattle.std.proofs.Common.{false, refl, sym, ap, ◌∙◌, arith}
 use Rattle.clock2q_queues.specs.Ring.{RingState}
 use Rattle.clock2q_queues.proofs.AllRecords.{linked_within}
 use Rattle.clock2q_queues.proofs.Flagged.{bit_set, flag_linked, record_written}
@@ -14,7 +14,7 @@ pub invariant_of-self : goal.invariant_of-self
 invariant_of-self g c =
     let made = ap (λ (z : RingState). z.made) c.set_location.ensures in
     record_written _ _ c.self.invariant c.set.ensures.flags c.set_location.new.self _ (linked_within c.self.inside.ring.cells.items c.args.slot (rw (← c.self.view_is) at c.requires)) refl
-    (ap (λ (z : RingState). z.cells.items) c.set_location.ensures) (omega (arith, made)) (rw made (c.self.invariant.made c.args.slot (rw (← c.self.view_is) at c.requires)))
+    (ap (λ (z : RingState). z.cells.items) c.set_location.ensures) (omega (arith, made)) (rw made (c.self.invariant.made c.args.slot (rw (← c.self.view_is) at c.requires))) (c.set.ensures.made ∙ c.self.invariant.together ∙ sym made)
 
 pub returns-clause-cleared : goal.returns-clause-cleared
 returns-clause-cleared g c =

@@ -7,7 +7,7 @@ pub set-requires : goal.set-requires
 set-requires g c = flag_linked c.self.invariant c.args.slot (rw (← c.self.view_is) at c.requires)
 
 pub invariant_of-self : goal.invariant_of-self
-invariant_of-self g c = flags_changed _ _ c.self.invariant c.set.ensures.flags (rw (← c.self.view_is) at c.requires) refl
+invariant_of-self g c = flags_changed _ _ c.self.invariant c.set.ensures.flags (rw (← c.self.view_is) at c.requires) refl c.set.ensures.made
 
 pub returns : goal.returns
 returns g c =

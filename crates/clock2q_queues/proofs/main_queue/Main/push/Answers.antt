@@ -8,7 +8,7 @@ use Rattle.clock2q_queues.proofs.main_queue.Main.push.Goals.{in-None, in-Some}
 pub attach-requires : goal.attach-requires
 attach-requires g c =
     let hand = hand_linked c.args.links.now c.args.self.now c.in-Some.hand c.requires.whole c.in-Some.is in
-    record { slot_in = c.requires.slot_in; before_in = hand.own; previous_in = hand.previous; linked = refl }
+    record { slot_in = c.requires.slot_in; next = c.requires.next; before_in = hand.own; previous_in = hand.previous; linked = refl }
 
 pub overflow_add-self : goal.overflow_add-self
 overflow_add-self g c = grind (arith, count_fits, c.requires.whole.queue, c.requires.absent, c.requires.slot_in)
@@ -26,7 +26,7 @@ returns g c =
       | in-Some w ↦
           PushesMain-attached c.args.slot l main c.match-self.links main' c.requires.whole c.requires.slot_in c.requires.absent (rw w.links-is w.attach.ensures.cleared)
           (ap (λ (m : Main). m.len + 1) w.self-is)
-          (c.args.slot - l.made + 6) w.in-Some.hand w.in-Some.is (rw w.links-is w.attach.ensures.attached) (ap (λ (m : Main). m.hand) w.self-is ∙ w.in-Some.is)
+          w.in-Some.hand w.in-Some.is (rw w.links-is w.attach.ensures.attached) (ap (λ (m : Main). m.hand) w.self-is ∙ w.in-Some.is)
     ] in
     record {
       whole = pushed.whole;

@@ -1,7 +1,7 @@
 use Rattle.std.proofs.Common.{◌<◌, ◌∷◌, length, drop, ap, subst, ◌∙◌, sym, arith}
 use Rattle.clock2q_queues.specs.Links.{end_of, slots_from}
 use Rattle.clock2q_queues.specs.Order.{PlaceOrder, free_places}
-use Rattle.clock2q_queues.proofs.Orders.{Chooses, Pushed, IsOrder-from, whole_order, order_shown-is, head_made, takes_head, takes_unused, place_in, first_made, pushes-attached, pushes-alone}
+use Rattle.clock2q_queues.proofs.Orders.{Chooses, Pushed, IsOrder-from, whole_order, order_shown-is, head_made, takes_head, takes_unused, place_in, first_made, place_next, pushes-attached, pushes-alone}
 use Rattle.clock2q_queues.proofs.order.Order.push.Given.{Over}
 use Rattle.clock2q_queues.proofs.order.Order.push.Goals.{Joined-self-gt0, Joined-self-eq0}
 use Rattle.clock2q_queues.proofs.order.Order.push.Goals as goal
@@ -21,12 +21,18 @@ chosen g c = grind (arith, takes_head, takes_unused, c.self.invariant)
 room : (g : Over) (c : Joined-self-gt0 g) → length (slots_from c.self.inside.ring.cells.items (end_of c.self.inside.len c.self.inside.newest) c.self.inside.len) < length c.self.inside.ring.cells.items
 room g c = subst (λ (z : PlaceOrder). length z.places < z.limit) (sym c.self.view_is) c.requires
 
+pub write-requires : goal.write-requires
+write-requires g c =
+    let i = c.self.inside in
+    let j = (goal.at.write-requires g c).Joined-self-gt0 in
+    record { place_in = place_in i.ring (end_of i.len i.newest) i.len i.chain c.self.invariant (chosen g j) (room g j); next = place_next i.ring (end_of i.len i.newest) i.len i.chain c.self.invariant (chosen g j) (room g j) }
+
 pub attach-requires : goal.attach-requires
 attach-requires g c =
     let i = c.self.inside in
     let j = (goal.at.attach-requires g c).Joined-self-gt0 in
     let first = first_made i.ring (end_of i.len i.newest) i.len i.chain c.self.invariant (chosen g j) (room g j) (omega (arith, c.if-self-eq0.false)) in
-    record { place_in = place_in i.ring (end_of i.len i.newest) i.len i.chain c.self.invariant (chosen g j) (room g j); before_in = first.0; previous_in = first.1 }
+    record { place_in = place_in i.ring (end_of i.len i.newest) i.len i.chain c.self.invariant (chosen g j) (room g j); next = place_next i.ring (end_of i.len i.newest) i.len i.chain c.self.invariant (chosen g j) (room g j); before_in = first.0; previous_in = first.1 }
 
 pushed : (g : Over) (c : Joined-self-eq0 g) → Pushed c.self.inside.ring (end_of c.self.inside.len c.self.inside.newest) c.self.inside.len c.self.inside.chain c.self.invariant
     c.if-self-gt0.place c.if-self-eq0.self-inside.len c.if-self-eq0.self-inside.chain c.if-self-eq0.self-inside.ring

@@ -1,11 +1,10 @@
-use Rattle.std.proofs.Common.{◌≡◌, ℕ, Option, ◌+◌, ◌-◌, ◌∷◌, cond, eqb, set, refl, ap, ◌∙◌, arith}
+use Rattle.std.proofs.Common.{◌≡◌, ℕ, Option, ◌+◌, ◌-◌, ◌∷◌, cond, eqb, refl, ap, ◌∙◌, arith}
 use Rattle.std.proofs.lemmas.Bool.{eq-eqb, ne_eqb}
 use Rattle.std.specs.List.{list_any}
-use Rattle.clock2q_queues.specs.declared.entries.Record.{Record}
 use Rattle.clock2q_queues.specs.declared.entries.Location.TheVariants.{Free}
-use Rattle.clock2q_queues.specs.Cells.{cells_state, written}
+use Rattle.clock2q_queues.specs.Cells.{written}
 use Rattle.clock2q_queues.specs.Rings.{without}
-use Rattle.clock2q_queues.specs.Links.{end_of, next_at, slots_from}
+use Rattle.clock2q_queues.specs.Links.{Record, end_of, next_at, slots_from}
 use Rattle.clock2q_queues.specs.Order.{PlaceOrder, IsOrderOf, free_places, order_shown}
 use Rattle.clock2q_queues.proofs.Orders.{IsOrder-from, whole_order, order_shown-is, place_fits, place_made, not_free, chain_fits, chain-put, Unlinks, unlinked_counts}
 use Rattle.clock2q_queues.proofs.Joining.{first_left}
@@ -27,15 +26,13 @@ pub overflow_add-self : goal.overflow_add-self
 overflow_add-self g c = grind (arith, chain_fits, c.self.view_is, c.requires, c.self.invariant, c.detach-was.ensures.detached)
 
 -- its neighbours were written, and none was made
-put : (g : Over) (c : After-write g) → (c.write.new.self.cells ≡ written c.args.place (record { previous = 0; next = c.self.inside.chain.head; location = Free }) c.detach-was.new.self.cells)
+put : (g : Over) (c : After-write g) → (c.write.new.self.cells ≡ written c.args.place (record { previous = 0; next = c.self.inside.chain.head; held = Free }) c.detach-was.new.self.cells)
     × (c.write.new.self.made ≡ c.self.inside.ring.made)
 put g c =
     let i = c.self.inside in
-    let mid = c.detach-was.new.self.cells in
     let there = ap (λ (z : PlaceOrder). list_any (eqb c.args.place) z.places) c.self.view_is ∙ c.requires in
     let made = (place_made i.ring (end_of i.len i.newest) i.len i.chain c.self.invariant c.args.place there).0 in
-    let r : Record = record { previous = 0; next = i.chain.head; location = Free } in
-    (c.write.ensures.written ∙ ap (λ n. cells_state (set mid.items c.args.place r) n) (omega (arith, made, c.detach-was.ensures.made)), omega (arith, made, c.write.ensures.made, c.detach-was.ensures.made))
+    (c.write.ensures.written, omega (arith, made, c.write.ensures.made, c.detach-was.ensures.made))
 
 module _ (g : Over) (c : After-write g) (newest : ℕ)
     (is : newest ≡ cond (eqb c.self.inside.newest c.args.place) (next_at c.self.inside.ring.cells.items c.args.place) c.self.inside.newest) where

@@ -1,6 +1,6 @@
-use Rattle.std.proofs.Common.{ap, ◌∙◌, arith}
+use Rattle.std.proofs.Common.{ap, arith}
 use Rattle.std.proofs.lemmas.List.{length-set}
-use Rattle.clock2q_queues.specs.declared.entries.Record.{Record}
+use Rattle.clock2q_queues.specs.Links.{Record}
 use Rattle.clock2q_queues.proofs.Attaching.{detaches}
 use Rattle.clock2q_queues.proofs.ring.Ring.detach.Goals as goal
 
@@ -13,8 +13,8 @@ returns-clause-detached g c =
     let rs = now.cells.items in
     let place = c.args.place in
     let within = c.read-was.ensures.within in
-    let next = c.neighbours-previous.ensures.next ∙ ap (λ (r : Record). r.next) c.read-was.ensures.value in
-    let previous = c.neighbours-previous.ensures.previous ∙ ap (λ (r : Record). r.previous) c.read-was.ensures.value in
-    rw (c.write.ensures.written, c.VACANT.ensures, g.met.E.Linked.vacant, c.set_previous.ensures, c.set_next.ensures, next, previous, c.read-was.ensures.counted)
+    let next = ap (λ (r : Record). r.next) c.read-was.ensures.value in
+    let previous = ap (λ (r : Record). r.previous) c.read-was.ensures.value in
+    rw (c.write.ensures.written, c.VACANT.ensures, g.T.Held.vacant, c.set_previous.ensures, c.set_next.ensures, next, previous, c.read-was.ensures.counted)
     (detaches rs now.cells.accesses _ place
     (omega (arith, within, c.requires.place_in)) (omega (arith, within, c.requires.next_in)) (omega (arith, within, c.requires.previous_in)) (omega (arith, c.requires.place_in)))

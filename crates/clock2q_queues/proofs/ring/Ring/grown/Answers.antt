@@ -1,5 +1,6 @@
 use Rattle.std.proofs.Common.{refl, sym, ap, map, ◌∙◌, arith}
 use Rattle.std.proofs.lemmas.List.{length-map, map-id, take_all}
+use Rattle.clock2q_queues.specs.Links.{record_of}
 use Rattle.clock2q_queues.proofs.Copies.{ring-grown}
 use Rattle.clock2q_queues.proofs.ring.Ring.grown.Goals as goal
 
@@ -7,7 +8,7 @@ pub returns : goal.returns
 returns g c =
     let i = c.self.inside in
     let es = i.entries.items in
-    let of = g.E.Linked.record_of in
+    let of = record_of g.T.Held.location_of in
     let items = c.deref-entry-items in
     let k = c.loop-entry.entry-index in
     let done = c.loop-entry-test.false in

@@ -1,7 +1,6 @@
-use Rattle.std.proofs.Common.{◌<◌, List, length, map, ap, ◌∙◌, arith, rules}
+use Rattle.std.proofs.Common.{◌<◌, List, length, map, ap, ◌∙◌, arith, refl, rules}
 use Rattle.std.proofs.lemmas.List.{length-map}
-use Rattle.clock2q_queues.specs.declared.entries.Record.{Record}
-use Rattle.clock2q_queues.specs.Links.{all_records}
+use Rattle.clock2q_queues.specs.Links.{Record, all_records, record_of}
 use Rattle.clock2q_queues.proofs.AllRecords.{entry-vacant, length-all}
 use Rattle.clock2q_queues.proofs.ring.Ring.make_below.Goals as goal
 
@@ -10,12 +9,12 @@ loop-self-preserved g c =
     let i = c.loop-self.self-inside in
     let k = c.loop-self.invariant in
     let es = i.entries.items in
-    let of = g.E.Linked.record_of in
+    let of = record_of g.T.Held.location_of in
     let counts = length-map es of in
     let more : length es < c.args.bound = search rules in
     let below : length es < i.places = omega (arith, ap (λ (rs : List Record). length rs) k.same, length-all (map of es) i.places (omega (arith, counts, k.within)), c.requires, more) in
     record {
-      same = ap (λ xs. all_records (map of xs) i.places) c.push_reserved.ensures.items ∙ entry-vacant of es i.places c.VACANT.result (ap of c.VACANT.ensures ∙ g.met.E.Linked.vacant) below ∙ k.same;
+      same = ap (λ xs. all_records (map of xs) i.places) c.push_reserved.ensures.items ∙ entry-vacant of es i.places _ (rw (c.VACANT.ensures, g.T.Held.vacant) refl) below ∙ k.same;
       more = search rules;
       fewest = search rules;
       counted = search rules;

@@ -1,11 +1,11 @@
 -- Only vacant entries were made, each with one access.
 use Rattle.std.proofs.Common.{◌≡◌, ◌+◌, ◌-◌, ◌≤◌, length, map, vec_capacity}
-use Rattle.clock2q_queues.specs.Links.{all_records, made_below}
+use Rattle.clock2q_queues.specs.Links.{all_records, made_below, record_of}
 use Rattle.clock2q_queues.proofs.ring.Ring.make_below.Given as goal
 
 abbrev pub invariant-loop-self : goal.invariant-loop-self
 invariant-loop-self g l = record {
-  same : all_records (map g.E.Linked.record_of l.self-inside.entries.items) l.self-inside.places ≡ l.fn.self.cells.items;
+  same : all_records (map (record_of g.T.Held.location_of) l.self-inside.entries.items) l.self-inside.places ≡ l.fn.self.cells.items;
   more : l.fn.self.made ≤ length l.self-inside.entries.items;
   fewest : length l.self-inside.entries.items ≤ made_below l.bound l.fn.self.made;
   counted : l.self-inside.accesses.total + l.fn.self.made ≡ l.fn.self.cells.accesses + length l.self-inside.entries.items;

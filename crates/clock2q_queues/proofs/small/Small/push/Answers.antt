@@ -20,7 +20,7 @@ attach-requires g c =
     let aged = c.take_position-self.new.self in
     let first = first_linked c.args.slot old c.args.self.now (aged_before old aged) aged c.requires.whole c.take_position-self.ensures.older
     (position_taken old aged c.args.self.now.cursor c.args.slot c.take_position-self.ensures.taken) (omega (arith, c.if-self-eq0.false)) in
-    record { slot_in = search rules; before_in = first.0; previous_in = first.1; linked = refl }
+    record { slot_in = search rules; next = search rules; before_in = first.0; previous_in = first.1; linked = refl }
 
 pub overflow_add-self : goal.overflow_add-self
 overflow_add-self g c = grind (arith, count_fits, c.requires.whole.queue, c.requires.absent, c.requires.slot_in)
@@ -46,7 +46,7 @@ returns g c =
       | else-self-eq0 w ↦
           Admits-attached c.args.slot old small mid aged c.requires.whole older taken new small' c.requires.slot_in c.requires.absent c.requires.window
           (rw w.links-is w.attach.ensures.cleared) refl (ap (λ (m : Small). m.len + 1) w.self-is) (ap (λ (m : Small). m.cursor) w.self-is ∙ moved)
-          (c.args.slot - aged.made + 6) (omega (arith, w.if-self-eq0.false)) (rw w.links-is w.attach.ensures.attached) (ap (λ (m : Small). m.oldest) w.self-is)
+          (omega (arith, w.if-self-eq0.false)) (rw w.links-is w.attach.ensures.attached) (ap (λ (m : Small). m.oldest) w.self-is)
     ] in
     record {
       whole = pushed.whole;

@@ -1,8 +1,7 @@
 use Rattle.std.proofs.Common.{◌≡◌, ℕ, ◌-◌, cond, eqb, refl, sym, ap, ◌∙◌, rules}
 use Rattle.std.proofs.lemmas.Bool.{eq-eqb, ne_eqb}
-use Rattle.clock2q_queues.specs.declared.entries.Record.{Record}
 use Rattle.clock2q_queues.specs.declared.small.Small.{Small}
-use Rattle.clock2q_queues.specs.Links.{next_at, previous_at}
+use Rattle.clock2q_queues.specs.Links.{Record, next_at, previous_at}
 use Rattle.clock2q_queues.proofs.InQueue.{small_linked}
 use Rattle.clock2q_queues.proofs.Leaving.{UnlinksSmall, UnlinksSmall-from}
 use Rattle.clock2q_queues.proofs.small.Small.unlink.Given.{Over}
@@ -17,7 +16,7 @@ detach-was-requires g c =
 
 pub leave_position-requires : goal.leave_position-requires
 leave_position-requires g c = λ position e.
-    let p = (c.requires.whole.placed c.args.slot position c.requires.present (ap (λ (r : Record). r.location) (sym c.detach-was.ensures.value) ∙ e)).0 in
+    let p = (c.requires.whole.placed c.args.slot position c.requires.present (ap (λ (r : Record). r.held) (sym c.detach-was.ensures.value) ∙ e)).0 in
     rw c.detach-was.ensures.cleared.window p
 
 module _ (g : Over) (c : Joined-self-slot g) where
@@ -37,7 +36,7 @@ module _ (g : Over) (c : Joined-self-slot g) where
   unlinked : (oldest : ℕ) → oldest ≡ cond (eqb c.args.self.now.oldest c.args.slot) (previous_at c.args.links.now.records.items c.args.slot) c.args.self.now.oldest
       → UnlinksSmall c.args.slot c.args.links.now c.args.self.now c.leave_position.new.self (record c.if-self-slot.self { oldest = oldest })
   unlinked oldest is = UnlinksSmall-from c.args.slot c.args.links.now c.args.self.now c.detach-was.new.self c.leave_position.new.self c.requires.whole c.requires.present
-      c.detach-was.ensures.detached c.detach-was.ensures.cleared c.detach-was.result.location (ap (λ (r : Record). r.location) c.detach-was.ensures.value) c.leave_position.ensures
+      c.detach-was.ensures.detached c.detach-was.ensures.cleared c.detach-was.result.held (ap (λ (r : Record). r.held) c.detach-was.ensures.value) c.leave_position.ensures
       (record c.if-self-slot.self { oldest = oldest }) kept.1 kept.2 newest is
 
 pub returns-then-self-slot-2 : goal.returns-then-self-slot-2

@@ -5,5 +5,5 @@ use Rattle.clock2q_queues.proofs.links.flags.Flags.write.Goals as goal
 pub returns-then-slot-len-clause-flags : goal.returns-then-slot-len-clause-flags
 returns-then-slot-len-clause-flags g c = grind (arith, flags-set, c.self.view_is)
 
-pub returns-clause-flags : goal.returns-clause-flags
-returns-clause-flags g c = grind (arith, length-flags, flags-pushed, c.self-2.view_is, c.requires, c.self-2.invariant.0, c.push_reserved.ensures.items)
+pub returns-else-slot-len-clause-flags : goal.returns-else-slot-len-clause-flags
+returns-else-slot-len-clause-flags g c = grind (arith, length-flags, flags-pushed, c.self.view_is, c.requires, c.self.invariant.0, c.push_reserved.ensures.items)
