@@ -1,5 +1,5 @@
 -- What a copy of a ring, of flags or of a window holds, which has room for more.
-use Rattle.std.proofs.Common.{◌≡◌, ℕ, zero, suc, ◌+◌, ◌-◌, ◌*◌, ◌^◌, ◌<◌, ◌≤◌, Bool, false, Option, None, List, [], ◌∷◌, ◌++◌, length, get_or, map, take, drop, replicate, refl, sym, ap, ◌∙◌, subst, arith}
+use Rattle.std.proofs.Common.{◌≡◌, ℕ, zero, suc, ◌+◌, ◌-◌, ◌*◌, ◌<◌, ◌≤◌, Bool, false, Option, None, List, [], ◌∷◌, ◌++◌, length, get_or, map, take, drop, replicate, refl, sym, ap, ◌∙◌, subst, arith}
 use Rattle.std.proofs.lemmas.List.{append_assoc, get_or_append_left, get_or-append_right, get_or-drop, get_or-take, length-append, length-drop, length-map, length-replicate, length-take-le, map-id, replicate-append-replicate, take_all}
 use Rattle.clock2q_queues.specs.declared.entries.Location.{Location}
 use Rattle.clock2q_queues.specs.declared.entries.Location.TheVariants.{Free, SmallYoung, SmallOld, Main}
@@ -93,23 +93,22 @@ linked_moved cursor gap (SmallYoung position) = refl
 linked_moved cursor gap SmallOld = refl
 linked_moved cursor gap Main = refl
 
-module _ (old new : RingState) (flags flags' : FlagState) (window window' : CellsState (Option ℕ)) (slots cursor gap : ℕ) (were : AreLinks old flags window.items)
+module _ (old new : RingState) (flags flags' : FlagState) (slots cursor gap : ℕ) (were : AreLinks old flags)
     (g : GrowsRing (moved_record cursor gap) slots old new) (f : flags' ≡ flag_state (flags.items ++ replicate (slots - length flags.items) Flag.Free) flags.made) (fits : length old.cells.items ≤ slots) where
-  pub AreLinks-grown : length window'.items < 2 ^ 32 → AreLinks new flags' window'.items
-  AreLinks-grown countable = record {
+  pub AreLinks-grown : AreLinks new flags'
+  AreLinks-grown = record {
     as_many = ap (λ (z : FlagState). length z.items) f ∙ length-append flags.items (replicate (slots - length flags.items) Flag.Free)
         ∙ (omega (arith, length-replicate (slots - length flags.items) Flag.Free, were.as_many, fits, g.as_many));
     agree = λ t. ap (λ (z : FlagState). get_or (map says_linked z.items) t false) f ∙ said_at says_linked refl flags.items (slots - length flags.items) t ∙ were.agree t
         ∙ sym (ap (λ (r : Record). is_linked r.held) (g.entries t) ∙ linked_moved cursor gap (record_at old.cells.items t).held);
     made = λ t linked. rw g.made (were.made t (sym (ap (λ (r : Record). is_linked r.held) (g.entries t) ∙ linked_moved cursor gap (record_at old.cells.items t).held) ∙ linked));
     together = ap (λ (z : FlagState). z.made) f ∙ were.together ∙ sym g.made;
-    countable_positions = countable;
   }
 
-  pub GrowsLinks-from : (len a b : ℕ) (now : LinkState) → links_shown old flags.items window a ≡ now → gap ≡ len - length window.items → b ≡ a
+  pub GrowsLinks-from : (window window' : CellsState (Option ℕ)) (len a b : ℕ) (now : LinkState) → links_shown old flags.items window a ≡ now → gap ≡ len - length window.items → b ≡ a
       → window' ≡ cells_state (with_gap cursor (len - length window.items) None window.items) (window.accesses + 2 * length window.items)
       → GrowsLinks cursor slots len now (links_shown new flags'.items window' b)
-  GrowsLinks-from len a b now shown is same w = rw (← shown) (record {
+  GrowsLinks-from window window' len a b now shown is same w = rw (← shown) (record {
     records = subst (λ z. (t : ℕ) → record_at new.cells.items t ≡ moved_record cursor z (record_at old.cells.items t)) is g.entries;
     bits = λ t. ap (λ (z : FlagState). get_or (map is_set z.items) t false) f ∙ said_at is_set refl flags.items (slots - length flags.items) t;
     positions = ap (λ (z : CellsState (Option ℕ)). z.items) w;

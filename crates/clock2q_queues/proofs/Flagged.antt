@@ -1,5 +1,5 @@
 -- The flags of the slots agree with the records after a write to both.
-use Rattle.std.proofs.Common.{◌≡◌, ℕ, zero, suc, ◌∷◌, ◌+◌, ◌<◌, ◌≤◌, ◌^◌, Bool, true, false, None, eqb, Option, List, map, length, get_or, set, replicate, inl, inr, refl, sym, ap, ◌∙◌, arith, true≢false}
+use Rattle.std.proofs.Common.{◌≡◌, ℕ, ◌+◌, ◌<◌, ◌≤◌, Bool, true, false, None, eqb, Option, List, map, length, get_or, set, replicate, inl, inr, refl, sym, ap, ◌∙◌, arith, true≢false}
 use Rattle.std.proofs.lemmas.Bool.{cases_Bool, eqb-true}
 use Rattle.std.proofs.lemmas.List.{get_or-map, length-map, length-replicate, length-set, map-set}
 use Rattle.clock2q_queues.specs.declared.links.flags.Flag.{Flag}
@@ -8,7 +8,7 @@ use Rattle.clock2q_queues.specs.Cells.{CellsState, cells_state}
 use Rattle.clock2q_queues.specs.Links.{Record, SetsBit, fresh, made_below, Attaches, Detaches, location_at, vacant}
 use Rattle.clock2q_queues.specs.Ring.{RingState, ring_state}
 use Rattle.clock2q_queues.proofs.AllRecords.{linked_within}
-use Rattle.clock2q_queues.proofs.Records.{changed, get_or-same}
+use Rattle.clock2q_queues.proofs.Records.{changed, get_or-same, mapped-same}
 use Rattle.clock2q_queues.proofs.Rings.{eqb_self}
 use Rattle.clock2q_queues.specs.Flags.{AreLinks, FlagState, flag_state, is_linked, is_set, links_shown, says_linked}
 
@@ -16,34 +16,29 @@ use Rattle.clock2q_queues.specs.Flags.{AreLinks, FlagState, flag_state, is_linke
 pub mapped-set : (says : Flag → Bool) (flags : List Flag) (slot : ℕ) (f : Flag) (b : Bool) → says f ≡ b → map says (set flags slot f) ≡ set (map says flags) slot b
 mapped-set says flags slot f b e = map-set says flags slot f ∙ ap (λ z. set (map says flags) slot z) e
 
-mapped-same : (says : Flag → Bool) (n : ℕ) (f : Flag) → map says (replicate n f) ≡ replicate n (says f)
-mapped-same says zero f = refl
-mapped-same says (suc n) f = ap (λ z. says f ∷ z) (mapped-same says n f)
-
 -- no slot is in a queue
-pub are_fresh : (n accesses : ℕ) (ring : RingState) (flags : FlagState) (window : List (Option ℕ)) → ring ≡ ring_state (cells_state (replicate n vacant) accesses) 0 → flags ≡ flag_state (replicate n Flag.Free) 0
-    → length window < 2 ^ 32 → AreLinks ring flags window
-are_fresh n accesses ring flags window empty free countable =
+pub are_fresh : (n accesses : ℕ) (ring : RingState) (flags : FlagState) → ring ≡ ring_state (cells_state (replicate n vacant) accesses) 0 → flags ≡ flag_state (replicate n Flag.Free) 0
+    → AreLinks ring flags
+are_fresh n accesses ring flags empty free =
     let nowhere : (t : ℕ) → is_linked (location_at ring.cells.items t) ≡ false = λ t. rw empty (ap (λ (r : Record). is_linked r.held) (get_or-same n t vacant)) in
     record {
       as_many = rw (empty, free) (length-replicate n Flag.Free ∙ sym (length-replicate n vacant));
       agree = λ t. rw (free, mapped-same says_linked n Flag.Free) (get_or-same n t false) ∙ sym (nowhere t);
       made = λ t linked. absurd (true≢false (sym linked ∙ nowhere t));
       together = rw (empty, free) refl;
-      countable_positions = countable;
     }
 
 -- the flag of a slot that is in a queue says so
-pub flag_linked : {ring : RingState} {flags : FlagState} {window : List (Option ℕ)} → AreLinks ring flags window → (slot : ℕ) → is_linked (location_at ring.cells.items slot) ≡ true
+pub flag_linked : {ring : RingState} {flags : FlagState} → AreLinks ring flags → (slot : ℕ) → is_linked (location_at ring.cells.items slot) ≡ true
     → says_linked (get_or flags.items slot Flag.Free) ≡ true
 flag_linked {ring} {flags} were slot linked =
     sym (get_or-map says_linked flags.items slot Flag.Free false (rw were.as_many (linked_within ring.cells.items slot linked))) ∙ were.agree slot ∙ linked
 
 -- the flag of a slot was written, and its record perhaps: they still agree if they do at this slot
-module _ {old : RingState} {flags flags' : FlagState} {window : List (Option ℕ)} (slot : ℕ) (f : Flag) (were : AreLinks old flags window) (flagged : flags'.items ≡ set flags.items slot f) where
+module _ {old : RingState} {flags flags' : FlagState} (slot : ℕ) (f : Flag) (were : AreLinks old flags) (flagged : flags'.items ≡ set flags.items slot f) where
   flags_written : (new : RingState) → slot < length old.cells.items → length new.cells.items ≡ length old.cells.items → says_linked f ≡ is_linked (location_at new.cells.items slot)
       → ((t : ℕ) → eqb t slot ≡ false → is_linked (location_at new.cells.items t) ≡ is_linked (location_at old.cells.items t))
-      → old.made ≤ new.made → (is_linked (location_at new.cells.items slot) ≡ true → slot < new.made) → flags'.made ≡ new.made → AreLinks new flags' window
+      → old.made ≤ new.made → (is_linked (location_at new.cells.items slot) ≡ true → slot < new.made) → flags'.made ≡ new.made → AreLinks new flags'
   flags_written new within as_many here elsewhere more made together = record {
     as_many = rw flagged (length-set flags.items slot f) ∙ were.as_many ∙ sym as_many;
     agree = λ t. ap (λ z. get_or (map says_linked z) t false) flagged ∙ ap (λ z. get_or z t false) (mapped-set says_linked flags.items slot f (says_linked f) refl)
@@ -57,17 +52,16 @@ module _ {old : RingState} {flags flags' : FlagState} {window : List (Option ℕ
       | inr e ↦ omega (arith, were.made t (sym (elsewhere t e) ∙ linked), more)
     ];
     together = together;
-    countable_positions = were.countable_positions;
   }
 
   -- its record stays
-  pub flags_changed : is_linked (location_at old.cells.items slot) ≡ true → says_linked f ≡ true → flags'.made ≡ flags.made → AreLinks old flags' window
+  pub flags_changed : is_linked (location_at old.cells.items slot) ≡ true → says_linked f ≡ true → flags'.made ≡ flags.made → AreLinks old flags'
   flags_changed linked says same =
       flags_written old (linked_within old.cells.items slot linked) refl (says ∙ sym linked) (λ t other. refl) (omega arith) (were.made slot) (same ∙ were.together)
 
   -- its record is written
   pub record_written : (new : RingState) (r : Record) → slot < length old.cells.items → says_linked f ≡ is_linked r.held → new.cells.items ≡ set old.cells.items slot r
-      → old.made ≤ new.made → slot < new.made → flags'.made ≡ new.made → AreLinks new flags' window
+      → old.made ≤ new.made → slot < new.made → flags'.made ≡ new.made → AreLinks new flags'
   record_written new r within here written more made together =
       let is = (λ (t : ℕ). ap (λ z. is_linked (location_at z t)) written ∙ changed (λ (x : Record). is_linked x.held) old.cells.items slot r vacant t within) in
       flags_written new within (ap length written ∙ length-set old.cells.items slot r) (here ∙ sym (is slot ∙ rw (eqb_self slot) refl))
@@ -75,20 +69,20 @@ module _ {old : RingState} {flags flags' : FlagState} {window : List (Option ℕ
 
   -- it is put before another
   pub slot_attached : {before : ℕ} {location : Location} (new : RingState) → slot < length old.cells.items → Attaches slot before location old.cells new.cells
-      → says_linked f ≡ is_linked location → new.made ≡ made_below (slot + 1) old.made → flags'.made ≡ made_below (slot + 1) flags.made → AreLinks new flags' window
+      → says_linked f ≡ is_linked location → new.made ≡ made_below (slot + 1) old.made → flags'.made ≡ made_below (slot + 1) flags.made → AreLinks new flags'
   slot_attached new within attached here made together =
       flags_written new within attached.as_many (here ∙ sym (ap is_linked (attached.locations slot) ∙ rw (eqb_self slot) refl))
       (λ t other. ap is_linked (attached.locations t) ∙ rw other refl) (omega (arith, made)) (λ _. omega (arith, made)) (omega (arith, made, together, were.together))
 
   -- it is taken out
-  pub slot_detached : (new : RingState) → is_linked (location_at old.cells.items slot) ≡ true → Detaches slot old.cells new.cells → says_linked f ≡ false → new.made ≡ old.made → flags'.made ≡ flags.made → AreLinks new flags' window
+  pub slot_detached : (new : RingState) → is_linked (location_at old.cells.items slot) ≡ true → Detaches slot old.cells new.cells → says_linked f ≡ false → new.made ≡ old.made → flags'.made ≡ flags.made → AreLinks new flags'
   slot_detached new linked detached here made same =
       flags_written new (linked_within old.cells.items slot linked) detached.as_many
       (here ∙ sym (ap (λ (r : Record). is_linked r.held) detached.freed))
       (λ t other. ap is_linked (detached.locations t other)) (omega (arith, made)) (λ _. rw made (were.made slot linked)) (same ∙ were.together ∙ sym made)
 
 -- its bit is this one now
-pub bit_set : {old : RingState} {flags : FlagState} {flags' : List Flag} {window : List (Option ℕ)} (slot : ℕ) (f : Flag) → AreLinks old flags window → flags' ≡ set flags.items slot f
+pub bit_set : {old : RingState} {flags : FlagState} {flags' : List Flag} (slot : ℕ) (f : Flag) → AreLinks old flags → flags' ≡ set flags.items slot f
     → (positions : CellsState (Option ℕ)) (inspections : ℕ) (bit : Bool) → slot < length old.cells.items → is_set f ≡ bit
     → SetsBit slot bit (links_shown old flags.items positions inspections) (links_shown old flags' positions inspections)
 bit_set {old} {flags} slot f were flagged positions inspections bit within e = record {

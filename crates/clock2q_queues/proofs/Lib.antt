@@ -8,7 +8,7 @@ pub mod Hand
 pub mod Hits
 pub mod InQueue
 pub mod Joining
-pub mod Linked
+pub mod Positions
 pub mod QueuesApart
 pub mod Leaving
 pub mod Locations

@@ -1,6 +1,6 @@
 -- How each call changes the order of the history's places and the chain of the free ones.
 use Rattle.std.proofs.Common.{◌≡◌, ℕ, zero, suc, ◌+◌, ◌-◌, ◌^◌, ◌<◌, ◌≤◌, Bool, true, false, ◌||◌, eqb, Option, Some}
-use Rattle.std.proofs.Common.{None, slice_get, List, [], ◌∷◌, ◌++◌, length, set, take, drop, inl, inr, refl, sym, ap, ◌∙◌, subst, arith}
+use Rattle.std.proofs.Common.{None, slice_get, List, [], ◌∷◌, ◌++◌, length, take, drop, inl, inr, refl, sym, ap, ◌∙◌, subst, arith}
 use Rattle.std.specs.List.{last_or, list_any, AllByRecursion, IsDistinct}
 use Rattle.std.proofs.lemmas.Bool.{eqb-true, both_ways, cases_Bool}
 use Rattle.std.proofs.lemmas.List.{length-append, length-set}
@@ -8,7 +8,7 @@ use Rattle.std.proofs.lemmas.List.Folds.{list_any-append}
 use Rattle.clock2q_queues.specs.declared.entries.Location.TheVariants.{Free}
 use Rattle.clock2q_queues.specs.declared.order.Chain.{Chain}
 use Rattle.clock2q_queues.specs.Rings.{without, around}
-use Rattle.clock2q_queues.specs.Cells.{CellsState, Rises, accessed, cells_state, written}
+use Rattle.clock2q_queues.specs.Cells.{CellsState, Rises, accessed, written}
 use Rattle.clock2q_queues.specs.Links.{Record, IsLinked, Attaches, Detaches, end_of, made_below, slots_from, record_at, next_at, previous_at, vacant}
 use Rattle.clock2q_queues.specs.Ring.{RingState, ring_state}
 use Rattle.clock2q_queues.specs.Order.{PlaceOrder, IsOrderOf, IsOrder, IsWholeOrder, free_places, order_shown, place_for}

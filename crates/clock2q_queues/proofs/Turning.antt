@@ -9,7 +9,7 @@ use Rattle.clock2q_queues.specs.declared.entries.Location.TheVariants.{SmallYoun
 use Rattle.clock2q_queues.specs.declared.small.Small.{Small}
 use Rattle.clock2q_queues.specs.Cells.{CellsState, HitBits, accessed, bit_in, written}
 use Rattle.clock2q_queues.specs.Rings.{without}
-use Rattle.clock2q_queues.specs.Links.{Record, LinkState, IsLinked, IsSameBut, end_of, record_at, young_at, next_at, previous_at, location_at, bit_at, with_location, vacant}
+use Rattle.clock2q_queues.specs.Links.{Record, LinkState, IsLinked, IsSameBut, SetsBit, end_of, record_at, young_at, next_at, previous_at, location_at, bit_at, with_location, vacant}
 use Rattle.clock2q_queues.specs.Ends.{position_freed}
 use Rattle.clock2q_queues.specs.Flags.{is_linked}
 use Rattle.clock2q_queues.specs.Small.{IsSmallQueue, GrowsOld, small_slots, small_entries, admitted, next_cursor}
@@ -112,11 +112,11 @@ module _ (slot : ℕ) (old : LinkState) (small : Small) (m : IsSmallQueue old sm
 
     module _ (mid aged new : LinkState) (small' : Small) (w : 0 < length old.window.items) (o : GrowsOld small.cursor left mid)
         (a : aged ≡ record mid { window = written small.cursor (Some slot) mid.window })
-        (n : new ≡ record aged { records = accessed (with_location slot (SmallYoung small.cursor) aged.records) })
+        (moved : new.records ≡ accessed (with_location slot (SmallYoung small.cursor) aged.records)) (cleared : SetsBit slot false aged (record new { records = aged.records }))
         (newest : small'.newest ≡ slot) (oldest : small'.oldest ≡ previous_at old.records.items slot) (len : small'.len ≡ small.len)
         (cursor : small'.cursor ≡ next_cursor (length left.window.items) small.cursor) where
       window_new : length new.window.items ≡ length left.window.items
-      window_new = ap (λ (l : LinkState). length l.window.items) n ∙ ap (λ (l : LinkState). length l.window.items) a
+      window_new = ap (λ (w : CellsState (Option ℕ)). length w.items) cleared.window ∙ ap (λ (l : LinkState). length l.window.items) a
           ∙ length-set mid.window.items small.cursor (Some slot) ∙ ap (λ (z : List (Option ℕ)). length z) o.positions
 
       stood : (t : ℕ) → (next_at new.records.items t ≡ next_at mid.records.items t) × (previous_at new.records.items t ≡ previous_at mid.records.items t)
@@ -124,7 +124,7 @@ module _ (slot : ℕ) (old : LinkState) (small : Small) (m : IsSmallQueue old sm
       stood t = grind (arith, relocated, aged_fits)
 
       as_many_new : length new.records.items ≡ length mid.records.items
-      as_many_new = ap (λ (l : LinkState). length l.records.items) n ∙ length-set aged.records.items slot _ ∙ ap (λ (l : LinkState). length l.records.items) a
+      as_many_new = ap (λ (r : CellsState Record). length r.items) moved ∙ length-set aged.records.items slot _ ∙ ap (λ (l : LinkState). length l.records.items) a
 
       inserted : Inserts slot (SmallYoung small.cursor) rest mid.records.items new.records.items
       inserted =
@@ -137,7 +137,7 @@ module _ (slot : ℕ) (old : LinkState) (small : Small) (m : IsSmallQueue old sm
 
       admits : Admits slot left small.cursor rest new small'
       admits = Admits-from small' stay (gone slot (small_slots old small)) (rw window_left w) o a inserted
-          (record { positions = ap (λ (l : LinkState). l.window.items) n; bits = λ t other. ap (λ (l : LinkState). bit_at l t) n })
+          (record { positions = ap (λ (w : CellsState (Option ℕ)). w.items) cleared.window; bits = λ t other. cleared.bits t ∙ rw other refl })
           newest (ap (λ z. end_of small'.len z) oldest ∙ end_some small'.len (previous_at old.records.items slot) (omega (arith, counted)) ∙ last_is) counted
           cursor
 

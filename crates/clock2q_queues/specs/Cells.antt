@@ -1,7 +1,5 @@
 -- Vectors whose reads and writes are counted.
 use Rattle.std.specs.Prelude.{ℕ, ◌+◌, ◌≤◌, List, Bool, false, slice_index_or, slice_set}
-use Rattle.std.specs.Coded.{Coded, code_by, coded×, coded_ℕ, coded_list}
-use mathlib.Core.Path.{refl}
 
 -- items by number, and the number of reads and writes
 pub record CellsState (T : Type 0) : Type 0 where
@@ -10,9 +8,6 @@ pub record CellsState (T : Type 0) : Type 0 where
 
 abbrev pub cells_state : {T : Type 0} → List T → ℕ → CellsState T
 cells_state items accesses = record { items = items; accesses = accesses }
-
-abbrev pub cells_code : {T : Type 0} → Coded T → Coded (CellsState T)
-cells_code {T} t = code_by (List T × ℕ) (coded× (coded_list t) coded_ℕ) (λ c. (c.items, c.accesses)) (λ q. cells_state q.0 q.1) (λ _. refl)
 
 -- an item was read
 abbrev pub accessed : {T : Type 0} → CellsState T → CellsState T

@@ -1,5 +1,5 @@
 -- What the flag of a slot says: its hit bit, and whether the slot is in a queue.
-use Rattle.std.specs.Prelude.{◌≡◌, ℕ, ◌-◌, ◌^◌, ◌<◌, Bool, true, false, List, Option, ◌++◌, map, length, replicate, slice_index_or}
+use Rattle.std.specs.Prelude.{◌≡◌, ℕ, ◌-◌, ◌<◌, Bool, true, false, List, Option, ◌++◌, map, length, replicate, slice_index_or}
 use Rattle.clock2q_queues.specs.Cells.{CellsState, hit_bits}
 use Rattle.clock2q_queues.specs.declared.entries.Location.{Location}
 use Rattle.clock2q_queues.specs.declared.entries.Location.TheVariants.{Free, SmallYoung, SmallOld, Main}
@@ -44,9 +44,8 @@ is_linked Main = true
 
 -- each slot has a flag, which says whether it is in a queue, as its record does. A flag is made with its record, and a slot
 -- in a queue has both
-pub record AreLinks (ring : RingState) (flags : FlagState) (window : List (Option ℕ)) : Type 0 where
+pub record AreLinks (ring : RingState) (flags : FlagState) : Type 0 where
   pub as_many : length flags.items ≡ length ring.cells.items
   pub agree : (slot : ℕ) → slice_index_or (map says_linked flags.items) slot false ≡ is_linked (location_at ring.cells.items slot)
   pub made : (slot : ℕ) → is_linked (location_at ring.cells.items slot) ≡ true → slot < ring.made
   pub together : flags.made ≡ ring.made
-  pub countable_positions : length window < 2 ^ 32

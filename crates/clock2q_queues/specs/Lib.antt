@@ -1,6 +1,6 @@
 pub mod Cells
 pub mod Ends
-pub mod Link
+pub mod Positions
 pub mod Links
 pub mod Flags
 pub mod Growth

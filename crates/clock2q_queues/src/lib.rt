@@ -10,7 +10,6 @@
 #![tactic(auto)]
 
 mod entries;
-mod link;
 mod links;
 mod main_queue;
 pub mod order;

@@ -9,24 +9,23 @@ ghost use Rattle.clock2q_queues.specs.Growth.{GrowsLinks};
 ghost use Rattle.clock2q_queues.specs.Links.{LinkState, accesses_of, vacant, is_old, Attaches, Detaches, SetsBit, fresh, made_below, record_at, next_at, previous_at, with_location, location_at, bit_at, young_at};
 ghost use Rattle.clock2q_queues.specs.Small.{GrowsOld, next_cursor};
 
-mod cells;
 mod flags;
+mod window;
 
 use crate::entries::{Entry, Location};
-use crate::link::{Link, NOWHERE};
 use crate::ring::Ring;
-pub(crate) use cells::Cells;
 use clock2q_count::Count;
 use flags::{Flag, Flags};
 use std::alloc::{AllocError, Allocator, Global};
 use std::marker::Model;
+use window::Window;
 
 /// The records and the hit bits of the slots, which both queues share, and the window's positions.
 #[derive(Drop)]
 pub(crate) struct Links<A: Allocator = Global> {
     pub(crate) ring: Ring<Location, A>,
     flags: Flags<A>,
-    window: Cells<Link, A>,
+    window: Window<A>,
     inspections: Count,
 }
 
@@ -38,7 +37,7 @@ impl<A: Allocator> Model for Links<A> {
 
     ghost view = { λ a. links_shown a.ring a.flags.items a.window a.inspections.total };
 
-    ghost invariant = { λ a. AreLinks a.ring a.flags a.window.items };
+    ghost invariant = { λ a. AreLinks a.ring a.flags };
 }
 
 impl<A: Allocator> Links<A> {
@@ -50,11 +49,11 @@ impl<A: Allocator> Links<A> {
     {
         let ring = Ring::new(alloc.clone()?, slots)?;
         let flags = Flags::new(alloc.clone()?, slots)?;
-        let positions = Vec::from_elem(alloc, NOWHERE, window as usize)?;
+        let positions = Window::new(alloc, window)?;
         Ok(Links {
             ring,
             flags,
-            window: Cells::new(positions),
+            window: positions,
             inspections: Count::new(),
         })
     }
@@ -79,12 +78,12 @@ impl<A: Allocator> Links<A> {
             → position < length self.now.window.items }
         ensures { IfOk result (GrowsLinks cursor slots window self.now) }
     {
-        let gap = window - self.window_len();
+        let gap = window - self.window.len();
         let ring = self
             .ring
             .grown_past_gap(alloc.clone()?, slots, cursor, gap)?;
         let flags = self.flags.grown(alloc.clone()?, slots)?;
-        let positions = self.window.with_gap(alloc, cursor, window, NOWHERE)?;
+        let positions = self.window.with_gap(alloc, cursor, window)?;
         let mut inspections = Count::new();
         inspections.raise(&self.inspections);
         Ok(Links {
@@ -99,16 +98,16 @@ impl<A: Allocator> Links<A> {
     pub(crate) fn window_len(&self) -> u32
         ensures { result ≡ length self.now.window.items }
     {
-        self.window.len() as u32
+        self.window.len()
     }
 
-    /// Returns the slot after one that is in a queue.
-    pub(crate) fn next(&mut self, slot: u32) -> u32
+    /// Returns the entry of a slot that is in a queue.
+    pub(crate) fn entry(&mut self, slot: u32) -> Entry<Location>
         requires { is_linked (location_at self.old.records.items slot) ≡ true }
-        ensures value { result ≡ next_at self.old.records.items slot }
+        ensures value { result ≡ record_at self.old.records.items slot }
         ensures counted { self.new ≡ record self.old { records = accessed self.old.records } }
     {
-        self.ring.read(slot).next
+        self.ring.read(slot)
     }
 
     /// Returns where a slot is.
@@ -186,28 +185,16 @@ impl<A: Allocator> Links<A> {
         self.ring.detach(slot)
     }
 
-    /// Makes a slot that is in a queue old, with a clear bit.
-    fn make_old(&mut self, slot: u32)
-        requires { is_linked (location_at self.old.records.items slot) ≡ true }
-        ensures marked { self.new.records
-            ≡ accessed (with_location slot Location.SmallOld self.old.records) }
+    /// Gives a slot that is in a queue another location, and a clear bit.
+    pub(crate) fn relocate(&mut self, slot: u32, location: Location)
+        requires slot_in { is_linked (location_at self.old.records.items slot) ≡ true }
+        requires linked { is_linked location ≡ true }
+        ensures moved { self.new.records ≡ accessed (with_location slot location self.old.records) }
         ensures cleared { SetsBit slot false self.old
             (record self.new { records = self.old.records }) }
     {
         self.flags.set(slot, Flag::Clear);
-        self.ring.set_location(slot, Location::SmallOld);
-    }
-
-    /// Makes a slot that is in a queue young, at a position. Its bit, which nothing reads until the slot
-    /// is old, stays.
-    pub(crate) fn make_young(&mut self, slot: u32, position: u32)
-        requires { is_linked (location_at self.old.records.items slot) ≡ true }
-        ensures { self.new ≡ record self.old {
-          records = accessed
-              (with_location slot (Location.SmallYoung position) self.old.records);
-        } }
-    {
-        self.ring.set_location(slot, Location::SmallYoung(position));
+        self.ring.set_location(slot, location);
     }
 
     /// Puts a slot at the cursor, and returns the position after it, or the first one after the last.
@@ -224,16 +211,10 @@ impl<A: Allocator> Links<A> {
         ensures made { self.new.made ≡ self.old.made }
         ensures accesses { Rises 2 4 (accesses_of self.old) (accesses_of self.new) }
     {
-        let there = self.window.read(cursor);
-        self.window.write(cursor, Link::to(slot));
-        if let Some(oldest) = there.slot() {
-            self.make_old(oldest);
+        if let Some(oldest) = self.window.replace(cursor, slot) {
+            self.relocate(oldest, Location::SmallOld);
         }
-        if cursor + 1 < self.window_len() {
-            cursor + 1
-        } else {
-            0
-        }
+        self.window.after(cursor)
     }
 
     /// Empties the position of a slot, if it was young.
@@ -243,24 +224,8 @@ impl<A: Allocator> Links<A> {
         ensures { self.new ≡ position_freed location self.old }
     {
         if let Location::SmallYoung(position) = location {
-            self.window.write(position, NOWHERE);
+            self.window.free(position);
         }
-    }
-
-    /// Empties the position of a slot that is in a queue, if it is young, and returns the slot before
-    /// it.
-    pub(crate) fn leave_window(&mut self, slot: u32) -> u32
-        requires linked { is_linked (location_at self.old.records.items slot) ≡ true }
-        requires position { (position : ℕ)
-            → location_at self.old.records.items slot ≡ Location.SmallYoung position
-            → position < length self.old.window.items }
-        ensures previous { result ≡ previous_at self.old.records.items slot }
-        ensures left { self.new ≡ position_freed (location_at self.old.records.items slot)
-            (record self.old { records = accessed self.old.records }) }
-    {
-        let entry = self.ring.read(slot);
-        self.leave_position(entry.held);
-        entry.previous
     }
 
     /// Returns true if a slot is in a queue. It reads the byte with the slot's bit, and no record.
@@ -288,7 +253,8 @@ impl<A: Allocator> Links<A> {
         ensures rest { self.new ≡ record self.old { bits = self.new.bits } }
         ensures counted { self.new.bits.inspections ≡ self.old.bits.inspections + 1 }
     {
-        let was = self.flags.read(slot, &mut self.inspections);
+        self.inspections.tick();
+        let was = self.flags.get(slot);
         self.flags.set(slot, Flag::Clear);
         matches!(was, Flag::Hit)
     }
@@ -301,8 +267,8 @@ impl<A: Allocator> Links<A> {
             ≡ (is_old (location_at self.old.records.items slot) && bit_at self.old slot) }
         ensures counted { self.new ≡ record self.old { records = accessed self.old.records } }
     {
-        let (entry, flag) = self.flags.read_with(slot, &mut self.ring);
-        matches!(entry.held, Location::SmallOld) && matches!(flag, Flag::Hit)
+        let entry = self.ring.read(slot);
+        matches!(entry.held, Location::SmallOld) && matches!(self.flags.get(slot), Flag::Hit)
     }
 
     /// Reads the record of a slot that is in a queue, and returns the slot after it if its bit is set.
@@ -312,8 +278,8 @@ impl<A: Allocator> Links<A> {
             ≡ then_some (bit_at self.old slot) (next_at self.old.records.items slot) }
         ensures counted { self.new ≡ record self.old { records = accessed self.old.records } }
     {
-        let (entry, flag) = self.flags.read_with(slot, &mut self.ring);
-        matches!(flag, Flag::Hit).then_some(entry.next)
+        let entry = self.ring.read(slot);
+        matches!(self.flags.get(slot), Flag::Hit).then_some(entry.next)
     }
 
     /// Resets every record, every position and every bit to its initial state.
@@ -329,6 +295,6 @@ impl<A: Allocator> Links<A> {
     {
         self.ring.clear();
         self.flags.clear();
-        self.window.fill(NOWHERE);
+        self.window.clear();
     }
 }

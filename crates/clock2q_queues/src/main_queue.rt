@@ -95,7 +95,7 @@ impl Main {
         // a ring with an entry has a hand
         let mut hand = self.hand.unwrap();
         while links.inspect(hand) {
-            hand = links.next(hand);
+            hand = links.entry(hand).next;
         }
         self.hand = Some(hand);
         hand
@@ -134,7 +134,7 @@ impl Main {
             ≡ drop 1 (main_entries links.old self.old) ++ (slot, false) ∷ [] }
         ensures links { links.new ≡ record links.old { records = accessed links.old.records } }
     {
-        self.hand = Some(links.next(slot));
+        self.hand = Some(links.entry(slot).next);
     }
 
     /// Empties the ring. `Links::reset` resets the records.

@@ -193,7 +193,7 @@ impl<A: Allocator> Queues<A> {
             } }
         ensures accesses { Rises 0 7 self.old.accesses self.new.accesses }
     {
-        let tail = self.small.tail()?;
+        let tail = (self.small.len > 0).then_some(self.small.oldest)?;
         self.small.unlink(&mut self.links, tail);
         Some(tail)
     }
@@ -257,7 +257,7 @@ impl<A: Allocator> Queues<A> {
         if self.victim_leaves() {
             self.main.victim(&mut self.links)
         } else {
-            self.small.tail()
+            (self.small.len > 0).then_some(self.small.oldest)
         }
     }
 

@@ -34,14 +34,6 @@ impl Small {
         }
     }
 
-    /// Returns the oldest slot, or `None` if there is none.
-    pub(crate) fn tail(&self) -> Option<u32>
-        ensures { (l : LinkState) → IsSmallQueue l self.now
-            → result ≡ last_or None (small_slots l self.now) }
-    {
-        (self.len > 0).then_some(self.oldest)
-    }
-
     /// Admits a slot as the newest, and young. All other young slots grow older.
     #[inline(always)]
     pub(crate) fn push<A: Allocator>(&mut self, links: &mut Links<A>, slot: u32)
@@ -91,9 +83,11 @@ impl Small {
     {
         let slot = self.oldest;
         let cursor = self.cursor;
-        self.oldest = links.leave_window(slot);
+        let was = links.entry(slot);
+        links.leave_position(was.held);
+        self.oldest = was.previous;
         self.cursor = links.take_position(cursor, slot);
-        links.make_young(slot, cursor);
+        links.relocate(slot, Location::SmallYoung(cursor));
         self.newest = slot;
         slot
     }

@@ -1,13 +1,8 @@
 //! What is known of a slot without its record: whether it is in a queue, and its hit bit.
 ghost use Rattle.std.specs.Prelude.{◌≡◌, ◌+◌, ◌-◌, ◌<◌, ◌≤◌, ◌++◌, true, IfOk, length, replicate, slice_index_or, slice_set};
 ghost use Rattle.clock2q_queues.specs.Flags.{flag_state, says_linked};
-ghost use Rattle.clock2q_queues.specs.Cells.{accessed};
-ghost use Rattle.clock2q_queues.specs.Links.{made_below, record_at};
-ghost use Rattle.clock2q_queues.specs.Ring.{ring_state};
+ghost use Rattle.clock2q_queues.specs.Links.{made_below};
 
-use crate::entries::{Entry, Location};
-use crate::ring::Ring;
-use clock2q_count::Count;
 use std::alloc::{AllocError, Allocator, Global};
 use std::marker::Model;
 
@@ -64,29 +59,12 @@ impl<A: Allocator> Flags<A> {
         Ok(Flags { flags, slots })
     }
 
-    /// Returns the flag of a slot that is in a queue. The look is counted in `looks`.
-    pub(super) fn read(&self, slot: u32, looks: &mut Count) -> Flag
+    /// Returns the flag of a slot that is in a queue. Who calls it counts the look.
+    pub(super) fn get(&self, slot: u32) -> Flag
         requires { says_linked (slice_index_or self.now.items slot Flag.Free) ≡ true }
-        ensures flag { result ≡ slice_index_or self.now.items slot Flag.Free }
-        ensures counted { looks.new.total ≡ looks.old.total + 1 }
+        ensures { result ≡ slice_index_or self.now.items slot Flag.Free }
     {
-        looks.tick();
         self.flags[slot as usize]
-    }
-
-    /// Returns the entry of a slot that is in a queue, and its flag. It is one access of the ring.
-    pub(super) fn read_with(
-        &self,
-        slot: u32,
-        ring: &mut Ring<Location, A>,
-    ) -> (Entry<Location>, Flag)
-        requires made { slot < ring.old.made }
-        requires linked { says_linked (slice_index_or self.now.items slot Flag.Free) ≡ true }
-        ensures record { result.0 ≡ record_at ring.old.cells.items slot }
-        ensures flag { result.1 ≡ slice_index_or self.now.items slot Flag.Free }
-        ensures counted { ring.new ≡ ring_state (accessed ring.old.cells) ring.old.made }
-    {
-        (ring.read(slot), self.flags[slot as usize])
     }
 
     /// Returns true if a slot is in a queue. It doesn't say whether the slot's bit is set.

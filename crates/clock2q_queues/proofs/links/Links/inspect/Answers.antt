@@ -3,8 +3,8 @@ use Rattle.clock2q_queues.proofs.AllRecords.{linked_within}
 use Rattle.clock2q_queues.proofs.Flagged.{bit_set, flag_linked, flags_changed}
 use Rattle.clock2q_queues.proofs.links.Links.inspect.Goals as goal
 
-pub read-was-requires : goal.read-was-requires
-read-was-requires g c = flag_linked c.self.invariant c.args.slot (rw (← c.self.view_is) at c.requires)
+pub get-was-requires : goal.get-was-requires
+get-was-requires g c = flag_linked c.self.invariant c.args.slot (rw (← c.self.view_is) at c.requires)
 
 pub set-requires : goal.set-requires
 set-requires g c = flag_linked c.self.invariant c.args.slot (rw (← c.self.view_is) at c.requires)

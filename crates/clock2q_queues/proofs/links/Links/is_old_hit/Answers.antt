@@ -1,8 +1,8 @@
 use Rattle.clock2q_queues.proofs.Flagged.{flag_linked}
 use Rattle.clock2q_queues.proofs.links.Links.is_old_hit.Goals as goal
 
-pub read_with-flag-requires-clause-made : goal.read_with-flag-requires-clause-made
-read_with-flag-requires-clause-made g c = c.self.invariant.made c.args.slot (rw (← c.self.view_is) at c.requires)
+pub read-entry-requires : goal.read-entry-requires
+read-entry-requires g c = c.self.invariant.made c.args.slot (rw (← c.self.view_is) at c.requires)
 
-pub read_with-flag-requires-clause-linked : goal.read_with-flag-requires-clause-linked
-read_with-flag-requires-clause-linked g c = flag_linked c.self.invariant c.args.slot (rw (← c.self.view_is) at c.requires)
+pub get-requires : goal.get-requires
+get-requires g c = flag_linked c.self.invariant c.args.slot (rw (← c.self.view_is) at c.requires)

@@ -1,4 +1,4 @@
-use Rattle.std.proofs.Common.{refl, ◌+◌, ◌-◌, ap, ◌∙◌, rules, arith}
+use Rattle.std.proofs.Common.{refl, ◌+◌, ap, ◌∙◌, rules, arith}
 use Rattle.clock2q_queues.specs.declared.main_queue.Main.{Main}
 use Rattle.clock2q_queues.proofs.Joining.{count_fits}
 use Rattle.clock2q_queues.proofs.Main.{PushesMain, PushesMain-attached, PushesMain-alone, hand_linked}

@@ -13,6 +13,6 @@ invariant_of-self g c =
 pub returns-else-victim_leaves-clause-tail : goal.returns-else-victim_leaves-clause-tail
 returns-else-victim_leaves-clause-tail g c leaves =
     let i = c.self.inside in
-    c.tail.ensures i.links c.self.invariant.small
+    c.then_some.ensures ∙ c.self.invariant.small.ends
     ∙ sym (ap (λ z. last_or None z) (small_slots-of i.links i.small))
     ∙ ap (λ (q : QueueState). last_or None (slots_of q.small)) (c.self.view_is ∙ c.victim_leaves.ensures.queues)

@@ -1,0 +1,29 @@
+-- The slots at the window's positions, which hold numbers.
+use Rattle.std.proofs.Common.{◌≡◌, ℕ, ◌<◌, Bool, true, false, not, eqb, List, Some, None, length, map, get_or, refl, sym, ap, ◌∙◌, arith}
+use Rattle.std.specs.Bool.{then_some}
+use Rattle.std.proofs.lemmas.Bool.{ne_eqb}
+use Rattle.std.proofs.lemmas.List.{drop-map, get_or-map, map-append, take-map}
+use Rattle.clock2q_queues.specs.Growth.{with_gap}
+use Rattle.clock2q_queues.specs.Positions.{no_slot, slot_of}
+use Rattle.clock2q_queues.proofs.Records.{mapped-same}
+
+-- a free position
+pub slot_of-none : slot_of no_slot ≡ None
+slot_of-none = refl
+
+-- a slot's number isn't that of a free position
+pub slot_of-slot : (slot : ℕ) → slot < no_slot → slot_of slot ≡ Some slot
+slot_of-slot slot below = rw (ne_eqb slot no_slot (λ e. omega (arith, below, e))) refl
+
+-- the slot that a position held
+pub slot_of-read : (numbers : List ℕ) (position was : ℕ) → position < length numbers → was ≡ get_or numbers position was
+    → then_some (not (eqb was no_slot)) was ≡ get_or (map slot_of numbers) position None
+slot_of-read numbers position was within is = of (eqb was no_slot) refl ∙ ap slot_of is ∙ sym (get_or-map slot_of numbers position was None within)
+  where
+    of : (b : Bool) → eqb was no_slot ≡ b → then_some (not (eqb was no_slot)) was ≡ slot_of was
+    of true e = rw e refl
+    of false e = rw e refl
+
+-- free positions were put in
+pub gap-mapped : (at gap : ℕ) (numbers : List ℕ) → map slot_of (with_gap at gap no_slot numbers) ≡ with_gap at gap None (map slot_of numbers)
+gap-mapped at gap numbers = simp (map-append, take-map, drop-map, mapped-same)

@@ -1,0 +1,9 @@
+use Rattle.std.proofs.Common.{◌≡◌, replicate, refl, rules}
+use Rattle.clock2q_queues.specs.Positions.{no_slot}
+use Rattle.clock2q_queues.proofs.Records.{mapped-same}
+use Rattle.clock2q_queues.proofs.links.window.Window.new.Goals as goal
+
+pub returns : goal.returns
+returns g c =
+    let all : c.in_ok-numbers.numbers.items ≡ replicate c.args.len no_slot = search rules in
+    rw (all, c.new.ensures.zero, mapped-same) refl
