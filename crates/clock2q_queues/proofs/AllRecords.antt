@@ -34,67 +34,49 @@ module _ {X : Type 0} (d : X) where
   found-in test fails (x ∷ xs) zero passes = omega arith
   found-in test fails (x ∷ xs) (suc slot) passes = omega (arith, found-in test fails xs slot passes)
 
-module _ (fs : List Flag) (slots : ℕ) where
-  -- a flag that isn't in memory says that its slot is free
-  pub flags-at : (slot : ℕ) → get_or (all_flags fs slots) slot Flag.Free ≡ get_or fs slot Flag.Free
-  flags-at slot = padded-get Flag.Free fs (slots - length fs) slot
+-- a list of which only the first items are in memory, and any other is this one
+module _ {X : Type 0} (d : X) (xs : List X) (slots : ℕ) where
+  abbrev all : List X
+  all = xs ++ replicate (slots - length xs) d
 
-  -- so that of a slot in a queue is in memory
-  pub flags-in : (slot : ℕ) → says_linked (get_or (all_flags fs slots) slot Flag.Free) ≡ true → slot < length fs
-  flags-in slot linked = found-in Flag.Free says_linked refl fs slot (ap says_linked (sym (flags-at slot)) ∙ linked)
+  pub all-at : (slot : ℕ) → get_or all slot d ≡ get_or xs slot d
+  all-at slot = padded-get d xs (slots - length xs) slot
 
-  pub length-flags : length fs ≤ slots → length (all_flags fs slots) ≡ slots
-  length-flags fit = omega (arith, fit, length-append fs (replicate (slots - length fs) Flag.Free), length-replicate (slots - length fs) Flag.Free)
+  pub length-all : length xs ≤ slots → length all ≡ slots
+  length-all fit = omega (arith, fit, length-append xs (replicate (slots - length xs) d), length-replicate (slots - length xs) d)
 
-  -- a flag in memory is written
-  pub flags-set : (slot : ℕ) (f : Flag) → slot < length fs → set (all_flags fs slots) slot f ≡ all_flags (set fs slot f) slots
-  flags-set slot f within = padded-set Flag.Free fs (slots - length fs) slot f within ∙ ap (λ n. set fs slot f ++ replicate (slots - n) Flag.Free) (sym (length-set fs slot f))
+  -- an item in memory is written
+  pub all-set : (slot : ℕ) (x : X) → slot < length xs → set all slot x ≡ set xs slot x ++ replicate (slots - length (set xs slot x)) d
+  all-set slot x within = padded-set d xs (slots - length xs) slot x within ∙ ap (λ n. set xs slot x ++ replicate (slots - n) d) (sym (length-set xs slot x))
 
-  -- the first slot whose flag isn't in memory gets one
-  pub flags-pushed : (slot : ℕ) (f : Flag) → slot ≡ length fs → slot < slots → set (all_flags fs slots) slot f ≡ all_flags (fs ++ f ∷ []) slots
-  flags-pushed slot f is within = padded-push Flag.Free fs (slots - length fs) slot f is (omega (arith, is, within))
-      ∙ ap (λ n. (fs ++ f ∷ []) ++ replicate n Flag.Free) (omega (arith, length-append fs (f ∷ [])))
+  -- the first one that isn't comes into memory
+  pub all-pushed : (slot : ℕ) (x : X) → slot ≡ length xs → slot < slots → set all slot x ≡ (xs ++ x ∷ []) ++ replicate (slots - length (xs ++ x ∷ [])) d
+  all-pushed slot x is within = padded-push d xs (slots - length xs) slot x is (omega (arith, is, within))
+      ∙ ap (λ n. (xs ++ x ∷ []) ++ replicate n d) (omega (arith, length-append xs (x ∷ [])))
 
-  -- flags of free slots come into memory
-  pub flags-more : (k : ℕ) → length fs + k ≤ slots → all_flags (fs ++ replicate k Flag.Free) slots ≡ all_flags fs slots
-  flags-more k fit = grind (arith, append_assoc, replicate-append-replicate, length-append, length-replicate)
+  -- the same comes into memory as it was
+  pub all-more : (k : ℕ) → length xs + k ≤ slots → (xs ++ replicate k d) ++ replicate (slots - length (xs ++ replicate k d)) d ≡ all
+  all-more k fit = grind (arith, append_assoc, replicate-append-replicate, length-append, length-replicate)
+
+-- the flag of a slot in a queue is in memory
+pub flags-in : (fs : List Flag) (slots slot : ℕ) → says_linked (get_or (all_flags fs slots) slot Flag.Free) ≡ true → slot < length fs
+flags-in fs slots slot linked = found-in Flag.Free says_linked refl fs slot (ap says_linked (sym (all-at Flag.Free fs slots slot)) ∙ linked)
 
 -- a slot that is in a queue has a record
 pub linked_within : (rs : List Record) (slot : ℕ) → is_linked (location_at rs slot) ≡ true → slot < length rs
 linked_within rs slot linked = found-in vacant (λ (r : Record). is_linked r.held) refl rs slot linked
-
-module _ (rs : List Record) (slots : ℕ) where
-  -- the record of a slot that isn't in memory is vacant
-  pub all-at : (t : ℕ) → record_at (all_records rs slots) t ≡ record_at rs t
-  all-at t = padded-get vacant rs (slots - length rs) t
-
-  pub length-all : length rs ≤ slots → length (all_records rs slots) ≡ slots
-  length-all fit = omega (arith, fit, length-append rs (replicate (slots - length rs) vacant), length-replicate (slots - length rs) vacant)
-
-  -- a record in memory is written
-  pub all-set : (slot : ℕ) (r : Record) → slot < length rs → set (all_records rs slots) slot r ≡ all_records (set rs slot r) slots
-  all-set slot r within = padded-set vacant rs (slots - length rs) slot r within ∙ ap (λ n. set rs slot r ++ replicate (slots - n) vacant) (sym (length-set rs slot r))
-
-  -- the first slot whose record isn't in memory gets one
-  pub all-pushed : (slot : ℕ) (r : Record) → slot ≡ length rs → slot < slots → set (all_records rs slots) slot r ≡ all_records (rs ++ r ∷ []) slots
-  all-pushed slot r is within = padded-push vacant rs (slots - length rs) slot r is (omega (arith, is, within))
-      ∙ ap (λ n. (rs ++ r ∷ []) ++ replicate n vacant) (omega (arith, length-append rs (r ∷ [])))
-
-  -- vacant records come into memory
-  pub all-more : (k : ℕ) → length rs + k ≤ slots → all_records (rs ++ replicate k vacant) slots ≡ all_records rs slots
-  all-more k fit = grind (arith, append_assoc, replicate-append-replicate, length-append, length-replicate)
 
 -- The entries in memory, as records
 
 module _ {E : Type 0} (record_of : E → Record) (es : List E) (places : ℕ) where
   -- an entry in memory is read
   pub entry-read : (place : ℕ) (e : E) → place < length es → e ≡ get_or es place e → record_of e ≡ record_at (all_records (map record_of es) places) place
-  entry-read place e within is = ap record_of is ∙ sym (get_or-map record_of es place e vacant within) ∙ sym (all-at (map record_of es) places place)
+  entry-read place e within is = ap record_of is ∙ sym (get_or-map record_of es place e vacant within) ∙ sym (all-at vacant (map record_of es) places place)
 
   -- an entry in memory is written
   pub entry-written : (place : ℕ) (e : E) → place < length es → all_records (map record_of (set es place e)) places ≡ set (all_records (map record_of es) places) place (record_of e)
   entry-written place e within =
-      ap (λ rs. all_records rs places) (map-set record_of es place e) ∙ sym (all-set (map record_of es) places place (record_of e) (rw (length-map es record_of) within))
+      ap (λ rs. all_records rs places) (map-set record_of es place e) ∙ sym (all-set vacant (map record_of es) places place (record_of e) (rw (length-map es record_of) within))
 
   -- a part of an entry in memory is written
   pub entry-changed : (place : ℕ) (was e : E) (change : Record → Record) → place < length es → was ≡ get_or es place was → record_of e ≡ change (record_of was)
@@ -105,12 +87,12 @@ module _ {E : Type 0} (record_of : E → Record) (es : List E) (places : ℕ) wh
   -- the first place whose entry isn't in memory gets one
   pub entry-made : (place : ℕ) (e : E) → place ≡ length es → place < places → all_records (map record_of (es ++ e ∷ [])) places ≡ set (all_records (map record_of es) places) place (record_of e)
   entry-made place e is within = ap (λ rs. all_records rs places) (map-append record_of es (e ∷ []))
-      ∙ sym (all-pushed (map record_of es) places place (record_of e) (is ∙ sym (length-map es record_of)) within)
+      ∙ sym (all-pushed vacant (map record_of es) places place (record_of e) (is ∙ sym (length-map es record_of)) within)
 
   -- a vacant one comes into memory
   pub entry-vacant : (e : E) → record_of e ≡ vacant → length es < places → all_records (map record_of (es ++ e ∷ [])) places ≡ all_records (map record_of es) places
   entry-vacant e is within = ap (λ rs. all_records rs places) (map-append record_of es (e ∷ [])) ∙ ap (λ r. all_records (map record_of es ++ r ∷ []) places) is
-      ∙ all-more (map record_of es) places 1 (omega (arith, within, length-map es record_of))
+      ∙ all-more vacant (map record_of es) places 1 (omega (arith, within, length-map es record_of))
 
   -- the same, as the ring shows it
   pub ring-changed : (place a b : ℕ) (was e : E) (change : Record → Record) (now : RingState) → ring_shown (map record_of es) places a ≡ now → place < now.made

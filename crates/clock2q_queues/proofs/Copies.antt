@@ -9,7 +9,7 @@ use Rattle.clock2q_queues.specs.Flags.{AreLinks, FlagState, all_flags, flag_stat
 use Rattle.clock2q_queues.specs.Growth.{GrowsLinks, GrowsRing, moved_location, moved_record, with_gap}
 use Rattle.clock2q_queues.specs.Links.{Record, LinkState, all_records, record_at, vacant}
 use Rattle.clock2q_queues.specs.Ring.{RingState, ring_shown}
-use Rattle.clock2q_queues.proofs.AllRecords.{all-at, length-all, length-flags}
+use Rattle.clock2q_queues.proofs.AllRecords.{all-at, length-all}
 use Rattle.clock2q_queues.proofs.Records.{get_or-same}
 
 -- Rings
@@ -23,13 +23,13 @@ changed_at change blank (r ∷ rs) (suc t) = changed_at change blank rs t
 pub ring-grown : (change : Record → Record) → change vacant ≡ vacant → (rs rs' : List Record) → rs' ≡ map change rs → (old places a b : ℕ) (now : RingState) → ring_shown rs old a ≡ now
     → length rs ≤ old → length now.cells.items ≤ places → b ≡ now.cells.accesses + 2 * length rs → GrowsRing change places now (ring_shown rs' places b)
 ring-grown change blank rs rs' copied old places a b now shown within fits counted =
-    let many : length now.cells.items ≡ old = ap (λ (z : RingState). length z.cells.items) (sym shown) ∙ length-all rs old within in
+    let many : length now.cells.items ≡ old = ap (λ (z : RingState). length z.cells.items) (sym shown) ∙ length-all vacant rs old within in
     let as_many : length rs' ≡ length rs = ap (λ (z : List Record). length z) copied ∙ length-map rs change in
     let made : now.made ≡ length rs = ap (λ (z : RingState). z.made) (sym shown) in
     record {
-      entries = λ t. all-at rs' places t ∙ ap (λ z. record_at z t) copied ∙ changed_at change blank rs t
-          ∙ ap change (sym (all-at rs old t) ∙ ap (λ (z : RingState). record_at z.cells.items t) shown);
-      as_many = length-all rs' places (omega (arith, as_many, many, within, fits));
+      entries = λ t. all-at vacant rs' places t ∙ ap (λ z. record_at z t) copied ∙ changed_at change blank rs t
+          ∙ ap change (sym (all-at vacant rs old t) ∙ ap (λ (z : RingState). record_at z.cells.items t) shown);
+      as_many = length-all vacant rs' places (omega (arith, as_many, many, within, fits));
       made = as_many ∙ sym made;
       within = omega (arith, made, many, within);
       accesses = omega (arith, counted, made);
@@ -42,12 +42,12 @@ all-copied change es items copies k copied same done = map-id copies ∙ copied 
 
 -- a record in memory
 pub record-in : (es : List Record) (places t : ℕ) → record_at (all_records (map (λ (r : Record). r) es) places) t ≡ record_at es t
-record-in es places t = all-at (map (λ (r : Record). r) es) places t ∙ ap (λ z. record_at z t) (map-id es)
+record-in es places t = all-at vacant (map (λ (r : Record). r) es) places t ∙ ap (λ z. record_at z t) (map-id es)
 
 -- Flags
 
 pub flags-grown : (fs : List Flag) (old new : ℕ) → length fs ≤ old → old ≤ new → all_flags fs new ≡ all_flags fs old ++ replicate (new - length (all_flags fs old)) Flag.Free
-flags-grown fs old new within fits = grind (arith, append_assoc, replicate-append-replicate, length-flags)
+flags-grown fs old new within fits = grind (arith, append_assoc, replicate-append-replicate, length-all Flag.Free)
 
 module _ (says : Flag → Bool) (free : says Flag.Free ≡ false) where
   said_free : (n t : ℕ) → get_or (map says (replicate n Flag.Free)) t false ≡ false

@@ -13,10 +13,10 @@ use Rattle.clock2q_queues.specs.Flags.{is_linked}
 use Rattle.clock2q_queues.specs.Links.{LinkState, location_at, bit_at, is_old}
 use Rattle.clock2q_queues.specs.Main.{main_slots, main_entries}
 use Rattle.clock2q_queues.specs.Small.{IsInSmall, small_slots, small_entries, age_of, age_at}
-use Rattle.clock2q_queues.specs.Queues.{QueueState, AreQueues, IsAt, queues_shown, slots_of, without_slot, tail_promoted, keeps_tail}
+use Rattle.clock2q_queues.specs.Queues.{QueueState, AreQueues, IsAt, queues_shown, slots_of, without_slot, tail_promoted}
 use Rattle.clock2q_queues.proofs.InQueue.{small_linked}
 use Rattle.clock2q_queues.proofs.Sharing.{small_slots-of, main_slots-of}
-use Rattle.clock2q_queues.proofs.SlotLists.{tail_among, tail_entry, no_entry, first_out, last_out, none_last}
+use Rattle.clock2q_queues.proofs.SlotLists.{tail_among, tail_entry, first_out, last_out, none_last}
 
 Free≢Main : Free ≢ at.Main
 Free≢Main e = cc
@@ -99,12 +99,6 @@ module _ (l : LinkState) (small : Small) (main : Main) (q : AreQueues l small ma
         promoted-is (length l.window.items) small.cursor (location_at l.records.items tail) (bit_at l tail) (q.small.location tail tail_there)
         ∙ sym (ap tail_promoted (tail_entry (λ s. age_at l small.cursor s) (small_slots l small) tail is))
 
-    -- and Small gives it up otherwise
-    pub keeps_tail-some : (is_old (location_at l.records.items tail) && bit_at l tail) ≡ keeps_tail (last_or None (small_entries l small))
-    keeps_tail-some =
-        let last = tail_entry (λ s. age_at l small.cursor s) (small_slots l small) tail is in
-        tail_promoted-some ∙ ap tail_promoted last ∙ sym (ap keeps_tail last)
-
     -- without it, all but the last entry are left
     pub tail_out : without_slot tail (small_entries l small) ≡ take (length (small_entries l small) - 1) (small_entries l small)
     tail_out =
@@ -119,8 +113,5 @@ module _ (l : LinkState) (small : Small) (main : Main) (q : AreQueues l small ma
       (ap (λ z. list_any (eqb slot) z) (sym (main_slots-of l main)) ∙ out.0, out.1)
 
 module _ (l : LinkState) (small : Small) (is : last_or None (small_slots l small) ≡ None) where
-  pub keeps_tail-none : keeps_tail (last_or None (small_entries l small)) ≡ true
-  keeps_tail-none = ap keeps_tail (no_entry (λ s. age_at l small.cursor s) (small_slots l small) is)
-
   pub no_tail : small_entries l small ≡ take (length (small_entries l small) - 1) (small_entries l small)
   no_tail = none_last (small_entries l small) (ap (λ z. last_or None z) (small_slots-of l small) ∙ is)

@@ -7,10 +7,6 @@ use Rattle.clock2q_queues.specs.Growth.{with_gap}
 use Rattle.clock2q_queues.specs.Positions.{no_slot, slot_of}
 use Rattle.clock2q_queues.proofs.Records.{mapped-same}
 
--- a free position
-pub slot_of-none : slot_of no_slot ≡ None
-slot_of-none = refl
-
 -- a slot's number isn't that of a free position
 pub slot_of-slot : (slot : ℕ) → slot < no_slot → slot_of slot ≡ Some slot
 slot_of-slot slot below = rw (ne_eqb slot no_slot (λ e. omega (arith, below, e))) refl

@@ -87,10 +87,6 @@ last-entry : {X : Type 0} (f : ℕ → X) (ss : List ℕ) (s x : ℕ) → last_o
 last-entry f [] s x e = let q : s ≡ x = cc in ap (λ z. Some (z, f z)) q
 last-entry f (t ∷ ss) s x e = last-entry f ss t x e
 
-pub no_entry : {X : Type 0} (f : ℕ → X) (ss : List ℕ) → last_or None ss ≡ None → last_or None (map {B = ℕ × X} (λ t. (t, f t)) ss) ≡ None
-no_entry f [] e = refl
-no_entry f (s ∷ ss) e = absurd (let x = last_some ss s in let y = x.1 in cc)
-
 pub tail_entry : {X : Type 0} (f : ℕ → X) (ss : List ℕ) (x : ℕ) → last_or None ss ≡ Some x → last_or None (map {B = ℕ × X} (λ t. (t, f t)) ss) ≡ Some (x, f x)
 tail_entry f [] x e = absurd (cc)
 tail_entry f (s ∷ ss) x e = last-entry f ss s x e

@@ -1,7 +1,8 @@
 use Rattle.std.proofs.Common.{arith}
 use Rattle.std.proofs.lemmas.List.{length-map}
+use Rattle.clock2q_queues.specs.Links.{vacant}
 use Rattle.clock2q_queues.proofs.AllRecords.{length-all}
 use Rattle.clock2q_queues.proofs.ring.Ring.read.Goals as goal
 
 pub returns-clause-within : goal.returns-clause-within
-returns-clause-within g c = grind (arith, length-all, length-map, c.self.view_is, c.self.invariant.0)
+returns-clause-within g c = grind (arith, length-all vacant, length-map, c.self.view_is, c.self.invariant.0)

@@ -1,6 +1,6 @@
 use Rattle.std.proofs.Common.{◌≡◌, ◌<◌, length, map, refl, arith}
 use Rattle.std.proofs.lemmas.List.{length-map}
-use Rattle.clock2q_queues.specs.Links.{record_of}
+use Rattle.clock2q_queues.specs.Links.{record_of, vacant}
 use Rattle.clock2q_queues.proofs.AllRecords.{entry-made, entry-written, length-all}
 use Rattle.clock2q_queues.proofs.ring.Ring.write.Goals as goal
 
@@ -14,6 +14,6 @@ returns-else-place-len-clause-written g c =
     let of = record_of g.T.Held.location_of in
     let place_in = rw (← c.self.view_is) at c.requires.place_in in
     let next = rw (← c.self.view_is) at c.requires.next in
-    let within : c.args.place < i.places = omega (arith, place_in, length-map es of, length-all (map of es) i.places (omega (arith, length-map es of, c.self.invariant.0))) in
+    let within : c.args.place < i.places = omega (arith, place_in, length-map es of, length-all vacant (map of es) i.places (omega (arith, length-map es of, c.self.invariant.0))) in
     let is : c.args.place ≡ length es = omega (arith, next, length-map es of) in
     rw (← c.self.view_is, c.push_reserved.ensures.items, c.tick.ensures.ticked) (rw (entry-made of es i.places c.args.place c.args.entry is within) refl)

@@ -1,9 +1,10 @@
 use Rattle.std.proofs.Common.{arith}
-use Rattle.clock2q_queues.proofs.AllRecords.{flags-pushed, flags-set, length-flags}
+use Rattle.clock2q_queues.specs.declared.links.flags.Flag.{Flag}
+use Rattle.clock2q_queues.proofs.AllRecords.{all-pushed, all-set, length-all}
 use Rattle.clock2q_queues.proofs.links.flags.Flags.write.Goals as goal
 
 pub returns-then-slot-len-clause-flags : goal.returns-then-slot-len-clause-flags
-returns-then-slot-len-clause-flags g c = grind (arith, flags-set, c.self.view_is)
+returns-then-slot-len-clause-flags g c = grind (arith, all-set Flag.Free, c.self.view_is)
 
 pub returns-else-slot-len-clause-flags : goal.returns-else-slot-len-clause-flags
-returns-else-slot-len-clause-flags g c = grind (arith, length-flags, flags-pushed, c.self.view_is, c.requires, c.self.invariant.0, c.push_reserved.ensures.items)
+returns-else-slot-len-clause-flags g c = grind (arith, length-all Flag.Free, all-pushed Flag.Free, c.self.view_is, c.requires, c.self.invariant.0, c.push_reserved.ensures.items)
