@@ -98,60 +98,48 @@ pub record Inserts (slot : ℕ) (location : Location) (ss : List ℕ) (old new :
   pub others : (t : ℕ) → list_any (eqb t) (slot ∷ ss) ≡ false → record_at new t ≡ record_at old t
   pub as_many : length new ≡ length old
 
--- into a queue with slots, just before its first one
-Inserts-attached : (old new : CellsState Record) (first : ℕ) (ss : List ℕ) (slot : ℕ) (location : Location)
-    → IsLinked old.items (first ∷ ss) → list_any (eqb slot) (first ∷ ss) ≡ false → slot < length old.items → Attaches slot first location old new
-    → Inserts slot location (first ∷ ss) old.items new.items
-Inserts-attached old new first ss slot location k absent b a =
-    let rs = old.items in
-    let last_in = before_end (next_at rs) (previous_at rs) first ss first k.ring in
-    record {
-      linked = record {
-        ring = IsRing-put (next_at rs) (previous_at rs) (next_at new.items) (previous_at new.items) first ss slot k.ring k.apart absent a.nexts a.previouses;
-        apart = IsDistinct-append (first ∷ ss) (slot ∷ []) k.apart (distinct_alone eqb slot) (λ t h. or_neither (eqb t slot) false (differs t slot (first ∷ ss) h absent) refl);
-        below = subst (λ z. AllByRecursion (λ s. s < z) (first ∷ ss ++ slot ∷ [])) (sym a.as_many) (AllByRecursion-append (length rs) (first ∷ ss) (slot ∷ []) k.below (b, tt));
-      };
-      locations = a.locations;
-      others = λ t h.
-          let p : eqb t slot ≡ false = (or_parts (eqb t slot) (list_any (eqb t) (first ∷ ss)) h).0 in
-          let q : list_any (eqb t) (first ∷ ss) ≡ false = (or_parts (eqb t slot) (list_any (eqb t) (first ∷ ss)) h).1 in
-          let f : eqb t first ≡ false = (or_parts (eqb t first) (list_any (eqb t) ss) q).0 in
-          let l : eqb t (previous_at rs first) ≡ false = eqb_swap (previous_at rs first) t (differs (previous_at rs first) t (first ∷ ss) last_in q) in
-          same_record (record_at new.items t) (record_at rs t)
-          (a.previouses t ∙ rw (f, p) refl) (a.nexts t ∙ rw (l, p) refl) (a.locations t ∙ rw p refl);
-      as_many = a.as_many;
-    }
-
--- into an empty queue
-Inserts-alone : (rs : List Record) (slot : ℕ) (location : Location) → slot < length rs
-    → Inserts slot location [] rs (set rs slot (record { previous = slot; next = slot; held = location }))
-Inserts-alone rs slot location b =
-    let r : Record = record { previous = slot; next = slot; held = location } in
-    let n = length-set rs slot r in
-    record {
-      linked = record {
-        ring = (changed (λ p. p.next) rs slot r vacant slot b ∙ rw (eqb_self slot) refl, changed (λ p. p.previous) rs slot r vacant slot b ∙ rw (eqb_self slot) refl);
-        apart = distinct_alone eqb slot;
-        below = (omega arith, tt);
-      };
-      locations = λ t. changed (λ p. p.held) rs slot r vacant t b;
-      others = λ t h. changed (λ p. p) rs slot r vacant t b ∙ rw ((or_parts (eqb t slot) false h).0) refl;
-      as_many = n;
-    }
-
--- a slot is put in before the first slot of a queue, as its owner holds it
+-- just before the first slot of a queue, as its owner holds it
 pub Inserts-before : (old new : CellsState Record) (ss : List ℕ) (slot : ℕ) (location : Location) (first : ℕ)
     → IsLinked old.items ss → Some first ≡ slice_get ss 0 → list_any (eqb slot) ss ≡ false → slot < length old.items → Attaches slot first location old new
     → Inserts slot location ss old.items new.items
 Inserts-before old new [] slot location first k e absent b a = absurd (cc)
 Inserts-before old new (s ∷ ss) slot location first k e absent b a =
     let q : first ≡ s = cc in
-    Inserts-attached old new s ss slot location k absent b (subst (λ z. Attaches slot z location old new) q a)
+    let put : Attaches slot s location old new = subst (λ z. Attaches slot z location old new) q a in
+    let rs = old.items in
+    let last_in = before_end (next_at rs) (previous_at rs) s ss s k.ring in
+    record {
+      linked = record {
+        ring = IsRing-put (next_at rs) (previous_at rs) (next_at new.items) (previous_at new.items) s ss slot k.ring k.apart absent put.nexts put.previouses;
+        apart = IsDistinct-append (s ∷ ss) (slot ∷ []) k.apart (distinct_alone eqb slot) (λ t h. or_neither (eqb t slot) false (differs t slot (s ∷ ss) h absent) refl);
+        below = subst (λ z. AllByRecursion (λ s. s < z) (s ∷ ss ++ slot ∷ [])) (sym put.as_many) (AllByRecursion-append (length rs) (s ∷ ss) (slot ∷ []) k.below (b, tt));
+      };
+      locations = put.locations;
+      others = λ t h.
+          let p = or_parts (eqb t slot) (list_any (eqb t) (s ∷ ss)) h in
+          let f : eqb t s ≡ false = (or_parts (eqb t s) (list_any (eqb t) ss) p.1).0 in
+          let l : eqb t (previous_at rs s) ≡ false = eqb_swap (previous_at rs s) t (differs (previous_at rs s) t (s ∷ ss) last_in p.1) in
+          same_record (record_at new.items t) (record_at rs t)
+          (put.previouses t ∙ rw (f, p.0) refl) (put.nexts t ∙ rw (l, p.0) refl) (put.locations t ∙ rw p.0 refl);
+      as_many = put.as_many;
+    }
 
+-- into an empty queue
 pub Inserts-first : (old new : List Record) (ss : List ℕ) (slot : ℕ) (location : Location)
     → None ≡ slice_get ss 0 → slot < length old → new ≡ set old slot (record { previous = slot; next = slot; held = location })
     → Inserts slot location ss old new
-Inserts-first old new [] slot location e b n = subst (λ z. Inserts slot location [] old z) (sym n) (Inserts-alone old slot location b)
+Inserts-first old new [] slot location e b n =
+    let r : Record = record { previous = slot; next = slot; held = location } in
+    subst (λ z. Inserts slot location [] old z) (sym n) (record {
+      linked = record {
+        ring = (changed (λ p. p.next) old slot r vacant slot b ∙ rw (eqb_self slot) refl, changed (λ p. p.previous) old slot r vacant slot b ∙ rw (eqb_self slot) refl);
+        apart = distinct_alone eqb slot;
+        below = (rw (length-set old slot r) b, tt);
+      };
+      locations = λ t. changed (λ p. p.held) old slot r vacant t b;
+      others = λ t h. changed (λ p. p) old slot r vacant t b ∙ rw ((or_parts (eqb t slot) false h).0) refl;
+      as_many = length-set old slot r;
+    })
 Inserts-first old new (s ∷ ss) slot location e b n = absurd (cc)
 
 -- Taking a slot out
