@@ -1,5 +1,5 @@
 //! Keys with their hashes and values, each at a place, and lookups through an index.
-ghost use Rattle.std.specs.Prelude.{◌≡◌, ◌+◌, ◌<◌, ◌≤◌, length, IfNone};
+ghost use Rattle.std.specs.Prelude.{◌≡◌, ◌+◌, ◌<◌, length};
 ghost use Rattle.std.specs.List.{find, AllByRecursion};
 ghost use Rattle.clock2q_directory.specs.Index.{slots_among, places_among};
 
@@ -12,46 +12,12 @@ use clock2q_handles::Candidates;
 use std::alloc::Allocator;
 pub use store::{Entry, Keys};
 
-impl<K: Drop, V: Drop, A: Allocator> Keys<K, V, A> {
-    ghost use Rattle.clock2q_directory.specs.Keys.{Writes};
-
-    /// Writes a key to a place: to the next one, which has to come with a value, or over the one that
-    /// is there, which is dropped. Without a value, the place keeps the one that it has.
-    #[inline(always)]
-    pub fn put(&mut self, place: u32, hash: u64, key: K, value: Option<V>)
-        requires next { place ≤ length self.old.entries }
-        requires had { IfNone value (place < length self.old.entries) }
-        requires room { place < self.old.room }
-        ensures entries { Writes hash key value place self.old.entries self.new.entries }
-        ensures kept { self.new ≡
-            record self.old { entries = self.new.entries; writes = self.old.writes + 1 } }
-    {
-        if (place as usize) < self.len() {
-            self.replace(place, hash, key, value);
-        } else if let Some(value) = value {
-            self.push(hash, key, value);
-        }
-    }
-}
-
 impl<K: Eq, V, A: Allocator> Keys<K, V, A> {
     ghost use Rattle.clock2q_directory.specs.Keys.{is_key_at, comparisons_of};
 
-    /// Returns true if `key` equals the key at a place, and counts the comparison.
-    pub fn key_equals(&mut self, place: u32, key: &K) -> bool
-        requires used { place < length self.old.entries }
-        ensures value { result ≡ is_key_at K.eq key.now self.old.entries place }
-        ensures counted { self.new ≡ record self.old { comparisons = self.old.comparisons + 1 } }
-    {
-        let mut compared = Count::new();
-        let is_key = self.is_counting_in(place, key, &mut compared);
-        self.add_comparisons(&compared);
-        is_key
-    }
-
     /// Returns the first slot among `handles` that has `key`, and counts each comparison. Places
     /// are skipped.
-    pub fn find(&mut self, handles: Candidates<'_, u32>, key: &K) -> Option<u32>
+    pub fn find(&mut self, mut handles: Candidates<'_, u32>, key: &K) -> Option<u32>
         requires used { AllByRecursion (λ place. place < length self.old.entries)
             (slots_among handles.left) }
         ensures found { result ≡
@@ -63,10 +29,15 @@ impl<K: Eq, V, A: Allocator> Keys<K, V, A> {
                   (slots_among handles.entry.left);
             } }
     {
-        let mut compared = Count::new();
-        let found = self.find_counting_in(handles, key, &mut compared);
-        self.add_comparisons(&compared);
-        found
+        while let Some(handle) = handles.peek() {
+            if let Handle::Resident(slot) = Handle::unpack(handle) {
+                if self.key_equals(slot, key) {
+                    return Some(slot);
+                }
+            }
+            handles.advance();
+        }
+        None
     }
 
     /// Returns the first place among `handles` that has `key`, and counts each comparison. Slots

@@ -1,5 +1,5 @@
 //! The keys themselves, and the counts of their comparisons and writes.
-ghost use Rattle.std.specs.Prelude.{◌≡◌, ℕ, ◌+◌, ◌<◌, ◌≤◌, [], ◌∷◌, ◌++◌, length, slice_set, Some, IfOk, OnOk, OnErr};
+ghost use Rattle.std.specs.Prelude.{◌≡◌, ℕ, ◌+◌, ◌<◌, ◌≤◌, [], ◌∷◌, ◌++◌, length, Some, IfNone, IfOk, OnOk, OnErr};
 ghost use Rattle.std.specs.Borrow.{sem};
 
 use clock2q_count::Count;
@@ -18,7 +18,7 @@ pub struct Entry<K, V> {
 /// A key at each place, with its hash and a value. Places are numbered from 0, in the order in
 /// which they are first used.
 ///
-/// One function compares keys, and counts each comparison. Two functions write keys, and count each
+/// Two functions compare keys, and count each comparison. Two functions write keys, and count each
 /// write.
 ///
 /// # Example
@@ -50,7 +50,7 @@ impl<K, V, A: Allocator> Model for Keys<K, V, A> {
 }
 
 impl<K, V, A: Allocator> Keys<K, V, A> {
-    ghost use Rattle.clock2q_directory.specs.Keys.{key_places, entry, hash_at, key_at, value_at, with_key, with_value};
+    ghost use Rattle.clock2q_directory.specs.Keys.{key_places, entry, hash_at, key_at, value_at, with_value};
     ghost use Rattle.clock2q_directory.specs.KeysLends.{LendsValueAt};
 
     /// Returns places for up to `room` keys, with no key yet. It takes all the memory that the
@@ -162,6 +162,24 @@ impl<K, V, A: Allocator> Keys<K, V, A> {
 impl<K: Drop, V: Drop, A: Allocator> Keys<K, V, A> {
     ghost use Rattle.clock2q_directory.specs.Keys.{hash_at, key_at, Writes};
 
+    /// Writes a key to a place: to the next one, which has to come with a value, or over the one that
+    /// is there, which is dropped. Without a value, the place keeps the one that it has.
+    #[inline(always)]
+    pub fn put(&mut self, place: u32, hash: u64, key: K, value: Option<V>)
+        requires next { place ≤ length self.old.entries }
+        requires had { IfNone value (place < length self.old.entries) }
+        requires room { place < self.old.room }
+        ensures entries { Writes hash key value place self.old.entries self.new.entries }
+        ensures kept { self.new ≡
+            record self.old { entries = self.new.entries; writes = self.old.writes + 1 } }
+    {
+        if (place as usize) < self.len() {
+            self.replace(place, hash, key, value);
+        } else if let Some(value) = value {
+            self.push(hash, key, value);
+        }
+    }
+
     /// Writes a key over the one at a place, and returns the old hash and key. Without a value, the
     /// place keeps the one that it has.
     pub fn replace(&mut self, place: u32, hash: u64, key: K, value: Option<V>) -> (u64, K)
@@ -188,6 +206,16 @@ impl<K: Drop, V: Drop, A: Allocator> Keys<K, V, A> {
 impl<K: Eq, V, A: Allocator> Keys<K, V, A> {
     ghost use Rattle.clock2q_directory.specs.Keys.{is_key_at};
 
+    /// Returns true if `key` equals the key at a place, and counts the comparison.
+    pub fn key_equals(&mut self, place: u32, key: &K) -> bool
+        requires used { place < length self.old.entries }
+        ensures value { result ≡ is_key_at K.eq key.now self.old.entries place }
+        ensures counted { self.new ≡ record self.old { comparisons = self.old.comparisons + 1 } }
+    {
+        self.comparisons.tick();
+        *key == self.entries[place as usize].key
+    }
+
     /// Returns true if `key` equals the key at a place, and counts the comparison in `compared`.
     pub(super) fn is_counting_in(&self, place: u32, key: &K, compared: &mut Count) -> bool
         requires used { place < length self.now.entries }
@@ -196,14 +224,6 @@ impl<K: Eq, V, A: Allocator> Keys<K, V, A> {
     {
         compared.tick();
         *key == self.entries[place as usize].key
-    }
-
-    /// Adds comparisons that were counted elsewhere.
-    pub(super) fn add_comparisons(&mut self, compared: &Count)
-        ensures added { self.new ≡
-            record self.old { comparisons = self.old.comparisons + compared.now.total } }
-    {
-        self.comparisons.raise(compared);
     }
 
     /// Raises the count of comparisons by an amount that the proof of the call picks. A caller that

@@ -1,5 +1,0 @@
-use Rattle.std.specs.Prelude.{◌+◌}
-use Rattle.clock2q_directory.proofs.keys.store.Keys.add_comparisons.Given as goal
-
-abbrev pub ghost-raise : goal.ghost-raise
-ghost-raise g a = a.self.now.total + a.seen.now.total
