@@ -4,8 +4,7 @@ use Rattle.std.specs.Prelude.{is_some, IsSome}
 use Rattle.std.proofs.lemmas.Bool.{cases_Bool}
 use Rattle.clock2q_handles.specs.Layout.{walk}
 use Rattle.clock2q_handles.specs.Positions.{GapValue, walk_to_gap}
-use Rattle.clock2q_directory.specs.Accesses.{most_changed, most_inserted}
-use Rattle.clock2q_directory.specs.Index.{IndexState, IsGapFor, is_shared}
+use Rattle.clock2q_directory.specs.Index.{IndexState, IsGapFor}
 
 module _ (homes : List (List (ℕ × ℕ))) (x : ℕ) where
   -- the walk to the gap
@@ -25,11 +24,6 @@ module _ (homes : List (List (ℕ × ℕ))) (x : ℕ) where
   walk-spared None b = omega arith
   walk-spared (Some g) true = omega arith
   walk-spared (Some g) false = omega arith
-
--- in an index of two tables a gap spares nothing
-pub inserted-apart : (b : Bool) (v : IndexState) (x : ℕ) → is_shared v ≡ false → most_inserted (b && is_shared v) v.shared x ≡ most_changed v.shared x
-inserted-apart true v x apart = rw apart refl
-inserted-apart false v x apart = refl
 
 -- a gap that may be used is the one that was found
 module _ (gap used : Option GapValue) (b : Bool) (is : used ≡ (if b then gap else None)) where

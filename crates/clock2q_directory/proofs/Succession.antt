@@ -19,7 +19,7 @@ use Rattle.clock2q_directory.proofs.Sorted.{sorted-shared}
 use Rattle.clock2q_directory.proofs.Views.{held_entry, slots-forgotten, forgotten-like}
 
 -- an index is another if its tables and its number of accesses are
-pub same-index : {v w : IndexState} → v.shared ≡ w.shared → v.own ≡ w.own → v.accesses ≡ w.accesses → v ≡ w
+same-index : {v w : IndexState} → v.shared ≡ w.shared → v.own ≡ w.own → v.accesses ≡ w.accesses → v ≡ w
 same-index {v} {w} shared own accesses = grind arith
 
 module _ (p : ℕ) (v : IndexState) where
@@ -31,10 +31,6 @@ module _ (p : ℕ) (v : IndexState) where
   pub shared-if : (o : Option ℕ) → is_shared (forgotten_if o p v) ≡ is_shared v
   shared-if None = refl
   shared-if (Some x) = (forgotten-like v x p).shared
-
-  pub apart-if : (o : Option ℕ) → is_shared v ≡ false → (forgotten_if o p v).shared ≡ v.shared
-  apart-if None apart = refl
-  apart-if (Some x) apart = rw apart refl
 
   pub own-if : (o : Option ℕ) → is_shared v ≡ true → (forgotten_if o p v).own ≡ v.own
   own-if None shared = refl

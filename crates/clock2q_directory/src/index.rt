@@ -4,12 +4,12 @@ ghost use Rattle.std.specs.List.{list_any};
 ghost use Rattle.clock2q_handles.specs.Homes.{candidates};
 ghost use Rattle.clock2q_handles.specs.Layout.{walk};
 ghost use Rattle.clock2q_handles.specs.Positions.{gap_of};
-ghost use Rattle.clock2q_directory.specs.Index.{emptied, index_for, index_room, is_shared, places, places_among, entered, entered_from, left, looked_up, remembered_at, HasSlotRoom, HasPlaceRoom, HasRoomBeside, IsGapFor, HasSlotUnder, IsWithinCapacity, forgotten_if};
+ghost use Rattle.clock2q_directory.specs.Index.{emptied, index_for, index_room, is_shared, places, places_among, entered, entered_from, left, looked_up, remembered_at, HasSlotRoom, HasPlaceRoom, HasRoomBeside, IsGapFor, HasSlotUnder, IsWithinCapacity, MaySucceed, forgotten_if};
 
 mod growth;
-mod succession;
 
 use crate::handle::Handle;
+use crate::history::Retired;
 use clock2q_count::Count;
 use clock2q_handles::{Candidates, Gap, Table};
 use std::alloc::{AllocError, Allocator, Global};
@@ -184,24 +184,46 @@ impl<A: Allocator> Index<A> {
         requires room { HasRoomBeside self.old }
         ensures replaced { self.new ≡ entered_from self.old (is_some gap) hash slot (left old_hash slot self.old) }
     {
-        let is_found = gap.is_some();
-        let gap = self.usable(gap);
-        charge(
-            &self.shared,
-            &self.own,
-            &mut self.charged,
-            &(hash, old_hash, is_found),
-        );
-        self.shared.exchange(gap, hash, slot, old_hash, slot);
+        let seen = (hash, old_hash, gap.is_some());
+        // a table of the slots alone may have no room for one more before another leaves
+        let usable = if self.is_shared() { gap } else { None };
+        charge(&self.shared, &self.own, &mut self.charged, &seen);
+        self.shared.exchange(usable, hash, slot, old_hash, slot);
     }
 
-    /// Returns a gap if an entry may be inserted there before another leaves, as it may if slots and
-    /// places share a table. A table of the slots alone may have no room for that.
+    /// Adds the slot of a key that becomes resident in place of another, which is remembered at a
+    /// place: that of the oldest key, if one is forgotten.
     #[inline(always)]
-    fn usable(&self, gap: Option<Gap>) -> Option<Gap>
-        ensures usable { result ≡ (if is_shared self.now then gap else None) }
+    pub fn replace_remembering(&mut self, gap: Option<Gap>, hash: u64, slot: u32, retired: Retired)
+        requires may { MaySucceed slot retired.hash retired.place retired.oldest self.old }
+        requires beside { HasRoomBeside self.old }
+        requires room { HasPlaceRoom (forgotten_if retired.oldest retired.place self.old) }
+        requires gap { IsGapFor gap hash self.old }
+        ensures replaced { self.new ≡ entered_from self.old (is_some gap) hash slot
+            (remembered_at retired.hash slot retired.place
+            (forgotten_if retired.oldest retired.place self.old)) }
     {
-        if self.is_shared() { gap } else { None }
+        if !self.is_shared() {
+            self.forget(retired.oldest, retired.place);
+            let seen = (hash, retired.hash);
+            charge(&self.shared, &self.own, &mut self.charged, &seen);
+            self.shared.exchange(None, hash, slot, retired.hash, slot);
+            self.own.insert_at_gap(None, retired.hash, retired.place);
+            return;
+        }
+        let seen = (hash, retired, gap.is_some());
+        charge(&self.shared, &self.own, &mut self.charged, &seen);
+        let handle = Handle::Remembered(retired.place).pack();
+        match retired.oldest {
+            Some(oldest) => {
+                self.shared.exchange(gap, hash, slot, oldest, handle);
+                self.shared.replace_handle(retired.hash, slot, handle);
+            }
+            None => {
+                self.shared.insert_at_gap(gap, hash, slot);
+                self.shared.replace_handle(retired.hash, slot, handle);
+            }
+        }
     }
 
     /// Removes the slot of a resident that leaves.
