@@ -13,7 +13,7 @@ use crate::directory::Directory;
 use crate::handle::{Found, Handle};
 use crate::keys::Keys;
 use clock2q_count::Count;
-use clock2q_handles::{Candidates, Gap};
+use clock2q_handles::Candidates;
 use std::alloc::Allocator;
 
 impl<K: Eq, V, A: Allocator> Directory<K, V, A> {
@@ -59,31 +59,13 @@ impl<K: Eq, V, A: Allocator> Directory<K, V, A> {
         );
         match found {
             // checked late, since most keys are found in the table of the slots
-            Found::Absent(gap) if !self.index.is_shared() => self.lookup_apart(gap, hash, key),
+            Found::Absent(gap) if !self.index.is_shared() => {
+                match self.history.keys.find(self.index.own_places(hash), key) {
+                    Some(place) => Found::Remembered(place),
+                    None => Found::Absent(gap),
+                }
+            }
             found => found,
-        }
-    }
-
-    /// Looks a key that is not resident up among the remembered keys, if the places have a table of
-    /// their own. The lookup of the residents found the gap, and was charged for both.
-    fn lookup_apart(&mut self, gap: Option<Gap>, hash: u64, key: &K) -> Found
-        requires apart { is_shared self.old.history.places.index ≡ false }
-        requires hash { HasHash K.eq hash key.now self.old.history.entries }
-        ensures slot { found_slot result ≡ None }
-        ensures place { found_place result ≡
-            place_of (K.eq key.now)
-            (map (λ e. e.1) self.old.history.entries) self.old.history.places.taken }
-        ensures gap { found_place result ≡ None → found_gap result ≡ gap }
-        ensures residents { self.new.residents ≡ self.old.residents }
-        ensures kept { self.new.history ≡
-            record self.old.history { comparisons = self.new.history.comparisons } }
-        ensures comparisons { Rises 0
-            (length (candidates
-            (places self.old.history.places.index) hash)) self.old.history.comparisons self.new.history.comparisons }
-    {
-        match self.history.keys.find(self.index.own_places(hash), key) {
-            Some(place) => Found::Remembered(place),
-            None => Found::Absent(gap),
         }
     }
 

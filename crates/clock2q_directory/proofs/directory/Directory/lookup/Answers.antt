@@ -7,13 +7,14 @@ use Rattle.clock2q_handles.specs.Positions.{GapValue}
 use Rattle.clock2q_queues.specs.Cells.{Rises}
 use Rattle.clock2q_directory.specs.declared.handle.Found.{Found}
 use Rattle.clock2q_directory.specs.Index.{IsGapFor, is_shared, slots, places, slots_among, places_among}
-use Rattle.clock2q_directory.specs.Keys.{is_key_at, entries_of}
+use Rattle.clock2q_directory.specs.Keys.{KeyPlaces, is_key_at, entries_of}
 use Rattle.clock2q_directory.specs.History.{place_of, found_slot, found_place, found_gap}
-use Rattle.clock2q_directory.proofs.Looking.{IsFirst, end-found, first-known, further-gap, no-place-found, shared-places, slots-read}
+use Rattle.clock2q_directory.proofs.Looking.{IsFirst, end-found, first-known, further-gap, no-place-found, own-places, own-there, searched, shared-places, slots-read, some-not}
+use Rattle.clock2q_directory.proofs.Lookups.{comparisons-within}
 use Rattle.clock2q_directory.proofs.Forgetting.{placed}
 use Rattle.clock2q_directory.proofs.Views.{candidates-places}
 use Rattle.clock2q_directory.proofs.directory.Directory.lookup.Given.{Over}
-use Rattle.clock2q_directory.proofs.directory.Directory.lookup.Goals.{After-look_among-found}
+use Rattle.clock2q_directory.proofs.directory.Directory.lookup.Goals.{After-look_among-found, After-find, in-Some, in-None}
 use Rattle.clock2q_directory.proofs.directory.Directory.lookup.Goals as goal
 
 module _ (g : Over) (c : After-look_among-found g) where
@@ -81,27 +82,6 @@ look_among-found-requires-clause-places g c =
       | inl shared ↦ rw (c.handles.ensures.handles, c.charge_lookup.ensures.looked) (shared-places c.self.invariant c.args.hash shared)
       | inr apart ↦ rw (c.handles.ensures.apart (ap is_shared c.charge_lookup.ensures.looked ∙ apart)) tt
     ]
-
-pub returns-in-Absent-clause-absent : goal.returns-in-Absent-clause-absent
-returns-in-Absent-clause-absent g c _ _ =
-    let at = (goal.at.returns-in-Absent-clause-absent g c).After-look_among-found in
-    rw (← c.self.view_is) (known-absent g at (ap found_slot c.in-Absent.is) (ap found_place c.in-Absent.is))
-
-pub returns-in-Absent-clause-gap : goal.returns-in-Absent-clause-gap
-returns-in-Absent-clause-gap g c =
-    let at = (goal.at.returns-in-Absent-clause-gap g c).After-look_among-found in
-    rw (← c.self.view_is) (further-gap c.args.hash c.self.inside.index c.in-Absent.gap c.lookup_apart.result (rw c.in-Absent.is at (known-gap g at)) c.lookup_apart.ensures.gap)
-
-pub returns-in-Absent-clause-ended : goal.returns-in-Absent-clause-ended
-returns-in-Absent-clause-ended g c _ nowhere =
-    let at = (goal.at.returns-in-Absent-clause-ended g c).After-look_among-found in
-    let ended = known-ended g at (ap found_slot c.in-Absent.is) (ap found_place c.in-Absent.is) in
-    rw (c.lookup_apart.ensures.gap nowhere) (rw c.in-Absent.is at ended)
-
-pub returns-in-Absent-clause-compared : goal.returns-in-Absent-clause-compared
-returns-in-Absent-clause-compared g c =
-    let at = (goal.at.returns-in-Absent-clause-compared g c).After-look_among-found in
-    rw (← c.self.view_is) (rw c.lookup_apart.ensures.residents (known-compared g at))
 
 pub returns-in_default-clause-place : goal.returns-in_default-clause-place
 returns-in_default-clause-place g c _ =
@@ -173,7 +153,65 @@ returns-in_default-2-clause-comparisons g c =
     let at = (goal.at.returns-in_default-2-clause-comparisons g c).After-look_among-found in
     rw (← c.self.view_is) (known-comparisons g at)
 
--- What a search of the places' own table finds
+-- A search of the places' own table
 
-pub returns-in-Absent-clause-place : goal.returns-in-Absent-clause-place
-returns-in-Absent-clause-place g c _ = rw (← c.self.view_is) (rw c.look_among-found.ensures.remembered at c.lookup_apart.ensures.place)
+apart : (g : Over) (c : After-find g) → is_shared c.self.inside.index ≡ false
+apart g c = sym (ap is_shared c.charge_lookup.ensures.looked) ∙ sym c.is_shared.ensures.shared ∙ c.if-not-is_shared.true
+
+among : (g : Over) (c : After-find g) → slots_among c.own_places.result.left ≡ candidates (places c.self.inside.index) c.args.hash
+among g c = ap slots_among (rw c.charge_lookup.ensures.looked at c.own_places.ensures.places) ∙ own-places c.self.invariant c.args.hash (apart g c)
+
+pub find-requires : goal.find-requires
+find-requires g c =
+    let own = sym (ap is_shared c.charge_lookup.ensures.looked) ∙ sym c.is_shared.ensures.shared ∙ c.if-not-is_shared.true in
+    record { used = rw (c.look_among-found.ensures.remembered, c.own_places.ensures.places, c.charge_lookup.ensures.looked) (own-there c.self.invariant c.args.hash own) }
+
+pub returns-after-find-clause-place : goal.returns-after-find-clause-place
+returns-after-find-clause-place g c _ =
+    let at = (goal.at.returns-after-find-clause-place g c).After-find in
+    let hashed = rw (← c.self.view_is) at c.requires.hash in
+    let is = rw c.look_among-found.ensures.remembered at c.find.ensures.found in
+    let r = searched g.met.K.Eq.laws c.args.hash c.args.key.now c.self.invariant hashed (among g at) is refl in
+    let found : found_place c.match-find.result ≡ c.find.result = elim c.match-find.branch [
+      | in-Some w ↦ ap found_place w.result-is ∙ sym w.in-Some.is
+      | in-None w ↦ ap found_place w.result-is ∙ sym w.in-None.is
+    ] in
+    rw (← c.self.view_is) (found ∙ r.0)
+
+pub returns-after-find-clause-absent : goal.returns-after-find-clause-absent
+returns-after-find-clause-absent g c _ _ =
+    let at = (goal.at.returns-after-find-clause-absent g c).After-look_among-found in
+    rw (← c.self.view_is) (known-absent g at (ap found_slot c.in-Absent.is) (ap found_place c.in-Absent.is))
+
+pub returns-after-find-clause-gap : goal.returns-after-find-clause-gap
+returns-after-find-clause-gap g c =
+    let at = (goal.at.returns-after-find-clause-gap g c).After-look_among-found in
+    let gap : found_place c.match-find.result ≡ None → found_gap c.match-find.result ≡ c.in-Absent.gap = λ nowhere. elim c.match-find.branch [
+      | in-Some w ↦ absurd (some-not (sym (ap found_place w.result-is) ∙ nowhere))
+      | in-None w ↦ ap found_gap w.result-is
+    ] in
+    rw (← c.self.view_is) (further-gap c.args.hash c.self.inside.index c.in-Absent.gap c.match-find.result (rw c.in-Absent.is at (known-gap g at)) gap)
+
+pub returns-after-find-clause-ended : goal.returns-after-find-clause-ended
+returns-after-find-clause-ended g c _ nowhere =
+    let at = (goal.at.returns-after-find-clause-ended g c).After-look_among-found in
+    let ended = known-ended g at (ap found_slot c.in-Absent.is) (ap found_place c.in-Absent.is) in
+    let gap : found_gap c.match-find.result ≡ c.in-Absent.gap = elim c.match-find.branch [
+      | in-Some w ↦ absurd (some-not (sym (ap found_place w.result-is) ∙ nowhere))
+      | in-None w ↦ ap found_gap w.result-is
+    ] in
+    rw gap (rw c.in-Absent.is at ended)
+
+pub returns-after-find-clause-compared : goal.returns-after-find-clause-compared
+returns-after-find-clause-compared g c =
+    let at = (goal.at.returns-after-find-clause-compared g c).After-look_among-found in
+    rw (← c.self.view_is) (known-compared g at)
+
+pub returns-after-find-clause-comparisons : goal.returns-after-find-clause-comparisons
+returns-after-find-clause-comparisons g c =
+    let at = goal.at.returns-after-find-clause-comparisons g c in
+    let counted = ap (λ (z : KeyPlaces _ _). z.comparisons) c.find.ensures.counted in
+    let most = comparisons-within (is_key_at g.K.PartialEq.eq c.args.key.now c.look_among-found.new.remembered.entries) _ (among g at.After-find) refl in
+    let none = ap length (none-left g at.After-look_among-found (apart g at.After-find)) in
+    let looked = c.look_among-found.ensures.comparisons in
+    rw (← c.self.view_is) (omega (arith, counted, looked.0), omega (arith, counted, most, none, looked.1))
