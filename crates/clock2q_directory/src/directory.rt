@@ -89,7 +89,7 @@ impl<K: Eq, V, A: Allocator> Directory<K, V, A> {
     pub fn remembered_len(&self) -> usize
         ensures len { result ≡ length self.now.history.entries }
     {
-        self.history.order.len() as usize
+        self.history.len()
     }
 
     /// States what holds of every directory, for a caller's proof. It does nothing.

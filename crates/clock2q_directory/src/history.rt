@@ -1,8 +1,9 @@
 //! The keys that Small evicted, which the literature calls Ghost.
-ghost use Rattle.std.specs.Prelude.{◌≡◌, ◌+◌, ◌^◌, ◌<◌, ◌≤◌, true, length, IfSome, nat_eq};
+ghost use Rattle.std.specs.Prelude.{◌≡◌, ◌+◌, ◌≤◌, true, [], ◌∷◌, length, IfSome, IfNone, nat_eq};
 ghost use Rattle.std.specs.List.{list_any};
 ghost use Rattle.clock2q_handles.specs.Homes.{candidates};
 ghost use Rattle.clock2q_queues.specs.Order.{IsWholeOrder, used};
+ghost use Rattle.clock2q_queues.specs.Rings.{without};
 ghost use Rattle.clock2q_directory.specs.Keys.{entry, written};
 ghost use Rattle.clock2q_directory.specs.Indexes.{IsIndex};
 ghost use Rattle.clock2q_directory.specs.Index.{IndexState, places, forgotten_if};
@@ -12,7 +13,8 @@ use crate::keys::Keys;
 use clock2q_queues::order::Order;
 use std::alloc::{Allocator, Global};
 
-/// The keys that are remembered, each at a place, and the order of the places, the newest key's first.
+/// The keys that are remembered, each at a place, and the order of the places, the newest key's
+/// first. The index has each place under its key's hash, and its caller changes that.
 #[derive(Drop)]
 pub(crate) struct Ghost<K, A: Allocator = Global> {
     pub(crate) order: Order<A>,
@@ -30,43 +32,81 @@ pub struct Retired {
     pub oldest: Option<u64>,
 }
 
+impl<K, A: Allocator> Ghost<K, A> {
+    /// Returns the number of keys.
+    pub(crate) fn len(&self) -> usize
+        ensures len { result ≡ length self.now.order.places }
+    {
+        self.order.len() as usize
+    }
+
+    /// Forgets the key at a place, which is the next one to be taken.
+    pub(crate) fn forget(&mut self, place: u32)
+        requires { list_any (nat_eq place) self.old.order.places ≡ true }
+        ensures whole { IsWholeOrder self.new.order }
+        ensures order { self.new.order ≡
+            record self.old.order {
+              places = without place self.old.order.places;
+              free = place ∷ self.old.order.free;
+              accesses = self.old.order.accesses + 7;
+            } }
+        ensures kept { self.new.keys ≡ self.old.keys }
+    {
+        self.order.unlink(place);
+    }
+}
+
 impl<K: Drop, A: Allocator> Ghost<K, A> {
     /// Writes a key to a place at the front: to a free one, or, if every place has a key, to the oldest
-    /// key's, which the index still has.
-    pub(crate) fn push(&mut self, hash: u64, key: K) -> Retired
+    /// key's, which the index still has. If there are no places, returns `None` and drops the key.
+    pub(crate) fn push(&mut self, hash: u64, key: K) -> Option<Retired>
         requires as_many { length self.old.keys.entries ≡ used self.old.order }
         requires room { self.old.order.limit ≤ self.old.keys.room }
-        requires some { 0 < self.old.order.limit }
-        ensures hash { result.hash ≡ hash }
-        ensures made { (index : IndexState)
+        ensures none { IfNone result (self.old.order.limit ≡ 0) }
+        ensures same { IfNone result (self.new ≡ self.old) }
+        ensures hash { IfSome result (λ retired. retired.hash ≡ hash) }
+        ensures made { IfSome result (λ retired. (index : IndexState)
             → IsIndex (places index) self.old.keys.entries self.old.order.places
-            → MakesPlace index (forgotten_if result.oldest result.place index)
-            self.old.order self.new.order self.old.keys.entries result.place }
-        ensures held { IfSome result.oldest (λ oldest. (index : IndexState)
+            → MakesPlace index (forgotten_if retired.oldest retired.place index)
+            self.old.order self.new.order self.old.keys.entries retired.place) }
+        ensures held { IfSome result (λ retired. IfSome retired.oldest (λ oldest. (index : IndexState)
             → IsIndex (places index) self.old.keys.entries self.old.order.places
-            → list_any (nat_eq result.place) (candidates (places index) oldest) ≡ true) }
-        ensures written { self.new.keys ≡
+            → list_any (nat_eq retired.place) (candidates (places index) oldest) ≡ true)) }
+        ensures written { IfSome result (λ retired. self.new.keys ≡
             record self.old.keys {
-              entries = written result.place (entry hash key tt) self.old.keys.entries;
+              entries = written retired.place (entry hash key tt) self.old.keys.entries;
               writes = self.old.keys.writes + 1;
-            } }
-        ensures whole { IsWholeOrder self.new.order }
+            }) }
+        ensures whole { IfSome result (λ _. IsWholeOrder self.new.order) }
     {
+        if self.order.limit() == 0 {
+            return None;
+        }
         if self.order.len() < self.order.limit() {
             let place = self.order.push();
             self.keys.put(place, hash, key, Some(()));
-            return Retired {
+            return Some(Retired {
                 hash,
                 place,
                 oldest: None,
-            };
+            });
         }
         let place = self.order.reuse_oldest();
         let (oldest, _) = self.keys.replace(place, hash, key, Some(()));
-        Retired {
+        Some(Retired {
             hash,
             place,
             oldest: Some(oldest),
-        }
+        })
+    }
+
+    /// Forgets every key.
+    pub(crate) fn clear(&mut self)
+        ensures whole { IsWholeOrder self.new.order }
+        ensures order { self.new.order ≡ record self.old.order { places = []; free = [] } }
+        ensures keys { self.new.keys ≡ record self.old.keys { entries = [] } }
+    {
+        self.order.clear();
+        self.keys.clear();
     }
 }

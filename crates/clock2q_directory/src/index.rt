@@ -1,5 +1,5 @@
 //! The index of a cache: where each known key is, under the key's hash.
-ghost use Rattle.std.specs.Prelude.{◌≡◌, ◌+◌, ◌^◌, ◌<◌, ℕ, true, false, [], Some, None, IfOk, IfSome, IfNone, if◌then◌else◌, is_some, nat_eq};
+ghost use Rattle.std.specs.Prelude.{◌≡◌, ◌+◌, ◌^◌, ◌<◌, ℕ, true, false, [], Some, None, IfOk, IfSome, is_some, nat_eq};
 ghost use Rattle.std.specs.List.{list_any};
 ghost use Rattle.clock2q_handles.specs.Homes.{candidates};
 ghost use Rattle.clock2q_handles.specs.Layout.{walk};

@@ -1,12 +1,12 @@
 //! Where a key is: lookups of residents and of remembered keys.
-ghost use Rattle.std.specs.Prelude.{◌≡◌, ◌+◌, ◌<◌, false, None, Some, length, map, slice_get, IfSome, IsSome};
+ghost use Rattle.std.specs.Prelude.{◌≡◌, ◌+◌, ◌<◌, None, Some, length, map, slice_get, IfSome, IsSome};
 ghost use Rattle.std.specs.List.{filter, find, AllByRecursion};
 ghost use Rattle.clock2q_handles.specs.Homes.{candidates};
 ghost use Rattle.clock2q_queues.specs.Cells.{Rises};
 ghost use Rattle.clock2q_directory.specs.Keys.{is_key_at, comparisons_of};
 ghost use Rattle.clock2q_directory.specs.Hashed.{has_hash};
 ghost use Rattle.clock2q_directory.specs.Indexes.{HasHash};
-ghost use Rattle.clock2q_directory.specs.Index.{is_shared, slots, places, slots_among, places_among, IsGapFor};
+ghost use Rattle.clock2q_directory.specs.Index.{slots, places, slots_among, places_among, IsGapFor};
 ghost use Rattle.clock2q_directory.specs.History.{place_of, places_looked_up, found_slot, found_place, found_gap, first_known};
 
 use crate::directory::Directory;
