@@ -10,7 +10,6 @@
 //! with room for more, is one of them. No other call can fail.
 
 mod entries;
-mod link;
 mod links;
 mod main_queue;
 pub mod order;

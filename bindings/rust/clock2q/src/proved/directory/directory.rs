@@ -68,7 +68,7 @@ impl<K: Eq, V, A: Allocator> Directory<K, V, A> {
     /// Returns the number of remembered keys.
     #[inline]
     pub fn remembered_len(&self) -> usize {
-        self.history.order.len() as usize
+        self.history.len()
     }
 
     /// Returns the number of slots that have a key and a value, with a resident or without.

@@ -5,7 +5,8 @@ use crate::proved::directory::keys::Keys;
 use crate::proved::queues::order::Order;
 use crate::proved::rattle::{Allocator, Global};
 
-/// The keys that are remembered, each at a place, and the order of the places, the newest key's first.
+/// The keys that are remembered, each at a place, and the order of the places, the newest key's
+/// first. The index has each place under its key's hash, and its caller changes that.
 pub(crate) struct Ghost<K, A: Allocator = Global> {
     pub(crate) order: Order<A>,
     pub(crate) keys: Keys<K, (), A>,
@@ -23,25 +24,49 @@ pub struct Retired {
 }
 
 impl<K, A: Allocator> Ghost<K, A> {
+    /// Returns the number of keys.
+    #[inline]
+    pub(crate) fn len(&self) -> usize {
+        self.order.len() as usize
+    }
+
+    /// Forgets the key at a place, which is the next one to be taken.
+    #[inline]
+    pub(crate) fn forget(&mut self, place: u32) {
+        self.order.unlink(place);
+    }
+}
+
+impl<K, A: Allocator> Ghost<K, A> {
     /// Writes a key to a place at the front: to a free one, or, if every place has a key, to the oldest
-    /// key's, which the index still has.
+    /// key's, which the index still has. If there are no places, returns `None` and drops the key.
     #[inline(always)]
-    pub(crate) fn push(&mut self, hash: u64, key: K) -> Retired {
+    pub(crate) fn push(&mut self, hash: u64, key: K) -> Option<Retired> {
+        if self.order.limit() == 0 {
+            return None;
+        }
         if self.order.len() < self.order.limit() {
             let place = self.order.push();
             self.keys.put(place, hash, key, Some(()));
-            return Retired {
+            return Some(Retired {
                 hash,
                 place,
                 oldest: None,
-            };
+            });
         }
         let place = self.order.reuse_oldest();
         let (oldest, _) = self.keys.replace(place, hash, key, Some(()));
-        Retired {
+        Some(Retired {
             hash,
             place,
             oldest: Some(oldest),
-        }
+        })
+    }
+
+    /// Forgets every key.
+    #[inline]
+    pub(crate) fn clear(&mut self) {
+        self.order.clear();
+        self.keys.clear();
     }
 }

@@ -2,9 +2,9 @@
 //! The index of a cache: where each known key is, under the key's hash.
 
 mod growth;
-mod succession;
 
 use crate::proved::directory::handle::Handle;
+use crate::proved::directory::history::Retired;
 use crate::proved::count::Count;
 use crate::proved::handles::{Candidates, Gap, Table};
 use crate::proved::rattle::{AllocError, Allocator, Global};
@@ -134,22 +134,38 @@ impl<A: Allocator> Index<A> {
     /// Adds the slot of a key that becomes resident in place of another, which leaves.
     #[inline(always)]
     pub fn replace(&mut self, gap: Option<Gap>, hash: u64, slot: u32, old_hash: u64) {
-        let is_found = gap.is_some();
-        let gap = self.usable(gap);
-        charge(
-            &self.shared,
-            &self.own,
-            &mut self.charged,
-            &(hash, old_hash, is_found),
-        );
-        self.shared.exchange(gap, hash, slot, old_hash, slot);
+        let seen = (hash, old_hash, gap.is_some());
+        // a table of the slots alone may have no room for one more before another leaves
+        let usable = if self.is_shared() { gap } else { None };
+        charge(&self.shared, &self.own, &mut self.charged, &seen);
+        self.shared.exchange(usable, hash, slot, old_hash, slot);
     }
 
-    /// Returns a gap if an entry may be inserted there before another leaves, as it may if slots and
-    /// places share a table. A table of the slots alone may have no room for that.
+    /// Adds the slot of a key that becomes resident in place of another, which is remembered at a
+    /// place: that of the oldest key, if one is forgotten.
     #[inline(always)]
-    fn usable(&self, gap: Option<Gap>) -> Option<Gap> {
-        if self.is_shared() { gap } else { None }
+    pub fn replace_remembering(&mut self, gap: Option<Gap>, hash: u64, slot: u32, retired: Retired) {
+        if !self.is_shared() {
+            self.forget(retired.oldest, retired.place);
+            let seen = (hash, retired.hash);
+            charge(&self.shared, &self.own, &mut self.charged, &seen);
+            self.shared.exchange(None, hash, slot, retired.hash, slot);
+            self.own.insert_at_gap(None, retired.hash, retired.place);
+            return;
+        }
+        let seen = (hash, retired, gap.is_some());
+        charge(&self.shared, &self.own, &mut self.charged, &seen);
+        let handle = Handle::Remembered(retired.place).pack();
+        match retired.oldest {
+            Some(oldest) => {
+                self.shared.exchange(gap, hash, slot, oldest, handle);
+                self.shared.replace_handle(retired.hash, slot, handle);
+            }
+            None => {
+                self.shared.insert_at_gap(gap, hash, slot);
+                self.shared.replace_handle(retired.hash, slot, handle);
+            }
+        }
     }
 
     /// Removes the slot of a resident that leaves.

@@ -10,37 +10,20 @@ use crate::proved::handles::Candidates;
 use crate::proved::rattle::Allocator;
 pub use store::{Entry, Keys};
 
-impl<K, V, A: Allocator> Keys<K, V, A> {
-    /// Writes a key to a place: to the next one, which has to come with a value, or over the one that
-    /// is there, which is dropped. Without a value, the place keeps the one that it has.
-    #[inline(always)]
-    pub fn put(&mut self, place: u32, hash: u64, key: K, value: Option<V>) {
-        if (place as usize) < self.len() {
-            self.replace(place, hash, key, value);
-        } else if let Some(value) = value {
-            self.push(hash, key, value);
-        }
-    }
-}
-
 impl<K: Eq, V, A: Allocator> Keys<K, V, A> {
-    /// Returns true if `key` equals the key at a place, and counts the comparison.
-    #[inline]
-    pub fn key_equals(&mut self, place: u32, key: &K) -> bool {
-        let mut compared = Count::new();
-        let is_key = self.is_counting_in(place, key, &mut compared);
-        self.add_comparisons(&compared);
-        is_key
-    }
-
     /// Returns the first slot among `handles` that has `key`, and counts each comparison. Places
     /// are skipped.
     #[inline]
-    pub fn find(&mut self, handles: Candidates<'_, u32>, key: &K) -> Option<u32> {
-        let mut compared = Count::new();
-        let found = self.find_counting_in(handles, key, &mut compared);
-        self.add_comparisons(&compared);
-        found
+    pub fn find(&mut self, mut handles: Candidates<'_, u32>, key: &K) -> Option<u32> {
+        while let Some(handle) = handles.peek() {
+            if let Handle::Resident(slot) = Handle::unpack(handle) {
+                if self.key_equals(slot, key) {
+                    return Some(slot);
+                }
+            }
+            handles.advance();
+        }
+        None
     }
 
     /// Returns the first place among `handles` that has `key`, and counts each comparison. Slots

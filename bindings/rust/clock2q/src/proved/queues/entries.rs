@@ -1,5 +1,5 @@
 // Written by bindings/rust/erase from crates/clock2q_queues/src/entries.rt; change that, and run erase.
-//! What a ring links: the record of a slot, and the neighbours of a place.
+//! What a ring links: an entry for each slot of the queues, or for each place of an order.
 
 /// Where a slot is: the queue that it is in, if any, and in Small whether it is young.
 #[derive(Clone, Copy, Debug, PartialEq, Eq)]
@@ -28,86 +28,30 @@ impl Location {
     }
 }
 
-/// The neighbours of a place in an order. The places of an order are all in the same one, so in
-/// contracts they have the location of a free slot.
-#[derive(Clone, Copy)]
-pub(crate) struct Neighbours {
-    pub(crate) previous: u32,
-    pub(crate) next: u32,
-}
-
-const _: () = assert!(core::mem::size_of::<Neighbours>() == 8);
-
-/// The neighbours of a slot in its queue, and its location.
-#[derive(Clone, Copy, Debug)]
-pub(crate) struct Record {
-    pub(crate) previous: u32,
-    pub(crate) next: u32,
-    pub(crate) location: Location,
-}
-
-const _: () = assert!(core::mem::size_of::<Record>() <= 16);
-
-/// An entry of a [`Ring`](crate::proved::queues::ring::Ring): its neighbours, and maybe more. In contracts it is a
-/// [`Record`].
-pub(crate) trait Linked: Copy {
-    /// The entry of a number that is in no ring.
+/// What is held of a slot or a place beside its neighbours. Contracts see it as a location.
+pub(crate) trait Held: Copy {
+    /// What is held where no ring has the slot or the place.
     const VACANT: Self;
-
-    /// Returns the numbers before and after it.
-    fn neighbours(&self) -> Neighbours;
-
-    /// Writes the number before it, and nothing else.
-    fn set_previous(&mut self, previous: u32);
-
-    /// Writes the number after it, and nothing else.
-    fn set_next(&mut self, next: u32);
 }
 
-impl Linked for Record {
-    const VACANT: Self = Record {
-        previous: 0,
-        next: 0,
-        location: Location::Free,
-    };
-
-    #[inline]
-    fn neighbours(&self) -> Neighbours {
-        Neighbours {
-            previous: self.previous,
-            next: self.next,
-        }
-    }
-
-    #[inline]
-    fn set_previous(&mut self, previous: u32) {
-        self.previous = previous;
-    }
-
-    #[inline]
-    fn set_next(&mut self, next: u32) {
-        self.next = next;
-    }
+impl Held for Location {
+    const VACANT: Self = Location::Free;
 }
 
-impl Linked for Neighbours {
-    const VACANT: Self = Neighbours {
-        previous: 0,
-        next: 0,
-    };
-
-    #[inline]
-    fn neighbours(&self) -> Neighbours {
-        *self
-    }
-
-    #[inline]
-    fn set_previous(&mut self, previous: u32) {
-        self.previous = previous;
-    }
-
-    #[inline]
-    fn set_next(&mut self, next: u32) {
-        self.next = next;
-    }
+/// Nothing is held of an order's places, which are all in the same ring. In contracts each has the
+/// location of a free slot.
+impl Held for () {
+    const VACANT: Self = ();
 }
+
+/// The neighbours of a slot or a place, and what is held of it.
+#[derive(Clone, Copy)]
+pub(crate) struct Entry<T> {
+    pub(crate) previous: u32,
+    pub(crate) next: u32,
+    pub(crate) held: T,
+}
+
+const _: () = assert!(core::mem::size_of::<Entry<()>>() == 8);
+
+const _: () = assert!(core::mem::size_of::<Entry<Location>>() <= 16);

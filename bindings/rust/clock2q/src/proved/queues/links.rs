@@ -2,23 +2,21 @@
 //! What the queues are built on: the link records and the hit bits by slot number, and the
 //! positions of Small's window.
 
-mod cells;
 mod flags;
+mod window;
 
-use crate::proved::rattle::Vec;
-use crate::proved::queues::entries::{Linked, Location, Record};
-use crate::proved::queues::link::{Link, NOWHERE};
+use crate::proved::queues::entries::{Entry, Location};
 use crate::proved::queues::ring::Ring;
-pub(crate) use cells::Cells;
 use crate::proved::count::Count;
 use flags::{Flag, Flags};
 use crate::proved::rattle::{AllocError, Allocator, Global};
+use window::Window;
 
 /// The records and the hit bits of the slots, which both queues share, and the window's positions.
 pub(crate) struct Links<A: Allocator = Global> {
-    pub(crate) ring: Ring<Record, A>,
+    pub(crate) ring: Ring<Location, A>,
     flags: Flags<A>,
-    window: Cells<Link, A>,
+    window: Window<A>,
     inspections: Count,
 }
 
@@ -31,11 +29,11 @@ impl<A: Allocator> Links<A> {
     {
         let ring = Ring::new(alloc.clone(), slots)?;
         let flags = Flags::new(alloc.clone(), slots)?;
-        let positions = Vec::from_elem(alloc, NOWHERE, window as usize)?;
+        let positions = Window::new(alloc, window)?;
         Ok(Links {
             ring,
             flags,
-            window: Cells::new(positions),
+            window: positions,
             inspections: Count::new(),
         })
     }
@@ -54,12 +52,12 @@ impl<A: Allocator> Links<A> {
     where
         A: Clone,
     {
-        let gap = window - self.window_len();
+        let gap = window - self.window.len();
         let ring = self
             .ring
             .grown_past_gap(alloc.clone(), slots, cursor, gap)?;
         let flags = self.flags.grown(alloc.clone(), slots)?;
-        let positions = self.window.with_gap(alloc, cursor, window, NOWHERE)?;
+        let positions = self.window.with_gap(alloc, cursor, window)?;
         let mut inspections = Count::new();
         inspections.raise(&self.inspections);
         Ok(Links {
@@ -73,28 +71,28 @@ impl<A: Allocator> Links<A> {
     /// Returns the number of the window's positions.
     #[inline]
     pub(crate) fn window_len(&self) -> u32 {
-        self.window.len() as u32
+        self.window.len()
     }
 
-    /// Returns the slot after one that is in a queue.
+    /// Returns the entry of a slot that is in a queue.
     #[inline]
-    pub(crate) fn next(&mut self, slot: u32) -> u32 {
-        self.ring.read(slot).next
+    pub(crate) fn entry(&mut self, slot: u32) -> Entry<Location> {
+        self.ring.read(slot)
     }
 
     /// Returns where a slot is.
     #[inline]
     pub(crate) fn location(&mut self, slot: u32) -> Location {
-        self.ring.read_any(slot).location
+        self.ring.held(slot)
     }
 
     /// Puts a slot, with a clear bit, into an empty queue: it is its own neighbour on both sides.
     #[inline]
     pub(crate) fn attach_alone(&mut self, slot: u32, location: Location) {
-        let alone = Record {
+        let alone = Entry {
             previous: slot,
             next: slot,
-            location,
+            held: location,
         };
         self.flags.write(slot, Flag::Clear);
         self.ring.write(slot, alone);
@@ -111,65 +109,39 @@ impl<A: Allocator> Links<A> {
     #[inline]
     pub(crate) fn attach(&mut self, slot: u32, before: u32, location: Location) {
         self.flags.write(slot, Flag::Clear);
-        let entry = Record {
-            location,
-            ..Record::VACANT
-        };
-        self.ring.attach(slot, before, entry);
+        self.ring.attach(slot, before, location);
     }
 
-    /// Removes a slot from between its neighbours, clears its bit, and returns the record that it had.
+    /// Removes a slot from between its neighbours, clears its bit, and returns the entry that it had.
     #[inline]
-    pub(crate) fn detach(&mut self, slot: u32) -> Record {
+    pub(crate) fn detach(&mut self, slot: u32) -> Entry<Location> {
         self.flags.set(slot, Flag::Free);
         self.ring.detach(slot)
     }
 
-    /// Makes a slot that is in a queue old, with a clear bit.
+    /// Gives a slot that is in a queue another location, and a clear bit.
     #[inline]
-    fn make_old(&mut self, slot: u32) {
+    pub(crate) fn relocate(&mut self, slot: u32, location: Location) {
         self.flags.set(slot, Flag::Clear);
-        self.ring.set_location(slot, Location::SmallOld);
-    }
-
-    /// Makes a slot that is in a queue young, at a position. Its bit, which nothing reads until the slot
-    /// is old, stays.
-    #[inline]
-    pub(crate) fn make_young(&mut self, slot: u32, position: u32) {
-        self.ring.set_location(slot, Location::SmallYoung(position));
+        self.ring.set_location(slot, location);
     }
 
     /// Puts a slot at the cursor, and returns the position after it, or the first one after the last.
     /// The slot that was there, if there was one, becomes old with a clear bit.
     #[inline]
     pub(crate) fn take_position(&mut self, cursor: u32, slot: u32) -> u32 {
-        let there = self.window.read(cursor);
-        self.window.write(cursor, Link::to(slot));
-        if let Some(oldest) = there.slot() {
-            self.make_old(oldest);
+        if let Some(oldest) = self.window.replace(cursor, slot) {
+            self.relocate(oldest, Location::SmallOld);
         }
-        if cursor + 1 < self.window_len() {
-            cursor + 1
-        } else {
-            0
-        }
+        self.window.after(cursor)
     }
 
     /// Empties the position of a slot, if it was young.
     #[inline]
     pub(crate) fn leave_position(&mut self, location: Location) {
         if let Location::SmallYoung(position) = location {
-            self.window.write(position, NOWHERE);
+            self.window.free(position);
         }
-    }
-
-    /// Empties the position of a slot that is in a queue, if it is young, and returns the slot before
-    /// it.
-    #[inline]
-    pub(crate) fn leave_window(&mut self, slot: u32) -> u32 {
-        let record = self.ring.read(slot);
-        self.leave_position(record.location);
-        record.previous
     }
 
     /// Returns true if a slot is in a queue. It reads the byte with the slot's bit, and no record.
@@ -188,7 +160,8 @@ impl<A: Allocator> Links<A> {
     /// slot.
     #[inline]
     pub(crate) fn inspect(&mut self, slot: u32) -> bool {
-        let was = self.flags.read(slot, &mut self.inspections);
+        self.inspections.tick();
+        let was = self.flags.get(slot);
         self.flags.set(slot, Flag::Clear);
         matches!(was, Flag::Hit)
     }
@@ -197,15 +170,15 @@ impl<A: Allocator> Links<A> {
     /// is set.
     #[inline]
     pub(crate) fn is_old_hit(&mut self, slot: u32) -> bool {
-        let (record, flag) = self.flags.read_with(slot, &mut self.ring);
-        matches!(record.location, Location::SmallOld) && matches!(flag, Flag::Hit)
+        let entry = self.ring.read(slot);
+        matches!(entry.held, Location::SmallOld) && matches!(self.flags.get(slot), Flag::Hit)
     }
 
     /// Reads the record of a slot that is in a queue, and returns the slot after it if its bit is set.
     #[inline]
     pub(crate) fn next_if_hit(&mut self, slot: u32) -> Option<u32> {
-        let (record, flag) = self.flags.read_with(slot, &mut self.ring);
-        matches!(flag, Flag::Hit).then_some(record.next)
+        let entry = self.ring.read(slot);
+        matches!(self.flags.get(slot), Flag::Hit).then_some(entry.next)
     }
 
     /// Resets every record, every position and every bit to its initial state.
@@ -213,6 +186,6 @@ impl<A: Allocator> Links<A> {
     pub(crate) fn reset(&mut self) {
         self.ring.clear();
         self.flags.clear();
-        self.window.fill(NOWHERE);
+        self.window.clear();
     }
 }

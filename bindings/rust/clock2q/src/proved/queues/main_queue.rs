@@ -50,7 +50,7 @@ impl Main {
         // a ring with an entry has a hand
         let mut hand = self.hand.unwrap();
         while links.inspect(hand) {
-            hand = links.next(hand);
+            hand = links.entry(hand).next;
         }
         self.hand = Some(hand);
         hand
@@ -74,7 +74,7 @@ impl Main {
     /// Moves the hand on from its slot, whose bit is clear. That slot is then the last one.
     #[inline]
     pub(crate) fn advance<A: Allocator>(&mut self, links: &mut Links<A>, slot: u32) {
-        self.hand = Some(links.next(slot));
+        self.hand = Some(links.entry(slot).next);
     }
 
     /// Empties the ring. `Links::reset` resets the records.

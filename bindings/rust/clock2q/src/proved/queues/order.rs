@@ -1,7 +1,7 @@
 // Written by bindings/rust/erase from crates/clock2q_queues/src/order.rt; change that, and run erase.
 //! Places that are reused, ordered newest first, and the chain of the free ones.
 
-use crate::proved::queues::entries::{Linked, Neighbours};
+use crate::proved::queues::entries::Entry;
 use crate::proved::queues::ring::Ring;
 use crate::proved::rattle::{AllocError, Allocator, Global};
 
@@ -33,7 +33,7 @@ struct Chain {
 /// # Ok::<(), Box<dyn std::error::Error>>(())
 /// ```
 pub struct Order<A: Allocator = Global> {
-    ring: Ring<Neighbours, A>,
+    ring: Ring<(), A>,
     newest: u32,
     len: u32,
     chain: Chain,
@@ -99,13 +99,14 @@ impl<A: Allocator> Order<A> {
             self.chain.len -= 1;
         }
         if self.len == 0 {
-            let alone = Neighbours {
+            let alone = Entry {
                 previous: place,
                 next: place,
+                held: (),
             };
             self.ring.write(place, alone);
         } else {
-            self.ring.attach(place, self.newest, Neighbours::VACANT);
+            self.ring.attach(place, self.newest, ());
         }
         self.newest = place;
         self.len += 1;
@@ -124,9 +125,10 @@ impl<A: Allocator> Order<A> {
     #[inline]
     pub fn unlink(&mut self, place: u32) {
         let was = self.ring.detach(place);
-        let before_head = Neighbours {
+        let before_head = Entry {
             previous: 0,
             next: self.chain.head,
+            held: (),
         };
         self.ring.write(place, before_head);
         self.chain.head = place;

@@ -129,7 +129,7 @@ impl<A: Allocator> Queues<A> {
     /// Removes Small's oldest slot, and returns it. Returns `None` if Small is empty.
     #[inline(always)]
     pub fn take_tail(&mut self) -> Option<u32> {
-        let tail = self.small.tail()?;
+        let tail = (self.small.len > 0).then_some(self.small.oldest)?;
         self.small.unlink(&mut self.links, tail);
         Some(tail)
     }
@@ -165,7 +165,7 @@ impl<A: Allocator> Queues<A> {
         if self.victim_leaves() {
             self.main.victim(&mut self.links)
         } else {
-            self.small.tail()
+            (self.small.len > 0).then_some(self.small.oldest)
         }
     }
 

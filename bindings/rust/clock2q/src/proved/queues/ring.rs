@@ -2,19 +2,19 @@
 //! Entries that are linked by number, slots in their queues or places in their order.
 
 use crate::proved::rattle::Vec;
-use crate::proved::queues::entries::{Linked, Location, Neighbours, Record};
+use crate::proved::queues::entries::{Entry, Held, Location};
 use crate::proved::count::Count;
 use crate::proved::rattle::{AllocError, Allocator, Global};
 
 /// The entry of each place, with the number of reads and writes. Only the first ones are made, which
 /// takes one write each: any other place is vacant.
-pub(crate) struct Ring<E: Linked, A: Allocator = Global> {
-    entries: Vec<E, A>,
+pub(crate) struct Ring<T: Held, A: Allocator = Global> {
+    entries: Vec<Entry<T>, A>,
     places: u32,
     accesses: Count,
 }
 
-impl<E: Linked, A: Allocator> Ring<E, A> {
+impl<T: Held, A: Allocator> Ring<T, A> {
     /// Returns a ring of `places` vacant places, with no read or write counted yet. It takes all the
     /// memory that it will ever need.
     #[inline]
@@ -53,42 +53,42 @@ impl<E: Linked, A: Allocator> Ring<E, A> {
 
     /// Returns the entry of a place that was made.
     #[inline]
-    pub(crate) fn read(&mut self, place: u32) -> E {
+    pub(crate) fn read(&mut self, place: u32) -> Entry<T> {
         self.accesses.tick();
         self.entries[place as usize]
     }
 
-    /// Returns the entry of any place.
+    /// Returns what is held of any place.
     #[inline]
-    pub(crate) fn read_any(&mut self, place: u32) -> E {
+    pub(crate) fn held(&mut self, place: u32) -> T {
         self.accesses.tick();
         match self.entries.get(place as usize) {
-            Some(entry) => *entry,
-            None => E::VACANT,
+            Some(entry) => entry.held,
+            None => T::VACANT,
         }
     }
 
-    /// Writes the entry of a place. If it isn't made yet, it is made, after those of the places below.
+    /// Writes the entry of a place that was made, or makes that of the next place.
     #[inline(always)]
-    pub(crate) fn write(&mut self, place: u32, entry: E) {
-        if (place as usize) < self.entries.len() {
-            self.accesses.tick();
-            self.entries[place as usize] = entry;
-            return;
-        }
-        if self.entries.len() < place as usize {
-            self.make_below(place);
-        }
+    pub(crate) fn write(&mut self, place: u32, entry: Entry<T>) {
         self.accesses.tick();
-        self.entries.push_reserved(entry);
+        if (place as usize) < self.entries.len() {
+            self.entries[place as usize] = entry;
+        } else {
+            self.entries.push_reserved(entry);
+        }
     }
 
     /// Makes the entries of the places below a bound that have none yet.
-    #[inline(never)]
+    #[inline]
     pub(crate) fn make_below(&mut self, bound: u32) {
         while self.entries.len() < bound as usize {
             self.accesses.tick();
-            self.entries.push_reserved(E::VACANT);
+            self.entries.push_reserved(Entry {
+                previous: 0,
+                next: 0,
+                held: T::VACANT,
+            });
         }
     }
 
@@ -97,7 +97,7 @@ impl<E: Linked, A: Allocator> Ring<E, A> {
     fn set_next(&mut self, place: u32, next: u32) {
         self.accesses.tick();
         self.accesses.tick();
-        self.entries[place as usize].set_next(next);
+        self.entries[place as usize].next = next;
     }
 
     /// Writes the place before another, which counts as a read and a write too.
@@ -105,16 +105,18 @@ impl<E: Linked, A: Allocator> Ring<E, A> {
     fn set_previous(&mut self, place: u32, previous: u32) {
         self.accesses.tick();
         self.accesses.tick();
-        self.entries[place as usize].set_previous(previous);
+        self.entries[place as usize].previous = previous;
     }
 
-    /// Puts a place just before another. What its entry holds beside its links is the caller's.
+    /// Puts a place just before another.
     #[inline(always)]
-    pub(crate) fn attach(&mut self, place: u32, before: u32, entry: E) {
-        let previous = self.read(before).neighbours().previous;
-        let mut between = entry;
-        between.set_previous(previous);
-        between.set_next(before);
+    pub(crate) fn attach(&mut self, place: u32, before: u32, held: T) {
+        let previous = self.read(before).previous;
+        let between = Entry {
+            previous,
+            next: before,
+            held,
+        };
         self.write(place, between);
         self.set_next(previous, place);
         self.set_previous(before, place);
@@ -122,12 +124,16 @@ impl<E: Linked, A: Allocator> Ring<E, A> {
 
     /// Removes a place from between its neighbours, and returns the entry that it had.
     #[inline]
-    pub(crate) fn detach(&mut self, place: u32) -> E {
+    pub(crate) fn detach(&mut self, place: u32) -> Entry<T> {
         let was = self.read(place);
-        let Neighbours { previous, next } = was.neighbours();
-        self.set_next(previous, next);
-        self.set_previous(next, previous);
-        self.write(place, E::VACANT);
+        self.set_next(was.previous, was.next);
+        self.set_previous(was.next, was.previous);
+        let vacant = Entry {
+            previous: 0,
+            next: 0,
+            held: T::VACANT,
+        };
+        self.write(place, vacant);
         was
     }
 
@@ -144,7 +150,7 @@ impl<E: Linked, A: Allocator> Ring<E, A> {
     }
 }
 
-impl<A: Allocator> Ring<Record, A> {
+impl<A: Allocator> Ring<Location, A> {
     /// Returns a ring of `slots` slots with the same records, whose locations are
     /// [past a gap](Location::past_gap) at the cursor. Otherwise it is like [`grown`](Ring::grown).
     #[inline]
@@ -158,12 +164,12 @@ impl<A: Allocator> Ring<Record, A> {
         let mut entries = Vec::with_capacity(alloc, slots as usize)?;
         let mut accesses = Count::new();
         accesses.raise(&self.accesses);
-        for record in &self.entries {
+        for entry in &self.entries {
             accesses.tick();
             accesses.tick();
-            entries.push_reserved(Record {
-                location: record.location.past_gap(cursor, gap),
-                ..*record
+            entries.push_reserved(Entry {
+                held: entry.held.past_gap(cursor, gap),
+                ..*entry
             });
         }
         Ok(Ring {
@@ -178,6 +184,6 @@ impl<A: Allocator> Ring<Record, A> {
     pub(crate) fn set_location(&mut self, slot: u32, location: Location) {
         self.accesses.tick();
         self.accesses.tick();
-        self.entries[slot as usize].location = location;
+        self.entries[slot as usize].held = location;
     }
 }

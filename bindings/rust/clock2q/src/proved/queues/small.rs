@@ -27,12 +27,6 @@ impl Small {
         }
     }
 
-    /// Returns the oldest slot, or `None` if there is none.
-    #[inline]
-    pub(crate) fn tail(&self) -> Option<u32> {
-        (self.len > 0).then_some(self.oldest)
-    }
-
     /// Admits a slot as the newest, and young. All other young slots grow older.
     #[inline(always)]
     pub(crate) fn push<A: Allocator>(&mut self, links: &mut Links<A>, slot: u32) {
@@ -54,9 +48,11 @@ impl Small {
     pub(crate) fn reuse_oldest<A: Allocator>(&mut self, links: &mut Links<A>) -> u32 {
         let slot = self.oldest;
         let cursor = self.cursor;
-        self.oldest = links.leave_window(slot);
+        let was = links.entry(slot);
+        links.leave_position(was.held);
+        self.oldest = was.previous;
         self.cursor = links.take_position(cursor, slot);
-        links.make_young(slot, cursor);
+        links.relocate(slot, Location::SmallYoung(cursor));
         self.newest = slot;
         slot
     }
@@ -65,7 +61,7 @@ impl Small {
     #[inline]
     pub(crate) fn unlink<A: Allocator>(&mut self, links: &mut Links<A>, slot: u32) {
         let was = links.detach(slot);
-        links.leave_position(was.location);
+        links.leave_position(was.held);
         self.len -= 1;
         if self.newest == slot {
             self.newest = was.next;

@@ -30,11 +30,10 @@ impl<K: Eq, V, A: Allocator> Directory<K, V, A> {
     {
         let key = *self.residents.key(slot);
         let hash = self.residents.hash(slot);
-        if self.history.order.limit() == 0 {
+        let Some(retired) = self.history.push(hash, key) else {
             self.index.remove_slot(hash, slot);
             return key;
-        }
-        let retired = self.history.push(hash, key);
+        };
         self.index.forget(retired.oldest, retired.place);
         self.index.remember(hash, slot, retired.place);
         key
@@ -45,12 +44,12 @@ impl<K: Eq, V, A: Allocator> Directory<K, V, A> {
     #[inline]
     pub fn forget(&mut self, hash: u64, key: &K, found: &Found) -> bool {
         let _ = key;
-        let _ = self.history.order.len();
+        let _ = self.history.len();
         let Found::Remembered(place) = *found else {
             return false;
         };
         self.index.forget(Some(hash), place);
-        self.history.order.unlink(place);
+        self.history.forget(place);
         true
     }
 
@@ -63,8 +62,7 @@ impl<K: Eq, V, A: Allocator> Directory<K, V, A> {
     pub fn clear(&mut self) {
         self.residents.clear();
         self.index.clear();
-        self.history.order.clear();
-        self.history.keys.clear();
+        self.history.clear();
     }
 }
 
@@ -109,11 +107,10 @@ impl<K: Eq, V, A: Allocator> Directory<K, V, A> {
             value,
         } = newcomer;
         let (old_hash, old_key) = self.residents.replace(slot, hash, key, value);
-        if self.history.order.limit() == 0 {
+        let Some(retired) = self.history.push(old_hash, old_key) else {
             self.index.replace(gap, hash, slot, old_hash);
             return;
-        }
-        let retired = self.history.push(old_hash, old_key);
+        };
         self.index.replace_remembering(gap, hash, slot, retired);
     }
 }

@@ -5,7 +5,7 @@ use crate::proved::directory::directory::Directory;
 use crate::proved::directory::handle::{Found, Handle};
 use crate::proved::directory::keys::Keys;
 use crate::proved::count::Count;
-use crate::proved::handles::{Candidates, Gap};
+use crate::proved::handles::Candidates;
 use crate::proved::rattle::Allocator;
 
 impl<K: Eq, V, A: Allocator> Directory<K, V, A> {
@@ -21,18 +21,13 @@ impl<K: Eq, V, A: Allocator> Directory<K, V, A> {
         );
         match found {
             // checked late, since most keys are found in the table of the slots
-            Found::Absent(gap) if !self.index.is_shared() => self.lookup_apart(gap, hash, key),
+            Found::Absent(gap) if !self.index.is_shared() => {
+                match self.history.keys.find(self.index.own_places(hash), key) {
+                    Some(place) => Found::Remembered(place),
+                    None => Found::Absent(gap),
+                }
+            }
             found => found,
-        }
-    }
-
-    /// Looks a key that is not resident up among the remembered keys, if the places have a table of
-    /// their own. The lookup of the residents found the gap, and was charged for both.
-    #[inline]
-    fn lookup_apart(&mut self, gap: Option<Gap>, hash: u64, key: &K) -> Found {
-        match self.history.keys.find(self.index.own_places(hash), key) {
-            Some(place) => Found::Remembered(place),
-            None => Found::Absent(gap),
         }
     }
 

@@ -16,7 +16,7 @@ pub struct Entry<K, V> {
 /// A key at each place, with its hash and a value. Places are numbered from 0, in the order in
 /// which they are first used.
 ///
-/// One function compares keys, and counts each comparison. Two functions write keys, and count each
+/// Two functions compare keys, and count each comparison. Two functions write keys, and count each
 /// write.
 ///
 /// # Example
@@ -117,6 +117,17 @@ impl<K, V, A: Allocator> Keys<K, V, A> {
 }
 
 impl<K, V, A: Allocator> Keys<K, V, A> {
+    /// Writes a key to a place: to the next one, which has to come with a value, or over the one that
+    /// is there, which is dropped. Without a value, the place keeps the one that it has.
+    #[inline(always)]
+    pub fn put(&mut self, place: u32, hash: u64, key: K, value: Option<V>) {
+        if (place as usize) < self.len() {
+            self.replace(place, hash, key, value);
+        } else if let Some(value) = value {
+            self.push(hash, key, value);
+        }
+    }
+
     /// Writes a key over the one at a place, and returns the old hash and key. Without a value, the
     /// place keeps the one that it has.
     #[inline]
@@ -135,17 +146,18 @@ impl<K, V, A: Allocator> Keys<K, V, A> {
 }
 
 impl<K: Eq, V, A: Allocator> Keys<K, V, A> {
+    /// Returns true if `key` equals the key at a place, and counts the comparison.
+    #[inline]
+    pub fn key_equals(&mut self, place: u32, key: &K) -> bool {
+        self.comparisons.tick();
+        *key == self.entries[place as usize].key
+    }
+
     /// Returns true if `key` equals the key at a place, and counts the comparison in `compared`.
     #[inline]
     pub(super) fn is_counting_in(&self, place: u32, key: &K, compared: &mut Count) -> bool {
         compared.tick();
         *key == self.entries[place as usize].key
-    }
-
-    /// Adds comparisons that were counted elsewhere.
-    #[inline]
-    pub(super) fn add_comparisons(&mut self, compared: &Count) {
-        self.comparisons.raise(compared);
     }
 
     /// Raises the count of comparisons by an amount that the proof of the call picks. A caller that

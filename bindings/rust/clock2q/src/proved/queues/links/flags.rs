@@ -1,14 +1,11 @@
 // Written by bindings/rust/erase from crates/clock2q_queues/src/links/flags.rt; change that, and run erase.
 //! What is known of a slot without its record: whether it is in a queue, and its hit bit.
 
-use crate::proved::rattle::Vec;
-use crate::proved::queues::entries::Record;
-use crate::proved::queues::ring::Ring;
-use crate::proved::count::Count;
 use crate::proved::rattle::{AllocError, Allocator, Global};
 
 /// Whether a slot is in a queue, as its record says too, and its hit bit. A slot in no queue has a
 /// clear bit.
+use crate::proved::rattle::Vec;
 #[derive(Clone, Copy)]
 pub(super) enum Flag {
     /// In neither queue.
@@ -44,17 +41,10 @@ impl<A: Allocator> Flags<A> {
         Ok(Flags { flags, slots })
     }
 
-    /// Returns the flag of a slot that is in a queue. The look is counted in `looks`.
+    /// Returns the flag of a slot that is in a queue. Who calls it counts the look.
     #[inline]
-    pub(super) fn read(&self, slot: u32, looks: &mut Count) -> Flag {
-        looks.tick();
+    pub(super) fn get(&self, slot: u32) -> Flag {
         self.flags[slot as usize]
-    }
-
-    /// Returns the record of a slot that is in a queue, and its flag. It is one access of the ring.
-    #[inline]
-    pub(super) fn read_with(&self, slot: u32, ring: &mut Ring<Record, A>) -> (Record, Flag) {
-        (ring.read(slot), self.flags[slot as usize])
     }
 
     /// Returns true if a slot is in a queue. It doesn't say whether the slot's bit is set.
@@ -72,21 +62,18 @@ impl<A: Allocator> Flags<A> {
         self.flags[slot as usize] = flag;
     }
 
-    /// Writes the flag of a slot. If it isn't made yet, it is made, after those of the slots below it.
+    /// Writes the flag of a slot that was made, or makes that of the next slot.
     #[inline(always)]
     pub(super) fn write(&mut self, slot: u32, flag: Flag) {
         if (slot as usize) < self.flags.len() {
             self.flags[slot as usize] = flag;
-            return;
+        } else {
+            self.flags.push_reserved(flag);
         }
-        if self.flags.len() < slot as usize {
-            self.make_below(slot);
-        }
-        self.flags.push_reserved(flag);
     }
 
     /// Makes the flags of the slots below a bound that have none yet.
-    #[inline(never)]
+    #[inline]
     pub(super) fn make_below(&mut self, bound: u32) {
         while self.flags.len() < bound as usize {
             self.flags.push_reserved(Flag::Free);
