@@ -162,6 +162,7 @@ impl<K, V> Store<K, V> {
 
     /// Stores a pair, for whose key a look-up returned `found`, and returns what was replaced or left. It runs no code of
     /// users, and drops nothing.
+    #[inline(always)]
     pub(crate) fn push_at(&mut self, found: Found, hash: u64, key: K, value: V) -> Before<K, V> {
         if let Found::Resident(slot) = found {
             return self.replace(slot as usize, key, value);
