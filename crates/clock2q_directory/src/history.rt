@@ -91,7 +91,7 @@ impl<K: Drop, A: Allocator> Ghost<K, A> {
                 oldest: None,
             });
         }
-        let place = self.order.reuse_oldest();
+        let place = self.order.replace_oldest();
         let (oldest, _) = self.keys.replace(place, hash, key, Some(()));
         Some(Retired {
             hash,

@@ -188,7 +188,7 @@ impl<A: Allocator> Index<A> {
         // a table of the slots alone may have no room for one more before another leaves
         let usable = if self.is_shared() { gap } else { None };
         charge(&self.shared, &self.own, &mut self.charged, &seen);
-        self.shared.exchange(usable, hash, slot, old_hash, slot);
+        self.shared.replace(usable, hash, slot, old_hash, slot);
     }
 
     /// Adds the slot of a key that becomes resident in place of another, which is remembered at a
@@ -207,7 +207,7 @@ impl<A: Allocator> Index<A> {
             self.forget(retired.oldest, retired.place);
             let seen = (hash, retired.hash);
             charge(&self.shared, &self.own, &mut self.charged, &seen);
-            self.shared.exchange(None, hash, slot, retired.hash, slot);
+            self.shared.replace(None, hash, slot, retired.hash, slot);
             self.own.insert_at_gap(None, retired.hash, retired.place);
             return;
         }
@@ -216,7 +216,7 @@ impl<A: Allocator> Index<A> {
         let handle = Handle::Remembered(retired.place).pack();
         match retired.oldest {
             Some(oldest) => {
-                self.shared.exchange(gap, hash, slot, oldest, handle);
+                self.shared.replace(gap, hash, slot, oldest, handle);
                 self.shared.replace_handle(retired.hash, slot, handle);
             }
             None => {

@@ -15,7 +15,7 @@ pub ruleset laid_out = (tidy-layout, tidy-room, best-placed)
 pub ruleset rebuilding = (rebuilt-total, length-replicate, length-homes_of)
 
 -- a removal and then an insertion
-pub ruleset exchanging = (length-with_list, removed-fewer, removed-run, walk-more)
+pub ruleset replacing = (length-with_list, removed-fewer, removed-run, walk-more)
 
 -- a home where a search finds no entry
 pub ruleset absent = (removed-none, listed-homes_of)

@@ -56,7 +56,7 @@ module _ {H : Type 0} where
 
   -- v is put in under x, whose gap may be known, and w is taken out under y
   pub record Exchanges (eq : H → H → Bool) (gap : Option GapValue) (x : ℕ) (v : H) (y : ℕ) (w : H) (old new : TableValue H) : Type 0 where
-    pub exchanged : new.homes ≡ with_handle (without_handle eq old.homes y w) x v
+    pub replaced : new.homes ≡ with_handle (without_handle eq old.homes y w) x v
     pub accesses : ChangesAtMost gap x y old new
     pub longer : (z : ℕ) → walk new.homes z ≤ walk old.homes z + 1
     pub laid : IsLaidOut new

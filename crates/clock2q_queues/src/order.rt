@@ -26,7 +26,7 @@ struct Chain {
 /// let mut order = Order::new(rt.alloc(), 2)?;
 /// assert_eq!(rt; order.push(), 0);
 /// assert_eq!(rt; order.push(), 1);
-/// assert_eq!(rt; order.reuse_oldest(), 0);
+/// assert_eq!(rt; order.replace_oldest(), 0);
 /// order.unlink(1);
 /// assert_eq!(rt; order.len(), 1);
 /// let order = order.grown(rt.alloc(), 3)?;
@@ -148,7 +148,7 @@ impl<A: Allocator> Order<A> {
     }
 
     /// Moves the last place to the front, and returns it: a new key takes the oldest one's place.
-    pub fn reuse_oldest(&mut self) -> u32
+    pub fn replace_oldest(&mut self) -> u32
         requires { 0 < length self.old.places }
         ensures whole { IsWholeOrder self.new }
         ensures oldest { last_or None self.old.places ≡ Some result }

@@ -201,7 +201,7 @@ impl<A: Allocator> Queues<A> {
     /// Makes Small's oldest slot its newest, and returns it: a new key takes the slot of the oldest
     /// one. All young slots grow older, and one may become old.
     #[inline(always)]
-    pub fn reuse_tail(&mut self) -> u32
+    pub fn replace_tail(&mut self) -> u32
         requires some { 0 < length self.old.small }
         requires window { 0 < self.old.window }
         ensures tail { last_or None (slots_of self.old.small) ≡ Some result }
@@ -213,7 +213,7 @@ impl<A: Allocator> Queues<A> {
             } }
         ensures accesses { Rises 5 8 self.old.accesses self.new.accesses }
     {
-        self.small.reuse_oldest(&mut self.links)
+        self.small.replace_oldest(&mut self.links)
     }
 
     /// Moves the hand on to the slot that it chooses, as in [`take_victim`](Queues::take_victim),
@@ -308,7 +308,7 @@ impl<A: Allocator> Queues<A> {
     /// # Cost
     ///
     /// Linear in the number of slots that the hand passes.
-    pub fn reuse_victim(&mut self) -> u32
+    pub fn replace_victim(&mut self) -> u32
         requires some { 0 < length self.old.main }
         ensures victim { slice_get (from_victim self.old.main) 0 ≡ Some (result, false) }
         ensures queues { self.new

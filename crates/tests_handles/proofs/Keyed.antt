@@ -22,9 +22,9 @@ module _ {H : Type 0} (key : H → ℕ) where
   hashes-put homes new v (Ok r) some put hashes = rw put.0 (hashes-with homes v some hashes)
   hashes-put homes new v (Err e) some put hashes = rw put.1 hashes
 
-  -- an entry is exchanged for another
-  pub hashes-exchanged : (eq : H → H → Bool) (homes : List (List (ℕ × H))) (x : ℕ) (old v : H) → IsHashOf key homes → IsHashOf key (with_handle (without_handle eq homes x old) (key v) v)
-  hashes-exchanged eq [] x old v hashes = λ h i e l is. absurd (omega (arith, l))
-  hashes-exchanged eq (es ∷ homes) x old v hashes =
+  -- an entry is replaced by another
+  pub hashes-replaced : (eq : H → H → Bool) (homes : List (List (ℕ × H))) (x : ℕ) (old v : H) → IsHashOf key homes → IsHashOf key (with_handle (without_handle eq homes x old) (key v) v)
+  hashes-replaced eq [] x old v hashes = λ h i e l is. absurd (omega (arith, l))
+  hashes-replaced eq (es ∷ homes) x old v hashes =
       let len : length (without_handle eq (es ∷ homes) x old) ≡ length (es ∷ homes) = length-with_list (es ∷ homes) x _ in
       hashes-with (without_handle eq (es ∷ homes) x old) v (omega (arith, len)) (keyed_removed key eq (es ∷ homes) x old hashes)

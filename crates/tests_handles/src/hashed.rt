@@ -209,7 +209,7 @@ impl<A: Allocator + Copy> Hashed<A> {
 
     /// Exchanges the first candidate of a hash for another handle, at the gap for that one if it is
     /// wanted and there is room.
-    pub(crate) fn exchange(
+    pub(crate) fn replace(
         &mut self,
         old_hash: u64,
         handle: Handle,
@@ -222,7 +222,7 @@ impl<A: Allocator + Copy> Hashed<A> {
         let Ok((old, _)) = self.table.search(old_hash, |_| true) else {
             return None;
         };
-        self.table.exchange(gap, handle.hash, handle, old_hash, old);
+        self.table.replace(gap, handle.hash, handle, old_hash, old);
         Some(Ok(()))
     }
 

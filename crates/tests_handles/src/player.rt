@@ -117,12 +117,12 @@ impl<'a> Played<'a> {
             Change::PutWithin => self.tested.put_within(handle_of(first)),
             Change::PutFew => self.tested.put_few(handle_of(first)),
             Change::PutAtGap => self.tested.put_at_gap(handle_of(first)),
-            Change::Exchange => self
+            Change::Replace => self
                 .tested
-                .exchange(hash_of(first), handle_of(second), false),
-            Change::ExchangeAtGap => self
+                .replace(hash_of(first), handle_of(second), false),
+            Change::ReplaceAtGap => self
                 .tested
-                .exchange(hash_of(first), handle_of(second), true),
+                .replace(hash_of(first), handle_of(second), true),
         }
     }
 

@@ -34,8 +34,8 @@ pub(crate) enum Change {
     PutWithin,
     PutFew,
     PutAtGap,
-    Exchange,
-    ExchangeAtGap,
+    Replace,
+    ReplaceAtGap,
 }
 
 /// What changes which requests for memory are refused, or what they are compared with later.
@@ -81,8 +81,8 @@ const VERBS: &[(&str, Verb)] = &[
     ("put_within", Verb::Change(Change::PutWithin)),
     ("put_few", Verb::Change(Change::PutFew)),
     ("put_at_gap", Verb::Change(Change::PutAtGap)),
-    ("exchange", Verb::Change(Change::Exchange)),
-    ("exchange_at_gap", Verb::Change(Change::ExchangeAtGap)),
+    ("replace", Verb::Change(Change::Replace)),
+    ("replace_at_gap", Verb::Change(Change::ReplaceAtGap)),
     ("refuse", Verb::Grant(Grant::Refuse)),
     ("refuse_one", Verb::Grant(Grant::RefuseOne)),
     ("grant", Verb::Grant(Grant::Grant)),

@@ -65,9 +65,9 @@ impl Lists {
             Verb::Hit => self.hit(slot),
             Verb::Leave => self.leave(slot),
             Verb::TakeTail => slot_if_any(self.take_tail()),
-            Verb::ReuseTail => slot_if_any(self.reuse_tail()),
+            Verb::ReuseTail => slot_if_any(self.replace_tail()),
             Verb::TakeVictim => slot_if_any(self.take_victim()),
-            Verb::ReuseVictim => slot_if_any(self.reuse_victim()),
+            Verb::ReuseVictim => slot_if_any(self.replace_victim()),
             Verb::IsResident => flag(self.is_resident(slot)),
             Verb::SmallLen => Some(self.small.len() as u64),
             Verb::MainLen => Some(self.main.len() as u64),
@@ -131,7 +131,7 @@ impl Lists {
     }
 
     /// Admits Small's oldest slot anew.
-    fn reuse_tail(&mut self) -> Option<u32> {
+    fn replace_tail(&mut self) -> Option<u32> {
         let tail = self.take_tail()?;
         self.admit(tail);
         Some(tail)
@@ -153,7 +153,7 @@ impl Lists {
     }
 
     /// Puts the slot that the hand chooses at the end of Main.
-    fn reuse_victim(&mut self) -> Option<u32> {
+    fn replace_victim(&mut self) -> Option<u32> {
         let victim = self.take_victim()?;
         let _ = self.main.push(Entry::new(victim));
         Some(victim)

@@ -57,9 +57,9 @@ impl<A: Allocator> Played<A> {
             Verb::Hit => self.hit(slot),
             Verb::Leave => self.leave(slot),
             Verb::TakeTail => slot_if_any(self.queues.take_tail()),
-            Verb::ReuseTail => self.reuse_tail(),
+            Verb::ReuseTail => self.replace_tail(),
             Verb::TakeVictim => self.take_victim(),
-            Verb::ReuseVictim => self.reuse_victim(),
+            Verb::ReuseVictim => self.replace_victim(),
             Verb::IsResident => flag(self.queues.is_resident(slot as usize)),
             Verb::SmallLen => Some(self.queues.small_len() as u64),
             Verb::MainLen => Some(self.queues.main_len() as u64),
@@ -122,11 +122,11 @@ impl<A: Allocator> Played<A> {
         Some(1)
     }
 
-    fn reuse_tail(&mut self) -> Reply {
+    fn replace_tail(&mut self) -> Reply {
         if self.window == 0 || self.queues.small_len() == 0 {
             return None;
         }
-        Some(u64::from(self.queues.reuse_tail()))
+        Some(u64::from(self.queues.replace_tail()))
     }
 
     fn take_victim(&mut self) -> Reply {
@@ -136,11 +136,11 @@ impl<A: Allocator> Played<A> {
         Some(u64::from(self.queues.take_victim()))
     }
 
-    fn reuse_victim(&mut self) -> Reply {
+    fn replace_victim(&mut self) -> Reply {
         if self.queues.main_len() == 0 {
             return None;
         }
-        Some(u64::from(self.queues.reuse_victim()))
+        Some(u64::from(self.queues.replace_victim()))
     }
 
     /// Replies whether Small has an oldest slot and that goes on to Main.

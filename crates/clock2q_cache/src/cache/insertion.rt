@@ -201,7 +201,7 @@ impl<K: Hash + Eq + Drop, V: Drop, S: BuildHasher, A: Allocator> Cache<K, V, S, 
             (inspections self.old.machine.main) result.0 self.old self.new }
         ensures left { Notes F.FnOnce leaves (leaves_for_main self.old.machine) result.0 result.1 }
     {
-        let victim = self.queues.reuse_victim();
+        let victim = self.queues.replace_victim();
         let old = self.directory.replace(victim, newcomer);
         (victim, Some(leaves(&old.1)))
     }
@@ -266,7 +266,7 @@ impl<K: Hash + Eq + Drop, V: Drop, S: BuildHasher, A: Allocator> Cache<K, V, S, 
         ensures left { Notes F.FnOnce leaves
             (leaves_placed false self.old.machine) result.0 result.1 }
     {
-        let tail = self.queues.reuse_tail();
+        let tail = self.queues.replace_tail();
         let left = leaves(self.directory.key(tail));
         self.directory.replace_remembering(tail, newcomer);
         (tail, Some(left))

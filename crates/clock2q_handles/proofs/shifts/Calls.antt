@@ -1,4 +1,4 @@
--- What the calls of a table that put an entry in, take one out or exchange two result in, from what they do to its slots.
+-- What the calls of a table that put an entry in, take one out or replace one result in, from what they do to its slots.
 use Rattle.std.proofs.Common.{◌≡◌, ℕ, ◌+◌, ◌^◌, ◌%◌, ◌<◌, ◌≤◌, refl, ap, sym, ◌∙◌, subst, arith, Bool, true, ◌-◌, List, length, Option, Some, suc, Err, Ok}
 use Rattle.std.specs.List.{list_any}
 use Rattle.clock2q_handles.specs.declared.error.TableError.TheVariants.{RunTooLong}
@@ -23,7 +23,7 @@ use Rattle.clock2q_handles.proofs.walks.Positions.{gap_ends}
 use Rattle.clock2q_handles.proofs.Promises.{few_fit, restored_by}
 use Rattle.clock2q_handles.proofs.shifts.Insertions.{IsEnd, Insertion, few_room, inserted, refusal}
 use Rattle.clock2q_handles.proofs.shifts.Taking.{Removal, found_at, found_occupied, found_taken, removal}
-use Rattle.clock2q_handles.proofs.shifts.Removals.{exchanged-homes, held-still, removed-walk}
+use Rattle.clock2q_handles.proofs.shifts.Removals.{entry-replaced-homes, held-still, removed-walk}
 use Rattle.clock2q_handles.proofs.shifts.Steps.{listed-home, table-laid}
 use Rattle.clock2q_handles.proofs.shifts.Carrying.{come_at, slot_from}
 use Rattle.clock2q_handles.proofs.shifts.Shifts.{opened-on, reach-moved_on}
@@ -113,18 +113,18 @@ module _ {H : Type 0} {slots : List (Option (Placed (ℕ × H)))} {len w r : ℕ
         out : Removal eq y v' more less (len + 1) w' w''
         out = removal eq y v' more less (len + 1) w' w'' done.table (found_taken found taken)
 
-        pub exchanged_table : IsTable less len
-        exchanged_table = grind (arith, out)
+        pub replaced_table : IsTable less len
+        replaced_table = grind (arith, out)
 
-        pub exchanging : (gap : GapValue) {r' r'' : ℕ} → (i : ℕ) → i + w ≡ r + w' → r' ≡ i + reach (slot_at more k) → r'' + w' ≡ r' + w'' → Exchanges eq (Some gap) x v y v' old (table_value (homes_of less) less w'' r'')
-        exchanging gap {r'} {r''} i put_reads found_reads taken_reads =
+        pub replacing : (gap : GapValue) {r' r'' : ℕ} → (i : ℕ) → i + w ≡ r + w' → r' ≡ i + reach (slot_at more k) → r'' + w' ≡ r' + w'' → Exchanges eq (Some gap) x v y v' old (table_value (homes_of less) less w'' r'')
+        replacing gap {r'} {r''} i put_reads found_reads taken_reads =
             let come = come_at slots x end.ends.walk.distance s end.ends.walk.come in
             let on = opened-on (puts.opens x end.ends.walk.distance (top x) come end.ends.walk.mark).2 (slot-again slots) (slots_again more (length slots) puts.len) table.tidy.ordered come.passed in
             let within = taken_reached table.tidy done.table.tidy puts.len (omega (arith, end.fits)) on y found taken in
             let longer : (z : ℕ) → walk (homes_of more) z ≤ walk (homes_of slots) z + 1 = λ z. omega (arith, ap (λ hs. walk hs z) done.homes, walk-more (homes_of slots) x (top x, v) some z) in
-            let homes = out.homes ∙ ap (λ hs. without_handle eq hs y v') done.homes ∙ exchanged-homes eq (homes_of slots) x y v v' some was_held in
+            let homes = out.homes ∙ ap (λ hs. without_handle eq hs y v') done.homes ∙ entry-replaced-homes eq (homes_of slots) x y v v' some was_held in
             let shorter = removed-walk eq (homes_of more) y v' (tidy-room more done.table.tidy) in
-            let laid = table-laid less len exchanged_table w'' r'' in
+            let laid = table-laid less len replaced_table w'' r'' in
             subst (λ t. Exchanges eq (Some gap) x v y v' t (table_value (homes_of less) less w'' r'')) is
             (grind (arith, homes, put_reads, found_reads, found_occupied found, taken_reads, done.counted, done.writes, out.counted, within, longer, walk-is (homes_of slots) x some, shorter, out.homes, laid))
 

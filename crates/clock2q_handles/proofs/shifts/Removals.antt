@@ -55,9 +55,9 @@ module _ {H : Type 0} (eq : H → H → Bool) where
   held-still homes x y v w some held = grind (arith, listed-with_same, list_any-append, listed-with_other)
 
   -- an entry may be removed after another is put in
-  pub exchanged-homes : (homes : List (List (ℕ × H))) (x y : ℕ) (v w : H) → 0 < length homes → list_any (is_entry_of eq y w) (listed homes y) ≡ true
+  pub entry-replaced-homes : (homes : List (List (ℕ × H))) (x y : ℕ) (v w : H) → 0 < length homes → list_any (is_entry_of eq y w) (listed homes y) ≡ true
       → without_handle eq (with_handle homes x v) y w ≡ with_handle (without_handle eq homes y w) x v
-  exchanged-homes homes x y v w some held = changed-after (without_first (is_entry_of eq y w)) homes x y (top x, v) some (grind (arith, without_first-append))
+  entry-replaced-homes homes x y v w some held = changed-after (without_first (is_entry_of eq y w)) homes x y (top x, v) some (grind (arith, without_first-append))
 
   -- or get another handle
   pub replaced-homes : (homes : List (List (ℕ × H))) (x y : ℕ) (v w w' : H) → 0 < length homes → list_any (is_entry_of eq y w) (listed homes y) ≡ true

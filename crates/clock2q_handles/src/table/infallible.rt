@@ -88,14 +88,14 @@ impl<H: Copy + Eq + Default, A: Allocator> Table<H, A> {
     /// entry's to that of the last entry that moves back. Without a gap it also takes the walk of the
     /// hash.
     #[inline(always)]
-    #[tactic(auto, using(crate::proofs::Attributes::exchanging))]
-    pub fn exchange(&mut self, gap: Option<Gap>, hash: u64, handle: H, old_hash: u64, old: H)
+    #[tactic(auto, using(crate::proofs::Attributes::replacing))]
+    pub fn replace(&mut self, gap: Option<Gap>, hash: u64, handle: H, old_hash: u64, old: H)
         requires few { total self.old.homes < 2 ^ 24 }
         requires gap { IfSome gap (λ gap. gap ≡ gap_of self.old.homes hash) }
         requires spare { IsSome gap → HasSpare self.old.homes }
         requires held { list_any (is_entry_of H.PartialEq.eq old_hash old)
             (listed self.old.homes old_hash) ≡ true }
-        ensures exchanged { self.new.homes
+        ensures replaced { self.new.homes
             ≡ with_handle (without_handle H.PartialEq.eq self.old.homes old_hash old) hash handle }
         ensures accesses { ChangesAtMost gap hash old_hash self.old self.new }
         ensures longer { (x : ℕ) → walk self.new.homes x ≤ walk self.old.homes x + 1 }

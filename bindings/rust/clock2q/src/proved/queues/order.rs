@@ -25,7 +25,7 @@ struct Chain {
 /// let mut order = Order::new(Global, 2)?;
 /// assert_eq!(order.push(), 0);
 /// assert_eq!(order.push(), 1);
-/// assert_eq!(order.reuse_oldest(), 0);
+/// assert_eq!(order.replace_oldest(), 0);
 /// order.unlink(1);
 /// assert_eq!(order.len(), 1);
 /// let order = order.grown(Global, 3)?;
@@ -115,7 +115,7 @@ impl<A: Allocator> Order<A> {
 
     /// Moves the last place to the front, and returns it: a new key takes the oldest one's place.
     #[inline]
-    pub fn reuse_oldest(&mut self) -> u32 {
+    pub fn replace_oldest(&mut self) -> u32 {
         let oldest = self.ring.read(self.newest).previous;
         self.newest = oldest;
         oldest

@@ -137,8 +137,8 @@ impl<A: Allocator> Queues<A> {
     /// Makes Small's oldest slot its newest, and returns it: a new key takes the slot of the oldest
     /// one. All young slots grow older, and one may become old.
     #[inline(always)]
-    pub fn reuse_tail(&mut self) -> u32 {
-        self.small.reuse_oldest(&mut self.links)
+    pub fn replace_tail(&mut self) -> u32 {
+        self.small.replace_oldest(&mut self.links)
     }
 
     /// Moves the hand on to the slot that it chooses, as in [`take_victim`](Queues::take_victim),
@@ -203,7 +203,7 @@ impl<A: Allocator> Queues<A> {
     ///
     /// Linear in the number of slots that the hand passes.
     #[inline]
-    pub fn reuse_victim(&mut self) -> u32 {
+    pub fn replace_victim(&mut self) -> u32 {
         let victim = self.main.select(&mut self.links);
         self.main.advance(&mut self.links, victim);
         victim

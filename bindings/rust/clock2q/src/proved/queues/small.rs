@@ -45,7 +45,7 @@ impl Small {
     /// Makes the oldest slot the newest, and returns it, as if it left and was admitted again. The
     /// ring doesn't change, since the newest slot follows the oldest in it.
     #[inline(always)]
-    pub(crate) fn reuse_oldest<A: Allocator>(&mut self, links: &mut Links<A>) -> u32 {
+    pub(crate) fn replace_oldest<A: Allocator>(&mut self, links: &mut Links<A>) -> u32 {
         let slot = self.oldest;
         let cursor = self.cursor;
         let was = links.entry(slot);

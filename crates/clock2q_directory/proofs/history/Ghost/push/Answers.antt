@@ -13,9 +13,9 @@ returns-then-len-limit-clause-made g c index indexed =
     MakesPlace-new indexed c.requires.as_many c.len.ensures.whole room c.push-place.ensures.place c.push-place.ensures.order c.push-place.ensures.accesses
 
 pub returns-clause-held : goal.returns-clause-held
-returns-clause-held g c = λ index indexed. oldest_held c.len.ensures.whole indexed c.reuse_oldest-place.ensures.oldest c.replace-oldest.ensures.hash
+returns-clause-held g c = λ index indexed. oldest_held c.len.ensures.whole indexed c.replace_oldest-place.ensures.oldest c.replace-oldest.ensures.hash
 
 pub returns-clause-made : goal.returns-clause-made
 returns-clause-made g c index indexed =
     let full : c.args.self.now.order.limit ≤ length c.args.self.now.order.places = omega (arith, c.if-len-limit.false, c.len.ensures.len, c.limit.ensures) in
-    MakesPlace-oldest indexed c.requires.as_many c.len.ensures.whole full c.reuse_oldest-place.ensures.oldest c.reuse_oldest-place.ensures.order c.replace-oldest.ensures.hash
+    MakesPlace-oldest indexed c.requires.as_many c.len.ensures.whole full c.replace_oldest-place.ensures.oldest c.replace_oldest-place.ensures.order c.replace-oldest.ensures.hash

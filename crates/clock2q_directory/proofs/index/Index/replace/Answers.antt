@@ -16,11 +16,11 @@ usable g c = elim c.if-is_shared.branch [
   | else-is_shared w ↦ w.usable-is ∙ ap (λ b. if b then c.args.gap else None) (sym (sym c.is_shared.ensures.shared ∙ w.if-is_shared.false))
 ]
 
-pub exchange-requires : goal.exchange-requires
-exchange-requires g c =
+pub replace-requires : goal.replace-requires
+replace-requires g c =
     let v = index_of c.self.inside.shared c.self.inside.own c.self.inside.charged.total in
     let room = rw (← c.self.view_is) at c.requires.room in
-    let used = rw (← c.self.view_is) at (usable g (goal.at.exchange-requires g c).After-charge) in
+    let used = rw (← c.self.view_is) at (usable g (goal.at.replace-requires g c).After-charge) in
     record {
       few = shared-few v c.self.invariant.sorted room.few;
       gap = usable-gap c.args.gap c.if-is_shared.usable (is_shared v) used c.args.hash v (rw (← c.self.view_is) at c.requires.gap);
@@ -33,10 +33,10 @@ invariant_of-self g c =
     let i = c.self.invariant in
     let v = index_of c.self.inside.shared c.self.inside.own c.self.inside.charged.total in
     let used = rw (← c.self.view_is) at (usable g (goal.at.invariant_of-self g c).After-charge) in
-    let e = c.exchange.ensures in
+    let e = c.replace.ensures in
     let below = c.requires.held.below in
     record {
-      sorted = rw e.exchanged (sorted-entered c.args.hash c.args.slot below (sorted-left c.args.old_hash c.args.slot below i.sorted));
+      sorted = rw e.replaced (sorted-entered c.args.hash c.args.slot below (sorted-left c.args.old_hash c.args.slot below i.sorted));
       shared_laid = e.laid.laid;
       own_laid = i.own_laid;
       counted = omega (

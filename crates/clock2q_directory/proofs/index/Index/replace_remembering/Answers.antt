@@ -8,7 +8,7 @@ use Rattle.clock2q_directory.proofs.Views.{held_entry}
 use Rattle.clock2q_directory.proofs.Sorted.{shared-few, spare-there, held_place, sorted-entered, sorted-remembered}
 use Rattle.clock2q_directory.proofs.Succession.{IsBeside, beside-free, beside-past, still-held, succeeded, succeeded-indexed, slots-if, shared-if, few-apart}
 use Rattle.clock2q_directory.proofs.index.Index.replace_remembering.Given.{Over}
-use Rattle.clock2q_directory.proofs.index.Index.replace_remembering.Goals.{After-pack-handle, After-exchange-in-Some, After-insert_at_gap-in-None, After-self-then-not-is_shared}
+use Rattle.clock2q_directory.proofs.index.Index.replace_remembering.Goals.{After-pack-handle, After-replace-in-Some, After-insert_at_gap-in-None, After-self-then-not-is_shared}
 use Rattle.clock2q_directory.proofs.index.Index.replace_remembering.Goals as goal
 
 -- In two tables
@@ -26,10 +26,10 @@ module _ (g : Over) (c : After-self-then-not-is_shared g) where
   apart : is_shared (index_state c.self-then-not-is_shared.inside.shared.homes c.self-then-not-is_shared.inside.own.homes) ≡ false
   apart = ap is_shared now ∙ shared-if c.args.retired.place c.args.self.now c.args.retired.oldest ∙ apart-before
 
-pub exchange-requires : goal.exchange-requires
-exchange-requires g c =
+pub replace-requires : goal.replace-requires
+replace-requires g c =
     let v = index_of c.self-then-not-is_shared.inside.shared c.self-then-not-is_shared.inside.own c.self-then-not-is_shared.inside.charged.total in
-    let at = (goal.at.exchange-requires g c).After-self-then-not-is_shared in
+    let at = (goal.at.replace-requires g c).After-self-then-not-is_shared in
     record {
       few = shared-few v c.self-then-not-is_shared.invariant.sorted (few-apart c.args.self.now v (same g at) (apart g at) c.requires.beside.few);
       gap = tt;
@@ -40,12 +40,12 @@ exchange-requires g c =
 pub invariant_of-self : goal.invariant_of-self
 invariant_of-self g c =
     let i = c.self-then-not-is_shared.invariant in
-    let s = c.exchange.ensures in
+    let s = c.replace.ensures in
     let o = c.insert_at_gap.ensures in
     let below = c.requires.may.held.below in
     let own = apart g (goal.at.invariant_of-self g c).After-self-then-not-is_shared in
     record {
-      sorted = rw (s.exchanged, o.put)
+      sorted = rw (s.replaced, o.put)
           (sorted-entered c.args.hash c.args.slot below (sorted-remembered c.args.retired.hash c.args.slot c.args.retired.place below i.sorted));
       shared_laid = s.laid.laid;
       own_laid = o.laid.laid;
@@ -77,12 +77,12 @@ module _ (g : Over) (c : After-pack-handle g) where
   held : list_any (eqb c.args.slot) (candidates (slots before) c.args.retired.hash) ≡ true
   held = (rw (← c.self.view_is) at c.requires.may).held.there
 
-past : (g : Over) (c : After-exchange-in-Some g) → is_shared (index_of c.self.inside.shared c.self.inside.own c.self.inside.charged.total) ≡ true
-    → IsBeside (Some c.in-Some.oldest) c.args.retired.place c.args.hash c.args.slot c.self.inside.shared c.self.inside.own c.self.inside.charged.total (is_some c.args.gap) c.exchange-in-Some.new.self
+past : (g : Over) (c : After-replace-in-Some g) → is_shared (index_of c.self.inside.shared c.self.inside.own c.self.inside.charged.total) ≡ true
+    → IsBeside (Some c.in-Some.oldest) c.args.retired.place c.args.hash c.args.slot c.self.inside.shared c.self.inside.own c.self.inside.charged.total (is_some c.args.gap) c.replace-in-Some.new.self
 past g c shared =
-    let e = c.exchange-in-Some.ensures in
+    let e = c.replace-in-Some.ensures in
     beside-past c.args.retired.place c.args.hash c.args.slot c.self.inside.shared c.self.inside.own c.self.inside.charged.total c.self.invariant
-    c.args.gap c.in-Some.oldest shared e.accesses (rw c.pack-handle.ensures.packed at e.exchanged)
+    c.args.gap c.in-Some.oldest shared e.accesses (rw c.pack-handle.ensures.packed at e.replaced)
 
 free : (g : Over) (c : After-insert_at_gap-in-None g)
     → IsBeside None c.args.retired.place c.args.hash c.args.slot c.self.inside.shared c.self.inside.own c.self.inside.charged.total (is_some c.args.gap) c.insert_at_gap-in-None.new.self
@@ -90,9 +90,9 @@ free g c =
     let e = c.insert_at_gap-in-None.ensures in
     beside-free c.args.retired.place c.args.hash c.args.slot c.self.inside.shared c.self.inside.own c.self.inside.charged.total c.self.invariant c.args.gap e.writes e.reads e.put
 
-pub exchange-requires-in-Some : goal.exchange-requires-in-Some
-exchange-requires-in-Some g c =
-    let at = (goal.at.exchange-requires-in-Some g c).After-pack-handle in
+pub replace-requires-in-Some : goal.replace-requires-in-Some
+replace-requires-in-Some g c =
+    let at = (goal.at.replace-requires-in-Some g c).After-pack-handle in
     let may = rw (← c.self.view_is, c.in-Some.is) at c.requires.may in
     let gap = rw (← c.self.view_is) at c.requires.gap in
     let spare = spare-there (before g at) c.self.invariant.sorted (room g at) in
@@ -116,14 +116,14 @@ pub replace_handle-requires : goal.replace_handle-requires
 replace_handle-requires g c =
     let x = goal.at.replace_handle-requires g c in
     let at = x.After-pack-handle in
-    record { held = still-held (Some c.in-Some.oldest) c.args.retired.place c.args.hash c.args.slot c.args.retired.hash c.self.inside.shared c.self.inside.own c.self.inside.charged.total c.self.invariant (shared g at) (held g at) (past g x.After-exchange-in-Some (shared g at)) }
+    record { held = still-held (Some c.in-Some.oldest) c.args.retired.place c.args.hash c.args.slot c.args.retired.hash c.self.inside.shared c.self.inside.own c.self.inside.charged.total c.self.invariant (shared g at) (held g at) (past g x.After-replace-in-Some (shared g at)) }
 
 pub invariant_of-self-in-Some : goal.invariant_of-self-in-Some
 invariant_of-self-in-Some g c =
     let x = goal.at.invariant_of-self-in-Some g c in
     let at = x.After-pack-handle in
     let e = c.replace_handle.ensures in
-    succeeded-indexed (Some c.in-Some.oldest) c.args.retired.place c.args.hash c.args.slot c.args.retired.hash c.self.inside.shared c.self.inside.own c.self.inside.charged.total c.self.invariant (shared g at) (held g at) (past g x.After-exchange-in-Some (shared g at))
+    succeeded-indexed (Some c.in-Some.oldest) c.args.retired.place c.args.hash c.args.slot c.args.retired.hash c.self.inside.shared c.self.inside.own c.self.inside.charged.total c.self.invariant (shared g at) (held g at) (past g x.After-replace-in-Some (shared g at))
     c.replace_handle.new.self (rw c.pack-handle.ensures.packed at c.replace_handle.ensures.handle_replaced) (rw (c.in-Some.is, c.is_some.ensures) at c.charge-2.ensures.charged) e.laid.laid e.reads e.writes
 
 pub returns-in-Some : goal.returns-in-Some
@@ -131,7 +131,7 @@ returns-in-Some g c =
     let x = goal.at.returns-in-Some g c in
     let at = x.After-pack-handle in
     record {
-      replaced = rw (← c.self.view_is, c.in-Some.is) (succeeded (Some c.in-Some.oldest) c.args.retired.place c.args.hash c.args.slot c.args.retired.hash c.self.inside.shared c.self.inside.own c.self.inside.charged.total c.self.invariant (shared g at) (held g at) (past g x.After-exchange-in-Some (shared g at))
+      replaced = rw (← c.self.view_is, c.in-Some.is) (succeeded (Some c.in-Some.oldest) c.args.retired.place c.args.hash c.args.slot c.args.retired.hash c.self.inside.shared c.self.inside.own c.self.inside.charged.total c.self.invariant (shared g at) (held g at) (past g x.After-replace-in-Some (shared g at))
           c.replace_handle.new.self (rw c.pack-handle.ensures.packed at c.replace_handle.ensures.handle_replaced) (rw (c.in-Some.is, c.is_some.ensures) at c.charge-2.ensures.charged));
     }
 

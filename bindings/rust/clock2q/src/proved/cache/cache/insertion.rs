@@ -130,7 +130,7 @@ impl<K: Hash + Eq, V, S: BuildHasher, A: Allocator> Cache<K, V, S, A> {
         newcomer: Newcomer<K, V>,
         leaves: F,
     ) -> (u32, Option<R>) {
-        let victim = self.queues.reuse_victim();
+        let victim = self.queues.replace_victim();
         let old = self.directory.replace(victim, newcomer);
         (victim, Some(leaves(&old.1)))
     }
@@ -166,7 +166,7 @@ impl<K: Hash + Eq, V, S: BuildHasher, A: Allocator> Cache<K, V, S, A> {
         newcomer: Newcomer<K, V>,
         leaves: F,
     ) -> (u32, Option<R>) {
-        let tail = self.queues.reuse_tail();
+        let tail = self.queues.replace_tail();
         let left = leaves(self.directory.key(tail));
         self.directory.replace_remembering(tail, newcomer);
         (tail, Some(left))

@@ -56,7 +56,7 @@ impl<H: Copy + Eq + Default, A: Allocator> Table<H, A> {
     /// entry's to that of the last entry that moves back. Without a gap it also takes the walk of the
     /// hash.
     #[inline(always)]
-    pub fn exchange(&mut self, gap: Option<Gap>, hash: u64, handle: H, old_hash: u64, old: H) {
+    pub fn replace(&mut self, gap: Option<Gap>, hash: u64, handle: H, old_hash: u64, old: H) {
         let Some(gap) = gap else {
             self.remove_existing(old_hash, old);
             return self.insert_at_gap(None, hash, handle);

@@ -1,7 +1,7 @@
 use Rattle.std.proofs.Common.{arith, false}
 use Rattle.clock2q_queues.proofs.Sharing.{after_choice, after_pass}
 use Rattle.clock2q_queues.proofs.Locations.{first_there}
-use Rattle.clock2q_queues.proofs.queues.Queues.reuse_victim.Goals as goal
+use Rattle.clock2q_queues.proofs.queues.Queues.replace_victim.Goals as goal
 
 pub invariant_of-self : goal.invariant_of-self
 invariant_of-self g c =

@@ -4,7 +4,7 @@ use Rattle.clock2q_queues.specs.Links.{Record, end_of}
 use Rattle.clock2q_queues.specs.Ring.{RingState}
 use Rattle.clock2q_queues.specs.Order.{PlaceOrder, order_shown}
 use Rattle.clock2q_queues.proofs.Orders.{IsOrder-from, whole_order, order_shown-is, reuses}
-use Rattle.clock2q_queues.proofs.order.Order.reuse_oldest.Goals as goal
+use Rattle.clock2q_queues.proofs.order.Order.replace_oldest.Goals as goal
 
 pub invariant_of-self : goal.invariant_of-self
 invariant_of-self g c =

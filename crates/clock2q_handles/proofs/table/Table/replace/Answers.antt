@@ -1,11 +1,11 @@
 use Rattle.std.proofs.Common.{refl, arith}
 use Rattle.clock2q_handles.specs.Shifts.{HasRoomAt}
-use Rattle.clock2q_handles.proofs.shifts.Calls.{end_of_gap, end_room, held_on, exchanged_table, exchanging}
+use Rattle.clock2q_handles.proofs.shifts.Calls.{end_of_gap, end_room, held_on, replaced_table, replacing}
 use Rattle.clock2q_handles.proofs.shifts.Insertions.{IsEnd, end_within, inserted}
 use Rattle.clock2q_handles.proofs.shifts.Taking.{found_occupied}
-use Rattle.clock2q_handles.proofs.table.Table.exchange.Given.{Over}
-use Rattle.clock2q_handles.proofs.table.Table.exchange.Goals.{After-self}
-use Rattle.clock2q_handles.proofs.table.Table.exchange.Goals as goal
+use Rattle.clock2q_handles.proofs.table.Table.replace.Given.{Over}
+use Rattle.clock2q_handles.proofs.table.Table.replace.Goals.{After-self}
+use Rattle.clock2q_handles.proofs.table.Table.replace.Goals as goal
 
 -- the walk for the hash ends at the gap, where there is room
 there : (g : Over) (c : After-self g) → IsEnd c.self.inside.slots.slots c.args.hash c.in-Some.gap.mark c.in-Some.gap.position
@@ -37,12 +37,12 @@ take_out-requires g c =
 pub invariant_of-self : goal.invariant_of-self
 invariant_of-self g c =
     let s = there g (goal.at.invariant_of-self g c).After-self in
-    exchanged_table c.self.invariant c.self.view_is g.H.PartialEq.eq s.0 s.1 c.put_at.ensures.puts c.args.old_hash c.args.old c.requires.held c.find_existing-held.ensures.found c.take_out.ensures.taken
+    replaced_table c.self.invariant c.self.view_is g.H.PartialEq.eq s.0 s.1 c.put_at.ensures.puts c.args.old_hash c.args.old c.requires.held c.find_existing-held.ensures.found c.take_out.ensures.taken
 
 pub returns : goal.returns
 returns g c =
     let s = there g (goal.at.returns g c).After-self in
     let done =
-    exchanging c.self.invariant c.self.view_is g.H.PartialEq.eq s.0 s.1 c.put_at.ensures.puts c.args.old_hash c.args.old c.requires.held
+    replacing c.self.invariant c.self.view_is g.H.PartialEq.eq s.0 s.1 c.put_at.ensures.puts c.args.old_hash c.args.old c.requires.held
     c.find_existing-held.ensures.found c.take_out.ensures.taken c.in-Some.gap c.put_at.new.reads.total c.put_at.ensures.reads c.find_existing-held.ensures.reached c.take_out.ensures.reads in
-    record { exchanged = done.exchanged; accesses = rw c.in-Some.is done.accesses; longer = done.longer; laid = done.laid }
+    record { replaced = done.replaced; accesses = rw c.in-Some.is done.accesses; longer = done.longer; laid = done.laid }

@@ -5,14 +5,14 @@ use Rattle.clock2q_handles.specs.Homes.{top, listed, is_entry_of}
 use Rattle.clock2q_handles.specs.TableStep.{IsHashOf}
 use Rattle.clock2q_handles.proofs.Offering.{offered_any}
 use Rattle.tests_handles.specs.contracts.handle.HandlePartialEq.TheImpl as equals
-use Rattle.tests_handles.proofs.Keyed.{hashes-exchanged}
-use Rattle.tests_handles.proofs.hashed.Hashed.exchange.Goals as goal
+use Rattle.tests_handles.proofs.Keyed.{hashes-replaced}
+use Rattle.tests_handles.proofs.hashed.Hashed.replace.Goals as goal
 
 pub search-requires : goal.search-requires
 search-requires g c = record { callable = offered_any _ _ _ (mut_total _ _ (λ f a. search rules)) }
 
-pub exchange-requires-clause-held : goal.exchange-requires-clause-held
-exchange-requires-clause-held g c =
+pub replace-requires-clause-held : goal.replace-requires-clause-held
+replace-requires-clause-held g c =
     let found = c.in-Ok.ensures.found in
     let x = c.args.old_hash in
     let old = c.in-Ok.old in
@@ -21,5 +21,5 @@ exchange-requires-clause-held g c =
 
 pub invariant_of-self : goal.invariant_of-self
 invariant_of-self g c =
-    subst (IsHashOf (λ handle. handle.hash)) (sym c.exchange.ensures.exchanged)
-    (hashes-exchanged (λ handle. handle.hash) equals.ghosts.eq c.self.inside.table.homes c.args.old_hash c.in-Ok.old c.args.handle c.self.invariant)
+    subst (IsHashOf (λ handle. handle.hash)) (sym c.replace.ensures.replaced)
+    (hashes-replaced (λ handle. handle.hash) equals.ghosts.eq c.self.inside.table.homes c.args.old_hash c.in-Ok.old c.args.handle c.self.invariant)

@@ -4,7 +4,7 @@ use Rattle.clock2q_queues.specs.Links.{Record}
 use Rattle.clock2q_queues.proofs.InQueue.{small_linked}
 use Rattle.clock2q_queues.proofs.Window.{aged_before, position_taken}
 use Rattle.clock2q_queues.proofs.Turning.{Turns, Turns-from, oldest_is, slot_fits, there, others_linked, aged_linked}
-use Rattle.clock2q_queues.proofs.small.Small.reuse_oldest.Goals as goal
+use Rattle.clock2q_queues.proofs.small.Small.replace_oldest.Goals as goal
 
 pub entry-was-requires : goal.entry-was-requires
 entry-was-requires g c =
