@@ -2,7 +2,10 @@
 //! refused before any is taken. Without optimization these tests take too long.
 #![cfg(not(debug_assertions))]
 
+mod common;
+
 use clock2q::{Cache, PageCache, Refused, MAX_CAPACITY};
+use common::Draws;
 
 #[test]
 fn pages() {
@@ -55,4 +58,38 @@ fn a_map() {
         Cache::<u64, u64>::new(MAX_CAPACITY + 1).err(),
         Some(Refused::Capacity)
     );
+}
+
+/// A key is resident from its insertion until a call returns it as the one that had to leave. Among these calls are
+/// insertions of keys that are remembered, and so evictions from both queues.
+#[test]
+fn a_map_that_is_filled_and_churned() {
+    let Ok(mut cache) = Cache::new(MAX_CAPACITY) else {
+        return;
+    };
+    let capacity = MAX_CAPACITY as u64;
+    let mut resident = vec![false; 2 * MAX_CAPACITY];
+    for key in 0..capacity {
+        assert_eq!(cache.push(key, !key), None);
+        resident[key as usize] = true;
+    }
+    assert_eq!(cache.len(), MAX_CAPACITY);
+    let mut draws = Draws(20_251_201);
+    for _ in 0..10_000_000 {
+        let key = draws.below(2 * capacity);
+        match cache.get(&key) {
+            Some(value) => assert_eq!((resident[key as usize], *value), (true, !key)),
+            None => {
+                let (left, value) = cache.push(key, !key).expect("a full cache evicts");
+                assert_eq!((resident[left as usize], value), (true, !left));
+                assert!(!resident[key as usize]);
+                resident[left as usize] = false;
+                resident[key as usize] = true;
+            }
+        }
+    }
+    assert_eq!(cache.len(), MAX_CAPACITY);
+    for (key, &is) in resident.iter().enumerate().step_by(7) {
+        assert_eq!(cache.contains_key(&(key as u64)), is);
+    }
 }
