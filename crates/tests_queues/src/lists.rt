@@ -5,7 +5,7 @@ use crate::verb::{Reply, Verb, flag, slot_if_any};
 use std::alloc::Global;
 
 #[derive(Clone, Copy, Drop)]
-struct Entry {
+pub(crate) struct Entry {
     slot: u32,
     age: u32,
     bit: bool,
@@ -34,8 +34,8 @@ impl Entry {
 /// is no memory for an entry, it is left out, and comparisons fail.
 #[derive(Drop)]
 pub(crate) struct Lists {
-    small: Vec<Entry>,
-    main: Vec<Entry>,
+    pub(crate) small: Vec<Entry>,
+    pub(crate) main: Vec<Entry>,
     window: u32,
     /// What others replied to the same calls.
     pub(crate) compared: Compared,
@@ -74,14 +74,6 @@ impl Lists {
             Verb::IsTailPromoted => flag(self.tail_is_promoted()),
             _ => None,
         }
-    }
-
-    pub(crate) fn small_len(&self) -> usize {
-        self.small.len()
-    }
-
-    pub(crate) fn main_len(&self) -> usize {
-        self.main.len()
     }
 
     pub(crate) fn is_resident(&self, slot: u32) -> bool {

@@ -5,10 +5,10 @@ use crate::compared::Difference;
 use crate::history::beside_list;
 use crate::played::{Played, TestedQueues};
 use crate::seeded::beside_lists;
-use crate::verb::{Made, Refusal, Reply, Verb, flag};
+use crate::verb::{Made, REFUSALS, Refusal, Reply, VERBS, Verb, flag};
 use crate::worked::play_worked;
 use std::alloc::{AllocError, Global};
-use testing::{Refusing, SpellingError, number_of, other_than, two_numbers, two_words};
+use testing::{Refusing, SpellingError, named_in, number_of, other_than, two_numbers, two_words};
 
 /// Returns what a line gives in place of what it should, if it does.
 pub(crate) fn other_replies(alloc: Global, line: &str) -> Result<Option<Vec<u8>>, SpellingError> {
@@ -50,7 +50,7 @@ fn sizes_of<'a>(memory: &Refusing<Global>, text: &'a str) -> (&'a str, &'a str) 
     let (first, others) = two_words(text);
     let (second, refused) = two_words(others);
     let (name, granted) = two_words(refused);
-    match Refusal::named(name) {
+    match named_in(REFUSALS, name) {
         Some(Refusal::One) => memory.refuse_one_after(number_of(granted)),
         Some(Refusal::All) => memory.refuse_after(number_of(granted)),
         None => {}
@@ -97,7 +97,7 @@ fn make_queues_call(
     (name, words): (&str, &str),
     replies: &mut String,
 ) -> Result<(), AllocError> {
-    match Verb::named(name) {
+    match named_in(VERBS, name) {
         Some(Verb::IsHeld) => write_reply(flag(memory.held() != 0), replies),
         Some(Verb::BesideLists) => {
             write_difference(beside_lists(queues, lists, two_numbers(words)), replies)
@@ -146,7 +146,7 @@ fn make_history_call(
     (name, words): (&str, &str),
     replies: &mut String,
 ) -> Result<(), AllocError> {
-    match Verb::named(name) {
+    match named_in(VERBS, name) {
         Some(Verb::IsHeld) => write_reply(flag(memory.held() != 0), replies),
         Some(Verb::BesideLists) => {
             write_difference(beside_list(history, lists, two_numbers(words)), replies)

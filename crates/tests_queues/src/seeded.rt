@@ -34,7 +34,7 @@ fn drawn_call(lists: &Lists, draws: &mut SplitMix64) -> (Verb, u32) {
         0..4 if !lists.is_resident(slot) => Verb::Admit,
         4 if !lists.is_resident(slot) => Verb::Append,
         5 => Verb::Leave,
-        6 if lists.main_len() > 0 => Verb::TakeVictim,
+        6 if !lists.main.is_empty() => Verb::TakeVictim,
         7 => Verb::ReuseTail,
         8 => Verb::ReuseVictim,
         _ => Verb::Hit,
@@ -45,7 +45,7 @@ fn drawn_call(lists: &Lists, draws: &mut SplitMix64) -> (Verb, u32) {
 /// Makes a drawn call. Small's tail leaves before an admission if Small is full.
 fn step(queues: &mut TestedQueues<'_>, lists: &mut Lists, small: u64, draws: &mut SplitMix64) {
     let (verb, slot) = drawn_call(lists, draws);
-    if matches!(verb, Verb::Admit) && lists.small_len() as u64 >= small {
+    if matches!(verb, Verb::Admit) && lists.small.len() as u64 >= small {
         make(queues, lists, Verb::TakeTail, 0);
     }
     make(queues, lists, verb, slot);

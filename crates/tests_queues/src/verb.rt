@@ -1,6 +1,6 @@
 //! Calls of queues and of histories, the words that name them, and what they reply.
 
-use testing::{named_in, two_words};
+use testing::two_words;
 
 /// A call of queues or of a history. Some have a slot or a key.
 #[derive(Clone, Copy)]
@@ -35,7 +35,8 @@ pub(crate) enum Verb {
 /// replies 1, and one that can't be made `None`.
 pub(crate) type Reply = Option<u64>;
 
-const VERBS: &[(&str, Verb)] = &[
+/// The calls by name.
+pub(crate) const VERBS: &[(&str, Verb)] = &[
     ("make_below", Verb::MakeBelow),
     ("admit", Verb::Admit),
     ("append", Verb::Append),
@@ -59,13 +60,6 @@ const VERBS: &[(&str, Verb)] = &[
     ("beside_lists", Verb::BesideLists),
 ];
 
-impl Verb {
-    /// Returns the call with this name.
-    pub(crate) fn named(name: &str) -> Option<Verb> {
-        named_in(VERBS, name)
-    }
-}
-
 /// Returns the reply that is true or false.
 pub(crate) fn flag(is_so: bool) -> Reply {
     Some(u64::from(is_so))
@@ -85,14 +79,11 @@ pub(crate) enum Refusal {
     All,
 }
 
-const REFUSALS: &[(&str, Refusal)] = &[("refuse_one", Refusal::One), ("refuse", Refusal::All)];
-
-impl Refusal {
-    /// Returns what has this name.
-    pub(crate) fn named(name: &str) -> Option<Refusal> {
-        named_in(REFUSALS, name)
-    }
-}
+/// The refusals by name.
+pub(crate) const REFUSALS: &[(&str, Refusal)] = &[
+    ("refuse_one", Refusal::One),
+    ("refuse", Refusal::All),
+];
 
 /// What is made for a line.
 #[derive(Clone, Copy)]
@@ -127,7 +118,8 @@ pub(crate) enum Run {
     IndexRoom,
 }
 
-const RUNS: &[(&str, Run)] = &[
+/// The runs by name.
+pub(crate) const RUNS: &[(&str, Run)] = &[
     ("counts", Run::Counts),
     ("growth", Run::Growth),
     ("slot", Run::Slot),
@@ -135,10 +127,3 @@ const RUNS: &[(&str, Run)] = &[
     ("two_keys", Run::TwoKeys),
     ("index_room", Run::IndexRoom),
 ];
-
-impl Run {
-    /// Returns the run with this name.
-    pub(crate) fn named(name: &str) -> Option<Run> {
-        named_in(RUNS, name)
-    }
-}

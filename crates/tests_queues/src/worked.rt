@@ -4,10 +4,10 @@ use crate::counts::{count, grow};
 use crate::directory::{a_slot, a_slot_more};
 use crate::keys::two_keys;
 use crate::player::{slot_of, write_reply};
-use crate::verb::Run;
+use crate::verb::{RUNS, Run};
 use clock2q_directory::index::index_room;
 use std::alloc::{AllocError, Global};
-use testing::{Refusing, two_words};
+use testing::{Refusing, named_in, two_words};
 
 /// Plays a run, and writes the numbers that it returns.
 pub(crate) fn play_worked(
@@ -17,7 +17,7 @@ pub(crate) fn play_worked(
     replies: &mut String,
 ) -> Result<(), AllocError> {
     let (name, number) = two_words(run);
-    match Run::named(name) {
+    match named_in(RUNS, name) {
         Some(Run::Counts) => write_numbers(&count(memory)?, replies),
         Some(Run::Growth) => write_numbers(&[grow(memory)? as u64], replies),
         Some(Run::Slot) => write_numbers(&a_slot(alloc)?, replies),
