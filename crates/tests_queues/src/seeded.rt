@@ -35,8 +35,8 @@ fn drawn_call(lists: &Lists, draws: &mut SplitMix64) -> (Verb, u32) {
         4 if !lists.is_resident(slot) => Verb::Append,
         5 => Verb::Leave,
         6 if !lists.main.is_empty() => Verb::TakeVictim,
-        7 => Verb::ReuseTail,
-        8 => Verb::ReuseVictim,
+        7 => Verb::ReplaceTail,
+        8 => Verb::ReplaceVictim,
         _ => Verb::Hit,
     };
     (verb, slot)
