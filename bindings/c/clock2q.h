@@ -40,7 +40,7 @@ extern "C" {
 #endif
 
 /* The version of this header: 10,000 times the major number, 100 times the minor one and the patch. */
-#define CLOCK2Q_VERSION 200
+#define CLOCK2Q_VERSION 300
 
 /* The largest capacity. */
 #define CLOCK2Q_MAX_CAPACITY 16777215

@@ -2,7 +2,7 @@
 //! The version of the library.
 
 /// 10,000 times the major number, plus 100 times the minor one, plus the patch.
-pub const VERSION: u32 = 200;
+pub const VERSION: u32 = 300;
 
 /// Returns the version of the library, [`VERSION`], which a program can compare with its header's.
 ///
