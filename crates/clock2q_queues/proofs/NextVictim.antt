@@ -1,6 +1,5 @@
 -- The slot that the hand would choose, found without moving it.
 use Rattle.std.proofs.Common.{◌≡◌, ◌&&◌, None, ℕ, zero, suc, ◌+◌, ◌<◌, ◌≤◌, Bool, true, false, Some, slice_get, List, [], ◌∷◌, ◌++◌, length, map, take, drop, refl, sym, ap, ◌∙◌, subst, arith}
-use Rattle.std.specs.Bool.{then_some}
 use Rattle.std.specs.List.{last_or}
 use Rattle.std.proofs.lemmas.Bool.{lt-ltb}
 use Rattle.std.proofs.lemmas.List.{length-map}
@@ -100,11 +99,6 @@ module _ (l : LinkState) (main : Main) (hand : ℕ) where
 
     pub Walks-here : IsMainQueue l main → main.hand ≡ Some hand → bit_at l slot ≡ false → slice_get (from_victim (main_entries l main)) 0 ≡ Some (slot, false)
     Walks-here whole at clear = choice_is whole at slot (choice_from false clear)
-
--- no slot comes after a slot whose bit is clear
-pub none_clear : (bit : Bool) (next : ℕ) → None ≡ then_some bit next → bit ≡ false
-none_clear true next e = absurd (cc)
-none_clear false next e = refl
 
 pub length-entries : (l : LinkState) (main : Main) → length (main_entries l main) ≡ length (main_slots l main)
 length-entries l main = length-map {B = ℕ × Bool} (main_slots l main) (λ s. (s, bit_at l s))

@@ -1,12 +1,11 @@
 //! What the queues are built on: the link records and the hit bits by slot number, and the
 //! positions of Small's window.
-ghost use Rattle.std.specs.Prelude.{◌≡◌, ℕ, ◌+◌, ◌-◌, ◌^◌, ◌<◌, ◌≤◌, ◌&&◌, length, slice_set, IfOk, IfSome, replicate, None, Some, true, false, if◌then◌else◌, ◌==◌};
-ghost use Rattle.std.specs.Bool.{then_some};
+ghost use Rattle.std.specs.Prelude.{◌≡◌, ℕ, ◌+◌, ◌-◌, ◌^◌, ◌<◌, ◌≤◌, length, slice_set, IfOk, IfSome, replicate, None, Some, true, false, if◌then◌else◌, ◌==◌};
 ghost use Rattle.clock2q_queues.specs.Cells.{Rises, cells_state, accessed, written};
 ghost use Rattle.clock2q_queues.specs.Ends.{position_freed};
 ghost use Rattle.clock2q_queues.specs.Flags.{is_linked};
 ghost use Rattle.clock2q_queues.specs.Growth.{GrowsLinks};
-ghost use Rattle.clock2q_queues.specs.Links.{LinkState, accesses_of, vacant, is_old, Attaches, Detaches, SetsBit, fresh, made_below, record_at, next_at, previous_at, with_location, location_at, bit_at, young_at};
+ghost use Rattle.clock2q_queues.specs.Links.{LinkState, accesses_of, vacant, Attaches, Detaches, SetsBit, fresh, made_below, record_at, next_at, previous_at, with_location, location_at, bit_at, young_at};
 ghost use Rattle.clock2q_queues.specs.Small.{GrowsOld, next_cursor};
 
 mod flags;
@@ -99,15 +98,6 @@ impl<A: Allocator> Links<A> {
         ensures { result ≡ length self.now.window.items }
     {
         self.window.len()
-    }
-
-    /// Returns the entry of a slot that is in a queue.
-    pub(crate) fn entry(&mut self, slot: u32) -> Entry<Location>
-        requires { is_linked (location_at self.old.records.items slot) ≡ true }
-        ensures value { result ≡ record_at self.old.records.items slot }
-        ensures counted { self.new ≡ record self.old { records = accessed self.old.records } }
-    {
-        self.ring.read(slot)
     }
 
     /// Returns where a slot is.
@@ -253,33 +243,17 @@ impl<A: Allocator> Links<A> {
         ensures rest { self.new ≡ record self.old { bits = self.new.bits } }
         ensures counted { self.new.bits.inspections ≡ self.old.bits.inspections + 1 }
     {
-        self.inspections.tick();
-        let was = self.flags.get(slot);
-        self.flags.set(slot, Flag::Clear);
-        matches!(was, Flag::Hit)
+        self.flags.inspect(slot, &mut self.inspections)
     }
 
-    /// Reads the record of a slot that is in a queue, and returns true if the slot is old and its bit
-    /// is set.
-    pub(crate) fn is_old_hit(&mut self, slot: u32) -> bool
+    /// Returns the entry of a slot that is in a queue, and true if its bit is set. Both are one access.
+    pub(crate) fn look(&mut self, slot: u32) -> (Entry<Location>, bool)
         requires { is_linked (location_at self.old.records.items slot) ≡ true }
-        ensures value { result
-            ≡ (is_old (location_at self.old.records.items slot) && bit_at self.old slot) }
+        ensures entry { result.0 ≡ record_at self.old.records.items slot }
+        ensures bit { result.1 ≡ bit_at self.old slot }
         ensures counted { self.new ≡ record self.old { records = accessed self.old.records } }
     {
-        let entry = self.ring.read(slot);
-        matches!(entry.held, Location::SmallOld) && matches!(self.flags.get(slot), Flag::Hit)
-    }
-
-    /// Reads the record of a slot that is in a queue, and returns the slot after it if its bit is set.
-    pub(crate) fn next_if_hit(&mut self, slot: u32) -> Option<u32>
-        requires { is_linked (location_at self.old.records.items slot) ≡ true }
-        ensures next { result
-            ≡ then_some (bit_at self.old slot) (next_at self.old.records.items slot) }
-        ensures counted { self.new ≡ record self.old { records = accessed self.old.records } }
-    {
-        let entry = self.ring.read(slot);
-        matches!(self.flags.get(slot), Flag::Hit).then_some(entry.next)
+        self.flags.look(slot, &mut self.ring)
     }
 
     /// Resets every record, every position and every bit to its initial state.

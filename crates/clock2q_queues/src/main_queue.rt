@@ -95,7 +95,7 @@ impl Main {
         // a ring with an entry has a hand
         let mut hand = self.hand.unwrap();
         while links.inspect(hand) {
-            hand = links.entry(hand).next;
+            hand = links.look(hand).0.next;
         }
         self.hand = Some(hand);
         hand
@@ -117,10 +117,11 @@ impl Main {
         let hand = self.hand?;
         let mut slot = hand;
         for _ in 0..self.len {
-            match links.next_if_hit(slot) {
-                Some(next) => slot = next,
-                None => return Some(slot),
+            let (entry, hit) = links.look(slot);
+            if !hit {
+                return Some(slot);
             }
+            slot = entry.next;
         }
         Some(hand)
     }
@@ -134,7 +135,7 @@ impl Main {
             ≡ drop 1 (main_entries links.old self.old) ++ (slot, false) ∷ [] }
         ensures links { links.new ≡ record links.old { records = accessed links.old.records } }
     {
-        self.hand = Some(links.entry(slot).next);
+        self.hand = Some(links.look(slot).0.next);
     }
 
     /// Empties the ring. `Links::reset` resets the records.

@@ -109,7 +109,7 @@ impl<A: Allocator> Order<A> {
     pub fn limit(&self) -> u32
         ensures { result ≡ self.now.limit }
     {
-        self.ring.places()
+        self.ring.places
     }
 
     /// Puts a free place at the front, and returns it. It is the head of the chain, or the next

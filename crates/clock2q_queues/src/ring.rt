@@ -15,7 +15,7 @@ use std::marker::Model;
 #[derive(Drop)]
 pub(crate) struct Ring<T: Held, A: Allocator = Global> {
     entries: Vec<Entry<T>, A>,
-    places: u32,
+    pub(crate) places: u32,
     accesses: Count,
 }
 
@@ -63,13 +63,6 @@ impl<T: Held, A: Allocator> Ring<T, A> {
             places,
             accesses,
         })
-    }
-
-    /// Returns the number of places.
-    pub(crate) fn places(&self) -> u32
-        ensures { result ≡ length self.now.cells.items }
-    {
-        self.places
     }
 
     /// Returns the entry of a place that was made.

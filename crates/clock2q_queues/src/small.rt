@@ -1,6 +1,6 @@
 //! Small: the queue of the newest residents, of which the last admitted ones are young.
-ghost use Rattle.std.specs.Prelude.{◌≡◌, ℕ, ◌+◌, ◌-◌, ◌^◌, ◌<◌, ◌≤◌, ◌==◌, true, false, not, [], ◌∷◌, length, Some, None, nat_eq};
-ghost use Rattle.std.specs.List.{filter, last_or, list_any};
+ghost use Rattle.std.specs.Prelude.{◌≡◌, ℕ, ◌+◌, ◌-◌, ◌^◌, ◌<◌, ◌≤◌, ◌==◌, true, false, not, [], ◌∷◌, length, nat_eq};
+ghost use Rattle.std.specs.List.{filter, list_any};
 ghost use Rattle.clock2q_queues.specs.Cells.{Rises};
 ghost use Rattle.clock2q_queues.specs.Links.{LinkState, IsBlank, IsSameBut, accesses_of, location_at, made_below};
 
@@ -12,7 +12,7 @@ use std::alloc::Allocator;
 /// the position of the next admission.
 #[derive(Clone, Copy)]
 pub(crate) struct Small {
-    newest: u32,
+    pub(crate) newest: u32,
     pub(crate) oldest: u32,
     pub(crate) len: usize,
     pub(crate) cursor: u32,
@@ -61,35 +61,6 @@ impl Small {
         }
         self.newest = slot;
         self.len += 1;
-    }
-
-    /// Makes the oldest slot the newest, and returns it, as if it left and was admitted again. The
-    /// ring doesn't change, since the newest slot follows the oldest in it.
-    #[inline(always)]
-    pub(crate) fn replace_oldest<A: Allocator>(&mut self, links: &mut Links<A>) -> u32
-        requires whole { IsSmallQueue links.old self.old }
-        requires some { 0 < length (small_slots links.old self.old) }
-        requires window { 0 < length links.old.window.items }
-        ensures oldest { last_or None (small_slots links.old self.old) ≡ Some result }
-        ensures whole { IsSmallQueue links.new self.new }
-        ensures entries { small_entries links.new self.new
-            ≡ admitted (length links.old.window.items) result
-            (filter (λ e. not (e.0 == result)) (small_entries links.old self.old)) }
-        ensures others { IsSameBut (small_slots links.old self.old) links.old links.new }
-        ensures window { length links.new.window.items ≡ length links.old.window.items }
-        ensures inspections { links.new.bits.inspections ≡ links.old.bits.inspections }
-        ensures made { links.new.made ≡ links.old.made }
-        ensures accesses { Rises 5 8 (accesses_of links.old) (accesses_of links.new) }
-    {
-        let slot = self.oldest;
-        let cursor = self.cursor;
-        let was = links.entry(slot);
-        links.leave_position(was.held);
-        self.oldest = was.previous;
-        self.cursor = links.take_position(cursor, slot);
-        links.relocate(slot, Location::SmallYoung(cursor));
-        self.newest = slot;
-        slot
     }
 
     /// Removes a slot. If it was young, its position becomes free.

@@ -1,8 +1,13 @@
 //! What is known of a slot without its record: whether it is in a queue, and its hit bit.
 ghost use Rattle.std.specs.Prelude.{◌≡◌, ◌+◌, ◌-◌, ◌<◌, ◌≤◌, ◌++◌, true, IfOk, length, replicate, slice_index_or, slice_set};
-ghost use Rattle.clock2q_queues.specs.Flags.{flag_state, says_linked};
-ghost use Rattle.clock2q_queues.specs.Links.{made_below};
+ghost use Rattle.clock2q_queues.specs.Cells.{accessed};
+ghost use Rattle.clock2q_queues.specs.Flags.{flag_state, is_set, says_linked};
+ghost use Rattle.clock2q_queues.specs.Links.{made_below, record_at};
+ghost use Rattle.clock2q_queues.specs.Ring.{ring_state};
 
+use crate::entries::{Entry, Location};
+use crate::ring::Ring;
+use clock2q_count::Count;
 use std::alloc::{AllocError, Allocator, Global};
 use std::marker::Model;
 
@@ -59,12 +64,31 @@ impl<A: Allocator> Flags<A> {
         Ok(Flags { flags, slots })
     }
 
-    /// Returns the flag of a slot that is in a queue. Who calls it counts the look.
-    pub(super) fn get(&self, slot: u32) -> Flag
-        requires { says_linked (slice_index_or self.now.items slot Flag.Free) ≡ true }
-        ensures { result ≡ slice_index_or self.now.items slot Flag.Free }
+    /// Returns the entry of a slot that is in a queue, and true if its hit bit is set. The ring counts both
+    /// as one access.
+    pub(super) fn look(&self, slot: u32, ring: &mut Ring<Location, A>) -> (Entry<Location>, bool)
+        requires linked { says_linked (slice_index_or self.now.items slot Flag.Free) ≡ true }
+        requires made { slot < ring.old.made }
+        ensures entry { result.0 ≡ record_at ring.old.cells.items slot }
+        ensures bit { result.1 ≡ is_set (slice_index_or self.now.items slot Flag.Free) }
+        ensures counted { ring.new ≡ ring_state (accessed ring.old.cells) ring.old.made }
     {
-        self.flags[slot as usize]
+        let entry = ring.read(slot);
+        (entry, matches!(self.flags[slot as usize], Flag::Hit))
+    }
+
+    /// Clears the bit of a slot that is in a queue, and returns true if it was set. The look is counted.
+    pub(super) fn inspect(&mut self, slot: u32, looks: &mut Count) -> bool
+        requires { says_linked (slice_index_or self.old.items slot Flag.Free) ≡ true }
+        ensures value { result ≡ is_set (slice_index_or self.old.items slot Flag.Free) }
+        ensures flags { self.new.items ≡ slice_set self.old.items slot Flag.Clear }
+        ensures made { self.new.made ≡ self.old.made }
+        ensures counted { looks.new.total ≡ looks.old.total + 1 }
+    {
+        looks.tick();
+        let was = self.flags[slot as usize];
+        self.flags[slot as usize] = Flag::Clear;
+        matches!(was, Flag::Hit)
     }
 
     /// Returns true if a slot is in a queue. It doesn't say whether the slot's bit is set.

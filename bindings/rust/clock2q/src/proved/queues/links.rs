@@ -74,12 +74,6 @@ impl<A: Allocator> Links<A> {
         self.window.len()
     }
 
-    /// Returns the entry of a slot that is in a queue.
-    #[inline]
-    pub(crate) fn entry(&mut self, slot: u32) -> Entry<Location> {
-        self.ring.read(slot)
-    }
-
     /// Returns where a slot is.
     #[inline]
     pub(crate) fn location(&mut self, slot: u32) -> Location {
@@ -160,25 +154,13 @@ impl<A: Allocator> Links<A> {
     /// slot.
     #[inline]
     pub(crate) fn inspect(&mut self, slot: u32) -> bool {
-        self.inspections.tick();
-        let was = self.flags.get(slot);
-        self.flags.set(slot, Flag::Clear);
-        matches!(was, Flag::Hit)
+        self.flags.inspect(slot, &mut self.inspections)
     }
 
-    /// Reads the record of a slot that is in a queue, and returns true if the slot is old and its bit
-    /// is set.
+    /// Returns the entry of a slot that is in a queue, and true if its bit is set. Both are one access.
     #[inline]
-    pub(crate) fn is_old_hit(&mut self, slot: u32) -> bool {
-        let entry = self.ring.read(slot);
-        matches!(entry.held, Location::SmallOld) && matches!(self.flags.get(slot), Flag::Hit)
-    }
-
-    /// Reads the record of a slot that is in a queue, and returns the slot after it if its bit is set.
-    #[inline]
-    pub(crate) fn next_if_hit(&mut self, slot: u32) -> Option<u32> {
-        let entry = self.ring.read(slot);
-        matches!(self.flags.get(slot), Flag::Hit).then_some(entry.next)
+    pub(crate) fn look(&mut self, slot: u32) -> (Entry<Location>, bool) {
+        self.flags.look(slot, &mut self.ring)
     }
 
     /// Resets every record, every position and every bit to its initial state.

@@ -50,7 +50,7 @@ impl Main {
         // a ring with an entry has a hand
         let mut hand = self.hand.unwrap();
         while links.inspect(hand) {
-            hand = links.entry(hand).next;
+            hand = links.look(hand).0.next;
         }
         self.hand = Some(hand);
         hand
@@ -63,10 +63,11 @@ impl Main {
         let hand = self.hand?;
         let mut slot = hand;
         for _ in 0..self.len {
-            match links.next_if_hit(slot) {
-                Some(next) => slot = next,
-                None => return Some(slot),
+            let (entry, hit) = links.look(slot);
+            if !hit {
+                return Some(slot);
             }
+            slot = entry.next;
         }
         Some(hand)
     }
@@ -74,7 +75,7 @@ impl Main {
     /// Moves the hand on from its slot, whose bit is clear. That slot is then the last one.
     #[inline]
     pub(crate) fn advance<A: Allocator>(&mut self, links: &mut Links<A>, slot: u32) {
-        self.hand = Some(links.entry(slot).next);
+        self.hand = Some(links.look(slot).0.next);
     }
 
     /// Empties the ring. `Links::reset` resets the records.

@@ -85,7 +85,7 @@ impl<A: Allocator> Order<A> {
     /// Returns the total number of places.
     #[inline]
     pub fn limit(&self) -> u32 {
-        self.ring.places()
+        self.ring.places
     }
 
     /// Puts a free place at the front, and returns it. It is the head of the chain, or the next

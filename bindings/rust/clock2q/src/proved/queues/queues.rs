@@ -2,6 +2,7 @@
 //! The two queues of a cache's residents, Small and Main, over the links that they share.
 
 mod growth;
+mod hand;
 
 use crate::proved::queues::entries::Location;
 use crate::proved::queues::links::Links;
@@ -90,7 +91,8 @@ impl<A: Allocator> Queues<A> {
     /// its bit is set.
     #[inline]
     pub fn tail_is_promoted(&mut self) -> bool {
-        self.links.is_old_hit(self.small.oldest)
+        let (entry, hit) = self.links.look(self.small.oldest);
+        matches!(entry.held, Location::SmallOld) && hit
     }
 
     /// Admits a slot to Small, as its newest. All young slots grow older, and one may become old.
@@ -138,75 +140,16 @@ impl<A: Allocator> Queues<A> {
     /// one. All young slots grow older, and one may become old.
     #[inline(always)]
     pub fn replace_tail(&mut self) -> u32 {
-        self.small.replace_oldest(&mut self.links)
-    }
-
-    /// Moves the hand on to the slot that it chooses, as in [`take_victim`](Queues::take_victim),
-    /// and returns that slot, which stays in Main.
-    ///
-    /// # Cost
-    ///
-    /// Linear in the number of slots that the hand passes.
-    #[inline]
-    pub fn select(&mut self) -> u32 {
-        self.main.select(&mut self.links)
-    }
-
-    /// Returns the slot that leaves next: Small's oldest one, or the one that the hand would choose if
-    /// that one goes on to Main or Small is empty. Returns `None` if there is no slot. The queues, the
-    /// bits and the hand stay as they are.
-    ///
-    /// # Cost
-    ///
-    /// One access to a link for each slot that it looks at: Small's oldest one and, if a slot of Main
-    /// leaves next, at most those that the hand would inspect.
-    #[inline]
-    pub fn next_victim(&mut self) -> Option<u32> {
-        if self.victim_leaves() {
-            self.main.victim(&mut self.links)
-        } else {
-            (self.small.len > 0).then_some(self.small.oldest)
-        }
-    }
-
-    /// Returns true if a slot of Main leaves next, rather than Small's oldest one.
-    #[inline]
-    fn victim_leaves(&mut self) -> bool {
-        if self.main.len == 0 {
-            return false;
-        }
-        if self.small.len == 0 {
-            return true;
-        }
-        self.tail_is_promoted()
-    }
-
-    /// Removes the slot that the hand chooses from Main, and returns it.
-    ///
-    /// The hand passes each slot whose bit is set, and clears the bit. It chooses the first slot
-    /// whose bit is clear.
-    ///
-    /// # Cost
-    ///
-    /// Linear in the number of slots that the hand passes.
-    #[inline]
-    pub fn take_victim(&mut self) -> u32 {
-        let victim = self.main.select(&mut self.links);
-        self.main.unlink(&mut self.links, victim);
-        victim
-    }
-
-    /// Makes the slot that the hand chooses, as in [`take_victim`](Queues::take_victim), the last
-    /// one of Main, and returns it: a new key takes the slot of Main's victim.
-    ///
-    /// # Cost
-    ///
-    /// Linear in the number of slots that the hand passes.
-    #[inline]
-    pub fn replace_victim(&mut self) -> u32 {
-        let victim = self.main.select(&mut self.links);
-        self.main.advance(&mut self.links, victim);
-        victim
+        // the ring stays, since the newest slot follows the oldest in it
+        let slot = self.small.oldest;
+        let cursor = self.small.cursor;
+        let was = self.links.look(slot).0;
+        self.links.leave_position(was.held);
+        self.small.oldest = was.previous;
+        self.small.cursor = self.links.take_position(cursor, slot);
+        self.links.relocate(slot, Location::SmallYoung(cursor));
+        self.small.newest = slot;
+        slot
     }
 
     /// Removes a slot from its queue. If it is in neither, nothing changes.

@@ -10,7 +10,7 @@ use crate::proved::rattle::{AllocError, Allocator, Global};
 /// takes one write each: any other place is vacant.
 pub(crate) struct Ring<T: Held, A: Allocator = Global> {
     entries: Vec<Entry<T>, A>,
-    places: u32,
+    pub(crate) places: u32,
     accesses: Count,
 }
 
@@ -43,12 +43,6 @@ impl<T: Held, A: Allocator> Ring<T, A> {
             places,
             accesses,
         })
-    }
-
-    /// Returns the number of places.
-    #[inline]
-    pub(crate) fn places(&self) -> u32 {
-        self.places
     }
 
     /// Returns the entry of a place that was made.

@@ -9,7 +9,7 @@ use crate::proved::rattle::Allocator;
 /// the position of the next admission.
 #[derive(Clone, Copy)]
 pub(crate) struct Small {
-    newest: u32,
+    pub(crate) newest: u32,
     pub(crate) oldest: u32,
     pub(crate) len: usize,
     pub(crate) cursor: u32,
@@ -40,21 +40,6 @@ impl Small {
         }
         self.newest = slot;
         self.len += 1;
-    }
-
-    /// Makes the oldest slot the newest, and returns it, as if it left and was admitted again. The
-    /// ring doesn't change, since the newest slot follows the oldest in it.
-    #[inline(always)]
-    pub(crate) fn replace_oldest<A: Allocator>(&mut self, links: &mut Links<A>) -> u32 {
-        let slot = self.oldest;
-        let cursor = self.cursor;
-        let was = links.entry(slot);
-        links.leave_position(was.held);
-        self.oldest = was.previous;
-        self.cursor = links.take_position(cursor, slot);
-        links.relocate(slot, Location::SmallYoung(cursor));
-        self.newest = slot;
-        slot
     }
 
     /// Removes a slot. If it was young, its position becomes free.

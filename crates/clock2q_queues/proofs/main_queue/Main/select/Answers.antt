@@ -8,16 +8,16 @@ loop-links-init g c = grind (arith, with_hand, Swept, Swept-start, c.unwrap-hand
 pub inspect-requires : goal.inspect-requires
 inspect-requires g c = hand_linked c.args.links.now c.args.self.now c.loop-links.links c.loop-links.hand c.loop-links.invariant
 
-pub entry-hand-requires : goal.entry-hand-requires
-entry-hand-requires g c =
+pub look-hand-requires : goal.look-hand-requires
+look-hand-requires g c =
     let i = c.inspect.ensures in
     hand_linked_still c.args.links.now c.args.self.now c.loop-links.links c.loop-links.hand c.loop-links.invariant c.inspect.new.self i.bits i.rest i.counted
 
 pub loop-links-smaller : goal.loop-links-smaller
-loop-links-smaller g c = grind (arith, fewer_left, c.inspect.ensures, c.loop-links.invariant, c.loop-links-test.true, c.entry-hand.ensures.counted, c.entry-hand.ensures.value)
+loop-links-smaller g c = grind (arith, fewer_left, c.inspect.ensures, c.loop-links.invariant, c.loop-links-test.true, c.look-hand.ensures.counted, c.look-hand.ensures.entry)
 
 pub loop-links-preserved : goal.loop-links-preserved
-loop-links-preserved g c = grind (arith, Swept-step, c.inspect.ensures, c.loop-links.invariant, c.loop-links-test.true, c.entry-hand.ensures.counted, c.entry-hand.ensures.value)
+loop-links-preserved g c = grind (arith, Swept-step, c.inspect.ensures, c.loop-links.invariant, c.loop-links-test.true, c.look-hand.ensures.counted, c.look-hand.ensures.entry)
 
 pub returns : goal.returns
 returns g c = grind (arith, Selects-at, c.inspect.ensures, c.loop-links.invariant, c.loop-links-test.false)

@@ -1,11 +1,14 @@
 // Written by bindings/rust/erase from crates/clock2q_queues/src/links/flags.rt; change that, and run erase.
 //! What is known of a slot without its record: whether it is in a queue, and its hit bit.
 
+use crate::proved::rattle::Vec;
+use crate::proved::queues::entries::{Entry, Location};
+use crate::proved::queues::ring::Ring;
+use crate::proved::count::Count;
 use crate::proved::rattle::{AllocError, Allocator, Global};
 
 /// Whether a slot is in a queue, as its record says too, and its hit bit. A slot in no queue has a
 /// clear bit.
-use crate::proved::rattle::Vec;
 #[derive(Clone, Copy)]
 pub(super) enum Flag {
     /// In neither queue.
@@ -41,10 +44,21 @@ impl<A: Allocator> Flags<A> {
         Ok(Flags { flags, slots })
     }
 
-    /// Returns the flag of a slot that is in a queue. Who calls it counts the look.
+    /// Returns the entry of a slot that is in a queue, and true if its hit bit is set. The ring counts both
+    /// as one access.
     #[inline]
-    pub(super) fn get(&self, slot: u32) -> Flag {
-        self.flags[slot as usize]
+    pub(super) fn look(&self, slot: u32, ring: &mut Ring<Location, A>) -> (Entry<Location>, bool) {
+        let entry = ring.read(slot);
+        (entry, matches!(self.flags[slot as usize], Flag::Hit))
+    }
+
+    /// Clears the bit of a slot that is in a queue, and returns true if it was set. The look is counted.
+    #[inline]
+    pub(super) fn inspect(&mut self, slot: u32, looks: &mut Count) -> bool {
+        looks.tick();
+        let was = self.flags[slot as usize];
+        self.flags[slot as usize] = Flag::Clear;
+        matches!(was, Flag::Hit)
     }
 
     /// Returns true if a slot is in a queue. It doesn't say whether the slot's bit is set.
