@@ -1,13 +1,8 @@
 -- The records and the flags of all slots, of which the first are in memory.
-use Rattle.std.proofs.Common.{◌≡◌, ℕ, zero, suc, ◌+◌, ◌-◌, ◌<◌, ◌≤◌, Bool, true, false, List, [], ◌∷◌, ◌++◌, length, get_or, map, set, replicate, refl, sym, ap, ◌∙◌, arith, true≢false}
-use Rattle.std.proofs.lemmas.List.{append_assoc, get_or-map, length-append, length-map, length-replicate, length-set, map-append, map-set, replicate-append-replicate}
-use Rattle.clock2q_queues.specs.declared.links.flags.Flag.{Flag}
-use Rattle.clock2q_queues.specs.Cells.{accessed, written}
-use Rattle.clock2q_queues.specs.Flags.{all_flags, is_linked, says_linked}
-use Rattle.clock2q_queues.specs.Links.{Record, all_records, location_at, record_at, vacant}
-use Rattle.clock2q_queues.specs.Ring.{RingState, ring_shown, ring_state}
+use Rattle.clock2q_queues.proofs.Names.{◌≡◌, ℕ, zero, suc, ◌+◌, ◌-◌, ◌<◌, ◌≤◌, Bool, true, false, List, [], ◌∷◌, ◌++◌, length, get_or, map, set, replicate, refl, sym, ap, ◌∙◌, arith, true≢false}
+use Rattle.clock2q_queues.proofs.Names.{append_assoc, get_or-map, length-append, length-map, length-replicate, length-set, map-append, map-set, replicate-append-replicate, Flag, accessed, written}
+use Rattle.clock2q_queues.proofs.Names.{all_flags, is_linked, says_linked, Record, all_records, location_at, record_at, vacant, RingState, ring_shown, ring_state, get_or-same}
 use Rattle.clock2q_queues.proofs.Attaching.{with_change}
-use Rattle.clock2q_queues.proofs.Records.{get_or-same}
 
 -- a list with the same item over and over at its end
 module _ {X : Type 0} (d : X) where

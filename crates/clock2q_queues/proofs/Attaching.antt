@@ -1,12 +1,6 @@
 -- A slot put before another, or taken out, by one write to a record after another.
-use Rattle.std.proofs.Common.{◌≡◌, ℕ, ◌+◌, ◌<◌, false, cond, eqb, List, length, set, inl, inr, refl, sym, ap, ◌∙◌}
-use Rattle.std.proofs.lemmas.Bool.{cases_Bool, eqb-true}
-use Rattle.std.proofs.lemmas.List.{length-set}
-use Rattle.clock2q_queues.specs.declared.entries.Location.{Location}
-use Rattle.clock2q_queues.specs.Cells.{cells_state}
-use Rattle.clock2q_queues.specs.Links.{Record, Attaches, Detaches, next_at, previous_at, record_at, vacant}
-use Rattle.clock2q_queues.proofs.Records.{changed}
-use Rattle.clock2q_queues.proofs.Rings.{eqb_self}
+use Rattle.clock2q_queues.proofs.Names.{◌≡◌, ℕ, ◌+◌, ◌<◌, false, cond, eqb, List, length, set, inl, inr, refl, sym, ap, ◌∙◌, cases_Bool, eqb-true, length-set, Location, cells_state, Record, Attaches}
+use Rattle.clock2q_queues.proofs.Names.{Detaches, next_at, previous_at, record_at, vacant, changed, eqb_self}
 
 -- a record with a changed field
 abbrev pub with_change : List Record → ℕ → (Record → Record) → List Record

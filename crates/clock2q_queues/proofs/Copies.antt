@@ -1,16 +1,11 @@
 -- What a copy of a ring, of flags or of a window holds, which has room for more.
-use Rattle.std.proofs.Common.{◌≡◌, ℕ, zero, suc, ◌+◌, ◌-◌, ◌*◌, ◌<◌, ◌≤◌, Bool, false, Option, None, List, [], ◌∷◌, ◌++◌, length, get_or, map, take, drop, replicate, refl, sym, ap, ◌∙◌, subst, arith}
-use Rattle.std.proofs.lemmas.List.{append_assoc, get_or_append_left, get_or-append_right, get_or-drop, get_or-take, length-append, length-drop, length-map, length-replicate, length-take-le, map-id, replicate-append-replicate, take_all}
-use Rattle.clock2q_queues.specs.declared.entries.Location.{Location}
-use Rattle.clock2q_queues.specs.declared.entries.Location.TheVariants.{Free, SmallYoung, SmallOld, Main}
-use Rattle.clock2q_queues.specs.declared.links.flags.Flag.{Flag}
-use Rattle.clock2q_queues.specs.Cells.{CellsState, cells_state}
-use Rattle.clock2q_queues.specs.Flags.{AreLinks, FlagState, all_flags, flag_state, is_linked, is_set, links_shown, says_linked}
-use Rattle.clock2q_queues.specs.Growth.{GrowsLinks, GrowsRing, moved_location, moved_record, with_gap}
-use Rattle.clock2q_queues.specs.Links.{Record, LinkState, all_records, record_at, vacant}
-use Rattle.clock2q_queues.specs.Ring.{RingState, ring_shown}
+use Rattle.clock2q_queues.proofs.Names.{◌≡◌, ℕ, zero, suc, ◌+◌, ◌-◌, ◌*◌, ◌<◌, ◌≤◌, Bool, false, Option, None, List, [], ◌∷◌, ◌++◌, length, get_or, map, take, drop, replicate, refl, sym, ap, ◌∙◌}
+use Rattle.clock2q_queues.proofs.Names.{subst, arith, append_assoc, get_or_append_left, get_or-append_right, get_or-drop, get_or-take, length-append, length-drop, length-map, length-replicate}
+use Rattle.clock2q_queues.proofs.Names.{length-take-le, map-id, replicate-append-replicate, take_all, Location, Free, SmallYoung, SmallOld, Flag, CellsState, cells_state, AreLinks, FlagState}
+use Rattle.clock2q_queues.proofs.Names.{all_flags, flag_state, is_linked, is_set, links_shown, says_linked, GrowsLinks, GrowsRing, moved_location, moved_record, with_gap, Record, LinkState}
+use Rattle.clock2q_queues.proofs.Names.{all_records, record_at, vacant, RingState, ring_shown, get_or-same}
+use Rattle.clock2q_queues.specs.declared.entries.Location.TheVariants.{Main}
 use Rattle.clock2q_queues.proofs.AllRecords.{all-at, length-all}
-use Rattle.clock2q_queues.proofs.Records.{get_or-same}
 
 -- Rings
 

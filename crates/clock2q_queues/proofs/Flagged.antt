@@ -1,16 +1,9 @@
 -- The flags of the slots agree with the records after a write to both.
-use Rattle.std.proofs.Common.{◌≡◌, ℕ, ◌+◌, ◌<◌, ◌≤◌, Bool, true, false, None, eqb, Option, List, map, length, get_or, set, replicate, inl, inr, refl, sym, ap, ◌∙◌, arith, true≢false}
-use Rattle.std.proofs.lemmas.Bool.{cases_Bool, eqb-true}
-use Rattle.std.proofs.lemmas.List.{get_or-map, length-map, length-replicate, length-set, map-set}
-use Rattle.clock2q_queues.specs.declared.links.flags.Flag.{Flag}
-use Rattle.clock2q_queues.specs.declared.entries.Location.{Location}
-use Rattle.clock2q_queues.specs.Cells.{CellsState, cells_state}
-use Rattle.clock2q_queues.specs.Links.{Record, SetsBit, fresh, made_below, Attaches, Detaches, location_at, vacant}
-use Rattle.clock2q_queues.specs.Ring.{RingState, ring_state}
+use Rattle.clock2q_queues.proofs.Names.{◌≡◌, ℕ, ◌+◌, ◌<◌, ◌≤◌, Bool, true, false, None, eqb, Option, List, map, length, get_or, set, replicate, inl, inr, refl, sym, ap, ◌∙◌, arith, true≢false}
+use Rattle.clock2q_queues.proofs.Names.{cases_Bool, eqb-true, get_or-map, length-map, length-replicate, length-set, map-set, Flag, Location, CellsState, cells_state, Record, SetsBit, fresh}
+use Rattle.clock2q_queues.proofs.Names.{made_below, Attaches, Detaches, location_at, vacant, RingState, ring_state, changed, get_or-same, mapped-same, eqb_self, AreLinks, FlagState, flag_state}
+use Rattle.clock2q_queues.proofs.Names.{is_linked, is_set, links_shown, says_linked}
 use Rattle.clock2q_queues.proofs.AllRecords.{linked_within}
-use Rattle.clock2q_queues.proofs.Records.{changed, get_or-same, mapped-same}
-use Rattle.clock2q_queues.proofs.Rings.{eqb_self}
-use Rattle.clock2q_queues.specs.Flags.{AreLinks, FlagState, flag_state, is_linked, is_set, links_shown, says_linked}
 
 -- a flag was written that says this
 pub mapped-set : (says : Flag → Bool) (flags : List Flag) (slot : ℕ) (f : Flag) (b : Bool) → says f ≡ b → map says (set flags slot f) ≡ set (map says flags) slot b

@@ -1,27 +1,14 @@
 -- Queues and an order over links and a ring that got room for more.
-use Rattle.std.proofs.Common.{◌≡◌, ℕ, ◌+◌, ◌-◌, ◌^◌, ◌<◌, ◌≤◌, Bool, true, eqb, Option, Some, None, List, length, map, get_or, inl, inr, refl, sym, ap, ◌∙◌, subst, arith}
-use Rattle.std.specs.List.{list_any}
-use Rattle.std.proofs.lemmas.Bool.{cases_Bool, cases_lt, lt-ltb, le-ltb}
+use Rattle.clock2q_queues.proofs.Names.{◌≡◌, ℕ, ◌+◌, ◌-◌, ◌^◌, ◌<◌, ◌≤◌, Bool, true, eqb, Option, Some, None, List, length, map, get_or, inl, inr, refl, sym, ap, ◌∙◌, subst, arith, list_any}
+use Rattle.clock2q_queues.proofs.Names.{cases_Bool, cases_lt, lt-ltb, le-ltb, Age, Location, Free, SmallYoung, SmallOld, Main, Chain, Small, GrowsLinks, GrowsRing, moved_location, moved_position}
+use Rattle.clock2q_queues.proofs.Names.{with_gap, Record, IsQueue, LinkState, accesses_of, bit_at, location_at, next_at, previous_at, slots_from, young_at, IsMain, main_slots, IsOrder, IsOrderOf}
+use Rattle.clock2q_queues.proofs.Names.{free_places, AreQueues, queues_shown, RingState, IsInSmall, IsSmall, admissions_since, age_at, age_of, small_slots, IsRing-kept, below-more}
 use Rattle.clock2q_machine.specs.Ages as ages
-use Rattle.clock2q_machine.specs.Ages.{Age}
-use Rattle.clock2q_queues.specs.declared.entries.Location.{Location}
-use Rattle.clock2q_queues.specs.declared.entries.Location.TheVariants.{Free, SmallYoung, SmallOld}
 use Rattle.clock2q_queues.specs.declared.entries.Location.TheVariants as at
-use Rattle.clock2q_queues.specs.declared.main_queue.Main.{Main}
-use Rattle.clock2q_queues.specs.declared.order.Chain.{Chain}
-use Rattle.clock2q_queues.specs.declared.small.Small.{Small}
-use Rattle.clock2q_queues.specs.Growth.{GrowsLinks, GrowsRing, moved_location, moved_position, with_gap}
-use Rattle.clock2q_queues.specs.Links.{Record, IsQueue, LinkState, accesses_of, bit_at, location_at, next_at, previous_at, slots_from, young_at}
-use Rattle.clock2q_queues.specs.Main.{IsMain, main_slots}
-use Rattle.clock2q_queues.specs.Order.{IsOrder, IsOrderOf, free_places}
-use Rattle.clock2q_queues.specs.Queues.{AreQueues, queues_shown}
-use Rattle.clock2q_queues.specs.Ring.{RingState}
-use Rattle.clock2q_queues.specs.Small.{IsInSmall, IsSmall, admissions_since, age_at, age_of, small_slots}
 use Rattle.clock2q_queues.proofs.Copies.{gap-above, gap-below, gap-in, gap-length}
 use Rattle.clock2q_queues.proofs.Joining.{map-agree}
 use Rattle.clock2q_queues.proofs.Main.{IsMainQueue-from, main_slots-is}
 use Rattle.clock2q_queues.proofs.Orders.{around-kept}
-use Rattle.clock2q_queues.proofs.Rings.{IsRing-kept, below-more}
 use Rattle.clock2q_queues.proofs.Sharing.{Becomes, queues_equal}
 use Rattle.clock2q_queues.proofs.Window.{IsSmallQueue-from, small_slots-is}
 

@@ -1,19 +1,9 @@
 -- The hand's sweep over Main, one inspection after the other.
-use Rattle.std.proofs.Common.{◌≡◌, ℕ, ◌+◌, ◌<◌, Bool, true, false, cond, ◌||◌, eqb, Some, slice_get, List, [], ◌∷◌, ◌++◌, length, map, drop, refl, sym, ap, ◌∙◌, subst, arith}
-use Rattle.std.proofs.lemmas.Bool.{both_ways, or_cases}
-use Rattle.std.proofs.lemmas.List.{append-nil, append_assoc, map-append, take-append-le, drop-append-le, length_push}
-use Rattle.std.proofs.lemmas.List.Sums.{prefix_len-le-length}
-use Rattle.std.specs.List.{list_any}
-use Rattle.std.proofs.lemmas.List.Folds.{list_any-append}
-use Rattle.clock2q_queues.specs.declared.main_queue.Main.{Main}
-use Rattle.clock2q_queues.specs.Rings.{IsRing}
-use Rattle.clock2q_queues.specs.Cells.{accessed}
-use Rattle.clock2q_queues.specs.Flags.{is_linked}
-use Rattle.clock2q_queues.specs.Links.{Record, LinkState, IsLinked, IsSameBut, slot_at, record_at, location_at, next_at, previous_at, bit_at}
-use Rattle.clock2q_queues.specs.Main.{IsMain, IsMainQueue, main_slots, main_entries, set_front, inspections, from_victim}
-use Rattle.clock2q_queues.proofs.Rings.{eqb_self, among_first, among_later, differs, distinct_first}
+use Rattle.clock2q_queues.proofs.Names.{◌≡◌, ℕ, ◌+◌, ◌<◌, Bool, true, false, cond, ◌||◌, eqb, Some, slice_get, List, [], ◌∷◌, ◌++◌, length, map, drop, refl, sym, ap, ◌∙◌, subst, arith, both_ways}
+use Rattle.clock2q_queues.proofs.Names.{or_cases, append-nil, append_assoc, map-append, take-append-le, drop-append-le, length_push, prefix_len-le-length, list_any, list_any-append, Main, IsRing}
+use Rattle.clock2q_queues.proofs.Names.{accessed, is_linked, Record, LinkState, IsLinked, IsSameBut, slot_at, record_at, location_at, next_at, previous_at, bit_at, IsMain, IsMainQueue, main_slots}
+use Rattle.clock2q_queues.proofs.Names.{main_entries, set_front, inspections, from_victim, eqb_self, among_first, among_later, differs, distinct_first, or_left, or_parts, or_neither}
 use Rattle.clock2q_queues.proofs.Joining.{map-agree, IsLinked-turned}
-use Rattle.clock2q_queues.proofs.Booleans.{or_left, or_parts, or_neither}
 use Rattle.clock2q_queues.proofs.Main.{main_slots-is, IsMainQueue-from}
 
 -- appending an entry with a clear bit doesn't change the number of set bits in front

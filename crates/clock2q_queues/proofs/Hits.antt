@@ -1,19 +1,8 @@
 -- A hit on a slot sets its bit. A young slot's bit isn't in the view, so the one write is a hit in either queue.
-use Rattle.std.proofs.Common.{◌≡◌, ◌⊎◌, ℕ, Bool, true, cond, eqb, List, [], ◌∷◌, length, map, inl, inr, refl, sym, ap, ◌∙◌, subst}
-use Rattle.std.proofs.lemmas.Bool.{cases_Bool}
-use Rattle.std.specs.List.{list_any}
-use Rattle.clock2q_machine.specs.Ages.{touched}
-use Rattle.clock2q_queues.specs.Cells.{CellsState, HitBits, bit_in}
-use Rattle.clock2q_queues.specs.declared.entries.Location.{Location}
-use Rattle.clock2q_queues.specs.declared.entries.Location.TheVariants.{Free, SmallYoung, SmallOld}
+use Rattle.clock2q_queues.proofs.Names.{◌≡◌, ◌⊎◌, ℕ, Bool, true, cond, eqb, List, [], ◌∷◌, length, map, inl, inr, refl, sym, ap, ◌∙◌, subst, cases_Bool, list_any, touched, CellsState, HitBits, bit_in}
+use Rattle.clock2q_queues.proofs.Names.{Location, Free, SmallYoung, SmallOld, Main, Small, Record, LinkState, SetsBit, location_at, bit_at, main_slots, main_entries, main_hit_at, small_slots}
+use Rattle.clock2q_queues.proofs.Names.{small_entries, small_hit_at, age_of, age_at, AreQueues, QueueState, queues_shown, slots_of, is_linked}
 use Rattle.clock2q_queues.specs.declared.entries.Location.TheVariants as at
-use Rattle.clock2q_queues.specs.declared.main_queue.Main.{Main}
-use Rattle.clock2q_queues.specs.declared.small.Small.{Small}
-use Rattle.clock2q_queues.specs.Links.{Record, LinkState, SetsBit, location_at, bit_at}
-use Rattle.clock2q_queues.specs.Main.{main_slots, main_entries, main_hit_at}
-use Rattle.clock2q_queues.specs.Small.{small_slots, small_entries, small_hit_at, age_of, age_at}
-use Rattle.clock2q_queues.specs.Queues.{AreQueues, QueueState, queues_shown, slots_of}
-use Rattle.clock2q_queues.specs.Flags.{is_linked}
 use Rattle.clock2q_queues.proofs.InQueue.{main_linked, small_linked}
 use Rattle.clock2q_queues.proofs.Sharing.{Becomes, queues_equal, in_small, in_main}
 

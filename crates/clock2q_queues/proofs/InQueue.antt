@@ -1,17 +1,8 @@
 -- The locations of a queue's slots say that they are in a queue.
-use Rattle.std.proofs.Common.{◌≡◌, ℕ, true, List, [], ◌∷◌, refl, ap, eqb}
-use Rattle.std.specs.List.{list_any}
-use Rattle.clock2q_queues.specs.declared.entries.Location.{Location}
-use Rattle.clock2q_queues.specs.declared.entries.Location.TheVariants.{Free, SmallYoung, SmallOld}
+use Rattle.clock2q_queues.proofs.Names.{◌≡◌, ℕ, true, List, [], ◌∷◌, refl, ap, eqb, list_any, Location, Free, SmallYoung, SmallOld, Main, Small, is_linked, Record, LinkState, location_at, next_at}
+use Rattle.clock2q_queues.proofs.Names.{previous_at, IsMainQueue, main_slots, IsInSmall, IsSmallQueue, small_slots, among_first, among_later}
 use Rattle.clock2q_queues.specs.declared.entries.Location.TheVariants as at
-use Rattle.clock2q_queues.specs.declared.main_queue.Main.{Main}
-use Rattle.clock2q_queues.specs.declared.small.Small.{Small}
-use Rattle.clock2q_queues.specs.Flags.{is_linked}
-use Rattle.clock2q_queues.specs.Links.{Record, LinkState, location_at, next_at, previous_at}
-use Rattle.clock2q_queues.specs.Main.{IsMainQueue, main_slots}
-use Rattle.clock2q_queues.specs.Small.{IsInSmall, IsSmallQueue, small_slots}
 use Rattle.clock2q_queues.proofs.Joining.{next_in, previous_in}
-use Rattle.clock2q_queues.proofs.Rings.{among_first, among_later}
 
 pub in_small_linked : (location : Location) → IsInSmall location → is_linked location ≡ true
 in_small_linked (SmallYoung position) i = refl

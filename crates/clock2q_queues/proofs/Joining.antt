@@ -1,23 +1,12 @@
 -- How putting a slot into the links, and taking one out, changes the queue that it joins or leaves, and the rest.
-use Rattle.std.proofs.Common.{◌≡◌, ℕ, ◌+◌, ◌-◌, ◌^◌, ◌<◌, ◌≤◌, ◌≢◌, ltb, true, false, not, cond, eqb, Option, Some}
-use Rattle.std.proofs.Common.{None, slice_get, List, [], ◌∷◌, ◌++◌, length, map, set, inl, inr, refl, sym, ap, ◌∙◌, subst, arith}
-use Rattle.std.specs.Bool.{then_some}
-use Rattle.std.specs.Option.{option_eq}
-use Rattle.std.specs.List.{filter, list_any, AllByRecursion, IsDistinct, last_or}
-use Rattle.std.proofs.lemmas.Bool.{eqb-true, eq-eqb, lt-ltb, both_ways, cases_Bool, or_cases}
-use Rattle.std.proofs.lemmas.List.{append-nil, length-append, length-set}
-use Rattle.std.proofs.lemmas.List.Elements.{filter-append}
-use Rattle.std.proofs.lemmas.Map.Steps.{length-le_from_distinct_below}
-use Rattle.std.proofs.lemmas.List.Folds.{list_any-append}
+use Rattle.clock2q_queues.proofs.Names.{◌≡◌, ℕ, ◌+◌, ◌-◌, ◌^◌, ◌<◌, ◌≤◌, ◌≢◌, ltb, true, false, not, cond, eqb, Option, Some, None, slice_get, List, [], ◌∷◌, ◌++◌, length, map, set, inl, inr, refl}
+use Rattle.clock2q_queues.proofs.Names.{sym, ap, ◌∙◌, subst, arith, then_some, option_eq, filter, list_any, AllByRecursion, IsDistinct, last_or, eqb-true, eq-eqb, lt-ltb, both_ways, cases_Bool}
+use Rattle.clock2q_queues.proofs.Names.{or_cases, append-nil, length-append, length-set, filter-append, length-le_from_distinct_below, list_any-append, Location, without, Joins, IsRing, CellsState}
+use Rattle.clock2q_queues.proofs.Names.{Record, IsLinked, IsQueue, Attaches, Detaches, end_of, slots_from, record_at, next_at, previous_at, location_at, vacant, eqb_self, eqb_swap, among_first}
+use Rattle.clock2q_queues.proofs.Names.{among_later, differs, IsDistinct-append, IsDistinct-left, IsDistinct-right, apart_from, IsDistinct-turned, AllByRecursion-append, distinct_more, distinct_alone}
+use Rattle.clock2q_queues.proofs.Names.{distinct_first, distinct_rest, AllByRecursion-left, AllByRecursion-right, below_of, parted, IsRing-kept, IsRing-put, IsRing-taken, IsRing-turned, before_end}
+use Rattle.clock2q_queues.proofs.Names.{Joins_parts, around-ring, without-parted, or_left, or_right, or_parts, or_neither, changed}
 use Rattle.clock2q_machine.proofs.Whole.{last_some}
-use Rattle.clock2q_queues.specs.declared.entries.Location.{Location}
-use Rattle.clock2q_queues.specs.Rings.{without, Joins, IsRing}
-use Rattle.clock2q_queues.specs.Cells.{CellsState}
-use Rattle.clock2q_queues.specs.Links.{Record, IsLinked, IsQueue, Attaches, Detaches, end_of, slots_from, record_at, next_at, previous_at, location_at, vacant}
-use Rattle.clock2q_queues.proofs.Rings.{eqb_self, eqb_swap, among_first, among_later, differs, IsDistinct-append, IsDistinct-left, IsDistinct-right, apart_from, IsDistinct-turned, AllByRecursion-append, distinct_more, distinct_alone, distinct_first, distinct_rest}
-use Rattle.clock2q_queues.proofs.Rings.{AllByRecursion-left, AllByRecursion-right, below_of, parted, IsRing-kept, IsRing-put, IsRing-taken, IsRing-turned, before_end, Joins_parts, around-ring, without-parted}
-use Rattle.clock2q_queues.proofs.Booleans.{or_left, or_right, or_parts, or_neither}
-use Rattle.clock2q_queues.proofs.Records.{changed}
 
 -- Slots
 

@@ -1,19 +1,9 @@
 -- Small after a slot left it.
-use Rattle.std.proofs.Common.{◌≡◌, ℕ, ◌-◌, ◌<◌, ◌≢◌, true, false, not, cond, eqb, Option, Some, None, List, length, map, get_or, inl, inr, refl, sym, ap, ◌∙◌, subst, arith}
-use Rattle.std.specs.List.{filter, list_any}
-use Rattle.std.proofs.lemmas.Bool.{eqb-true, eq-eqb, ne_eqb, both_ways, cases_Bool, cases_lt}
-use Rattle.std.proofs.lemmas.List.{length-set, get_or_past, set_past}
-use Rattle.clock2q_machine.specs.Ages.{Age}
-use Rattle.clock2q_queues.specs.declared.entries.Location.{Location}
-use Rattle.clock2q_queues.specs.declared.entries.Location.TheVariants.{Free, SmallYoung, SmallOld, Main}
-use Rattle.clock2q_queues.specs.declared.small.Small.{Small}
-use Rattle.clock2q_queues.specs.Cells.{CellsState, HitBits, bit_in}
-use Rattle.clock2q_queues.specs.Rings.{without}
-use Rattle.clock2q_queues.specs.Links.{Record, LinkState, IsLinked, IsSameBut, Detaches, SetsBit, record_at, next_at, previous_at, location_at, bit_at, young_at}
-use Rattle.clock2q_queues.specs.Ends.{position_freed}
-use Rattle.clock2q_queues.specs.Small.{IsSmall, IsSmallQueue, small_slots, small_entries, age_at}
-use Rattle.clock2q_queues.proofs.Records.{changed}
-use Rattle.clock2q_queues.proofs.Rings.{differs, eqb_swap, among-without, among-without-back}
+use Rattle.clock2q_queues.proofs.Names.{◌≡◌, ℕ, ◌-◌, ◌<◌, ◌≢◌, true, false, not, cond, eqb, Option, Some, None, List, length, map, get_or, inl, inr, refl, sym, ap, ◌∙◌, subst, arith, filter, list_any}
+use Rattle.clock2q_queues.proofs.Names.{eqb-true, eq-eqb, ne_eqb, both_ways, cases_Bool, cases_lt, length-set, get_or_past, set_past, Age, Location, Free, SmallYoung, SmallOld, Small, CellsState}
+use Rattle.clock2q_queues.proofs.Names.{HitBits, bit_in, without, Record, LinkState, IsLinked, IsSameBut, Detaches, SetsBit, record_at, next_at, previous_at, location_at, bit_at, young_at}
+use Rattle.clock2q_queues.proofs.Names.{position_freed, IsSmall, IsSmallQueue, small_slots, small_entries, age_at, changed, differs, eqb_swap, among-without, among-without-back}
+use Rattle.clock2q_queues.specs.declared.entries.Location.TheVariants.{Main}
 use Rattle.clock2q_queues.proofs.Joining.{Removes, Removes-detached, map-agree, first_left, last_left, filter-entries, length-without}
 use Rattle.clock2q_queues.proofs.Window.{AreStaying, aged_slots, small_slots-is, IsSmallQueue-from}
 

@@ -13,6 +13,7 @@ pub mod QueuesApart
 pub mod Leaving
 pub mod Locations
 pub mod Main
+pub mod Names
 pub mod NextVictim
 pub mod Orders
 pub mod Records

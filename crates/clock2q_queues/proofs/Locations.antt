@@ -1,19 +1,9 @@
 -- What a slot's record says of the queue that it is in, and of the slots at the queues' ends.
-use Rattle.std.proofs.Common.{◌≡◌, ◌⊎◌, ℕ, ◌-◌, ◌≢◌, Bool, true, false, ◌||◌, ◌&&◌, ◌++◌, Some, None, length, take, drop, slice_get, inl, inr, refl, sym, ap, ◌∙◌, subst, eqb}
-use Rattle.std.specs.List.{last_or, list_any}
-use Rattle.std.proofs.lemmas.Bool.{cases_Bool}
-use Rattle.std.proofs.lemmas.List.Folds.{list_any-append}
-use Rattle.clock2q_machine.specs.Ages.{is_promoted}
-use Rattle.clock2q_queues.specs.declared.entries.Location.{Location}
-use Rattle.clock2q_queues.specs.declared.entries.Location.TheVariants.{Free, SmallYoung, SmallOld}
+use Rattle.clock2q_queues.proofs.Names.{◌≡◌, ◌⊎◌, ℕ, ◌-◌, ◌≢◌, Bool, true, false, ◌||◌, ◌&&◌, ◌++◌, Some, None, length, take, drop, slice_get, inl, inr, refl, sym, ap, ◌∙◌, subst, eqb, last_or}
+use Rattle.clock2q_queues.proofs.Names.{list_any, cases_Bool, list_any-append, is_promoted, Location, Free, SmallYoung, SmallOld, Main, Small, is_linked, LinkState, location_at, bit_at, is_old}
+use Rattle.clock2q_queues.proofs.Names.{main_slots, main_entries, IsInSmall, small_slots, small_entries, age_of, age_at, QueueState, AreQueues, IsAt, queues_shown, slots_of, without_slot}
+use Rattle.clock2q_queues.proofs.Names.{tail_promoted}
 use Rattle.clock2q_queues.specs.declared.entries.Location.TheVariants as at
-use Rattle.clock2q_queues.specs.declared.main_queue.Main.{Main}
-use Rattle.clock2q_queues.specs.declared.small.Small.{Small}
-use Rattle.clock2q_queues.specs.Flags.{is_linked}
-use Rattle.clock2q_queues.specs.Links.{LinkState, location_at, bit_at, is_old}
-use Rattle.clock2q_queues.specs.Main.{main_slots, main_entries}
-use Rattle.clock2q_queues.specs.Small.{IsInSmall, small_slots, small_entries, age_of, age_at}
-use Rattle.clock2q_queues.specs.Queues.{QueueState, AreQueues, IsAt, queues_shown, slots_of, without_slot, tail_promoted}
 use Rattle.clock2q_queues.proofs.InQueue.{small_linked}
 use Rattle.clock2q_queues.proofs.Sharing.{small_slots-of, main_slots-of}
 use Rattle.clock2q_queues.proofs.SlotLists.{tail_among, tail_entry, first_out, last_out, none_last}

@@ -1,19 +1,10 @@
 -- Main: how its list changes when a slot is put in or removed.
-use Rattle.std.proofs.Common.{◌≡◌, ℕ, ◌+◌, ◌-◌, ◌^◌, ◌<◌, Bool, true, false, not, cond, eqb, Some, None, slice_get, List, [], ◌∷◌, ◌++◌, length, map, set, refl, sym, ap, ◌∙◌, subst, arith}
-use Rattle.std.specs.List.{filter, list_any}
-use Rattle.std.proofs.lemmas.Bool.{both_ways, or_cases}
-use Rattle.std.proofs.lemmas.List.{map-append, length_push}
-use Rattle.std.proofs.lemmas.List.Folds.{list_any-append}
-use Rattle.clock2q_queues.specs.declared.main_queue.Main.{Main}
-use Rattle.clock2q_queues.specs.declared.entries.Location.TheVariants.{Free}
+use Rattle.clock2q_queues.proofs.Names.{◌≡◌, ℕ, ◌+◌, ◌-◌, ◌^◌, ◌<◌, Bool, true, false, not, cond, eqb, Some, None, slice_get, List, [], ◌∷◌, ◌++◌, length, map, set, refl, sym, ap, ◌∙◌, subst, arith}
+use Rattle.clock2q_queues.proofs.Names.{filter, list_any, both_ways, or_cases, map-append, length_push, list_any-append, Main, Free, without, LinkState, IsSameBut, SetsBit, Attaches, Detaches}
+use Rattle.clock2q_queues.proofs.Names.{record_at, location_at, bit_at, IsMain, IsMainQueue, main_slots, main_entries, eqb_self, eqb_swap, differs, among-without, distinct_none, or_parts}
 use Rattle.clock2q_queues.specs.declared.entries.Location.TheVariants as at
-use Rattle.clock2q_queues.specs.Rings.{without}
-use Rattle.clock2q_queues.specs.Links.{LinkState, IsSameBut, SetsBit, Attaches, Detaches, record_at, location_at, bit_at}
-use Rattle.clock2q_queues.specs.Main.{IsMain, IsMainQueue, main_slots, main_entries}
 use Rattle.clock2q_queues.proofs.InQueue.{AreInQueue, main_linked}
-use Rattle.clock2q_queues.proofs.Rings.{eqb_self, eqb_swap, differs, among-without, distinct_none}
 use Rattle.clock2q_queues.proofs.Joining.{Inserts, Inserts-before, Inserts-first, first_in, Removes-detached, length-without, map-agree, slots_from-is, filter-entries}
-use Rattle.clock2q_queues.proofs.Booleans.{or_parts}
 
 pub main_slots-is : (l : LinkState) (main : Main) (ss : List ℕ) → IsMain l main ss → main_slots l main ≡ ss
 main_slots-is l main ss m = slots_from-is l.records.items main.hand main.len ss m.queue

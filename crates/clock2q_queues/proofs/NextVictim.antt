@@ -1,17 +1,7 @@
 -- The slot that the hand would choose, found without moving it.
-use Rattle.std.proofs.Common.{◌≡◌, ◌&&◌, None, ℕ, zero, suc, ◌+◌, ◌<◌, ◌≤◌, Bool, true, false, Some, slice_get, List, [], ◌∷◌, ◌++◌, length, map, take, drop, refl, sym, ap, ◌∙◌, subst, arith}
-use Rattle.std.specs.List.{last_or}
-use Rattle.std.proofs.lemmas.Bool.{lt-ltb}
-use Rattle.std.proofs.lemmas.List.{length-map}
-use Rattle.clock2q_machine.specs.Ages.{Age}
-use Rattle.clock2q_queues.specs.Queues.{QueueState, keeps_tail, tail_promoted, victim_leaves}
-use Rattle.clock2q_queues.specs.Small.{small_slots, small_entries, age_at}
-use Rattle.clock2q_queues.specs.declared.small.Small.{Small}
-use Rattle.clock2q_queues.specs.declared.main_queue.Main.{Main}
-use Rattle.clock2q_queues.specs.Rings.{around}
-use Rattle.clock2q_queues.specs.Flags.{is_linked}
-use Rattle.clock2q_queues.specs.Links.{LinkState, location_at, slots_from, next_at, bit_at}
-use Rattle.clock2q_queues.specs.Main.{IsMainQueue, main_slots, main_entries, set_front, inspections, from_victim}
+use Rattle.clock2q_queues.proofs.Names.{◌≡◌, ◌&&◌, None, ℕ, zero, suc, ◌+◌, ◌<◌, ◌≤◌, Bool, true, false, Some, slice_get, List, [], ◌∷◌, ◌++◌, length, map, take, drop, refl, sym, ap, ◌∙◌, subst}
+use Rattle.clock2q_queues.proofs.Names.{arith, last_or, lt-ltb, length-map, Age, QueueState, keeps_tail, tail_promoted, victim_leaves, small_slots, small_entries, age_at, Small, Main, around}
+use Rattle.clock2q_queues.proofs.Names.{is_linked, LinkState, location_at, slots_from, next_at, bit_at, IsMainQueue, main_slots, main_entries, set_front, inspections, from_victim}
 use Rattle.clock2q_queues.proofs.InQueue.{AllLinked, all_linked, main_linked}
 use Rattle.clock2q_queues.proofs.Hand.{first_of, from_victim-chosen}
 

@@ -1,23 +1,12 @@
 -- How each call changes the order of the history's places and the chain of the free ones.
-use Rattle.std.proofs.Common.{◌≡◌, ℕ, zero, suc, ◌+◌, ◌-◌, ◌^◌, ◌<◌, ◌≤◌, Bool, true, false, ◌||◌, eqb, Option, Some}
-use Rattle.std.proofs.Common.{None, slice_get, List, [], ◌∷◌, ◌++◌, length, take, drop, inl, inr, refl, sym, ap, ◌∙◌, subst, arith}
-use Rattle.std.specs.List.{last_or, list_any, AllByRecursion, IsDistinct}
-use Rattle.std.proofs.lemmas.Bool.{eqb-true, both_ways, cases_Bool}
-use Rattle.std.proofs.lemmas.List.{length-append, length-set}
-use Rattle.std.proofs.lemmas.List.Folds.{list_any-append}
-use Rattle.clock2q_queues.specs.declared.entries.Location.TheVariants.{Free}
-use Rattle.clock2q_queues.specs.declared.order.Chain.{Chain}
-use Rattle.clock2q_queues.specs.Rings.{without, around}
-use Rattle.clock2q_queues.specs.Cells.{CellsState, Rises, accessed, written}
-use Rattle.clock2q_queues.specs.Links.{Record, IsLinked, Attaches, Detaches, end_of, made_below, slots_from, record_at, next_at, previous_at, vacant}
-use Rattle.clock2q_queues.specs.Ring.{RingState, ring_state}
-use Rattle.clock2q_queues.specs.Order.{PlaceOrder, IsOrderOf, IsOrder, IsWholeOrder, free_places, order_shown, place_for}
-use Rattle.clock2q_queues.proofs.Records.{changed}
-use Rattle.clock2q_queues.proofs.Rings.{eqb_self, among_first, among_later, IsDistinct-left, IsDistinct-right, IsDistinct-append, distinct_first, distinct_rest, distinct_more, distinct_none}
-use Rattle.clock2q_queues.proofs.Rings.{AllByRecursion-append, AllByRecursion-left, AllByRecursion-right, apart_from, apart_back, below-among, below-more, below_of, among-without}
+use Rattle.clock2q_queues.proofs.Names.{◌≡◌, ℕ, zero, suc, ◌+◌, ◌-◌, ◌^◌, ◌<◌, ◌≤◌, Bool, true, false, ◌||◌, eqb, Option, Some, None, slice_get, List, [], ◌∷◌, ◌++◌, length, take, drop, inl, inr}
+use Rattle.clock2q_queues.proofs.Names.{refl, sym, ap, ◌∙◌, subst, arith, last_or, list_any, AllByRecursion, IsDistinct, eqb-true, both_ways, cases_Bool, length-append, length-set, list_any-append}
+use Rattle.clock2q_queues.proofs.Names.{Free, Chain, without, around, CellsState, Rises, accessed, written, Record, IsLinked, Attaches, Detaches, end_of, made_below, slots_from, record_at, next_at}
+use Rattle.clock2q_queues.proofs.Names.{previous_at, vacant, RingState, ring_state, PlaceOrder, IsOrderOf, IsOrder, IsWholeOrder, free_places, order_shown, place_for, changed, eqb_self, among_first}
+use Rattle.clock2q_queues.proofs.Names.{among_later, IsDistinct-left, IsDistinct-right, IsDistinct-append, distinct_first, distinct_rest, distinct_more, distinct_none, AllByRecursion-append}
+use Rattle.clock2q_queues.proofs.Names.{AllByRecursion-left, AllByRecursion-right, apart_from, apart_back, below-among, below-more, below_of, among-without, or_parts, or_neither}
 use Rattle.clock2q_queues.proofs.Joining.{Inserts, Inserts-before, Inserts-first, Removes, Removes-detached, IsLinked-kept, IsLinked-turned}
 use Rattle.clock2q_queues.proofs.Joining.{slots_from-is, end_some, first_in, next_in, previous_in, length-without, split_last, last_before}
-use Rattle.clock2q_queues.proofs.Booleans.{or_parts, or_neither}
 
 -- Lists of places
 

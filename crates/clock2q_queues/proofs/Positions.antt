@@ -1,11 +1,6 @@
 -- The slots at the window's positions, which hold numbers.
-use Rattle.std.proofs.Common.{◌≡◌, ℕ, ◌<◌, Bool, true, false, not, eqb, List, Some, None, length, map, get_or, refl, sym, ap, ◌∙◌, arith}
-use Rattle.std.specs.Bool.{then_some}
-use Rattle.std.proofs.lemmas.Bool.{ne_eqb}
-use Rattle.std.proofs.lemmas.List.{drop-map, get_or-map, map-append, take-map}
-use Rattle.clock2q_queues.specs.Growth.{with_gap}
-use Rattle.clock2q_queues.specs.Positions.{no_slot, slot_of}
-use Rattle.clock2q_queues.proofs.Records.{mapped-same}
+use Rattle.clock2q_queues.proofs.Names.{◌≡◌, ℕ, ◌<◌, Bool, true, false, not, eqb, List, Some, None, length, map, get_or, refl, sym, ap, ◌∙◌, arith, then_some, ne_eqb, drop-map, get_or-map, map-append}
+use Rattle.clock2q_queues.proofs.Names.{take-map, with_gap, no_slot, slot_of, mapped-same}
 
 -- a slot's number isn't that of a free position
 pub slot_of-slot : (slot : ℕ) → slot < no_slot → slot_of slot ≡ Some slot

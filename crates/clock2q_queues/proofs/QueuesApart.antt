@@ -1,13 +1,7 @@
 -- Small and Main share the links: a change to no slot of a queue leaves that queue unchanged.
-use Rattle.std.proofs.Common.{arith, ◌≡◌, ℕ, Bool, true, false, get_or, Option, None, List, length, map, sym, ap, ◌∙◌, subst, eqb}
-use Rattle.std.proofs.lemmas.Bool.{both_ways, cases_Bool}
-use Rattle.std.specs.List.{list_any}
-use Rattle.clock2q_machine.specs.Ages.{Age}
-use Rattle.clock2q_queues.specs.declared.main_queue.Main.{Main}
-use Rattle.clock2q_queues.specs.declared.small.Small.{Small}
-use Rattle.clock2q_queues.specs.Links.{Record, LinkState, IsSameBut, location_at, bit_at}
-use Rattle.clock2q_queues.specs.Main.{IsMain, IsMainQueue, main_slots, main_entries}
-use Rattle.clock2q_queues.specs.Small.{IsSmall, IsSmallQueue, IsInSmall, small_slots, small_entries, age_of, age_at}
+use Rattle.clock2q_queues.proofs.Names.{arith, ◌≡◌, ℕ, Bool, true, false, get_or, Option, None, List, length, map, sym, ap, ◌∙◌, subst, eqb, both_ways, cases_Bool, list_any, Age, Main, Small, Record}
+use Rattle.clock2q_queues.proofs.Names.{LinkState, IsSameBut, location_at, bit_at, IsMain, IsMainQueue, main_slots, main_entries, IsSmall, IsSmallQueue, IsInSmall, small_slots, small_entries, age_of}
+use Rattle.clock2q_queues.proofs.Names.{age_at}
 use Rattle.clock2q_queues.proofs.Joining.{IsLinked-kept, map-agree}
 use Rattle.clock2q_queues.proofs.Main.{main_slots-is, IsMainQueue-from}
 use Rattle.clock2q_queues.proofs.Window.{small_slots-is, IsSmallQueue-from}

@@ -1,22 +1,9 @@
 -- Small and Main share the links: an operation on one queue, seen over both.
-use Rattle.std.proofs.Common.{◌≡◌, ◌⊎◌, ℕ, ◌+◌, ◌-◌, ◌^◌, ◌<◌, ◌≤◌, Bool, true, false, not, eqb, Option, None, List, [], ◌∷◌, ◌++◌, length, drop, replicate, inl, inr, refl, sym, ap, ◌∙◌, subst, arith}
-use Rattle.std.specs.List.{filter, list_any}
-use Rattle.std.proofs.lemmas.Bool.{eqb-true, both_ways, cases_Bool}
-use Rattle.std.proofs.lemmas.List.{length-map, length-replicate}
-use Rattle.std.proofs.lemmas.List.Folds.{list_any-append}
-use Rattle.clock2q_machine.specs.Ages.{Age, grown_older}
-use Rattle.clock2q_queues.specs.Cells.{CellsState, accessed, cells_state}
-use Rattle.clock2q_queues.specs.declared.entries.Location.TheVariants.{Free}
-use Rattle.clock2q_queues.specs.declared.main_queue.Main.{Main}
-use Rattle.clock2q_queues.specs.declared.small.Small.{Small}
-use Rattle.clock2q_queues.specs.Rings.{without}
-use Rattle.clock2q_queues.specs.Links.{Record, LinkState, IsBlank, IsSameBut, vacant, accesses_of, location_at, made_below}
-use Rattle.clock2q_queues.specs.Main.{IsMainQueue, main_slots, main_entries, from_victim}
-use Rattle.clock2q_queues.specs.Small.{IsSmallQueue, small_slots, small_entries, admitted, age_at}
-use Rattle.clock2q_queues.specs.Queues.{AreQueues, QueueState, IsWholeQueues, slots_of, without_slot, queues_shown}
-use Rattle.clock2q_queues.proofs.Rings.{differs, IsDistinct-append, AllByRecursion-append, among-without-back}
-use Rattle.clock2q_queues.proofs.Booleans.{or_parts, or_neither}
-use Rattle.clock2q_queues.proofs.Records.{get_or-same}
+use Rattle.clock2q_queues.proofs.Names.{◌≡◌, ◌⊎◌, ℕ, ◌+◌, ◌-◌, ◌^◌, ◌<◌, ◌≤◌, Bool, true, false, not, eqb, Option, None, List, [], ◌∷◌, ◌++◌, length, drop, replicate, inl, inr, refl, sym, ap, ◌∙◌}
+use Rattle.clock2q_queues.proofs.Names.{subst, arith, filter, list_any, eqb-true, both_ways, cases_Bool, length-map, length-replicate, list_any-append, Age, grown_older, CellsState, accessed}
+use Rattle.clock2q_queues.proofs.Names.{cells_state, Free, Main, Small, without, Record, LinkState, IsBlank, IsSameBut, vacant, accesses_of, location_at, made_below, IsMainQueue, main_slots}
+use Rattle.clock2q_queues.proofs.Names.{main_entries, from_victim, IsSmallQueue, small_slots, small_entries, admitted, age_at, AreQueues, QueueState, IsWholeQueues, slots_of, without_slot}
+use Rattle.clock2q_queues.proofs.Names.{queues_shown, differs, IsDistinct-append, AllByRecursion-append, among-without-back, or_parts, or_neither, get_or-same}
 use Rattle.clock2q_queues.proofs.QueuesApart.{KeepsMain-from, KeepsSmall-from, small_apart, main_apart}
 use Rattle.clock2q_queues.proofs.SlotLists.{slots_of-entries, slots_of-mapped, slots_of-append, slots_of-filter, members-chosen}
 

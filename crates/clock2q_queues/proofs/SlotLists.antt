@@ -1,17 +1,9 @@
 -- Lists of entries by slot: their slots, and how they change when a slot leaves or is hit.
-use Rattle.std.proofs.Common.{◌≡◌, ℕ, suc, ◌-◌, Bool, true, false, not, cond, eqb, Some, None, slice_get, List, [], ◌∷◌, ◌++◌, length, map, take, drop, inl, inr, refl, sym, ap, ◌∙◌, subst, arith}
-use Rattle.std.specs.List.{filter, last_or, list_any, IsDistinct}
-use Rattle.std.proofs.lemmas.Bool.{eq-eqb, cases_Bool}
-use Rattle.std.proofs.lemmas.List.{map-append, take-append-drop}
-use Rattle.std.proofs.lemmas.List.Folds.{list_any-append}
-use Rattle.clock2q_machine.specs.Ages.{Age}
-use Rattle.clock2q_queues.specs.Main.{set_front, from_victim, main_hit_at}
-use Rattle.clock2q_queues.specs.Queues.{slots_of, without_slot}
-use Rattle.clock2q_queues.specs.Rings.{without}
-use Rattle.clock2q_queues.specs.Small.{small_hit_at}
+use Rattle.clock2q_queues.proofs.Names.{◌≡◌, ℕ, suc, ◌-◌, Bool, true, false, not, cond, eqb, Some, None, slice_get, List, [], ◌∷◌, ◌++◌, length, map, take, drop, inl, inr, refl, sym, ap, ◌∙◌, subst}
+use Rattle.clock2q_queues.proofs.Names.{arith, filter, last_or, list_any, IsDistinct, eq-eqb, cases_Bool, map-append, take-append-drop, list_any-append, Age, set_front, from_victim, main_hit_at}
+use Rattle.clock2q_queues.proofs.Names.{slots_of, without_slot, without, small_hit_at, eqb_self, eqb_swap, among_first, among_later, differs, distinct_first, distinct_rest, or_left, or_neither}
+use Rattle.clock2q_queues.proofs.Names.{or_parts}
 use Rattle.clock2q_machine.proofs.Whole.{last_some}
-use Rattle.clock2q_queues.proofs.Rings.{eqb_self, eqb_swap, among_first, among_later, differs, distinct_first, distinct_rest}
-use Rattle.clock2q_queues.proofs.Booleans.{or_left, or_neither, or_parts}
 
 -- Slots of entries
 

@@ -1,22 +1,10 @@
 -- Small, whose oldest slot became its newest.
-use Rattle.std.proofs.Common.{◌≡◌, ℕ, ◌+◌, ◌<◌, true, false, not, cond, eqb, Option, Some, None, IfSome, List, [], ◌∷◌, ◌++◌, length, inl, inr, refl, sym, ap, ◌∙◌, subst, arith}
-use Rattle.std.specs.List.{filter, last_or, list_any, IsDistinct, AllByRecursion}
-use Rattle.std.proofs.lemmas.Bool.{cases_Bool, eqb-true}
-use Rattle.std.proofs.lemmas.List.{append-nil, length-set}
-use Rattle.std.proofs.lemmas.List.Folds.{list_any-append}
-use Rattle.clock2q_queues.specs.declared.entries.Location.{Location}
-use Rattle.clock2q_queues.specs.declared.entries.Location.TheVariants.{SmallYoung}
-use Rattle.clock2q_queues.specs.declared.small.Small.{Small}
-use Rattle.clock2q_queues.specs.Cells.{CellsState, HitBits, accessed, bit_in, written}
-use Rattle.clock2q_queues.specs.Rings.{without}
-use Rattle.clock2q_queues.specs.Links.{Record, LinkState, IsLinked, IsSameBut, SetsBit, end_of, record_at, young_at, next_at, previous_at, location_at, bit_at, with_location, vacant}
-use Rattle.clock2q_queues.specs.Ends.{position_freed}
-use Rattle.clock2q_queues.specs.Flags.{is_linked}
-use Rattle.clock2q_queues.specs.Small.{IsSmallQueue, GrowsOld, small_slots, small_entries, admitted, next_cursor}
-use Rattle.clock2q_queues.proofs.Booleans.{and_false, or_parts, or_neither}
+use Rattle.clock2q_queues.proofs.Names.{◌≡◌, ℕ, ◌+◌, ◌<◌, true, false, not, cond, eqb, Option, Some, None, IfSome, List, [], ◌∷◌, ◌++◌, length, inl, inr, refl, sym, ap, ◌∙◌, subst, arith, filter}
+use Rattle.clock2q_queues.proofs.Names.{last_or, list_any, IsDistinct, AllByRecursion, cases_Bool, eqb-true, append-nil, length-set, list_any-append, Location, SmallYoung, Small, CellsState, HitBits}
+use Rattle.clock2q_queues.proofs.Names.{accessed, bit_in, written, without, Record, LinkState, IsLinked, IsSameBut, SetsBit, end_of, record_at, young_at, next_at, previous_at, location_at, bit_at}
+use Rattle.clock2q_queues.proofs.Names.{with_location, vacant, position_freed, is_linked, IsSmallQueue, GrowsOld, small_slots, small_entries, admitted, next_cursor, and_false, or_parts, or_neither}
+use Rattle.clock2q_queues.proofs.Names.{changed, IsRing-kept, eqb_self, among-without_test, without-parted}
 use Rattle.clock2q_queues.proofs.InQueue.{in_small_linked}
-use Rattle.clock2q_queues.proofs.Records.{changed}
-use Rattle.clock2q_queues.proofs.Rings.{IsRing-kept, eqb_self, among-without_test, without-parted}
 use Rattle.clock2q_queues.proofs.Joining.{Inserts, IsLinked-turned, end_some, in_bounds, last_before, length-without, same_record, split_last}
 use Rattle.clock2q_queues.proofs.Leaving.{others_stay, ages_kept, records_now, window_now, bits-freed}
 use Rattle.clock2q_queues.proofs.SlotLists.{tail_among}

@@ -1,23 +1,14 @@
 -- Small: how its list and the window change when a slot is admitted or leaves.
-use Rattle.std.proofs.Common.{◌≡◌, ℕ, ◌+◌, ◌^◌, ◌<◌, ◌≢◌, Bool, true, false, cond, eqb, Option, Some, None, slice_get}
-use Rattle.std.proofs.Common.{IfSome, List, [], ◌∷◌, length, map, set, get_or, inl, inr, refl, sym, ap, ◌∙◌, subst, arith}
-use Rattle.std.specs.List.{last_or, list_any, AllByRecursion}
-use Rattle.std.proofs.lemmas.Bool.{eqb-true, eq-eqb, ne_eqb, both_ways, cases_Bool, or_cases, lt-ltb, le-ltb, cases_lt}
-use Rattle.std.proofs.lemmas.List.{length-set}
+use Rattle.clock2q_queues.proofs.Names.{◌≡◌, ℕ, ◌+◌, ◌^◌, ◌<◌, ◌≢◌, Bool, true, false, cond, eqb, Option, Some, None, slice_get, IfSome, List, [], ◌∷◌, length, map, set, get_or, inl, inr, refl, sym}
+use Rattle.clock2q_queues.proofs.Names.{ap, ◌∙◌, subst, arith, last_or, list_any, AllByRecursion, eqb-true, eq-eqb, ne_eqb, both_ways, cases_Bool, or_cases, lt-ltb, le-ltb, cases_lt, length-set, Age}
+use Rattle.clock2q_queues.proofs.Names.{grown_older, Location, Free, SmallYoung, SmallOld, Small, CellsState, accessed, written, is_linked, Record, LinkState, IsBlank, IsLinked, IsSameBut, Attaches}
+use Rattle.clock2q_queues.proofs.Names.{SetsBit, end_of, record_at, previous_at, location_at, bit_at, young_at, IsSmall, IsSmallQueue, IsInSmall, GrowsOld, small_slots, small_entries}
+use Rattle.clock2q_queues.proofs.Names.{admissions_since, next_cursor, age_of, age_at, admitted, is_there, changed, IsRing-kept, eqb_self, among_first, among_later, differs, distinct_none, or_left}
+use Rattle.clock2q_queues.proofs.Names.{or_parts}
 use Rattle.clock2q_machine.specs.Ages as ages
-use Rattle.clock2q_machine.specs.Ages.{Age, grown_older}
-use Rattle.clock2q_queues.specs.declared.entries.Location.{Location}
-use Rattle.clock2q_queues.specs.declared.entries.Location.TheVariants.{Free, SmallYoung, SmallOld, Main}
-use Rattle.clock2q_queues.specs.declared.small.Small.{Small}
-use Rattle.clock2q_queues.specs.Cells.{CellsState, accessed, written}
-use Rattle.clock2q_queues.specs.Flags.{is_linked}
-use Rattle.clock2q_queues.specs.Links.{Record, LinkState, IsBlank, IsLinked, IsSameBut, Attaches, SetsBit, end_of, record_at, previous_at, location_at, bit_at, young_at}
-use Rattle.clock2q_queues.specs.Small.{IsSmall, IsSmallQueue, IsInSmall, GrowsOld, small_slots, small_entries, admissions_since, next_cursor, age_of, age_at, admitted, is_there}
+use Rattle.clock2q_queues.specs.declared.entries.Location.TheVariants.{Main}
 use Rattle.clock2q_queues.proofs.InQueue.{in_small_linked}
-use Rattle.clock2q_queues.proofs.Records.{changed}
-use Rattle.clock2q_queues.proofs.Rings.{IsRing-kept, eqb_self, among_first, among_later, differs, distinct_none}
 use Rattle.clock2q_queues.proofs.Joining.{Inserts, Inserts-before, Inserts-first, slots_from-is, IsLinked-turned, end_some, first_in, previous_in, same_record}
-use Rattle.clock2q_queues.proofs.Booleans.{or_left, or_parts}
 
 -- Ages
 

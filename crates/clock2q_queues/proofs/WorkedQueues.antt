@@ -1,10 +1,6 @@
 -- The queues' definitions on lists worked out by hand: the hand's choice with its inspections, and the ages of Small.
-use Rattle.std.proofs.Common.{◌≡◌, ℕ, Bool, true, false, List, [], ◌∷◌, ◌++◌, map, refl}
-use Rattle.std.specs.List.{range_with_len}
-use Rattle.clock2q_machine.specs.Ages.{Age, Young, Old}
-use Rattle.clock2q_queues.specs.Main.{inspections, from_victim, main_hit_at}
-use Rattle.clock2q_queues.specs.Small.{admitted, small_hit_at, next_cursor}
-use Rattle.clock2q_queues.specs.Queues.{without_slot}
+use Rattle.clock2q_queues.proofs.Names.{◌≡◌, ℕ, Bool, true, false, List, [], ◌∷◌, ◌++◌, map, refl, range_with_len, Age, Young, Old, inspections, from_victim, main_hit_at, admitted, small_hit_at}
+use Rattle.clock2q_queues.proofs.Names.{next_cursor, without_slot}
 
 -- `n` slots, numbered from `from` on, each with this bit
 abbrev slots_with : Bool → ℕ → ℕ → List (ℕ × Bool)

@@ -1,5 +1,4 @@
-use Rattle.std.proofs.Common.{false, refl, sym}
-use Rattle.clock2q_queues.specs.Links.{previous_at}
+use Rattle.clock2q_queues.proofs.Names.{false, refl, sym, previous_at}
 use Rattle.clock2q_queues.proofs.Flagged.{bit_set, slot_attached}
 use Rattle.clock2q_queues.proofs.links.Links.attach.Goals as goal
 

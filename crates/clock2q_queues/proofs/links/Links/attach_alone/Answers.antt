@@ -1,6 +1,4 @@
-use Rattle.std.proofs.Common.{false, refl, sym, ap, arith}
-use Rattle.clock2q_queues.specs.Links.{Record}
-use Rattle.clock2q_queues.specs.Cells.{CellsState}
+use Rattle.clock2q_queues.proofs.Names.{false, refl, sym, ap, arith, Record, CellsState}
 use Rattle.clock2q_queues.proofs.Flagged.{bit_set, record_written}
 use Rattle.clock2q_queues.proofs.links.Links.attach_alone.Goals as goal
 

@@ -1,5 +1,4 @@
-use Rattle.std.proofs.Common.{false, refl}
-use Rattle.clock2q_queues.specs.Links.{next_at, previous_at}
+use Rattle.clock2q_queues.proofs.Names.{false, refl, next_at, previous_at}
 use Rattle.clock2q_queues.proofs.AllRecords.{linked_within}
 use Rattle.clock2q_queues.proofs.Flagged.{bit_set, flag_linked, slot_detached}
 use Rattle.clock2q_queues.proofs.links.Links.detach.Goals as goal

@@ -1,5 +1,4 @@
-use Rattle.std.proofs.Common.{false, refl, sym, ap, ◌∙◌, arith}
-use Rattle.clock2q_queues.specs.Ring.{RingState}
+use Rattle.clock2q_queues.proofs.Names.{false, refl, sym, ap, ◌∙◌, arith, RingState}
 use Rattle.clock2q_queues.proofs.AllRecords.{linked_within}
 use Rattle.clock2q_queues.proofs.Flagged.{bit_set, flag_linked, record_written}
 use Rattle.clock2q_queues.proofs.links.Links.relocate.Goals as goal

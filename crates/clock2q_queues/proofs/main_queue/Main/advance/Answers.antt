@@ -1,5 +1,4 @@
-use Rattle.std.proofs.Common.{arith, refl}
-use Rattle.clock2q_queues.specs.Cells.{accessed}
+use Rattle.clock2q_queues.proofs.Names.{arith, refl, accessed}
 use Rattle.clock2q_queues.proofs.Hand.{front_linked, whole_passed, entries_passed}
 use Rattle.clock2q_queues.proofs.main_queue.Main.advance.Goals as goal
 

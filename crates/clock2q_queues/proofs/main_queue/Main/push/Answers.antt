@@ -1,5 +1,4 @@
-use Rattle.std.proofs.Common.{refl, ◌+◌, ap, ◌∙◌, rules, arith}
-use Rattle.clock2q_queues.specs.declared.main_queue.Main.{Main}
+use Rattle.clock2q_queues.proofs.Names.{refl, ◌+◌, ap, ◌∙◌, rules, arith, Main}
 use Rattle.clock2q_queues.proofs.Joining.{count_fits}
 use Rattle.clock2q_queues.proofs.Main.{PushesMain, PushesMain-attached, PushesMain-alone, hand_linked}
 use Rattle.clock2q_queues.proofs.main_queue.Main.push.Goals as goal
@@ -28,12 +27,4 @@ returns g c =
           (ap (λ (m : Main). m.len + 1) w.self-is)
           w.in-Some.hand w.in-Some.is (rw w.links-is w.attach.ensures.attached) (ap (λ (m : Main). m.hand) w.self-is ∙ w.in-Some.is)
     ] in
-    record {
-      whole = pushed.whole;
-      entries = pushed.entries;
-      others = pushed.others;
-      window = search rules;
-      inspections = search rules;
-      made = search rules;
-      accesses = search rules;
-    }
+    record { whole = pushed.whole; entries = pushed.entries; others = pushed.others; window = search rules; inspections = search rules; made = search rules; accesses = search rules }

@@ -1,7 +1,4 @@
-use Rattle.std.proofs.Common.{ltb, ◌-◌, refl, ap, ◌∙◌, rules}
-use Rattle.std.specs.Bool.{then_some}
-use Rattle.clock2q_queues.specs.Links.{Record}
-use Rattle.clock2q_queues.specs.Main.{main_slots}
+use Rattle.clock2q_queues.proofs.Names.{ltb, ◌-◌, refl, ap, ◌∙◌, rules, then_some, Record, main_slots}
 use Rattle.clock2q_queues.proofs.InQueue.{main_linked}
 use Rattle.clock2q_queues.proofs.Joining.{is_first, not_first, first_gone, first_stays}
 use Rattle.clock2q_queues.proofs.Main.{UnlinksMain-from}

@@ -1,6 +1,4 @@
-use Rattle.std.proofs.Common.{sym, ap, ◌∙◌, arith}
-use Rattle.clock2q_queues.specs.Flags.{is_linked}
-use Rattle.clock2q_queues.specs.Links.{LinkState, bit_at, location_at}
+use Rattle.clock2q_queues.proofs.Names.{sym, ap, ◌∙◌, arith, is_linked, LinkState, bit_at, location_at}
 use Rattle.clock2q_queues.proofs.NextVictim.{Walks-start, Walks-here, slot_linked}
 use Rattle.clock2q_queues.proofs.main_queue.Main.victim.Goals as goal
 

@@ -1,5 +1,4 @@
-use Rattle.std.proofs.Common.{◌≡◌, ◌+◌}
-use Rattle.clock2q_queues.specs.Cells.{cells_state}
+use Rattle.clock2q_queues.proofs.Names.{◌≡◌, ◌+◌, cells_state}
 use Rattle.clock2q_queues.proofs.NextVictim.{Walks}
 use Rattle.clock2q_queues.proofs.main_queue.Main.victim.Given as goal
 

@@ -1,6 +1,4 @@
-use Rattle.std.proofs.Common.{ap, arith}
-use Rattle.clock2q_queues.specs.Links.{end_of}
-use Rattle.clock2q_queues.specs.Order.{PlaceOrder}
+use Rattle.clock2q_queues.proofs.Names.{ap, arith, end_of, PlaceOrder}
 use Rattle.clock2q_queues.proofs.Growth.{order-grown}
 use Rattle.clock2q_queues.proofs.Orders.{IsOrder-from, order_shown-is, whole_order}
 use Rattle.clock2q_queues.proofs.order.Order.grown.Goals as goal

@@ -1,5 +1,4 @@
-use Rattle.std.proofs.Common.{None, arith}
-use Rattle.std.proofs.lemmas.List.{length-replicate}
+use Rattle.clock2q_queues.proofs.Names.{None, arith, length-replicate}
 use Rattle.clock2q_queues.proofs.Orders.{empty_order, whole_order}
 use Rattle.clock2q_queues.proofs.order.Order.new.Goals as goal
 

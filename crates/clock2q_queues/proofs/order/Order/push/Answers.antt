@@ -1,6 +1,4 @@
-use Rattle.std.proofs.Common.{◌<◌, ◌∷◌, length, drop, ap, subst, ◌∙◌, sym, arith}
-use Rattle.clock2q_queues.specs.Links.{end_of, slots_from}
-use Rattle.clock2q_queues.specs.Order.{PlaceOrder, free_places}
+use Rattle.clock2q_queues.proofs.Names.{◌<◌, ◌∷◌, length, drop, ap, subst, ◌∙◌, sym, arith, end_of, slots_from, PlaceOrder, free_places}
 use Rattle.clock2q_queues.proofs.Orders.{Chooses, Pushed, IsOrder-from, whole_order, order_shown-is, head_made, takes_head, takes_unused, place_in, first_made, place_next, pushes-attached, pushes-alone}
 use Rattle.clock2q_queues.proofs.order.Order.push.Given.{Over}
 use Rattle.clock2q_queues.proofs.order.Order.push.Goals.{Joined-self-gt0, Joined-self-eq0}

@@ -1,8 +1,4 @@
-use Rattle.std.proofs.Common.{◌∷◌, ◌-◌, ◌<◌, None, length, take, refl, ap, sym, subst, ◌∙◌}
-use Rattle.std.specs.List.{last_or}
-use Rattle.clock2q_queues.specs.Links.{Record, end_of}
-use Rattle.clock2q_queues.specs.Ring.{RingState}
-use Rattle.clock2q_queues.specs.Order.{PlaceOrder, order_shown}
+use Rattle.clock2q_queues.proofs.Names.{◌∷◌, ◌-◌, ◌<◌, None, length, take, refl, ap, sym, subst, ◌∙◌, last_or, Record, end_of, RingState, PlaceOrder, order_shown}
 use Rattle.clock2q_queues.proofs.Orders.{IsOrder-from, whole_order, order_shown-is, reuses}
 use Rattle.clock2q_queues.proofs.order.Order.replace_oldest.Goals as goal
 

@@ -1,11 +1,5 @@
-use Rattle.std.proofs.Common.{◌≡◌, ℕ, Option, ◌+◌, ◌-◌, ◌∷◌, cond, eqb, refl, ap, ◌∙◌, arith}
-use Rattle.std.proofs.lemmas.Bool.{eq-eqb, ne_eqb}
-use Rattle.std.specs.List.{list_any}
-use Rattle.clock2q_queues.specs.declared.entries.Location.TheVariants.{Free}
-use Rattle.clock2q_queues.specs.Cells.{written}
-use Rattle.clock2q_queues.specs.Rings.{without}
-use Rattle.clock2q_queues.specs.Links.{Record, end_of, next_at, slots_from}
-use Rattle.clock2q_queues.specs.Order.{PlaceOrder, IsOrderOf, free_places, order_shown}
+use Rattle.clock2q_queues.proofs.Names.{◌≡◌, ℕ, Option, ◌+◌, ◌-◌, ◌∷◌, cond, eqb, refl, ap, ◌∙◌, arith, eq-eqb, ne_eqb, list_any, Free, written, without, Record, end_of, next_at, slots_from}
+use Rattle.clock2q_queues.proofs.Names.{PlaceOrder, IsOrderOf, free_places, order_shown}
 use Rattle.clock2q_queues.proofs.Orders.{IsOrder-from, whole_order, order_shown-is, place_fits, place_made, not_free, chain_fits, chain-put, Unlinks, unlinked_counts}
 use Rattle.clock2q_queues.proofs.Joining.{first_left}
 use Rattle.clock2q_queues.proofs.order.Order.unlink.Given.{Over}

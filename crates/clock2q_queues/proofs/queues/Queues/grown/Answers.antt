@@ -1,5 +1,4 @@
-use Rattle.std.proofs.Common.{ap, arith}
-use Rattle.clock2q_queues.specs.Queues.{QueueState}
+use Rattle.clock2q_queues.proofs.Names.{ap, arith, QueueState}
 use Rattle.clock2q_queues.proofs.Growth.{queues-grown, young_within}
 use Rattle.clock2q_queues.proofs.queues.Queues.grown.Goals as goal
 

@@ -1,6 +1,4 @@
-use Rattle.std.proofs.Common.{arith, true, ap, ◌∙◌, eqb}
-use Rattle.std.specs.List.{list_any}
-use Rattle.clock2q_queues.specs.Queues.{QueueState, slots_of}
+use Rattle.clock2q_queues.proofs.Names.{arith, true, ap, ◌∙◌, eqb, list_any, QueueState, slots_of}
 use Rattle.clock2q_queues.proofs.Locations.{in_small_alone}
 use Rattle.clock2q_queues.proofs.Sharing.{after_small_left, after_main_left, in_small, in_main, queues_equal}
 use Rattle.clock2q_queues.proofs.SlotLists.{without_slot-absent}

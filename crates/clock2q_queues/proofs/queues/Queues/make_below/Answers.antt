@@ -1,6 +1,4 @@
-use Rattle.std.proofs.Common.{arith, ◌-◌, ap}
-use Rattle.clock2q_queues.specs.Links.{made_below}
-use Rattle.clock2q_queues.specs.Queues.{QueueState}
+use Rattle.clock2q_queues.proofs.Names.{arith, ◌-◌, ap, made_below, QueueState}
 use Rattle.clock2q_queues.proofs.Sharing.{after_making}
 use Rattle.clock2q_queues.proofs.queues.Queues.make_below.Goals as goal
 

@@ -1,7 +1,5 @@
 -- The links are those of before but for the reads that were counted.
-use Rattle.std.proofs.Common.{None, sym, ap, ◌∙◌}
-use Rattle.std.specs.List.{last_or}
-use Rattle.clock2q_queues.specs.Queues.{QueueState, slots_of}
+use Rattle.clock2q_queues.proofs.Names.{None, sym, ap, ◌∙◌, last_or, QueueState, slots_of}
 use Rattle.clock2q_queues.proofs.Sharing.{after_reads, small_slots-of}
 use Rattle.clock2q_queues.proofs.queues.Queues.next_victim.Goals as goal
 

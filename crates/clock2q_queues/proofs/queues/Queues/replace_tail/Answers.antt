@@ -1,9 +1,5 @@
-use Rattle.std.proofs.Common.{◌≡◌, None, Some, length, refl, ap, sym, ◌∙◌, arith, rules}
-use Rattle.std.specs.List.{last_or}
-use Rattle.clock2q_queues.specs.declared.small.Small.{Small}
-use Rattle.clock2q_queues.specs.Links.{LinkState, Record, accesses_of}
-use Rattle.clock2q_queues.specs.Queues.{QueueState, queues_shown, slots_of, without_slot}
-use Rattle.clock2q_queues.specs.Small.{admitted, small_entries, small_slots}
+use Rattle.clock2q_queues.proofs.Names.{◌≡◌, None, Some, length, refl, ap, sym, ◌∙◌, arith, rules, last_or, Small, LinkState, Record, accesses_of, QueueState, queues_shown, slots_of, without_slot}
+use Rattle.clock2q_queues.proofs.Names.{admitted, small_entries, small_slots}
 use Rattle.clock2q_queues.proofs.InQueue.{small_linked}
 use Rattle.clock2q_queues.proofs.Locations.{tail_out, tail_linked}
 use Rattle.clock2q_queues.proofs.Sharing.{Becomes, after_reuse, small_slots-of, some_small}

@@ -1,5 +1,4 @@
-use Rattle.std.proofs.Common.{◌≡◌, ◌&&◌, ◌∙◌, arith, rules}
-use Rattle.clock2q_queues.specs.Links.{bit_at, is_old, location_at}
+use Rattle.clock2q_queues.proofs.Names.{◌≡◌, ◌&&◌, ◌∙◌, arith, rules, bit_at, is_old, location_at}
 use Rattle.clock2q_queues.proofs.Sharing.{after_reading, some_small}
 use Rattle.clock2q_queues.proofs.Locations.{tail_linked, tail_promoted-some}
 use Rattle.clock2q_queues.proofs.Turning.{oldest_is}

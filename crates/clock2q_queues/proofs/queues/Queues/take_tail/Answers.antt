@@ -1,6 +1,4 @@
-use Rattle.std.proofs.Common.{arith, sym, ap, ◌∙◌}
-use Rattle.clock2q_queues.specs.Links.{accesses_of}
-use Rattle.clock2q_queues.specs.Queues.{queues_shown}
+use Rattle.clock2q_queues.proofs.Names.{arith, sym, ap, ◌∙◌, accesses_of, queues_shown}
 use Rattle.clock2q_queues.proofs.Sharing.{after_small_left, small_slots-of}
 use Rattle.clock2q_queues.proofs.Locations.{tail_there, tail_out, no_tail}
 use Rattle.clock2q_queues.proofs.queues.Queues.take_tail.Goals as goal

@@ -1,7 +1,4 @@
-use Rattle.std.proofs.Common.{arith, ℕ, Bool, false, List, drop, ap, ◌∙◌, rules}
-use Rattle.clock2q_queues.specs.Links.{accesses_of}
-use Rattle.clock2q_queues.specs.Main.{main_entries, from_victim}
-use Rattle.clock2q_queues.specs.Queues.{QueueState, queues_shown}
+use Rattle.clock2q_queues.proofs.Names.{arith, ℕ, Bool, false, List, drop, ap, ◌∙◌, rules, accesses_of, main_entries, from_victim, QueueState, queues_shown}
 use Rattle.clock2q_queues.proofs.Sharing.{after_choice, after_main_left}
 use Rattle.clock2q_queues.proofs.Locations.{first_there}
 use Rattle.clock2q_queues.proofs.queues.Queues.take_victim.Goals as goal

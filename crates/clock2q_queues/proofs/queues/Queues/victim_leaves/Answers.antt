@@ -1,5 +1,4 @@
-use Rattle.std.proofs.Common.{arith}
-use Rattle.std.proofs.lemmas.Bool.{both_ways}
+use Rattle.clock2q_queues.proofs.Names.{arith, both_ways}
 use Rattle.clock2q_queues.proofs.NextVictim.{length-entries, length-small, leaves-promoted}
 use Rattle.clock2q_queues.proofs.queues.Queues.victim_leaves.Goals as goal
 

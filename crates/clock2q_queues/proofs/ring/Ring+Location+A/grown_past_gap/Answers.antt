@@ -1,8 +1,4 @@
-use Rattle.std.proofs.Common.{List, length, refl, sym, ap, map, ◌∙◌, arith}
-use Rattle.std.proofs.lemmas.List.{length-map}
-use Rattle.clock2q_queues.specs.Growth.{moved_record}
-use Rattle.clock2q_queues.specs.Links.{Record, location_at, record_at}
-use Rattle.clock2q_queues.specs.Ring.{RingState}
+use Rattle.clock2q_queues.proofs.Names.{List, length, refl, sym, ap, map, ◌∙◌, arith, length-map, moved_record, Record, location_at, record_at, RingState}
 use Rattle.clock2q_queues.proofs.Copies.{all-copied, record-in, ring-grown}
 use Rattle.clock2q_queues.proofs.ring.Ring+Location+A.grown_past_gap.Goals as goal
 

@@ -1,5 +1,4 @@
-use Rattle.std.proofs.Common.{◌≡◌, ◌+◌, ◌*◌, ◌≤◌, take, map, vec_capacity}
-use Rattle.clock2q_queues.specs.Growth.{moved_record}
+use Rattle.clock2q_queues.proofs.Names.{◌≡◌, ◌+◌, ◌*◌, ◌≤◌, take, map, vec_capacity, moved_record}
 use Rattle.clock2q_queues.proofs.ring.Ring+Location+A.grown_past_gap.Given as goal
 
 abbrev pub ghost-raise : goal.ghost-raise

@@ -1,5 +1,4 @@
-use Rattle.std.proofs.Common.{refl, arith}
-use Rattle.clock2q_queues.specs.Links.{Record, record_of}
+use Rattle.clock2q_queues.proofs.Names.{refl, arith, Record, record_of}
 use Rattle.clock2q_queues.proofs.AllRecords.{ring-changed}
 use Rattle.clock2q_queues.proofs.ring.Ring+Location+A.set_location.Goals as goal
 

@@ -1,5 +1,4 @@
-use Rattle.std.proofs.Common.{ap, arith}
-use Rattle.clock2q_queues.specs.Links.{Record}
+use Rattle.clock2q_queues.proofs.Names.{ap, arith, Record}
 use Rattle.clock2q_queues.proofs.Attaching.{attaches}
 use Rattle.clock2q_queues.proofs.ring.Ring.attach.Goals as goal
 

@@ -1,6 +1,4 @@
-use Rattle.std.proofs.Common.{ap, arith}
-use Rattle.std.proofs.lemmas.List.{length-set}
-use Rattle.clock2q_queues.specs.Links.{Record}
+use Rattle.clock2q_queues.proofs.Names.{ap, arith, length-set, Record}
 use Rattle.clock2q_queues.proofs.Attaching.{detaches}
 use Rattle.clock2q_queues.proofs.ring.Ring.detach.Goals as goal
 

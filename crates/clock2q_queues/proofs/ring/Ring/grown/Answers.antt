@@ -1,6 +1,4 @@
-use Rattle.std.proofs.Common.{refl, sym, ap, map, ◌∙◌, arith}
-use Rattle.std.proofs.lemmas.List.{length-map, map-id, take_all}
-use Rattle.clock2q_queues.specs.Links.{record_of}
+use Rattle.clock2q_queues.proofs.Names.{refl, sym, ap, map, ◌∙◌, arith, length-map, map-id, take_all, record_of}
 use Rattle.clock2q_queues.proofs.Copies.{ring-grown}
 use Rattle.clock2q_queues.proofs.ring.Ring.grown.Goals as goal
 

@@ -1,6 +1,4 @@
-use Rattle.std.proofs.Common.{◌<◌, List, length, map, ap, ◌∙◌, arith, refl, rules}
-use Rattle.std.proofs.lemmas.List.{length-map}
-use Rattle.clock2q_queues.specs.Links.{Record, all_records, record_of, vacant}
+use Rattle.clock2q_queues.proofs.Names.{◌<◌, List, length, map, ap, ◌∙◌, arith, refl, rules, length-map, Record, all_records, record_of, vacant}
 use Rattle.clock2q_queues.proofs.AllRecords.{entry-vacant, length-all}
 use Rattle.clock2q_queues.proofs.ring.Ring.make_below.Goals as goal
 

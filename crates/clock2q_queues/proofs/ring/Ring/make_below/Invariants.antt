@@ -1,6 +1,5 @@
 -- Only vacant entries were made, each with one access.
-use Rattle.std.proofs.Common.{◌≡◌, ◌+◌, ◌-◌, ◌≤◌, length, map, vec_capacity}
-use Rattle.clock2q_queues.specs.Links.{all_records, made_below, record_of}
+use Rattle.clock2q_queues.proofs.Names.{◌≡◌, ◌+◌, ◌-◌, ◌≤◌, length, map, vec_capacity, all_records, made_below, record_of}
 use Rattle.clock2q_queues.proofs.ring.Ring.make_below.Given as goal
 
 abbrev pub invariant-loop-self : goal.invariant-loop-self

@@ -1,6 +1,4 @@
-use Rattle.std.proofs.Common.{arith}
-use Rattle.std.proofs.lemmas.List.{length-map}
-use Rattle.clock2q_queues.specs.Links.{vacant}
+use Rattle.clock2q_queues.proofs.Names.{arith, length-map, vacant}
 use Rattle.clock2q_queues.proofs.AllRecords.{length-all}
 use Rattle.clock2q_queues.proofs.ring.Ring.read.Goals as goal
 

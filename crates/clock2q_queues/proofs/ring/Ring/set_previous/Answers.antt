@@ -1,5 +1,4 @@
-use Rattle.std.proofs.Common.{refl, arith}
-use Rattle.clock2q_queues.specs.Links.{record_of}
+use Rattle.clock2q_queues.proofs.Names.{refl, arith, record_of}
 use Rattle.clock2q_queues.proofs.AllRecords.{ring-changed}
 use Rattle.clock2q_queues.proofs.Attaching.{previous_is}
 use Rattle.clock2q_queues.proofs.ring.Ring.set_previous.Goals as goal

@@ -1,6 +1,4 @@
-use Rattle.std.proofs.Common.{◌≡◌, ◌<◌, length, map, refl, arith}
-use Rattle.std.proofs.lemmas.List.{length-map}
-use Rattle.clock2q_queues.specs.Links.{record_of, vacant}
+use Rattle.clock2q_queues.proofs.Names.{◌≡◌, ◌<◌, length, map, refl, arith, length-map, record_of, vacant}
 use Rattle.clock2q_queues.proofs.AllRecords.{entry-made, entry-written, length-all}
 use Rattle.clock2q_queues.proofs.ring.Ring.write.Goals as goal
 

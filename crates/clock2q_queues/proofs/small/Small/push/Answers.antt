@@ -1,7 +1,4 @@
-use Rattle.std.proofs.Common.{◌≡◌, ◌+◌, Some, refl, ap, ◌∙◌, rules, arith}
-use Rattle.clock2q_queues.specs.declared.small.Small.{Small}
-use Rattle.clock2q_queues.specs.Cells.{written}
-use Rattle.clock2q_queues.specs.Small.{small_slots}
+use Rattle.clock2q_queues.proofs.Names.{◌≡◌, ◌+◌, Some, refl, ap, ◌∙◌, rules, arith, Small, written, small_slots}
 use Rattle.clock2q_queues.proofs.Joining.{count_fits}
 use Rattle.clock2q_queues.proofs.Window.{aged_before, position_taken, Admits, Admits-attached, Admits-alone, all_stay, cursor_linked, first_linked}
 use Rattle.clock2q_queues.proofs.small.Small.push.Goals as goal
@@ -48,12 +45,4 @@ returns g c =
           (rw w.links-is w.attach.ensures.cleared) refl (ap (λ (m : Small). m.len + 1) w.self-is) (ap (λ (m : Small). m.cursor) w.self-is ∙ moved)
           (omega (arith, w.if-self-eq0.false)) (rw w.links-is w.attach.ensures.attached) (ap (λ (m : Small). m.oldest) w.self-is)
     ] in
-    record {
-      whole = pushed.whole;
-      entries = pushed.entries;
-      others = pushed.others;
-      window = search rules;
-      inspections = search rules;
-      made = search rules;
-      accesses = search rules;
-    }
+    record { whole = pushed.whole; entries = pushed.entries; others = pushed.others; window = search rules; inspections = search rules; made = search rules; accesses = search rules }

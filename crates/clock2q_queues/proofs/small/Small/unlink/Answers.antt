@@ -1,7 +1,4 @@
-use Rattle.std.proofs.Common.{◌≡◌, ℕ, ◌-◌, cond, eqb, refl, sym, ap, ◌∙◌, rules}
-use Rattle.std.proofs.lemmas.Bool.{eq-eqb, ne_eqb}
-use Rattle.clock2q_queues.specs.declared.small.Small.{Small}
-use Rattle.clock2q_queues.specs.Links.{Record, next_at, previous_at}
+use Rattle.clock2q_queues.proofs.Names.{◌≡◌, ℕ, ◌-◌, cond, eqb, refl, sym, ap, ◌∙◌, rules, eq-eqb, ne_eqb, Small, Record, next_at, previous_at}
 use Rattle.clock2q_queues.proofs.InQueue.{small_linked}
 use Rattle.clock2q_queues.proofs.Leaving.{UnlinksSmall, UnlinksSmall-from}
 use Rattle.clock2q_queues.proofs.small.Small.unlink.Given.{Over}

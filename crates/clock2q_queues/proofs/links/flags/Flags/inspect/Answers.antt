@@ -1,5 +1,4 @@
-use Rattle.std.proofs.Common.{sym}
-use Rattle.clock2q_queues.specs.declared.links.flags.Flag.{Flag}
+use Rattle.clock2q_queues.proofs.Names.{sym, Flag}
 use Rattle.clock2q_queues.proofs.AllRecords.{all-set, flags-in}
 use Rattle.clock2q_queues.proofs.links.flags.Flags.inspect.Goals as goal
 

@@ -1,6 +1,4 @@
-use Rattle.std.proofs.Common.{◌<◌, List, length, ap, ◌∙◌, arith, rules}
-use Rattle.clock2q_queues.specs.declared.links.flags.Flag.{Flag}
-use Rattle.clock2q_queues.specs.Flags.{all_flags}
+use Rattle.clock2q_queues.proofs.Names.{◌<◌, List, length, ap, ◌∙◌, arith, rules, Flag, all_flags}
 use Rattle.clock2q_queues.proofs.AllRecords.{all-more, length-all}
 use Rattle.clock2q_queues.proofs.links.flags.Flags.make_below.Goals as goal
 

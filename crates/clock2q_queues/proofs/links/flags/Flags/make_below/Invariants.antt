@@ -1,7 +1,5 @@
 -- Only free flags were made.
-use Rattle.std.proofs.Common.{◌≡◌, ◌-◌, ◌≤◌, length, vec_capacity}
-use Rattle.clock2q_queues.specs.Flags.{all_flags}
-use Rattle.clock2q_queues.specs.Links.{made_below}
+use Rattle.clock2q_queues.proofs.Names.{◌≡◌, ◌-◌, ◌≤◌, length, vec_capacity, all_flags, made_below}
 use Rattle.clock2q_queues.proofs.links.flags.Flags.make_below.Given as goal
 
 abbrev pub invariant-loop-self : goal.invariant-loop-self

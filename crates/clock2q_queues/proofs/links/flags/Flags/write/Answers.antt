@@ -1,5 +1,4 @@
-use Rattle.std.proofs.Common.{arith}
-use Rattle.clock2q_queues.specs.declared.links.flags.Flag.{Flag}
+use Rattle.clock2q_queues.proofs.Names.{arith, Flag}
 use Rattle.clock2q_queues.proofs.AllRecords.{all-pushed, all-set, length-all}
 use Rattle.clock2q_queues.proofs.links.flags.Flags.write.Goals as goal
 

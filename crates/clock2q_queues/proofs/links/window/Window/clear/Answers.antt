@@ -1,8 +1,4 @@
-use Rattle.std.proofs.Common.{◌≡◌, ◌++◌, drop, length, map, replicate, take, ap, ◌∙◌, arith}
-use Rattle.std.proofs.lemmas.Grind.{common_steps}
-use Rattle.std.proofs.lemmas.List.{length-map}
-use Rattle.clock2q_queues.specs.Positions.{no_slot, slot_of}
-use Rattle.clock2q_queues.proofs.Records.{mapped-same}
+use Rattle.clock2q_queues.proofs.Names.{◌≡◌, ◌++◌, drop, length, map, replicate, take, ap, ◌∙◌, arith, common_steps, length-map, no_slot, slot_of, mapped-same}
 use Rattle.clock2q_queues.proofs.links.window.Window.clear.Goals as goal
 
 pub returns-clause-items : goal.returns-clause-items

@@ -1,5 +1,4 @@
-use Rattle.std.proofs.Common.{◌≡◌, ◌+◌, take, length, replicate}
-use Rattle.clock2q_queues.specs.Positions.{no_slot}
+use Rattle.clock2q_queues.proofs.Names.{◌≡◌, ◌+◌, take, length, replicate, no_slot}
 use Rattle.clock2q_queues.proofs.links.window.Window.clear.Given as goal
 
 abbrev pub invariant-loop-at : goal.invariant-loop-at

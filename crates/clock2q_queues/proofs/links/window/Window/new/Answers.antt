@@ -1,6 +1,4 @@
-use Rattle.std.proofs.Common.{◌≡◌, replicate, refl, rules}
-use Rattle.clock2q_queues.specs.Positions.{no_slot}
-use Rattle.clock2q_queues.proofs.Records.{mapped-same}
+use Rattle.clock2q_queues.proofs.Names.{◌≡◌, replicate, refl, rules, no_slot, mapped-same}
 use Rattle.clock2q_queues.proofs.links.window.Window.new.Goals as goal
 
 pub returns : goal.returns

@@ -1,5 +1,4 @@
-use Rattle.std.proofs.Common.{refl}
-use Rattle.std.proofs.lemmas.List.{map-set}
+use Rattle.clock2q_queues.proofs.Names.{refl, map-set}
 use Rattle.clock2q_queues.proofs.Positions.{slot_of-slot}
 use Rattle.clock2q_queues.proofs.links.window.Window.replace.Goals as goal
 

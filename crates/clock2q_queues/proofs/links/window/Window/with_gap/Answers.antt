@@ -1,8 +1,4 @@
-use Rattle.std.proofs.Common.{◌≡◌, ◌-◌, length, refl, arith}
-use Rattle.std.proofs.lemmas.Grind.{common_steps}
-use Rattle.std.proofs.lemmas.List.{length-map}
-use Rattle.clock2q_queues.specs.Growth.{with_gap}
-use Rattle.clock2q_queues.specs.Positions.{no_slot, slot_of}
+use Rattle.clock2q_queues.proofs.Names.{◌≡◌, ◌-◌, length, refl, arith, common_steps, length-map, with_gap, no_slot, slot_of}
 use Rattle.clock2q_queues.proofs.Positions.{gap-mapped}
 use Rattle.clock2q_queues.proofs.links.window.Window.with_gap.Goals as goal
 
