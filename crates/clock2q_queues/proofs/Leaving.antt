@@ -9,18 +9,6 @@ use Rattle.clock2q_queues.proofs.Window.{AreStaying, aged_slots, small_slots-is,
 
 -- Positions
 
-pub records-freed : (location : Location) (l : LinkState) → (position_freed location l).records ≡ l.records
-records-freed Free l = refl
-records-freed (SmallYoung position) l = refl
-records-freed SmallOld l = refl
-records-freed Main l = refl
-
-pub bits-freed : (location : Location) (l : LinkState) → (position_freed location l).bits ≡ l.bits
-bits-freed Free l = refl
-bits-freed (SmallYoung position) l = refl
-bits-freed SmallOld l = refl
-bits-freed Main l = refl
-
 window-freed : (location : Location) (l : LinkState) → length (position_freed location l).window.items ≡ length l.window.items
 window-freed Free l = refl
 window-freed (SmallYoung position) l = length-set l.window.items position None
@@ -64,7 +52,7 @@ module _ (slot : ℕ) {old : LinkState} {small : Small} (mid : LinkState) {new :
     (as_many : length mid.records.items ≡ length old.records.items) (positions : mid.window.items ≡ old.window.items)
     {location : Location} (was : location ≡ location_at old.records.items slot) (e : new ≡ position_freed location mid) where
   pub records_now : new.records.items ≡ mid.records.items
-  records_now = ap (λ (l : LinkState). l.records.items) e ∙ ap (λ (r : CellsState Record). r.items) (records-freed location mid)
+  records_now = ap (λ (l : LinkState). l.records.items) e
 
   pub window_now : length new.window.items ≡ length old.window.items
   window_now = ap (λ (l : LinkState). length l.window.items) e ∙ window-freed location mid ∙ ap (λ (z : List (Option ℕ)). length z) positions
@@ -107,7 +95,7 @@ module _ (slot : ℕ) {old : LinkState} {small : Small} (mid : LinkState) {new :
       map-agree {X = ℕ × Age} (λ s. (s, age_at new small.cursor s)) (λ s. (s, age_at old small.cursor s)) (without slot (small_slots old small))
       (λ t g.
       let w = among-without t slot (small_slots old small) g in
-      let b : bit_at new t ≡ bit_at old t = ap (λ (l : LinkState). bit_at l t) e ∙ ap (λ (b : HitBits). bit_in b.items t) (bits-freed location mid) ∙ bits t w.1 in
+      let b : bit_at new t ≡ bit_at old t = ap (λ (l : LinkState). bit_at l t) e ∙ bits t w.1 in
       ap (λ z. (t, z)) (rw (window_now, location_now t w.1, b) refl))
       ∙ sym (filter-entries slot (λ s. age_at old small.cursor s) (small_slots old small))
 
@@ -165,7 +153,7 @@ module _ (slot : ℕ) (old : LinkState) (small : Small) (mid new : LinkState) (m
             others = λ t g.
                 let other : eqb t slot ≡ false = eqb_swap slot t (differs slot t (small_slots old small) h g) in
                 ap (λ z. (z, bit_at new t)) (ap (λ (z : List Record). record_at z t) records_left ∙ removed.others t g)
-                ∙ ap (λ z. (record_at old.records.items t, z)) (ap (λ (l : LinkState). bit_at l t) e ∙ ap (λ (b : HitBits). bit_in b.items t) (bits-freed location mid) ∙ bit_mid t other);
+                ∙ ap (λ z. (record_at old.records.items t, z)) (ap (λ (l : LinkState). bit_at l t) e ∙ bit_mid t other);
             as_many = as_many_left;
           };
       window = window_left;

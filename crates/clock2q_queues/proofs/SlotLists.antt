@@ -52,19 +52,6 @@ without_slot-absent slot (e ∷ es) h =
     let d : eqb e.0 slot ≡ false = eqb_swap slot e.0 (or_parts (eqb slot e.0) (list_any (eqb slot) (slots_of es)) h).0 in
     rw d (ap (λ zs. e ∷ zs) (without_slot-absent slot es (or_parts (eqb slot e.0) (list_any (eqb slot) (slots_of es)) h).1))
 
--- a slot that isn't in a queue is not hit there
-pub small_hit_at-absent : (slot : ℕ) (es : List (ℕ × Age)) → list_any (eqb slot) (slots_of es) ≡ false → es ≡ small_hit_at slot es
-small_hit_at-absent slot [] h = refl
-small_hit_at-absent slot (e ∷ es) h =
-    let d : eqb e.0 slot ≡ false = eqb_swap slot e.0 (or_parts (eqb slot e.0) (list_any (eqb slot) (slots_of es)) h).0 in
-    rw d (ap (λ zs. e ∷ zs) (small_hit_at-absent slot es (or_parts (eqb slot e.0) (list_any (eqb slot) (slots_of es)) h).1))
-
-pub main_hit_at-absent : (slot : ℕ) (es : List (ℕ × Bool)) → list_any (eqb slot) (slots_of es) ≡ false → es ≡ main_hit_at slot es
-main_hit_at-absent slot [] h = refl
-main_hit_at-absent slot (e ∷ es) h =
-    let d : eqb e.0 slot ≡ false = eqb_swap slot e.0 (or_parts (eqb slot e.0) (list_any (eqb slot) (slots_of es)) h).0 in
-    rw d (ap (λ zs. e ∷ zs) (main_hit_at-absent slot es (or_parts (eqb slot e.0) (list_any (eqb slot) (slots_of es)) h).1))
-
 -- The last entry
 
 last_in : (ss : List ℕ) (s x : ℕ) → last_or None (s ∷ ss) ≡ Some x → list_any (eqb x) (s ∷ ss) ≡ true

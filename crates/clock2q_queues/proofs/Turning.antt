@@ -6,7 +6,7 @@ use Rattle.clock2q_queues.proofs.Names.{with_location, vacant, position_freed, i
 use Rattle.clock2q_queues.proofs.Names.{changed, IsRing-kept, eqb_self, among-without_test, without-parted}
 use Rattle.clock2q_queues.proofs.InQueue.{in_small_linked}
 use Rattle.clock2q_queues.proofs.Joining.{Inserts, IsLinked-turned, end_some, in_bounds, last_before, length-without, same_record, split_last}
-use Rattle.clock2q_queues.proofs.Leaving.{others_stay, ages_kept, records_now, window_now, bits-freed}
+use Rattle.clock2q_queues.proofs.Leaving.{others_stay, ages_kept, records_now, window_now}
 use Rattle.clock2q_queues.proofs.SlotLists.{tail_among}
 use Rattle.clock2q_queues.proofs.Window.{AreStaying, Admits, Admits-from, aged_slots, cursor_linked}
 
@@ -84,7 +84,7 @@ module _ (slot : ℕ) (old : LinkState) (small : Small) (m : IsSmallQueue old sm
     records_left = records_now slot read m there (λ t g. refl) refl refl refl e
 
     bits_left : left.bits ≡ old.bits
-    bits_left = ap (λ (l : LinkState). l.bits) e ∙ bits-freed (location_at old.records.items slot) read
+    bits_left = ap (λ (l : LinkState). l.bits) e
 
     -- the position of the cursor holds another slot of Small, or none
     pub others_linked : IfSome (young_at left small.cursor) (λ t. is_linked (location_at left.records.items t) ≡ true)
