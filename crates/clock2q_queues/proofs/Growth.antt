@@ -50,16 +50,10 @@ pub young_within : (l : LinkState) (small : Small) (main : Main) → AreQueues l
 young_within l small main q t position young = elim (cases_Bool (list_any (eqb t) (small_slots l small))) [
   | inl h ↦ (q.small.placed t position h young).0
   | inr n ↦ elim (cases_Bool (list_any (eqb t) (main_slots l main))) [
-    | inl h ↦ absurd (main_old (sym (q.main.location t h) ∙ young))
-    | inr m ↦ absurd (free_old (sym (q.elsewhere t n m) ∙ young))
+    | inl h ↦ let e : at.Main ≡ SmallYoung position = sym (q.main.location t h) ∙ young in absurd (cc)
+    | inr m ↦ let e : Free ≡ SmallYoung position = sym (q.elsewhere t n m) ∙ young in absurd (cc)
   ]
 ]
-  where
-    main_old : at.Main ≡ SmallYoung position → ⊥
-    main_old e = cc
-
-    free_old : Free ≡ SmallYoung position → ⊥
-    free_old e = cc
 
 in_small_moved : (cursor gap : ℕ) (location : Location) → IsInSmall location → IsInSmall (moved_location cursor gap location)
 in_small_moved cursor gap (SmallYoung position) i = tt
@@ -90,12 +84,7 @@ age_moved window cursor cursor' gap at.Main bit c same p = refl
 
 -- a position past the gap holds what it held
 moved_at : (cursor gap position : ℕ) (xs : List (Option ℕ)) → cursor ≤ length xs → get_or (with_gap cursor gap None xs) (moved_position cursor gap position) None ≡ get_or xs position None
-moved_at cursor gap position xs c = elim (cases_lt position cursor) [
-  | inl below ↦ rw (lt-ltb position cursor below) (gap-below None cursor gap xs c position below)
-  | inr from ↦
-      let e : position + gap - gap ≡ position = omega arith in
-      rw (le-ltb position cursor from) (gap-above None cursor gap xs c (position + gap) (omega (arith, from)) ∙ ap (λ z. get_or xs z None) e)
-]
+moved_at cursor gap position xs c = grind (arith, cases_lt, lt-ltb, le-ltb, gap-below, gap-above)
 
 -- and what a position holds was held before
 held_before : (cursor gap position t : ℕ) (xs : List (Option ℕ)) → cursor ≤ length xs → get_or (with_gap cursor gap None xs) position None ≡ Some t
@@ -153,10 +142,7 @@ module _ (l : LinkState) (small : Small) (main : Main) (new : LinkState) (cursor
       (o.0, location_new t ∙ ap (λ z. moved_location cursor gap z) o.1 ∙ ap (λ z. SmallYoung z) b.1.0)
 
   cursor_new : 0 < length new.window.items → cursor < length new.window.items
-  cursor_new some = elim (cases_lt 0 (length l.window.items)) [
-    | inl h ↦ omega (arith, same_cursor h, q.small.cursor_in h, more_positions, window_new)
-    | inr h ↦ omega (arith, some, cursor_in, h)
-  ]
+  cursor_new some = grind (arith, cases_lt, window_new)
 
   small_new : IsSmall new small' ss
   small_new = record {

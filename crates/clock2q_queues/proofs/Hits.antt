@@ -1,7 +1,7 @@
 -- A hit on a slot sets its bit. A young slot's bit isn't in the view, so the one write is a hit in either queue.
-use Rattle.clock2q_queues.proofs.Names.{◌≡◌, ◌⊎◌, ℕ, Bool, true, cond, eqb, List, [], ◌∷◌, length, map, inl, inr, refl, sym, ap, ◌∙◌, subst, cases_Bool, list_any, touched, CellsState, HitBits, bit_in}
+use Rattle.clock2q_queues.proofs.Names.{◌≡◌, ◌⊎◌, ℕ, Bool, true, cond, eqb, List, [], ◌∷◌, map, inl, inr, refl, sym, ap, ◌∙◌, subst, cases_Bool, list_any, touched, CellsState, HitBits, bit_in}
 use Rattle.clock2q_queues.proofs.Names.{Location, Free, SmallYoung, SmallOld, Main, Small, Record, LinkState, SetsBit, location_at, bit_at, main_slots, main_entries, main_hit_at, small_slots}
-use Rattle.clock2q_queues.proofs.Names.{small_entries, small_hit_at, age_of, age_at, AreQueues, QueueState, queues_shown, slots_of, is_linked}
+use Rattle.clock2q_queues.proofs.Names.{small_entries, small_hit_at, age_of, age_at, AreQueues, QueueState, queues_shown, slots_of, is_linked, arith}
 use Rattle.clock2q_queues.specs.declared.entries.Location.TheVariants as at
 use Rattle.clock2q_queues.proofs.InQueue.{main_linked, small_linked}
 use Rattle.clock2q_queues.proofs.Sharing.{Becomes, queues_equal, in_small, in_main}
@@ -31,24 +31,9 @@ module _ (l : LinkState) (small : Small) (main : Main) (q : AreQueues l small ma
       → Becomes (record l { bits = b }) small main (record (queues_shown l small main) { small = small_hit_at slot (small_entries l small); main = main_hit_at slot (main_entries l main) })
   hit_bits b h i =
       let new : LinkState = record l { bits = b } in
-      let ages = (λ (t : ℕ). elim (cases_Bool (eqb t slot)) as (λ w. age_at new small.cursor t ≡ cond (eqb t slot) (touched (age_at l small.cursor t)) (age_at l small.cursor t)) [
-        | inl e ↦ rw (h t, e) (age-hit (length l.window.items) small.cursor (location_at l.records.items t) (bit_at l t))
-        | inr e ↦ rw (h t, e) refl
-      ]) in
+      let ages : (t : ℕ) → age_at new small.cursor t ≡ cond (eqb t slot) (touched (age_at l small.cursor t)) (age_at l small.cursor t) = λ t. grind (arith, cases_Bool, age-hit) in
       record {
-        queues = record {
-          small = record {
-            queue = q.small.queue;
-            ends = q.small.ends;
-            location = q.small.location;
-            placed = q.small.placed;
-            occupied = q.small.occupied;
-            cursor_in = q.small.cursor_in;
-            countable_positions = q.small.countable_positions;
-          };
-          main = record { queue = q.main.queue; location = q.main.location };
-          elsewhere = q.elsewhere;
-        };
+        queues = grind (arith);
         is = queues_equal (queues_shown new small main) (record (queues_shown l small main) { small = small_hit_at slot (small_entries l small); main = main_hit_at slot (main_entries l main) })
             (entries-at (λ t. age_at new small.cursor t) (λ t. age_at l small.cursor t) touched slot (small_slots l small) ages)
             (entries-at (λ t. bit_at new t) (λ t. bit_at l t) (λ z. true) slot (main_slots l main) h)

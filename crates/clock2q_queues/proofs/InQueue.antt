@@ -1,6 +1,6 @@
 -- The locations of a queue's slots say that they are in a queue.
-use Rattle.clock2q_queues.proofs.Names.{◌≡◌, ℕ, true, List, [], ◌∷◌, refl, ap, eqb, list_any, Location, Free, SmallYoung, SmallOld, Main, Small, is_linked, Record, LinkState, location_at, next_at}
-use Rattle.clock2q_queues.proofs.Names.{previous_at, IsMainQueue, main_slots, IsInSmall, IsSmallQueue, small_slots, among_first, among_later}
+use Rattle.clock2q_queues.proofs.Names.{◌≡◌, ℕ, true, List, [], ◌∷◌, refl, eqb, list_any, Location, Free, SmallYoung, SmallOld, Main, Small, is_linked, Record, LinkState, location_at, next_at}
+use Rattle.clock2q_queues.proofs.Names.{previous_at, IsMainQueue, main_slots, IsInSmall, IsSmallQueue, small_slots, among_first, among_later, arith}
 use Rattle.clock2q_queues.specs.declared.entries.Location.TheVariants as at
 use Rattle.clock2q_queues.proofs.Joining.{next_in, previous_in}
 
@@ -17,23 +17,10 @@ pub record AreInQueue (l : LinkState) (slot : ℕ) : Type 0 where
   pub previous : is_linked (location_at l.records.items (previous_at l.records.items slot)) ≡ true
 
 pub small_linked : (l : LinkState) (small : Small) → IsSmallQueue l small → (slot : ℕ) → list_any (eqb slot) (small_slots l small) ≡ true → AreInQueue l slot
-small_linked l small m slot there =
-    let rs = l.records.items in
-    let each : (t : ℕ) → list_any (eqb t) (small_slots l small) ≡ true → is_linked (location_at rs t) ≡ true = λ t h. in_small_linked (location_at rs t) (m.location t h) in
-    record {
-      own = each slot there;
-      next = each (next_at rs slot) (next_in rs (small_slots l small) slot m.queue.linked there);
-      previous = each (previous_at rs slot) (previous_in rs (small_slots l small) slot m.queue.linked there);
-    }
+small_linked l small m slot there = grind (arith, in_small_linked, next_in, previous_in)
 
 pub main_linked : (l : LinkState) (main : Main) → IsMainQueue l main → (slot : ℕ) → list_any (eqb slot) (main_slots l main) ≡ true → AreInQueue l slot
-main_linked l main m slot there =
-    let rs = l.records.items in
-    record {
-      own = ap is_linked (m.location slot there);
-      next = ap is_linked (m.location (next_at rs slot) (next_in rs (main_slots l main) slot m.queue.linked there));
-      previous = ap is_linked (m.location (previous_at rs slot) (previous_in rs (main_slots l main) slot m.queue.linked there));
-    }
+main_linked l main m slot there = grind (arith, next_in, previous_in)
 
 -- so are all of these slots
 abbrev pub AllLinked : List Record → List ℕ → Type 0

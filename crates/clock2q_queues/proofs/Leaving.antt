@@ -1,8 +1,8 @@
 -- Small after a slot left it.
 use Rattle.clock2q_queues.proofs.Names.{◌≡◌, ℕ, ◌-◌, ◌<◌, ◌≢◌, true, false, not, cond, eqb, Option, Some, None, List, length, map, get_or, inl, inr, refl, sym, ap, ◌∙◌, subst, arith, filter, list_any}
 use Rattle.clock2q_queues.proofs.Names.{eqb-true, eq-eqb, ne_eqb, both_ways, cases_Bool, cases_lt, length-set, get_or_past, set_past, Age, Location, Free, SmallYoung, SmallOld, Small, CellsState}
-use Rattle.clock2q_queues.proofs.Names.{HitBits, bit_in, without, Record, LinkState, IsLinked, IsSameBut, Detaches, SetsBit, record_at, next_at, previous_at, location_at, bit_at, young_at}
-use Rattle.clock2q_queues.proofs.Names.{position_freed, IsSmall, IsSmallQueue, small_slots, small_entries, age_at, changed, differs, eqb_swap, among-without, among-without-back}
+use Rattle.clock2q_queues.proofs.Names.{without, Record, LinkState, IsLinked, IsSameBut, Detaches, SetsBit, record_at, next_at, previous_at, location_at, bit_at, young_at}
+use Rattle.clock2q_queues.proofs.Names.{position_freed, IsSmall, IsSmallQueue, small_slots, small_entries, age_at, changed, differs, eqb_swap, among-without, among-without-back, set}
 use Rattle.clock2q_queues.specs.declared.entries.Location.TheVariants.{Main}
 use Rattle.clock2q_queues.proofs.Joining.{Removes, Removes-detached, map-agree, first_left, last_left, filter-entries, length-without}
 use Rattle.clock2q_queues.proofs.Window.{AreStaying, aged_slots, small_slots-is, IsSmallQueue-from}
@@ -15,32 +15,27 @@ window-freed (SmallYoung position) l = length-set l.window.items position None
 window-freed SmallOld l = refl
 window-freed Main l = refl
 
+-- a position was emptied
+emptied : (xs : List (Option ℕ)) (at p : ℕ) → get_or (set xs at None) p None ≡ cond (eqb p at) None (get_or xs p None)
+emptied xs at p = elim (cases_lt at (length xs)) [
+  | inl w ↦ changed (λ z. z) xs at None None p w
+  | inr w ↦ grind (arith, set_past, get_or_past, cases_Bool, eqb-true)
+]
+
 -- a slot keeps its position, if it isn't the one that was emptied
 young_at_kept : (location : Location) (l : LinkState) (p t : ℕ) → young_at l p ≡ Some t
     → ((position : ℕ) → location ≡ SmallYoung position → p ≢ position) → young_at (position_freed location l) p ≡ Some t
 young_at_kept Free l p t h d = h
-young_at_kept (SmallYoung position) l p t h d = elim (cases_lt position (length l.window.items)) [
-  | inl w ↦ changed (λ z. z) l.window.items position None None p w ∙ rw (ne_eqb p position (d position refl)) h
-  | inr w ↦ rw (set_past l.window.items position None w) h
-]
+young_at_kept (SmallYoung position) l p t h d = emptied l.window.items position p ∙ rw (ne_eqb p position (d position refl)) h
 young_at_kept SmallOld l p t h d = h
 young_at_kept Main l p t h d = h
 
 young_at_was : (location : Location) (l : LinkState) (p t : ℕ) → young_at (position_freed location l) p ≡ Some t
     → (young_at l p ≡ Some t) × ((position : ℕ) → location ≡ SmallYoung position → p ≢ position)
 young_at_was Free l p t h = (h, λ position e. absurd (cc))
-young_at_was (SmallYoung position) l p t h = elim (cases_lt position (length l.window.items)) [
-  | inl w ↦ elim (cases_Bool (eqb p position)) [
-    | inl g ↦ let q : young_at (position_freed (SmallYoung position) l) p ≡ None = changed (λ z. z) l.window.items position None None p w ∙ rw g refl in absurd (cc)
-    | inr g ↦ (sym (changed (λ z. z) l.window.items position None None p w ∙ rw g refl) ∙ h, λ q e c. let r : q ≡ position = cc in both_ways (eqb p position) g (eq-eqb p position (c ∙ r)))
-  ]
-  | inr w ↦
-      let k : young_at l p ≡ Some t = rw (set_past l.window.items position None w) at h in (
-        k,
-        λ q e c. let r : p ≡ position = let s : q ≡ position = cc in c ∙ s in
-            let n : young_at l p ≡ None = get_or_past l.window.items p None (rw r w) in
-            absurd (cc),
-      )
+young_at_was (SmallYoung position) l p t h = elim (cases_Bool (eqb p position)) [
+  | inl g ↦ let q : young_at (position_freed (SmallYoung position) l) p ≡ None = emptied l.window.items position p ∙ rw g refl in absurd (cc)
+  | inr g ↦ (sym (emptied l.window.items position p ∙ rw g refl) ∙ h, λ q e c. let r : q ≡ position = cc in both_ways (eqb p position) g (eq-eqb p position (c ∙ r)))
 ]
 young_at_was SmallOld l p t h = (h, λ position e. absurd (cc))
 young_at_was Main l p t h = (h, λ position e. absurd (cc))

@@ -68,10 +68,7 @@ UnlinksMain-from slot old main new main' m h d cleared s n =
     let ss = main_slots old main in
     let r = Removes-detached old.records new.records ss slot m.queue.linked h d in
     let bit_left : (t : ℕ) → eqb t slot ≡ false → bit_at new t ≡ bit_at old t = λ t other. cleared.bits t ∙ rw other refl in
-    let is : IsMain new main' (without slot ss) = record {
-      queue = record { linked = r.linked; starts = s; counted = omega (arith, n, m.queue.counted, length-without slot ss m.queue.linked.apart h); countable = rw r.as_many m.queue.countable };
-      location = λ t g. let w = among-without t slot ss g in r.locations t w.1 ∙ m.location t w.0;
-    } in
+    let is : IsMain new main' (without slot ss) = grind (arith, length-without, among-without) in
     record {
       whole = IsMainQueue-from new main' (without slot ss) is;
       entries =

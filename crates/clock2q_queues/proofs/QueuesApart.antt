@@ -16,15 +16,8 @@ pub KeepsMain-from : (old : LinkState) (main : Main) (new : LinkState) (ss : Lis
     → ((t : ℕ) → list_any (eqb t) (main_slots old main) ≡ true → list_any (eqb t) ss ≡ false) → KeepsMain old main new
 KeepsMain-from old main new ss m s d =
     let same = (λ (t : ℕ) (h : list_any (eqb t) (main_slots old main) ≡ true). s.others t (d t h)) in
-    let is : IsMain new main (main_slots old main) = record {
-      queue = record {
-        linked = IsLinked-kept old.records.items new.records.items (main_slots old main) m.queue.linked s.as_many (λ t h. ap (λ z. z.0) (same t h));
-        starts = m.queue.starts;
-        counted = m.queue.counted;
-        countable = rw s.as_many m.queue.countable;
-      };
-      location = λ t h. ap (λ z. z.0.held) (same t h) ∙ m.location t h;
-    } in
+    let linked = IsLinked-kept old.records.items new.records.items (main_slots old main) m.queue.linked s.as_many (λ t h. ap (λ z. z.0) (same t h)) in
+    let is : IsMain new main (main_slots old main) = grind (arith, linked, same, s.as_many) in
     let e = main_slots-is new main (main_slots old main) is in
     record {
       whole = IsMainQueue-from new main (main_slots old main) is;

@@ -1,7 +1,7 @@
 -- Lists of entries by slot: their slots, and how they change when a slot leaves or is hit.
 use Rattle.clock2q_queues.proofs.Names.{◌≡◌, ℕ, suc, ◌-◌, Bool, true, false, not, cond, eqb, Some, None, slice_get, List, [], ◌∷◌, ◌++◌, length, map, take, drop, inl, inr, refl, sym, ap, ◌∙◌, subst}
-use Rattle.clock2q_queues.proofs.Names.{arith, filter, last_or, list_any, IsDistinct, eq-eqb, cases_Bool, map-append, take-append-drop, list_any-append, Age, set_front, from_victim, main_hit_at}
-use Rattle.clock2q_queues.proofs.Names.{slots_of, without_slot, without, small_hit_at, eqb_self, eqb_swap, among_first, among_later, differs, distinct_first, distinct_rest, or_left, or_neither}
+use Rattle.clock2q_queues.proofs.Names.{arith, filter, last_or, list_any, IsDistinct, eq-eqb, cases_Bool, map-append, take-append-drop, list_any-append, set_front, from_victim}
+use Rattle.clock2q_queues.proofs.Names.{slots_of, without_slot, without, eqb_self, eqb_swap, among_first, among_later, differs, distinct_first, distinct_rest, or_left, or_neither}
 use Rattle.clock2q_queues.proofs.Names.{or_parts}
 use Rattle.clock2q_machine.proofs.Whole.{last_some}
 

@@ -1,9 +1,8 @@
-use Rattle.clock2q_queues.proofs.Names.{◌≡◌, None, Some, length, refl, ap, sym, ◌∙◌, arith, rules, last_or, Small, LinkState, Record, accesses_of, QueueState, queues_shown, slots_of, without_slot}
+use Rattle.clock2q_queues.proofs.Names.{◌≡◌, None, Some, length, refl, ap, sym, ◌∙◌, arith, rules, last_or, Small, Record, accesses_of, QueueState, queues_shown, slots_of, without_slot}
 use Rattle.clock2q_queues.proofs.Names.{admitted, small_entries, small_slots}
-use Rattle.clock2q_queues.proofs.InQueue.{small_linked}
 use Rattle.clock2q_queues.proofs.Locations.{tail_out, tail_linked}
 use Rattle.clock2q_queues.proofs.Sharing.{Becomes, after_reuse, small_slots-of, some_small}
-use Rattle.clock2q_queues.proofs.Turning.{Turns, Turns-from, oldest_is, slot_fits, there, others_linked, aged_linked}
+use Rattle.clock2q_queues.proofs.Turning.{Turns, Turns-from, oldest_is, slot_fits, there, aged_linked}
 use Rattle.clock2q_queues.proofs.Window.{aged_before, position_taken}
 use Rattle.clock2q_queues.proofs.queues.Queues.replace_tail.Given.{Over}
 use Rattle.clock2q_queues.proofs.queues.Queues.replace_tail.Goals.{After-self, After-relocate}
