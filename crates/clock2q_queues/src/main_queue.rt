@@ -13,7 +13,7 @@ use std::alloc::Allocator;
 /// the hand.
 #[derive(Clone, Copy)]
 pub(crate) struct Main {
-    hand: Option<u32>,
+    pub(crate) hand: Option<u32>,
     pub(crate) len: usize,
 }
 
@@ -124,18 +124,6 @@ impl Main {
             slot = entry.next;
         }
         Some(hand)
-    }
-
-    /// Moves the hand on from its slot, whose bit is clear. That slot is then the last one.
-    pub(crate) fn advance<A: Allocator>(&mut self, links: &mut Links<A>, slot: u32)
-        requires whole { IsMainQueue links.old self.old }
-        requires first { slice_get (main_entries links.old self.old) 0 ≡ Some (slot, false) }
-        ensures whole { IsMainQueue links.new self.new }
-        ensures entries { main_entries links.new self.new
-            ≡ drop 1 (main_entries links.old self.old) ++ (slot, false) ∷ [] }
-        ensures links { links.new ≡ record links.old { records = accessed links.old.records } }
-    {
-        self.hand = Some(links.look(slot).0.next);
     }
 
     /// Empties the ring. `Links::reset` resets the records.

@@ -116,7 +116,8 @@ impl<A: Allocator> Queues<A> {
         ensures accesses { self.new.accesses ≡ self.old.accesses + inspections self.old.main }
     {
         let victim = self.main.select(&mut self.links);
-        self.main.advance(&mut self.links, victim);
+        // the hand moves on from it, whose bit is clear
+        self.main.hand = Some(self.links.look(victim).0.next);
         victim
     }
 }

@@ -9,7 +9,7 @@ use crate::proved::rattle::Allocator;
 /// the hand.
 #[derive(Clone, Copy)]
 pub(crate) struct Main {
-    hand: Option<u32>,
+    pub(crate) hand: Option<u32>,
     pub(crate) len: usize,
 }
 
@@ -70,12 +70,6 @@ impl Main {
             slot = entry.next;
         }
         Some(hand)
-    }
-
-    /// Moves the hand on from its slot, whose bit is clear. That slot is then the last one.
-    #[inline]
-    pub(crate) fn advance<A: Allocator>(&mut self, links: &mut Links<A>, slot: u32) {
-        self.hand = Some(links.look(slot).0.next);
     }
 
     /// Empties the ring. `Links::reset` resets the records.

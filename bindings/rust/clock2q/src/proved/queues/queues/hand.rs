@@ -69,7 +69,8 @@ impl<A: Allocator> Queues<A> {
     #[inline]
     pub fn replace_victim(&mut self) -> u32 {
         let victim = self.main.select(&mut self.links);
-        self.main.advance(&mut self.links, victim);
+        // the hand moves on from it, whose bit is clear
+        self.main.hand = Some(self.links.look(victim).0.next);
         victim
     }
 }
