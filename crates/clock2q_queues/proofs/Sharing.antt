@@ -3,7 +3,8 @@ use Rattle.clock2q_queues.proofs.Names.{◌≡◌, ◌⊎◌, ℕ, ◌+◌, ◌-
 use Rattle.clock2q_queues.proofs.Names.{subst, arith, filter, list_any, eqb-true, both_ways, cases_Bool, length-map, length-replicate, list_any-append, Age, grown_older, CellsState, accessed}
 use Rattle.clock2q_queues.proofs.Names.{cells_state, Free, Main, Small, without, Record, LinkState, IsBlank, IsSameBut, vacant, accesses_of, location_at, made_below, IsMainQueue, main_slots}
 use Rattle.clock2q_queues.proofs.Names.{main_entries, from_victim, IsSmallQueue, small_slots, small_entries, admitted, age_at, AreQueues, QueueState, IsWholeQueues, slots_of, without_slot}
-use Rattle.clock2q_queues.proofs.Names.{queues_shown, differs, IsDistinct-append, AllByRecursion-append, among-without-back, or_parts, or_neither, get_or-same}
+use Rattle.clock2q_queues.proofs.Names.{queues_shown, differs, IsDistinct-append, AllByRecursion-append, among-without-back, or_parts, or_neither, get_or-same, SetsBit}
+use Rattle.clock2q_queues.proofs.Main.{PushesMain}
 use Rattle.clock2q_queues.proofs.QueuesApart.{KeepsMain-from, KeepsSmall-from, small_apart, main_apart}
 use Rattle.clock2q_queues.proofs.SlotLists.{slots_of-entries, slots_of-mapped, slots_of-append, slots_of-filter, members-chosen}
 
@@ -126,13 +127,15 @@ module _ (l : LinkState) (small : Small) (main : Main) (q : AreQueues l small ma
       let n = not_among t slot (small_slots l small) b.0 b.1 in
       inl (n, n))
 
-  pub after_append : (new : LinkState) (main' : Main) (slot : ℕ) → list_any (eqb slot) (small_slots l small) ≡ false → IsMainQueue new main'
-      → main_entries new main' ≡ main_entries l main ++ (slot, false) ∷ [] → IsSameBut (slot ∷ main_slots l main) l new → new.made ≡ made_below (slot + 1) l.made → new.window ≡ l.window
-      → Becomes new small main' (record (queues_shown l small main) { main = main_entries l main ++ (slot, false) ∷ []; made = made_below (slot + 1) l.made; accesses = accesses_of new; inspections = new.bits.inspections })
-  after_append new main' slot n w e s d p = main_changed (slot ∷ main_slots l main) (clear_of_small slot n) w e s d p (λ t a.
+  pub after_append : (new : LinkState) (main' : Main) (slot : ℕ) → list_any (eqb slot) (small_slots l small) ≡ false → PushesMain slot l main new main'
+      → new.made ≡ made_below (slot + 1) l.made → SetsBit slot false l (record new { records = l.records; made = l.made })
+      → Becomes new small main' (record (queues_shown l small main) { main = main_entries l main ++ (slot, false) ∷ []; made = made_below (slot + 1) l.made; accesses = accesses_of new })
+  after_append new main' slot n p d cleared =
+      let a = main_changed (slot ∷ main_slots l main) (clear_of_small slot n) p.whole p.entries p.others d cleared.window (λ t a.
       let slots = slots_of-append (main_entries l main) ((slot, false) ∷ []) ∙ ap (λ zs. zs ++ slot ∷ []) (main_slots-of l main) in
       let c = or_parts (list_any (eqb t) (main_slots l main)) (list_any (eqb t) (slot ∷ [])) (sym (list_any-append (eqb t) (main_slots l main) (slot ∷ [])) ∙ ap (λ z. list_any (eqb t) z) (sym slots) ∙ a) in
-      inl (or_neither (eqb t slot) (list_any (eqb t) (main_slots l main)) (or_parts (eqb t slot) false c.1).0 c.0, c.0))
+      inl (or_neither (eqb t slot) (list_any (eqb t) (main_slots l main)) (or_parts (eqb t slot) false c.1).0 c.0, c.0)) in
+      record { queues = a.queues; is = rw (← cleared.inspections) a.is }
 
   pub after_main_left : (new : LinkState) (main' : Main) (slot : ℕ) → IsMainQueue new main' → location_at new.records.items slot ≡ Free
       → main_entries new main' ≡ filter (λ e. not (eqb e.0 slot)) (main_entries l main) → IsSameBut (main_slots l main) l new → new.made ≡ l.made → new.window ≡ l.window

@@ -28,32 +28,6 @@ impl Main {
         Main { hand: None, len: 0 }
     }
 
-    /// Puts a slot just before the hand, with a clear bit. In an empty ring, the hand goes to it.
-    #[inline(always)]
-    pub(crate) fn push<A: Allocator>(&mut self, links: &mut Links<A>, slot: u32)
-        requires whole { IsMainQueue links.old self.old }
-        requires slot_in { slot < length links.old.records.items }
-        requires next { slot ≤ links.old.made }
-        requires absent { list_any (nat_eq slot) (main_slots links.old self.old) ≡ false }
-        ensures whole { IsMainQueue links.new self.new }
-        ensures entries { main_entries links.new self.new
-            ≡ main_entries links.old self.old ++ (slot, false) ∷ [] }
-        ensures others { IsSameBut (slot ∷ main_slots links.old self.old) links.old links.new }
-        ensures window { links.new.window ≡ links.old.window }
-        ensures inspections { links.new.bits.inspections ≡ links.old.bits.inspections }
-        ensures made { links.new.made ≡ made_below (slot + 1) links.old.made }
-        ensures accesses { Rises 1 6 links.old.records.accesses links.new.records.accesses }
-    {
-        match self.hand {
-            None => {
-                links.attach_alone(slot, Location::Main);
-                self.hand = Some(slot);
-            }
-            Some(hand) => links.attach(slot, hand, Location::Main),
-        }
-        self.len += 1;
-    }
-
     /// Removes a slot. If the hand is at that slot, it moves on.
     pub(crate) fn unlink<A: Allocator>(&mut self, links: &mut Links<A>, slot: u32)
         requires whole { IsMainQueue links.old self.old }

@@ -20,19 +20,6 @@ impl Main {
         Main { hand: None, len: 0 }
     }
 
-    /// Puts a slot just before the hand, with a clear bit. In an empty ring, the hand goes to it.
-    #[inline(always)]
-    pub(crate) fn push<A: Allocator>(&mut self, links: &mut Links<A>, slot: u32) {
-        match self.hand {
-            None => {
-                links.attach_alone(slot, Location::Main);
-                self.hand = Some(slot);
-            }
-            Some(hand) => links.attach(slot, hand, Location::Main),
-        }
-        self.len += 1;
-    }
-
     /// Removes a slot. If the hand is at that slot, it moves on.
     #[inline]
     pub(crate) fn unlink<A: Allocator>(&mut self, links: &mut Links<A>, slot: u32) {

@@ -112,7 +112,15 @@ impl<A: Allocator> Queues<A> {
     /// At most six accesses to links.
     #[inline(always)]
     pub fn append(&mut self, slot: u32) {
-        self.main.push(&mut self.links, slot);
+        // it goes just before the hand, and in an empty ring the hand goes to it
+        match self.main.hand {
+            None => {
+                self.links.attach_alone(slot, Location::Main);
+                self.main.hand = Some(slot);
+            }
+            Some(hand) => self.links.attach(slot, hand, Location::Main),
+        }
+        self.main.len += 1;
     }
 
     /// Returns where a slot is.
