@@ -3,8 +3,8 @@ those after it."""
 
 GLOBAL = 'use clock2q::proved::rattle::Global;'
 CACHE = 'use clock2q::proved::cache::{Cache, CacheError, Entered, MAX_CAPACITY, Occupant};'
-DIRECTORY = 'use clock2q::proved::directory::{directory::Directory, handle::Handle, index::Index, keys::Keys, newcomer::Newcomer};'
-HANDLES = 'use clock2q::proved::handles::{partition, Table, TableError};'
+DIRECTORY = 'use clock2q::proved::directory::{directory::Directory, handle::Handle, index::Index, keys::{Entry, Keys}, newcomer::Newcomer};'
+HANDLES = 'use clock2q::proved::handles::{partition, Entry, Table, TableError};'
 QUEUES = 'use clock2q::proved::queues::{order::Order, queues::Queues};'
 UNUSED = '#![allow(unused)]'
 TEN = ['let mut cache: Cache<u64, u64> = Cache::new(Global, 10.try_into()?)?;', 'cache.put(1, 10);']

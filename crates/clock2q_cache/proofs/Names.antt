@@ -24,7 +24,7 @@ pub use Rattle.clock2q_queues.specs.Main.{main_hit_at, inspections, set_front, f
 pub use Rattle.clock2q_queues.specs.Queues.{QueueState, slots_of, tail_promoted, without_slot}
 pub use Rattle.clock2q_queues.specs.Rings.{without}
 pub use Rattle.clock2q_queues.specs.Small.{admitted, small_hit_at}
-pub use Rattle.clock2q_directory.specs.declared.keys.store.Entry.{Entry}
+pub use Rattle.clock2q_directory.specs.declared.keys.Entry.{Entry}
 pub use Rattle.clock2q_queues.proofs.Booleans.{or_parts, or_true, and_true, and_false}
 pub use Rattle.clock2q_directory.proofs.Emptied.{cleared_like, slots-cleared, for-new, new-none, emptied-slots}
 pub use Rattle.clock2q_directory.proofs.Entries.{key_at-own, key_at-others, values-written, length-values, slice_get-written, slice_get-written_other, length-written, set-written, all-written, same_place, key_there, any_entry, slice_get_some, value-there, hash_at-own, hash_at-others}

@@ -5,7 +5,7 @@ use Rattle.std.specs.Fn.{Mut, Called, Takes as IsCallableAt}
 use Rattle.std.specs.Option.{UnwrapsOrElse}
 use Rattle.std.specs.List.{FoldsTo, AllByRecursion}
 use Rattle.std.specs.List.Retain.{ReturnsInTurn}
-use Rattle.clock2q_directory.specs.declared.keys.store.Entry.{Entry}
+use Rattle.clock2q_directory.specs.declared.keys.Entry.{Entry}
 use Rattle.clock2q_machine.specs.Machine.{Machine, slot_of, value_of, placement, reused, stored, by_slot, prefilled}
 use Rattle.clock2q_machine.specs.Steps.{put, fetched, slotted, slotted_at, retained}
 

@@ -6,7 +6,7 @@ use Rattle.std.proofs.lemmas.Bool.Decides.{leb_tells}
 use Rattle.std.proofs.lemmas.List.{length-replicate, length-map}
 use Rattle.clock2q_handles.specs.Homes.{capacity, no_entries}
 use Rattle.clock2q_handles.specs.TableStep.{made_for, fit}
-use Rattle.clock2q_directory.specs.declared.keys.store.Entry.{Entry}
+use Rattle.clock2q_directory.specs.declared.keys.Entry.{Entry}
 use Rattle.clock2q_directory.specs.Indexes.{IsIndex}
 use Rattle.clock2q_directory.specs.Index.{IndexState, index_state, emptied, index_for, index_room, most_entries, is_shared, slots, places, slots_in, places_in, slot_entries}
 use Rattle.clock2q_directory.proofs.Views.{IsLikeBefore}

@@ -1,12 +1,13 @@
 -- How the keys by place change.
-use Rattle.std.proofs.Common.{◌≡◌, ℕ, zero, suc, ◌+◌, ◌<◌, ◌≤◌, max, Bool, true, false, Option, Some, None, slice_get, slice_set, List, [], ◌∷◌, ◌++◌, length, take, inl, inr, refl, sym, ap, ◌∙◌, subst, eqb, arith, map}
+use Rattle.std.proofs.Common.{◌≡◌, ℕ, zero, suc, ◌+◌, ◌<◌, ◌≤◌, max, Bool, true, false, Option, Some, None, slice_get, slice_set, List, [], ◌∷◌, ◌++◌, length, take, inl, inr, refl, sym, ap}
+use Rattle.std.proofs.Common.{◌∙◌, subst, eqb, arith, map}
 use Rattle.std.specs.Prelude.{if◌then◌else◌, nat_lt}
 use Rattle.std.specs.List.{cons_option, AllByRecursion, list_any, IsDistinct}
 use Rattle.std.specs.Cmp.{IsEquivalence}
 use Rattle.std.proofs.lemmas.Option.{slice_get_within}
 use Rattle.std.proofs.lemmas.Bool.{both_ways, or_cases, eq-eqb, eqb-true, cases_lt, lt-ltb, le-ltb}
 use Rattle.std.proofs.lemmas.List.{map-append}
-use Rattle.clock2q_directory.specs.declared.keys.store.Entry.{Entry}
+use Rattle.clock2q_directory.specs.declared.keys.Entry.{Entry}
 use Rattle.clock2q_directory.specs.Keys.{entry, written, hash_at, hashed_at, entries_of, is_key_at, key_at, value_at}
 use Rattle.clock2q_directory.specs.Indexes.{has_key}
 use Rattle.clock2q_queues.proofs.Rings.{among_first, among_later, distinct_first, distinct_rest}
@@ -164,12 +165,14 @@ module _ {K V : Type 0} where
       let e = hashed_there keys p (omega (arith, b.0)) in
       entries-cons keys p e.0 (take k ps) e.1 ∙ ap (λ zs. e.0 ∷ zs) (entries-take keys n k ps h b.1) ∙ sym (ap (λ zs. take (suc k) zs) (entries-cons keys p e.0 ps e.1))
 
-  pub all_entry : (P : ℕ × K → Type 0) (keys : List (Entry K V)) (ps : List ℕ) (t : ℕ) (e : ℕ × K) → AllByRecursion P (entries_of keys ps) → list_any (eqb t) ps ≡ true → hashed_at keys t ≡ Some e → P e
+  pub all_entry : (P : ℕ × K → Type 0) (keys : List (Entry K V)) (ps : List ℕ) (t : ℕ) (e : ℕ × K) → AllByRecursion P (entries_of keys ps) → list_any (eqb t) ps ≡ true → hashed_at keys t ≡ Some e
+      → P e
   all_entry P keys [] t e a h s = absurd (both_ways false refl h)
   all_entry P keys (p ∷ ps) t e a h s = grind (arith, all_entry P keys ps t e, or_cases, eqb-true, all_tail)
 
   module _ (eq : K → K → Bool) where
-    pub any_entry : (key : K) (keys : List (Entry K V)) (ps : List ℕ) (t : ℕ) (e : ℕ × K) → list_any (eqb t) ps ≡ true → hashed_at keys t ≡ Some e → eq key e.1 ≡ true → has_key eq key (entries_of keys ps) ≡ true
+    pub any_entry : (key : K) (keys : List (Entry K V)) (ps : List ℕ) (t : ℕ) (e : ℕ × K) → list_any (eqb t) ps ≡ true → hashed_at keys t ≡ Some e → eq key e.1 ≡ true
+        → has_key eq key (entries_of keys ps) ≡ true
     any_entry key keys [] t e h s k = absurd (both_ways false refl h)
     any_entry key keys (p ∷ ps) t e h s k = elim (or_cases (eqb t p) (list_any (eqb t) ps) h) [
       | inl q ↦ subst (λ z. has_key eq key (cons_option z (entries_of keys ps)) ≡ true)
@@ -178,7 +181,8 @@ module _ {K V : Type 0} where
     ]
 
     -- two places don't have the same key
-    pub same_place : IsEquivalence eq → (key : K) (keys : List (Entry K V)) (ps : List ℕ) → IsDistinct (λ d e. eq d.1 e.1) (entries_of keys ps) → (t u : ℕ) → list_any (eqb t) ps ≡ true → list_any (eqb u) ps ≡ true
+    pub same_place : IsEquivalence eq → (key : K) (keys : List (Entry K V)) (ps : List ℕ) → IsDistinct (λ d e. eq d.1 e.1) (entries_of keys ps) → (t u : ℕ) → list_any (eqb t) ps ≡ true
+        → list_any (eqb u) ps ≡ true
         → is_key_at eq key keys t ≡ true → is_key_at eq key keys u ≡ true → eqb t u ≡ true
     same_place laws key keys [] d t u ht hu kt ku = absurd (both_ways false refl ht)
     same_place laws key keys (p ∷ ps) d t u ht hu kt ku =

@@ -6,7 +6,7 @@ use Rattle.std.proofs.lemmas.Bool.{both_ways, cases_Bool, eqb-true}
 use Rattle.clock2q_handles.specs.Homes.{candidates}
 use Rattle.clock2q_directory.specs.Index as known
 use Rattle.clock2q_directory.specs.Index.{IndexState, forgotten_at}
-use Rattle.clock2q_directory.specs.declared.keys.store.Entry.{Entry}
+use Rattle.clock2q_directory.specs.declared.keys.Entry.{Entry}
 use Rattle.clock2q_queues.specs.Rings.{without}
 use Rattle.clock2q_queues.specs.Order.{PlaceOrder, IsWholeOrder, used}
 use Rattle.clock2q_directory.specs.Keys.{KeyPlaces, hash_at, hashed_at, entries_of, is_key_at}

@@ -5,7 +5,7 @@ use Rattle.std.proofs.lemmas.Bool.{both_ways, cases_Bool, or_cases, eqb-true}
 use Rattle.std.proofs.lemmas.Cmp.{nat_eq_equiv}
 use Rattle.std.proofs.lemmas.Map.Made.{length-from_same_keys}
 use Rattle.clock2q_handles.specs.Homes.{total, capacity, candidates, with_handle}
-use Rattle.clock2q_directory.specs.declared.keys.store.Entry.{Entry}
+use Rattle.clock2q_directory.specs.declared.keys.Entry.{Entry}
 use Rattle.clock2q_directory.specs.Keys.{hash_at}
 use Rattle.clock2q_directory.specs.Indexes.{IsIndex, is_named}
 use Rattle.clock2q_directory.specs.Index.{IndexState, first_remembered, is_shared, slots, places, beside, entered, HasSlotRoom}
@@ -140,7 +140,8 @@ module _ {K V : Type 0} (keys : List (Entry K V)) (from start : IndexState) wher
     accesses = omega (arith, b.accesses, accesses-placed v hash n);
   }
 
-  pub places-passed : {n hash : ℕ} {v : IndexState} {has : Bool} → PlacesBelow n v → hash_at keys n ≡ Some hash → has ≡ list_any (eqb n) (candidates (places from) hash) → has ≡ false → PlacesBelow (n + 1) v
+  pub places-passed : {n hash : ℕ} {v : IndexState} {has : Bool} → PlacesBelow n v → hash_at keys n ≡ Some hash → has ≡ list_any (eqb n) (candidates (places from) hash) → has ≡ false
+      → PlacesBelow (n + 1) v
   places-passed {n} {hash} {v} b at is it = record {
     copied = copies-passed keys (places from) n hash (places v) b.copied at (sym is ∙ it);
     others = b.others;
@@ -177,7 +178,8 @@ module _ {K V : Type 0} (keys : List (Entry K V)) (from start : IndexState) wher
         few = omega (arith, b.copied.indexed.counted, most, as_many, below, few);
       }
 
-  pub slots-added : {n hash : ℕ} {v : IndexState} {has : Bool} → SlotsBelow n v → HasSlotRoom v → n < first_remembered → hash_at keys n ≡ Some hash → has ≡ list_any (eqb n) (candidates (slots from) hash) → has ≡ true
+  pub slots-added : {n hash : ℕ} {v : IndexState} {has : Bool} → SlotsBelow n v → HasSlotRoom v → n < first_remembered → hash_at keys n ≡ Some hash
+      → has ≡ list_any (eqb n) (candidates (slots from) hash) → has ≡ true
       → SlotsBelow (n + 1) (entered false hash n v)
   slots-added {n} {hash} {v} b room below at is it = record {
     copied = rw (slots-entered v hash n below) (copies-added keys (slots from) n hash (slots v) b.copied (some_in (length (slots v)) (omega (arith, room.room))) at (sym is ∙ it));
@@ -186,7 +188,8 @@ module _ {K V : Type 0} (keys : List (Entry K V)) (from start : IndexState) wher
     accesses = omega (arith, b.accesses);
   }
 
-  pub slots-passed : {n hash : ℕ} {v : IndexState} {has : Bool} → SlotsBelow n v → hash_at keys n ≡ Some hash → has ≡ list_any (eqb n) (candidates (slots from) hash) → has ≡ false → SlotsBelow (n + 1) v
+  pub slots-passed : {n hash : ℕ} {v : IndexState} {has : Bool} → SlotsBelow n v → hash_at keys n ≡ Some hash → has ≡ list_any (eqb n) (candidates (slots from) hash) → has ≡ false
+      → SlotsBelow (n + 1) v
   slots-passed {n} {hash} {v} b at is it = record {
     copied = copies-passed keys (slots from) n hash (slots v) b.copied at (sym is ∙ it);
     others = b.others;

@@ -1,7 +1,7 @@
 -- A new history, one that was cleared, and what callers see of one.
 use Rattle.std.proofs.Common.{◌≡◌, ℕ, ◌^◌, ◌<◌, ◌≤◌, Bool, List, [], length, refl, sym, ap, ◌∙◌, subst, arith}
 use Rattle.std.specs.List.{IsDistinct}
-use Rattle.clock2q_directory.specs.declared.keys.store.Entry.{Entry}
+use Rattle.clock2q_directory.specs.declared.keys.Entry.{Entry}
 use Rattle.clock2q_queues.specs.Order.{PlaceOrder, IsWholeOrder, unused, used}
 use Rattle.clock2q_directory.specs.Keys.{KeyPlaces, entries_of}
 use Rattle.clock2q_directory.specs.Indexes.{IsIndex}

@@ -1,5 +1,6 @@
 -- How putting a place into the index, and taking one out, changes it.
-use Rattle.std.proofs.Common.{◌≡◌, ℕ, zero, suc, ◌+◌, ◌*◌, ◌%◌, ◌<◌, ◌≤◌, Bool, true, false, not, ◌||◌, ◌&&◌, ◌==◌, eqb, Option, Some, None, get_or, List, [], ◌∷◌, ◌++◌, length, map, filter, inl, inr, refl, sym, ap, ◌∙◌, subst, arith, eqb-true}
+use Rattle.std.proofs.Common.{◌≡◌, ℕ, zero, suc, ◌+◌, ◌*◌, ◌%◌, ◌<◌, ◌≤◌, Bool, true, false, not, ◌||◌, ◌&&◌, ◌==◌, eqb, Option, Some, None, get_or, List, [], ◌∷◌, ◌++◌, length, map, filter}
+use Rattle.std.proofs.Common.{inl, inr, refl, sym, ap, ◌∙◌, subst, arith, eqb-true}
 use Rattle.std.specs.List.{list_any, AllByRecursion, IsDistinct}
 use Rattle.std.proofs.lemmas.Bool.{both_ways, cases_Bool}
 use Rattle.std.proofs.lemmas.Bool.Decides.{leb_tells}
@@ -10,10 +11,11 @@ use Rattle.clock2q_handles.specs.Homes.{top, home, no_entries, capacity, listed,
 use Rattle.clock2q_directory.specs.Keys.{hash_at}
 use Rattle.clock2q_handles.specs.TableStep.{fit, doubled_until, made_for}
 use Rattle.clock2q_directory.specs.Indexes.{IsIndex, is_alike, is_named}
-use Rattle.clock2q_directory.specs.declared.keys.store.Entry.{Entry}
+use Rattle.clock2q_directory.specs.declared.keys.Entry.{Entry}
 use Rattle.clock2q_queues.proofs.Booleans.{and_parts, and_true, and_false, and_swap, or_true, or_false, or_neither}
 use Rattle.clock2q_directory.proofs.Entries.{hash_in}
-use Rattle.clock2q_queues.proofs.Rings.{eqb_self, among_first, among_later, differs, IsDistinct-append, without_absent, among-without_test, distinct_none, distinct_first, distinct_rest, distinct_more, distinct_alone}
+use Rattle.clock2q_queues.proofs.Rings.{eqb_self, among_first, among_later, differs, IsDistinct-append, without_absent, among-without_test, distinct_none, distinct_first, distinct_rest}
+use Rattle.clock2q_queues.proofs.Rings.{distinct_more, distinct_alone}
 use Rattle.clock2q_queues.proofs.Joining.{length-without}
 use Rattle.clock2q_handles.proofs.FewerEntries.{total-no_entries}
 use Rattle.clock2q_handles.proofs.Changes.{length-with_list, total-with_list}
@@ -113,7 +115,21 @@ module _ {K V : Type 0} where
     still_named x q = grind (arith, named-length, length-put, named-kept)
 
     listed-put : (x q : ℕ) → list_any (eqb q) (candidates (with_handle index hash place) x) ≡ (list_any (eqb q) (place ∷ places) && is_named (with_handle index hash place) keys' x q)
-    listed-put x q = grind (arith, alike_parts, candidates-inserted, list_any-append, eqb-true, named-length, length-put, named-as, or_true, or_false, still_named, candidates-inserted_other, not_alike)
+    listed-put x q = grind (
+      arith,
+      alike_parts,
+      candidates-inserted,
+      list_any-append,
+      eqb-true,
+      named-length,
+      length-put,
+      named-as,
+      or_true,
+      or_false,
+      still_named,
+      candidates-inserted_other,
+      not_alike,
+    )
 
     pub IsIndex-put : IsIndex (with_handle index hash place) keys' (place ∷ places)
     IsIndex-put = record {
@@ -135,7 +151,8 @@ module _ {K V : Type 0} where
     named-taken : (x q : ℕ) → is_named (without_handle eqb index hash place) keys x q ≡ is_named index keys x q
     named-taken x q = named-length index (without_handle eqb index hash place) keys x q (length-taken index hash place)
 
-    listed-taken : (x q : ℕ) → list_any (eqb q) (candidates (without_handle eqb index hash place) x) ≡ (list_any (eqb q) (without place places) && is_named (without_handle eqb index hash place) keys x q)
+    listed-taken : (x q : ℕ) → list_any (eqb q) (candidates (without_handle eqb index hash place) x) ≡ (list_any (eqb q) (without place places) && is_named (without_handle eqb index hash place)
+        keys x q)
     listed-taken x q =
         let right : (list_any (eqb q) (without place places) && is_named (without_handle eqb index hash place) keys x q) ≡ ((list_any (eqb q) places && not (eqb q place)) && is_named index keys x q) =
         ap (λ z. z && is_named (without_handle eqb index hash place) keys x q) (among-without_test q place places) ∙ ap (λ z. (list_any (eqb q) places && not (eqb q place)) && z) (named-taken x q) in

@@ -1,5 +1,6 @@
 -- A larger index, and the history with it.
-use Rattle.std.proofs.Common.{◌≡◌, ℕ, ◌+◌, ◌-◌, ◌*◌, ◌^◌, ◌<◌, ◌≤◌, Bool, true, false, ◌||◌, ◌==◌, if◌then◌else◌, eqb, ltb, List, [], ◌∷◌, ◌++◌, length, inl, inr, refl, sym, ap, ◌∙◌, subst, arith, append-nil}
+use Rattle.std.proofs.Common.{◌≡◌, ℕ, ◌+◌, ◌-◌, ◌*◌, ◌^◌, ◌<◌, ◌≤◌, Bool, true, false, ◌||◌, ◌==◌, if◌then◌else◌, eqb, ltb, List, [], ◌∷◌, ◌++◌, length, inl, inr, refl, sym, ap, ◌∙◌, subst}
+use Rattle.std.proofs.Common.{arith, append-nil}
 use Rattle.std.specs.List.{list_any, AllByRecursion}
 use Rattle.std.proofs.lemmas.Bool.{cases_Bool, eqb-true, ltb-true, ltb-false}
 use Rattle.std.proofs.lemmas.Cmp.{nat_eq_equiv}
@@ -7,8 +8,9 @@ use Rattle.std.proofs.lemmas.List.{length-map, map-append}
 use Rattle.std.proofs.lemmas.List.Elements.{filter-append}
 use Rattle.clock2q_handles.specs.Homes.{top, listed, total, capacity, candidates, with_handle}
 use Rattle.clock2q_handles.specs.TableStep.{HasSpare}
-use Rattle.clock2q_directory.specs.declared.keys.store.Entry.{Entry}
-use Rattle.clock2q_directory.specs.Index.{IndexState, index_state, index_for, first_remembered, is_shared, slots, places, beside, entered, slots_among, places_among, slot_entries, place_entries, slots_in, places_in, IsSorted}
+use Rattle.clock2q_directory.specs.declared.keys.Entry.{Entry}
+use Rattle.clock2q_directory.specs.Index.{IndexState, index_state, index_for, first_remembered, is_shared, slots, places, beside, entered, slots_among, places_among, slot_entries}
+use Rattle.clock2q_directory.specs.Index.{place_entries, slots_in, places_in, IsSorted}
 use Rattle.clock2q_directory.specs.Indexes.{IsIndex}
 use Rattle.clock2q_directory.specs.Growth.{place_entered, HasRoomForPlace, HasSizesOf, Keeps, AddsPlaces, AddsSlots, Outgrows, Grows}
 use Rattle.clock2q_directory.specs.Directory.{known}
@@ -183,7 +185,8 @@ outgrows s p n {remembered = remembered} {v = v} is a b =
 
 module _ {K : Type 0} {eq : K → K → Bool} {index index' : IndexState} {order order' : PlaceOrder} {keys keys' : KeyPlaces K Unit} {limit : ℕ} (h : IsHistory eq index order keys)
     (whole : IsWholeOrder order') (ordered : order' ≡ record order { limit = limit; accesses = order'.accesses }) (roomy : keys' ≡ record keys { room = keys'.room }) where
-  module _ {s : ℕ} (least : 0 < s) (few : s < 2 ^ 24) (short : limit < 2 ^ 24) (room : limit ≤ keys'.room) {V : Type 0} {residents : List (Entry K V)} (out : Outgrows s limit residents keys'.entries index index') where
+  module _ {s : ℕ} (least : 0 < s) (few : s < 2 ^ 24) (short : limit < 2 ^ 24) (room : limit ≤ keys'.room) {V : Type 0} {residents : List (Entry K V)}
+      (out : Outgrows s limit residents keys'.entries index index') where
     pub IsHistory-grown : IsHistory eq index' order' keys'
     IsHistory-grown =
         let f = for-new s limit least few short in

@@ -4,7 +4,7 @@ use Rattle.std.specs.List.{find, AllByRecursion, list_any, IsDistinct}
 use Rattle.std.specs.Cmp.{IsEquivalence}
 use Rattle.std.proofs.lemmas.Bool.{both_ways, cases_Bool, or_cases, eqb-true}
 use Rattle.clock2q_handles.specs.Homes.{candidates}
-use Rattle.clock2q_directory.specs.declared.keys.store.Entry.{Entry}
+use Rattle.clock2q_directory.specs.declared.keys.Entry.{Entry}
 use Rattle.clock2q_directory.specs.Keys.{hash_at, entries_of, is_key_at, comparisons_of}
 use Rattle.clock2q_directory.specs.Indexes.{IsIndex, HasHash}
 use Rattle.clock2q_queues.proofs.Rings.{among_first, among_later}
@@ -39,7 +39,8 @@ not_found test (c ∷ cs) e t g = elim (cases_Bool (test c)) [
     none_some x e = cc
 
 -- if no two pass the test, and the same ones that pass are in both lists, the first is the same
-pub find-same : (test : ℕ → Bool) (cs ps : List ℕ) → ((t : ℕ) → list_any (eqb t) cs ≡ true → list_any (eqb t) ps ≡ true) → ((t : ℕ) → list_any (eqb t) ps ≡ true → test t ≡ true → list_any (eqb t) cs ≡ true)
+pub find-same : (test : ℕ → Bool) (cs ps : List ℕ) → ((t : ℕ) → list_any (eqb t) cs ≡ true → list_any (eqb t) ps ≡ true)
+    → ((t : ℕ) → list_any (eqb t) ps ≡ true → test t ≡ true → list_any (eqb t) cs ≡ true)
     → ((t u : ℕ) → list_any (eqb t) ps ≡ true → list_any (eqb u) ps ≡ true → test t ≡ true → test u ≡ true → eqb t u ≡ true) → find test cs ≡ find test ps
 find-same test cs ps into back one = of (find test cs) (find test ps) refl refl
   where

@@ -5,7 +5,7 @@ use Rattle.std.specs.List.{last_or, cons_option, list_any, IsDistinct}
 use Rattle.std.proofs.lemmas.Bool.{lt-ltb, le-ltb}
 use Rattle.std.proofs.lemmas.List.{append-nil}
 use Rattle.std.proofs.lemmas.List.Folds.{list_any-append}
-use Rattle.clock2q_directory.specs.declared.keys.store.Entry.{Entry}
+use Rattle.clock2q_directory.specs.declared.keys.Entry.{Entry}
 use Rattle.clock2q_queues.specs.Rings.{without}
 use Rattle.clock2q_queues.specs.Cells.{Rises}
 use Rattle.clock2q_handles.specs.Homes.{candidates, without_handle}
@@ -62,7 +62,8 @@ module _ {K V : Type 0} (keys : List (Entry K V)) where
 
 module _ {K V : Type 0} {order : PlaceOrder} {keys : List (Entry K V)} {place : ℕ} (w : IsWholeOrder order) where
   -- the index has the oldest place under the hash of its key
-  pub oldest_held : {homes : List (List (ℕ × ℕ))} {hash : ℕ} → IsIndex homes keys order.places → last_or None order.places ≡ Some place → hash_at keys place ≡ Some hash → list_any (eqb place) (candidates homes hash) ≡ true
+  pub oldest_held : {homes : List (List (ℕ × ℕ))} {hash : ℕ} → IsIndex homes keys order.places → last_or None order.places ≡ Some place → hash_at keys place ≡ Some hash
+      → list_any (eqb place) (candidates homes hash) ≡ true
   oldest_held {homes} {hash} i last at =
       let there = (last_taken order.places place last (IsDistinct-left order.places order.free w.apart)).1 in
       i.listed hash place ∙ rw (there, named-own homes keys hash place at) refl

@@ -1,16 +1,18 @@
 -- A key put at the front of the history.
-use Rattle.std.proofs.Common.{◌≡◌, ℕ, zero, suc, ◌+◌, ◌-◌, ◌<◌, ◌≤◌, Bool, true, false, eqb, ltb, Option, Some, None, slice_get, List, [], ◌∷◌, length, take, inl, inr, refl, sym, ap, ◌∙◌, subst, arith}
+use Rattle.std.proofs.Common.{◌≡◌, ℕ, zero, suc, ◌+◌, ◌-◌, ◌<◌, ◌≤◌, Bool, true, false, eqb, ltb, Option, Some, None, slice_get, List, [], ◌∷◌, length, take, inl, inr, refl, sym, ap, ◌∙◌}
+use Rattle.std.proofs.Common.{subst, arith}
 use Rattle.std.specs.Prelude.{if◌then◌else◌}
 use Rattle.std.specs.List.{last_or, list_any, IsDistinct}
 use Rattle.std.proofs.lemmas.Bool.{cases_Bool, eq-eqb, le-ltb}
 use Rattle.clock2q_handles.specs.Homes.{without_handle}
 use Rattle.clock2q_directory.specs.Index as known
 use Rattle.clock2q_directory.specs.Index.{IndexState, first_remembered, left, remembered_at, forgotten_at, HasPlaceRoom, HasSlotUnder}
-use Rattle.clock2q_directory.specs.declared.keys.store.Entry.{Entry}
+use Rattle.clock2q_directory.specs.declared.keys.Entry.{Entry}
 use Rattle.clock2q_queues.specs.Order.{PlaceOrder, IsWholeOrder, used, place_for}
 use Rattle.clock2q_directory.specs.Keys.{KeyPlaces, entry, written, hash_at, hashed_at, entries_of}
 use Rattle.clock2q_directory.specs.Indexes.{IsIndex, has_key}
-use Rattle.clock2q_directory.specs.History.{Places, Remembered, IsHistory, MakesPlace, MayRetire, remembered_from, accesses_of, places_from, pushed_places, freed_place, oldest_hash, taking_free, taking_oldest}
+use Rattle.clock2q_directory.specs.History.{Places, Remembered, IsHistory, MakesPlace, MayRetire, remembered_from, accesses_of, places_from, pushed_places, freed_place, oldest_hash}
+use Rattle.clock2q_directory.specs.History.{taking_free, taking_oldest}
 use Rattle.clock2q_queues.specs.Cells.{Rises}
 use Rattle.clock2q_queues.proofs.Rings.{differs, AllByRecursion-left, distinct_none, distinct_first, distinct_rest, distinct_more}
 use Rattle.clock2q_directory.proofs.Entries.{slice_get-written, slice_get-written_other, length-written, entries-agree, entries-cons, entries-take}
@@ -137,7 +139,9 @@ module _ {K : Type 0} {eq : K → K → Bool} {index index1 : IndexState} {order
             whole = w;
             indexed = subst (λ z. IsIndex (known.places (remembered_at hash slot place index1)) keys'.entries z) (sym m.places)
                 (IsIndex-remembered index1 keys.entries keys'.entries fewer hash slot place held.below m.indexed some_slots held.there m.absent hashes at);
-            distinct = subst (λ z. IsDistinct (λ d e. eq d.1 e.1) z) (sym entries_now) (distinct-take eq order.limit ((hash, key) ∷ entries_of keys.entries order.places) (distinct_more (λ d e. eq d.1 e.1) (hash, key) (entries_of keys.entries order.places) may.absent h.distinct));
+            distinct = subst (λ z. IsDistinct (λ d e. eq d.1 e.1) z) (sym entries_now)
+                (distinct-take eq order.limit ((hash, key) ∷ entries_of keys.entries order.places)
+                (distinct_more (λ d e. eq d.1 e.1) (hash, key) (entries_of keys.entries order.places) may.absent h.distinct));
             as_many = ap (λ (z : List (Entry K Unit)). length z) wrote ∙ length-written place (entry hash key tt) keys.entries m.next ∙ sym m.used_now;
             room = rw (m.limit, ap (λ (z : KeyPlaces K Unit). z.room) write) h.room;
             some = rw (m.limit, slot_count) h.some;

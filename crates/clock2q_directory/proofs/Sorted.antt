@@ -7,7 +7,8 @@ use Rattle.std.proofs.lemmas.List.Sums.{sum_by-cons}
 use Rattle.clock2q_handles.specs.Homes.{top, listed, no_entries, capacity, total, candidates, with_handle, without_handle, is_entry_of}
 use Rattle.clock2q_handles.specs.TableStep.{made_for, HasSpare}
 use Rattle.clock2q_handles.proofs.FewerEntries.{total-no_entries}
-use Rattle.clock2q_directory.specs.Index.{IndexState, index_state, IsSorted, HasSlotRoom, first_remembered, index_room, is_shared, slots, places, beside, slot_entries, place_entries, slots_in, places_in}
+use Rattle.clock2q_directory.specs.Index.{IndexState, index_state, IsSorted, HasSlotRoom, first_remembered, index_room, is_shared, slots, places, beside, slot_entries, place_entries}
+use Rattle.clock2q_directory.specs.Index.{slots_in, places_in}
 use Rattle.clock2q_directory.proofs.Indexes.{any-candidate, length-put, length-taken, fits_new, total_new}
 use Rattle.clock2q_directory.proofs.Views.{place_of, listed-view, others-entered, others-left}
 

@@ -62,11 +62,13 @@ module _ (o : Option ℕ) (p x s : ℕ) (t own : TableValue ℕ) (n : ℕ) where
     pub counted : t'.reads + t'.writes + n ≤ t.reads + t.writes + fewer.accesses + most_inserted is_found t.homes x
 
 module _ (p x s : ℕ) (t own : TableValue ℕ) (n : ℕ) (i : AreLaidOut t own n) {t' : TableValue ℕ} where
-  pub beside-free : (gap : Option GapValue) → WritesAtMost (run t.slots x + 1) t t' → ReadsWalk (walk_to_gap gap t.homes x) t t' → t'.homes ≡ with_handle t.homes x s → IsBeside None p x s t own n (is_some gap) t'
+  pub beside-free : (gap : Option GapValue) → WritesAtMost (run t.slots x + 1) t t' → ReadsWalk (walk_to_gap gap t.homes x) t t' → t'.homes ≡ with_handle t.homes x s
+      → IsBeside None p x s t own n (is_some gap) t'
   beside-free gap writes reads put =
       record { homes = put; from = omega arith; counted = omega (arith, writes.1, reads, walk-found t.homes x gap, ap (λ z. run z x) i.shared_laid) }
 
-  pub beside-past : (gap : Option GapValue) (o : ℕ) → is_shared (index_of t own n) ≡ true → ChangesAtMost gap x o t t' → t'.homes ≡ with_handle (without_handle eqb t.homes o (first_remembered + p)) x s
+  pub beside-past : (gap : Option GapValue) (o : ℕ) → is_shared (index_of t own n) ≡ true → ChangesAtMost gap x o t t' → t'.homes ≡ with_handle (without_handle eqb t.homes o (first_remembered + p))
+      x s
       → IsBeside (Some o) p x s t own n (is_some gap) t'
   beside-past gap o shared accesses put = record {
     homes = rw shared put;

@@ -2,7 +2,7 @@
 -- index.
 use Rattle.std.proofs.Common.{◌≡◌, ℕ, ◌<◌, Bool, false, Some, None, List, length, refl, ap, ◌∙◌, arith}
 use Rattle.std.specs.Prelude.{slice_set}
-use Rattle.clock2q_directory.specs.declared.keys.store.Entry.{Entry}
+use Rattle.clock2q_directory.specs.declared.keys.Entry.{Entry}
 use Rattle.clock2q_directory.specs.Keys.{entry, written, with_key, hash_at, Writes}
 use Rattle.clock2q_directory.specs.Index.{HasSlotUnder}
 use Rattle.clock2q_directory.specs.History.{is_remembered, MayRetire}
@@ -26,6 +26,7 @@ pub resident-held : {K V : Type 0} {d : Known K V} {slot old : ℕ} → IsReside
 resident-held {d = d} {slot} {old} r at = grind (arith, named-own)
 
 -- and its key may be remembered, unless it is
-pub may-retire : {K V : Type 0} {eq : K → K → Bool} {key : K} {d : Known K V} {slot old : ℕ} → IsResident slot d → hash_at d.residents.entries slot ≡ Some old → is_remembered eq key d.history.entries ≡ false
+pub may-retire : {K V : Type 0} {eq : K → K → Bool} {key : K} {d : Known K V} {slot old : ℕ} → IsResident slot d → hash_at d.residents.entries slot ≡ Some old
+    → is_remembered eq key d.history.entries ≡ false
     → MayRetire eq old slot key d.history
 may-retire r at absent = record { held = resident-held r at; absent = absent }

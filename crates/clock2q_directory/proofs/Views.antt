@@ -1,5 +1,6 @@
 -- The slots and the places of an index, and how each of its calls changes them.
-use Rattle.std.proofs.Common.{◌≡◌, ℕ, zero, suc, ◌+◌, ◌-◌, ◌%◌, ◌<◌, Bool, true, false, not, ◌&&◌, ◌||◌, if◌then◌else◌, eqb, ltb, Some, List, [], ◌∷◌, ◌++◌, length, map, set, get_or, inl, inr, refl, sym, ap, ◌∙◌, subst, arith, append-nil, eqb-true, eq-eqb, ne_eqb, lt-ltb, le-ltb, ltb-false}
+use Rattle.std.proofs.Common.{◌≡◌, ℕ, zero, suc, ◌+◌, ◌-◌, ◌%◌, ◌<◌, Bool, true, false, not, ◌&&◌, ◌||◌, if◌then◌else◌, eqb, ltb, Some, List, [], ◌∷◌, ◌++◌, length, map, set, get_or, inl}
+use Rattle.std.proofs.Common.{inr, refl, sym, ap, ◌∙◌, subst, arith, append-nil, eqb-true, eq-eqb, ne_eqb, lt-ltb, le-ltb, ltb-false}
 use Rattle.std.specs.List.{filter, list_any, IsDistinct}
 use Rattle.std.proofs.lemmas.Bool.{both_ways, cases_Bool, cases_eq, eqb-false}
 use Rattle.std.proofs.lemmas.List.{append_assoc, length-append, length-map, map-set, nil_from_length, set-get_or}
@@ -10,11 +11,12 @@ use Rattle.clock2q_handles.specs.Homes.{top, home, listed, total, candidates, wi
 use Rattle.clock2q_handles.specs.Positions.{with_first, handle_replaced}
 use Rattle.clock2q_handles.proofs.Lookups.{with_top}
 use Rattle.clock2q_handles.proofs.Changes.{length-with_list, listed-with_same, listed-with_other, total-with_list}
-use Rattle.clock2q_directory.specs.declared.keys.store.Entry.{Entry}
+use Rattle.clock2q_directory.specs.declared.keys.Entry.{Entry}
 use Rattle.clock2q_directory.specs.Keys.{hash_at}
 use Rattle.clock2q_directory.specs.Indexes.{IsIndex}
 use Rattle.clock2q_directory.specs.Accesses.{most_changed}
-use Rattle.clock2q_directory.specs.Index.{IndexState, first_remembered, is_shared, slots, places, entered, left, remembered_at, forgotten_at, slots_among, places_among, slot_entries, place_entries, slots_in, places_in}
+use Rattle.clock2q_directory.specs.Index.{IndexState, first_remembered, is_shared, slots, places, entered, left, remembered_at, forgotten_at, slots_among, places_among, slot_entries}
+use Rattle.clock2q_directory.specs.Index.{place_entries, slots_in, places_in}
 use Rattle.clock2q_queues.proofs.Booleans.{and_parts}
 use Rattle.clock2q_queues.proofs.Rings.{IsDistinct-append, IsDistinct-left, IsDistinct-right, IsDistinct-turned, apart_from}
 use Rattle.clock2q_directory.proofs.Indexes.{any-candidate, named-length, length-put, length-taken, total-put, IsIndex-put}

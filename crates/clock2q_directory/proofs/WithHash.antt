@@ -2,7 +2,7 @@
 use Rattle.std.proofs.Common.{◌≡◌, ℕ, zero, ◌<◌, ◌==◌, Bool, true, false, Option, Some, None, slice_get, List, ◌∷◌, drop, refl, sym, ◌∙◌, subst}
 use Rattle.std.specs.List.{filter, AllByRecursion}
 use Rattle.std.proofs.lemmas.Bool.{eq-eqb}
-use Rattle.clock2q_directory.specs.declared.keys.store.Entry.{Entry}
+use Rattle.clock2q_directory.specs.declared.keys.Entry.{Entry}
 use Rattle.clock2q_directory.specs.Hashed.{has_hash}
 use Rattle.clock2q_directory.specs.declared.handle.Handle.{Handle}
 use Rattle.clock2q_directory.specs.Index.{slots_among, unpacked}

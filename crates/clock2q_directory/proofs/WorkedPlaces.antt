@@ -50,7 +50,8 @@ anew_pushed = (refl, refl, refl)
 
 -- keys of one hash make each other dear: the first reads its home, and then reads and writes it; the others walk past the
 -- keys before them, and those are in their run
-colliding : map (λ (v : IndexState). v.accesses) (entered false 1 0 none.index ∷ entered false 1 1 (entered false 1 0 none.index) ∷ entered false 1 2 (entered false 1 1 (entered false 1 0 none.index)) ∷ []) ≡ 3 ∷ 9 ∷ 18 ∷ []
+colliding : map (λ (v : IndexState). v.accesses) (entered false 1 0 none.index ∷ entered false 1 1 (entered false 1 0 none.index) ∷ entered false 1 2
+    (entered false 1 1 (entered false 1 0 none.index)) ∷ []) ≡ 3 ∷ 9 ∷ 18 ∷ []
 unfolding spill layout
 colliding = refl
 

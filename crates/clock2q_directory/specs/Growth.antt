@@ -3,7 +3,7 @@ use Rattle.std.specs.Prelude.{◌≡◌, ℕ, ◌+◌, ◌*◌, ◌^◌, ◌<◌
 use Rattle.std.specs.List.{AllByRecursion, IsDistinct}
 use Rattle.clock2q_handles.specs.Homes.{total, capacity, with_handle}
 use Rattle.clock2q_directory.specs.Accesses.{most_changed}
-use Rattle.clock2q_directory.specs.declared.keys.store.Entry.{Entry}
+use Rattle.clock2q_directory.specs.declared.keys.Entry.{Entry}
 use Rattle.clock2q_directory.specs.Indexes.{IsIndex}
 use Rattle.clock2q_directory.specs.Index as known
 use Rattle.clock2q_directory.specs.Index.{IndexState, first_remembered, index_for, is_shared}

@@ -10,7 +10,7 @@ use Rattle.clock2q_directory.specs.Index as known
 use Rattle.clock2q_directory.specs.Index.{IndexState, index_code, first_remembered, is_shared, entered_from, left, looked_up, remembered_at, forgotten_at, HasSlotUnder}
 use Rattle.clock2q_directory.specs.declared.handle.Found.{Found}
 use Rattle.clock2q_queues.specs.Cells.{Rises}
-use Rattle.clock2q_directory.specs.declared.keys.store.Entry.{Entry}
+use Rattle.clock2q_directory.specs.declared.keys.Entry.{Entry}
 use Rattle.clock2q_directory.specs.Keys.{KeyPlaces, entries_of}
 use Rattle.clock2q_directory.specs.Indexes.{IsIndex, has_key}
 use Rattle.clock2q_queues.specs.Order.{PlaceOrder, IsWholeOrder, used, place_for}

@@ -3,7 +3,7 @@ use Rattle.std.specs.Prelude.{ℕ}
 use Rattle.std.specs.Borrow.{Lends, MutBor, Fml, RattleType}
 use Rattle.std.specs.declared.alloc.Allocator as alloc
 use Rattle.clock2q_directory.specs.Keys.{KeyPlaces, with_value}
-use Rattle.clock2q_directory.specs.contracts.keys.store.Keys.{the_row}
+use Rattle.clock2q_directory.specs.contracts.keys.Keys.{the_row}
 
 module _ (K V A : RattleType) (heap : alloc.Ghosts A.Denot) where
   -- the value at that place is what the caller leaves there, and nothing else changes

@@ -89,7 +89,7 @@ impl<K: Eq, V, A: Allocator> Directory<K, V, A> {
     pub fn remembered_len(&self) -> usize
         ensures len { result ≡ length self.now.history.entries }
     {
-        self.history.len()
+        self.history.order.len() as usize
     }
 
     /// States what holds of every directory, for a caller's proof. It does nothing.

@@ -1,15 +1,14 @@
 //! The keys that Small evicted, which the literature calls Ghost.
-ghost use Rattle.std.specs.Prelude.{◌≡◌, ◌+◌, ◌≤◌, true, [], ◌∷◌, length, IfSome, IfNone, nat_eq};
+ghost use Rattle.std.specs.Prelude.{◌≡◌, ◌+◌, ◌≤◌, true, [], length, IfSome, IfNone, nat_eq};
 ghost use Rattle.std.specs.List.{list_any};
 ghost use Rattle.clock2q_handles.specs.Homes.{candidates};
 ghost use Rattle.clock2q_queues.specs.Order.{IsWholeOrder, used};
-ghost use Rattle.clock2q_queues.specs.Rings.{without};
 ghost use Rattle.clock2q_directory.specs.Keys.{entry, written};
 ghost use Rattle.clock2q_directory.specs.Indexes.{IsIndex};
 ghost use Rattle.clock2q_directory.specs.Index.{IndexState, places, forgotten_if};
 ghost use Rattle.clock2q_directory.specs.History.{MakesPlace};
 
-use crate::keys::Keys;
+use crate::keys::{Entry, Keys};
 use clock2q_queues::order::Order;
 use std::alloc::{Allocator, Global};
 
@@ -30,30 +29,6 @@ pub struct Retired {
     pub place: u32,
     /// The hash of the oldest key, if that one had the place, and is forgotten.
     pub oldest: Option<u64>,
-}
-
-impl<K, A: Allocator> Ghost<K, A> {
-    /// Returns the number of keys.
-    pub(crate) fn len(&self) -> usize
-        ensures len { result ≡ length self.now.order.places }
-    {
-        self.order.len() as usize
-    }
-
-    /// Forgets the key at a place, which is the next one to be taken.
-    pub(crate) fn forget(&mut self, place: u32)
-        requires { list_any (nat_eq place) self.old.order.places ≡ true }
-        ensures whole { IsWholeOrder self.new.order }
-        ensures order { self.new.order ≡
-            record self.old.order {
-              places = without place self.old.order.places;
-              free = place ∷ self.old.order.free;
-              accesses = self.old.order.accesses + 7;
-            } }
-        ensures kept { self.new.keys ≡ self.old.keys }
-    {
-        self.order.unlink(place);
-    }
 }
 
 impl<K: Drop, A: Allocator> Ghost<K, A> {
@@ -82,9 +57,11 @@ impl<K: Drop, A: Allocator> Ghost<K, A> {
         if self.order.limit() == 0 {
             return None;
         }
+        let value = Some(());
+        let entry = Entry { hash, key, value };
         if self.order.len() < self.order.limit() {
             let place = self.order.push();
-            self.keys.put(place, hash, key, Some(()));
+            self.keys.put(place, entry);
             return Some(Retired {
                 hash,
                 place,
@@ -92,7 +69,7 @@ impl<K: Drop, A: Allocator> Ghost<K, A> {
             });
         }
         let place = self.order.replace_oldest();
-        let (oldest, _) = self.keys.replace(place, hash, key, Some(()));
+        let (oldest, _) = self.keys.replace(place, entry);
         Some(Retired {
             hash,
             place,

@@ -11,7 +11,7 @@ mod growth;
 use crate::handle::Handle;
 use crate::history::Retired;
 use clock2q_count::Count;
-use clock2q_handles::{Candidates, Gap, Table};
+use clock2q_handles::{Candidates, Entry, Gap, Table};
 use std::alloc::{AllocError, Allocator, Global};
 use std::marker::Model;
 
@@ -142,12 +142,14 @@ impl<A: Allocator> Index<A> {
         self.shared.get_in_slots(hash)
     }
 
-    /// Returns the places under a hash, if they have a table of their own.
+    /// Returns the places under a hash, given that they have a table of their own.
     pub fn own_places(&self, hash: u64) -> Candidates<'_, u32>
+        requires apart { is_shared self.now ≡ false }
         ensures places { result.left ≡ candidates self.now.own hash }
         ensures reads { result.reads + result.unread ≡ walk self.now.own hash }
+        ensures end { result.end ≡ Some (gap_of self.now.own hash) }
     {
-        self.own.get(hash)
+        self.own.get_in_slots(hash)
     }
 
     /// Charges one lookup of a hash, which is the most slots of both tables that the handles under
@@ -188,7 +190,12 @@ impl<A: Allocator> Index<A> {
         // a table of the slots alone may have no room for one more before another leaves
         let usable = if self.is_shared() { gap } else { None };
         charge(&self.shared, &self.own, &mut self.charged, &seen);
-        self.shared.replace(usable, hash, slot, old_hash, slot);
+        let entry = Entry { hash, handle: slot };
+        let old = Entry {
+            hash: old_hash,
+            handle: slot,
+        };
+        self.shared.replace(usable, entry, old);
     }
 
     /// Adds the slot of a key that becomes resident in place of another, which is remembered at a
@@ -203,11 +210,16 @@ impl<A: Allocator> Index<A> {
             (remembered_at retired.hash slot retired.place
             (forgotten_if retired.oldest retired.place self.old)) }
     {
+        let entry = Entry { hash, handle: slot };
         if !self.is_shared() {
             self.forget(retired.oldest, retired.place);
             let seen = (hash, retired.hash);
             charge(&self.shared, &self.own, &mut self.charged, &seen);
-            self.shared.replace(None, hash, slot, retired.hash, slot);
+            let old = Entry {
+                hash: retired.hash,
+                handle: slot,
+            };
+            self.shared.replace(None, entry, old);
             self.own.insert_at_gap(None, retired.hash, retired.place);
             return;
         }
@@ -216,7 +228,11 @@ impl<A: Allocator> Index<A> {
         let handle = Handle::Remembered(retired.place).pack();
         match retired.oldest {
             Some(oldest) => {
-                self.shared.replace(gap, hash, slot, oldest, handle);
+                let old = Entry {
+                    hash: oldest,
+                    handle,
+                };
+                self.shared.replace(gap, entry, old);
                 self.shared.replace_handle(retired.hash, slot, handle);
             }
             None => {

@@ -41,6 +41,7 @@
 #![tactic(auto)]
 
 mod candidates;
+mod entry;
 mod error;
 mod gap;
 mod metadata;
@@ -49,6 +50,7 @@ mod slots;
 mod table;
 
 pub use candidates::Candidates;
+pub use entry::Entry;
 pub use error::TableError;
 pub use gap::Gap;
 pub use partitions::partition;

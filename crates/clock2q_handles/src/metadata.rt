@@ -6,10 +6,6 @@ ghost use Rattle.std.specs.Prelude.{◌≡◌, ◌+◌, ◌≤◌, ◌<◌, ◌�
 /// below it.
 const UNIT: u32 = 1 << 8;
 
-/// An empty slot's word. Any word below a unit would do; the bytes of this one are all equal, so slots
-/// are filled by one call of `memset`.
-const EMPTY: u32 = 0;
-
 /// The furthest that an entry may be past its home.
 pub(super) const MAX_DISPLACEMENT: usize = (1 << 24) - 2;
 
@@ -22,11 +18,9 @@ pub(crate) struct Metadata {
 impl Metadata {
     ghost use Rattle.clock2q_handles.specs.Slots.{meaning, sought, mark_reach, mark_on, mark_back};
 
-    pub(super) fn empty() -> Metadata
-        ensures { meaning result ≡ None }
-    {
-        Metadata { word: EMPTY }
-    }
+    /// The metadata of an empty slot. Any word below a unit would do; the bytes of this one are all
+    /// equal, so slots are filled by one call of `memset`.
+    pub(super) const EMPTY: Metadata = Metadata { word: 0 };
 
     pub(super) fn is_empty(self) -> bool
         ensures { IsTrue result ↔ (meaning self ≡ None) }

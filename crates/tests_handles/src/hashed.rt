@@ -5,7 +5,7 @@ ghost use Rattle.std.specs.Prelude.{◌≡◌, ◌<◌, true, IfSome, IsSome, le
 
 use crate::handle::{Command, Handle, Reply};
 use crate::seen::Notes;
-use clock2q_handles::{Gap, Table, TableError};
+use clock2q_handles::{Entry, Gap, Table, TableError};
 use clock2q_table_commands::TableReply;
 use std::alloc::{Allocator, Global};
 use std::marker::Model;
@@ -222,7 +222,15 @@ impl<A: Allocator + Copy> Hashed<A> {
         let Ok((old, _)) = self.table.search(old_hash, |_| true) else {
             return None;
         };
-        self.table.replace(gap, handle.hash, handle, old_hash, old);
+        let entry = Entry {
+            hash: handle.hash,
+            handle,
+        };
+        let old = Entry {
+            hash: old_hash,
+            handle: old,
+        };
+        self.table.replace(gap, entry, old);
         Some(Ok(()))
     }
 

@@ -120,9 +120,7 @@ impl<'a> Played<'a> {
             Change::Replace => self
                 .tested
                 .replace(hash_of(first), handle_of(second), false),
-            Change::ReplaceAtGap => self
-                .tested
-                .replace(hash_of(first), handle_of(second), true),
+            Change::ReplaceAtGap => self.tested.replace(hash_of(first), handle_of(second), true),
         }
     }
 

@@ -1,7 +1,7 @@
 -- A key that is written over another leaves as many keys.
 use Rattle.std.proofs.Common.{◌≡◌, ℕ, ◌<◌, List, length, ap, arith}
 use Rattle.std.specs.Prelude.{Option}
-use Rattle.clock2q_directory.specs.declared.keys.store.Entry.{Entry}
+use Rattle.clock2q_directory.specs.declared.keys.Entry.{Entry}
 use Rattle.clock2q_directory.specs.Keys.{entry, Writes}
 use Rattle.clock2q_directory.proofs.Entries.{length-written}
 

@@ -4,7 +4,7 @@ use Rattle.std.specs.Prelude.{IfSome, if◌then◌else◌}
 use Rattle.std.specs.List.{find, AllByRecursion, list_any}
 use Rattle.std.proofs.lemmas.Bool.{both_ways}
 use Rattle.clock2q_handles.specs.Homes.{candidates, with_handle, without_handle}
-use Rattle.clock2q_directory.specs.declared.keys.store.Entry.{Entry}
+use Rattle.clock2q_directory.specs.declared.keys.Entry.{Entry}
 use Rattle.clock2q_directory.specs.Index.{IndexState, emptied, index_for, is_shared, slots, entered_from, left}
 use Rattle.clock2q_directory.specs.Indexes.{IsIndex}
 use Rattle.clock2q_directory.specs.Keys.{KeyPlaces, key_places, entry, written, hash_at, key_at, Writes}

@@ -7,7 +7,7 @@ ghost use Rattle.clock2q_directory.specs.Indexes.{IsIndex};
 
 use clock2q_count::Count;
 use clock2q_directory::index::index_room;
-use clock2q_directory::keys::Keys;
+use clock2q_directory::keys::{Entry, Keys};
 use clock2q_handles::Table;
 use std::alloc::{AllocError, Global};
 use std::test::Fail;
@@ -48,7 +48,12 @@ fn replace_first(keys: &mut Keys<u64, u64>) -> (u64, u64, u64)
     ensures len { length keys.new.entries ≡ length keys.old.entries }
     ensures room { keys.new.room ≡ keys.old.room }
 {
-    let (hash, key) = keys.replace(0, 9, 90, None);
+    let entry = Entry {
+        hash: 9,
+        key: 90,
+        value: None,
+    };
+    let (hash, key) = keys.replace(0, entry);
     (hash, key, keys.hash(0))
 }
 
@@ -73,7 +78,12 @@ fn replace_both(keys: &mut Keys<u64, u64>) -> [Held; 4]
     let (hash, key, new_hash) = replace_first(keys);
     let then = held(keys, 90);
     let value = replace_first_value(keys);
-    keys.put(1, 6, 60, Some(600));
+    let entry = Entry {
+        hash: 6,
+        key: 60,
+        value: Some(600),
+    };
+    keys.put(1, entry);
     let count = keys.len() as u64;
     let at_last = held(keys, 90);
     keys.clear();
@@ -85,7 +95,12 @@ fn replace_both(keys: &mut Keys<u64, u64>) -> [Held; 4]
 pub(crate) fn two_keys(alloc: Global) -> Result<[Held; 4], AllocError> {
     let mut keys: Keys<u64, u64> = Keys::new(alloc, 2)?;
     keys.push(7, 70, 700);
-    keys.put(1, 8, 80, Some(800));
+    let entry = Entry {
+        hash: 8,
+        key: 80,
+        value: Some(800),
+    };
+    keys.put(1, entry);
     Ok(replace_both(&mut keys))
 }
 

@@ -1,6 +1,7 @@
 //! What happens to a key: it enters, leaves, is remembered or forgotten.
 use crate::directory::Directory;
 use crate::handle::Found;
+use crate::keys::Entry;
 use crate::newcomer::Newcomer;
 use std::alloc::Allocator;
 
@@ -84,12 +85,12 @@ impl<K: Eq, V, A: Allocator> Directory<K, V, A> {
             self.old.history.accesses self.new.history.accesses }
     {
         let _ = key;
-        let _ = self.history.len();
+        let _ = self.history.order.len();
         let Found::Remembered(place) = *found else {
             return false;
         };
         self.index.forget(Some(hash), place);
-        self.history.forget(place);
+        self.history.order.unlink(place);
         true
     }
 
@@ -143,7 +144,7 @@ impl<K: Eq + Drop, V: Drop, A: Allocator> Directory<K, V, A> {
             key,
             value,
         } = newcomer;
-        self.residents.put(slot, hash, key, value);
+        self.residents.put(slot, Entry { hash, key, value });
         self.index.add_slot(gap, hash, slot);
     }
 
@@ -176,7 +177,7 @@ impl<K: Eq + Drop, V: Drop, A: Allocator> Directory<K, V, A> {
             key,
             value,
         } = newcomer;
-        let old = self.residents.replace(slot, hash, key, value);
+        let old = self.residents.replace(slot, Entry { hash, key, value });
         self.index.replace(gap, hash, slot, old.0);
         old
     }
@@ -204,7 +205,8 @@ impl<K: Eq + Drop, V: Drop, A: Allocator> Directory<K, V, A> {
             key,
             value,
         } = newcomer;
-        let (old_hash, old_key) = self.residents.replace(slot, hash, key, value);
+        let entry = Entry { hash, key, value };
+        let (old_hash, old_key) = self.residents.replace(slot, entry);
         let Some(retired) = self.history.push(old_hash, old_key) else {
             self.index.replace(gap, hash, slot, old_hash);
             return;

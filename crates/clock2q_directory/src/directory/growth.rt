@@ -35,9 +35,8 @@ impl<K: Eq + Drop, V: Drop, A: Allocator + Copy> Directory<K, V, A> {
         self.residents.reserve(slots)?;
         self.history.keys.reserve(limit)?;
         let order = self.history.order.grown(alloc, limit as u32)?;
-        let index = self
-            .index
-            .grown(alloc, slots, limit, &self.residents, &self.history.keys)?;
+        let keys = (&self.residents, &self.history.keys);
+        let index = self.index.grown(alloc, slots, limit, keys)?;
         self.history.order = order;
         self.index = index;
         Ok(())

@@ -14,8 +14,9 @@ use std::alloc::{AllocError, Allocator};
 
 impl<A: Allocator + Copy> Index<A> {
     /// Returns an index for up to `slots` residents and `places` remembered keys, with every slot
-    /// and place that this one has. It takes all the memory that it will ever need, and is charged
-    /// what this one was as well.
+    /// and place that this one has, under the hashes of `keys`: the residents' and the remembered
+    /// ones. It takes all the memory that it will ever need, and is charged what this one was as
+    /// well.
     ///
     /// # Errors
     ///
@@ -29,17 +30,17 @@ impl<A: Allocator + Copy> Index<A> {
         alloc: A,
         slots: usize,
         places: usize,
-        residents: &Keys<K, V, A>,
-        remembered: &Keys<K, (), A>,
+        keys: (&Keys<K, V, A>, &Keys<K, (), A>),
     ) -> Result<Self, AllocError>
         requires some { 0 < slots }
         requires slots { slots < 2 ^ 24 }
         requires places { places < 2 ^ 24 }
-        requires residents { length residents.now.entries ≤ slots }
-        requires remembered { length remembered.now.entries ≤ places }
+        requires residents { length keys.0.now.entries ≤ slots }
+        requires remembered { length keys.1.now.entries ≤ places }
         ensures grown { IfOk result
-            (Outgrows slots places residents.now.entries remembered.now.entries self.now) }
+            (Outgrows slots places keys.entry.0.now.entries keys.entry.1.now.entries self.now) }
     {
+        let (residents, remembered) = keys;
         let mut index = Index::new(alloc, slots, places)?;
         index.charge_as(self);
         add_places(&mut index, self, remembered);

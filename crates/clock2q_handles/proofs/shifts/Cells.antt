@@ -1,10 +1,10 @@
 -- Two vectors side by side, read and written as one list of slots.
-use Rattle.std.proofs.Common.{◌≡◌, ℕ, zero, suc, ◌+◌, ◌-◌, ◌%◌, ◌<◌, List, [], ◌∷◌, length, get_or, take, ◌++◌, refl, sym, ap, ◌∙◌, arith, None, IfSome, mod-eq_of_lt, set, replicate, bit_and}
+use Rattle.std.proofs.Common.{◌≡◌, ℕ, zero, suc, ◌+◌, ◌-◌, ◌%◌, ◌<◌, List, [], ◌∷◌, length, get_or, take, ◌++◌, refl, sym, ap, subst, ◌∙◌, arith, None, IfSome, mod-eq_of_lt, set, length-set, replicate, bit_and}
 use Rattle.std.proofs.Math.Seq.{set-get_or, take_all}
 use Rattle.std.proofs.lemmas.Nat.{and_mask}
 use Rattle.std.proofs.lemmas.List.{length-replicate, take_at}
 use Rattle.clock2q_handles.specs.Layout.{slot_at}
-use Rattle.clock2q_handles.specs.Slots.{meaning, cell, mark_of, cells, SlotsValue, slots_value, IsSlotCount}
+use Rattle.clock2q_handles.specs.Slots.{meaning, cell, mark_of, cells, SlotsValue, slots_value, IsSlotCount, ArePaired}
 use Rattle.clock2q_handles.specs.declared.metadata.Metadata.{Metadata}
 
 -- masking by a slot count minus one is a remainder
@@ -45,22 +45,29 @@ module _ {H : Type 0} where
   set-cells (x ∷ ms) (y ∷ vs) zero m v e = refl
   set-cells (x ∷ ms) (y ∷ vs) (suc n) m v e = ap (λ c. cell (meaning x) y ∷ c) (set-cells ms vs n m v (omega (arith, e)))
 
+  -- and neither vector has another length then
+  pub set-paired : (ms : List Metadata) (vs : List H) (n : ℕ) (m : Metadata) (v : H) → ArePaired ms vs → ArePaired (set ms n m) (set vs n v)
+  set-paired ms vs n m v pair = record {
+    same = length-set vs n v ∙ pair.same ∙ sym (length-set ms n m);
+    slot_count = subst IsSlotCount (sym (length-set ms n m)) pair.slot_count;
+  }
+
   -- a slot whose metadata alone is written, to be empty
-  pub set_empty : (ms : List Metadata) (vs : List H) (n : ℕ) (m : Metadata) → meaning m ≡ None → length vs ≡ length ms → cells (set ms n m) vs ≡ set (cells ms vs) n None
-  set_empty [] vs n m is e = refl
-  set_empty (x ∷ ms) [] n m is e = absurd (omega (arith, e))
-  set_empty (x ∷ ms) (y ∷ vs) n m is e = grind (arith, set-cells (x ∷ ms) (y ∷ vs) n m (get_or (y ∷ vs) n y) e, set-get_or (y ∷ vs) n y)
+  pub set_empty : (ms : List Metadata) (vs : List H) (n : ℕ) → length vs ≡ length ms → cells (set ms n (record { word = 0 })) vs ≡ set (cells ms vs) n None
+  set_empty [] vs n e = refl
+  set_empty (x ∷ ms) [] n e = absurd (omega (arith, e))
+  set_empty (x ∷ ms) (y ∷ vs) n e = grind (arith, set-cells (x ∷ ms) (y ∷ vs) n (record { word = 0 }) (get_or (y ∷ vs) n y) e, set-get_or (y ∷ vs) n y)
 
   -- empty marks make empty slots, whatever the handles are
-  pub cells-emptied : (ms : List Metadata) (vs : List H) (n : ℕ) (m : Metadata) → meaning m ≡ None → ms ≡ replicate n m → length vs ≡ n → cells ms vs ≡ replicate n None
-  cells-emptied ms vs zero m e is len = rw is
-  cells-emptied ms [] (suc n) m e is len = absurd (omega (arith, len))
-  cells-emptied ms (v ∷ vs) (suc n) m e is len = rw is (grind (arith, cells-emptied (replicate n m) vs n m e refl))
+  pub cells-emptied : (ms : List Metadata) (vs : List H) (n : ℕ) → ms ≡ replicate n (record { word = 0 }) → length vs ≡ n → cells ms vs ≡ replicate n None
+  cells-emptied ms vs zero is len = rw is
+  cells-emptied ms [] (suc n) is len = absurd (omega (arith, len))
+  cells-emptied ms (v ∷ vs) (suc n) is len = rw is (grind (arith, cells-emptied (replicate n (record { word = 0 })) vs n refl))
 
   -- vectors that are filled up with empty marks make empty slots
-  pub filled_cells : (n i j : ℕ) (ms ms' : List Metadata) (vs vs' : List H) (m : Metadata) (v : H) → meaning m ≡ None → ms ≡ [] → vs ≡ []
-      → i ≡ 0 → j ≡ 0 → ms' ≡ take n ms ++ replicate (n - i) m → vs' ≡ take n vs ++ replicate (n - j) v → cells ms' vs' ≡ replicate n None
-  filled_cells n i j ms ms' vs vs' m v e none-ms none-vs ei ej er es = grind (arith, take_all n ms, take_all n vs, cells-emptied ms' vs' n m e, length-replicate)
+  pub filled_cells : (n i j : ℕ) (ms ms' : List Metadata) (vs vs' : List H) (v : H) → ms ≡ [] → vs ≡ []
+      → i ≡ 0 → j ≡ 0 → ms' ≡ take n ms ++ replicate (n - i) (record { word = 0 }) → vs' ≡ take n vs ++ replicate (n - j) v → cells ms' vs' ≡ replicate n None
+  filled_cells n i j ms ms' vs vs' v none-ms none-vs ei ej er es = grind (arith, take_all n ms, take_all n vs, cells-emptied ms' vs' n, length-replicate)
 
   -- a slot named by its number
   slot_within : (ms : List Metadata) (vs : List H) (k : ℕ) → length vs ≡ length ms → k < length ms → slot_at (cells ms vs) k ≡ get_or (cells ms vs) k None

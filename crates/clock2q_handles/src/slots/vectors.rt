@@ -3,7 +3,7 @@
 ghost use Rattle.clock2q_handles.specs.Found.{TakesOutAt};
 ghost use Rattle.clock2q_handles.specs.Layout.{IsTidy, slot_at, reach};
 ghost use Rattle.clock2q_handles.specs.Shifts.{HasRoomAt, PutsAt};
-ghost use Rattle.clock2q_handles.specs.Slots.{cell, cells, meaning, ArePaired, IsSlotCount};
+ghost use Rattle.clock2q_handles.specs.Slots.{cell, meaning, IsSlotCount};
 ghost use Rattle.std.specs.Prelude.{◌≡◌, ◌+◌, ◌%◌, ◌^◌, ◌<◌, ◌≤◌, [], None, IfOk, IfSome, length, replicate, set};
 
 use crate::gap::Gap;
@@ -61,7 +61,7 @@ impl<H: Copy + Default, A: Allocator> Slots<H, A> {
     {
         let mut metadata = Vec::with_capacity(alloc, count)?;
         let mut handles = Vec::with_capacity(alloc, count)?;
-        metadata.resize(count, Metadata::empty())?;
+        metadata.resize(count, Metadata::EMPTY)?;
         handles.resize(count, H::default())?;
         Ok(Slots {
             metadata,
@@ -126,7 +126,7 @@ impl<H: Copy + Default, A: Allocator> Slots<H, A> {
     /// Inserts an entry at a gap. The rest of the run moves on by one slot, and each slot that is
     /// written is read.
     #[inline(always)]
-    #[tactic(auto, using(crate::proofs::shifts::Cells::counted_cells, crate::proofs::shifts::Wrapping::cells_along, crate::proofs::shifts::Carrying::carry_begins, crate::proofs::shifts::Cells::mark_read_or, crate::proofs::shifts::Carrying::carry_slot, crate::proofs::shifts::Cells::kept_whole))]
+    #[tactic(auto, using(crate::proofs::shifts::Cells::counted_cells, crate::proofs::shifts::Wrapping::cells_along, crate::proofs::shifts::Carrying::carry_begins, crate::proofs::shifts::Cells::mark_read_or, crate::proofs::shifts::Carrying::carry_slot, crate::proofs::shifts::Cells::kept_whole, crate::proofs::shifts::Cells::written_cells))]
     pub(crate) fn put_at(&mut self, gap: &Gap, handle: H, reads: &mut Count)
         requires tidy { IsTidy self.old.slots }
         requires within { gap.now.position < length self.old.slots }
@@ -148,14 +148,18 @@ impl<H: Copy + Default, A: Allocator> Slots<H, A> {
         let mut there = metadata[slot];
         while !there.is_empty() {
             let held = handles[slot];
-            write(metadata, handles, writes, slot, word, handle);
+            metadata[slot] = word;
+            handles[slot] = handle;
+            writes.tick();
             word = there.one_further();
             handle = held;
             slot = after(slot, mask);
             reads.tick();
             there = metadata[slot];
         }
-        write(metadata, handles, writes, slot, word, handle);
+        metadata[slot] = word;
+        handles[slot] = handle;
+        writes.tick();
     }
 
     /// Removes the entry in a slot. The entries after it move back by one slot, up to an empty slot
@@ -184,10 +188,12 @@ impl<H: Copy + Default, A: Allocator> Slots<H, A> {
                 break;
             }
             let handle = handles[next];
-            write(metadata, handles, writes, hole, word.one_nearer(), handle);
+            metadata[hole] = word.one_nearer();
+            handles[hole] = handle;
+            writes.tick();
             hole = next;
         }
-        metadata[hole] = Metadata::empty();
+        metadata[hole] = Metadata::EMPTY;
         writes.tick();
     }
 
@@ -198,7 +204,7 @@ impl<H: Copy + Default, A: Allocator> Slots<H, A> {
     {
         fill(
             self.metadata.as_mut_slice(),
-            Metadata::empty(),
+            Metadata::EMPTY,
             &mut self.writes,
         );
     }
@@ -271,29 +277,6 @@ impl<'a, H: Copy + Default> View<'a, H> {
         let handles = self.handles;
         handles[slot]
     }
-}
-
-/// Writes a slot in both vectors, and counts the write.
-#[tactic(auto, using(crate::proofs::shifts::Cells::written_cells))]
-fn write<H: Copy>(
-    metadata: &mut [Metadata],
-    handles: &mut [H],
-    writes: &mut Count,
-    slot: usize,
-    word: Metadata,
-    handle: H,
-)
-    requires pair { ArePaired metadata.old handles.old }
-    requires within { slot < length (cells metadata.old handles.old) }
-    ensures written { cells metadata.new handles.new
-        ≡ set (cells metadata.old handles.old) slot (cell (meaning word) handle) }
-    ensures counted { writes.new.total ≡ writes.old.total + 1 }
-    ensures pair { ArePaired metadata.new handles.new }
-    ensures len { length metadata.new ≡ length metadata.old }
-{
-    metadata[slot] = word;
-    handles[slot] = handle;
-    writes.tick();
 }
 
 /// Returns the slot after `slot`, of `mask + 1` slots: slot 0 after the last.

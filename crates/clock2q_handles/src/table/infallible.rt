@@ -7,6 +7,7 @@ ghost use Rattle.clock2q_handles.specs.TableStep.{HasSpare, IsBelowCapacity};
 ghost use Rattle.std.specs.List.{list_any};
 ghost use Rattle.std.specs.Prelude.{true, ◌≡◌, ℕ, ◌+◌, ◌^◌, ◌<◌, ◌≤◌, IfSome, IsSome};
 
+use crate::entry::Entry;
 use crate::gap::Gap;
 use crate::table::Table;
 use std::alloc::Allocator;
@@ -77,10 +78,10 @@ impl<H: Copy + Eq + Default, A: Allocator> Table<H, A> {
         self.len -= 1;
     }
 
-    /// Inserts `handle` under `hash`, at the gap for it if a lookup found that, and removes the first
-    /// candidate of `old_hash` that equals `old`, given that there is one. At a gap it inserts first,
-    /// and so it takes one only if the table has room for that time. Otherwise it
-    /// removes first, and the table may be full.
+    /// Inserts `entry`, at the gap for its hash if a lookup found that, and removes the first candidate
+    /// of the old entry's hash that equals its handle, given that there is one. At a gap it inserts
+    /// first, and so it takes one only if the table has room for that time. Otherwise it removes
+    /// first, and the table may be full.
     ///
     /// # Cost
     ///
@@ -89,25 +90,28 @@ impl<H: Copy + Eq + Default, A: Allocator> Table<H, A> {
     /// hash.
     #[inline(always)]
     #[tactic(auto, using(crate::proofs::Attributes::replacing))]
-    pub fn replace(&mut self, gap: Option<Gap>, hash: u64, handle: H, old_hash: u64, old: H)
+    pub fn replace(&mut self, gap: Option<Gap>, entry: Entry<H>, old: Entry<H>)
         requires few { total self.old.homes < 2 ^ 24 }
-        requires gap { IfSome gap (λ gap. gap ≡ gap_of self.old.homes hash) }
+        requires gap { IfSome gap (λ gap. gap ≡ gap_of self.old.homes entry.hash) }
         requires spare { IsSome gap → HasSpare self.old.homes }
-        requires held { list_any (is_entry_of H.PartialEq.eq old_hash old)
-            (listed self.old.homes old_hash) ≡ true }
+        requires held { list_any (is_entry_of H.PartialEq.eq old.hash old.handle)
+            (listed self.old.homes old.hash) ≡ true }
         ensures replaced { self.new.homes
-            ≡ with_handle (without_handle H.PartialEq.eq self.old.homes old_hash old) hash handle }
-        ensures accesses { ChangesAtMost gap hash old_hash self.old self.new }
+            ≡ with_handle (without_handle H.PartialEq.eq self.old.homes old.hash old.handle)
+            entry.hash entry.handle }
+        ensures accesses { ChangesAtMost gap entry.hash old.hash self.old self.new }
         ensures longer { (x : ℕ) → walk self.new.homes x ≤ walk self.old.homes x + 1 }
         ensures laid { IsLaidOut self.new }
     {
         let Some(gap) = gap else {
             self.facts();
-            self.remove_existing(old_hash, old);
-            return self.insert_at_gap(None, hash, handle);
+            self.remove_existing(old.hash, old.handle);
+            return self.insert_at_gap(None, entry.hash, entry.handle);
         };
-        self.slots.put_at(&gap, handle, &mut self.reads);
-        let held = self.slots.find_existing(old_hash, old, &mut self.reads);
+        self.slots.put_at(&gap, entry.handle, &mut self.reads);
+        let held = self
+            .slots
+            .find_existing(old.hash, old.handle, &mut self.reads);
         self.slots.take_out(held, &mut self.reads);
     }
 

@@ -41,6 +41,7 @@
 //! quarters of the slots. A full table doubles its slots, and no table shrinks.
 
 mod candidates;
+mod entry;
 mod error;
 mod gap;
 mod metadata;
@@ -49,6 +50,7 @@ mod slots;
 mod table;
 
 pub use candidates::Candidates;
+pub use entry::Entry;
 pub use error::TableError;
 pub use gap::Gap;
 pub use partitions::partition;

@@ -6,7 +6,7 @@ use Rattle.std.specs.List.{list_any, AllByRecursion}
 use Rattle.clock2q_handles.specs.Homes.{with_handle}
 use Rattle.clock2q_handles.specs.Changes.{PutIn}
 use Rattle.clock2q_handles.specs.declared.error.TableError.{TableError}
-use Rattle.clock2q_directory.specs.declared.keys.store.Entry.{Entry}
+use Rattle.clock2q_directory.specs.declared.keys.Entry.{Entry}
 use Rattle.clock2q_directory.specs.Keys.{KeyPlaces, entry, written}
 use Rattle.clock2q_directory.specs.Indexes.{IsIndex}
 use Rattle.clock2q_queues.proofs.Rings.{differs}

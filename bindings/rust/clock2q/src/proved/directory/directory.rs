@@ -24,7 +24,7 @@ use crate::proved::rattle::{AllocError, Allocator, Global};
 /// ```
 /// # #![allow(unused)]
 /// # use clock2q::proved::rattle::Global;
-/// # use clock2q::proved::directory::{directory::Directory, handle::Handle, index::Index, keys::Keys, newcomer::Newcomer};
+/// # use clock2q::proved::directory::{directory::Directory, handle::Handle, index::Index, keys::{Entry, Keys}, newcomer::Newcomer};
 /// # let hash_of = |key: u64| key;
 /// let mut directory: Directory<u64, u64> = Directory::new(Global, 1, 2)?;
 /// directory.enter(0, Newcomer { gap: None, hash: hash_of(1), key: 1, value: Some(10) });
@@ -68,7 +68,7 @@ impl<K: Eq, V, A: Allocator> Directory<K, V, A> {
     /// Returns the number of remembered keys.
     #[inline]
     pub fn remembered_len(&self) -> usize {
-        self.history.len()
+        self.history.order.len() as usize
     }
 
     /// Returns the number of slots that have a key and a value, with a resident or without.

@@ -14,7 +14,7 @@ const REMEMBERED: u32 = 1 << 31;
 ///
 /// ```
 /// # #![allow(unused)]
-/// # use clock2q::proved::directory::{directory::Directory, handle::Handle, index::Index, keys::Keys, newcomer::Newcomer};
+/// # use clock2q::proved::directory::{directory::Directory, handle::Handle, index::Index, keys::{Entry, Keys}, newcomer::Newcomer};
 /// assert_eq!(Handle::Resident(7).pack(), 7);
 /// assert_eq!(Handle::Remembered(7).pack(), 2_147_483_655);
 /// ```

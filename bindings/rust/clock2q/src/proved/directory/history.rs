@@ -1,7 +1,7 @@
 // Written by bindings/rust/erase from crates/clock2q_directory/src/history.rt; change that, and run erase.
 //! The keys that Small evicted, which the literature calls Ghost.
 
-use crate::proved::directory::keys::Keys;
+use crate::proved::directory::keys::{Entry, Keys};
 use crate::proved::queues::order::Order;
 use crate::proved::rattle::{Allocator, Global};
 
@@ -24,20 +24,6 @@ pub struct Retired {
 }
 
 impl<K, A: Allocator> Ghost<K, A> {
-    /// Returns the number of keys.
-    #[inline]
-    pub(crate) fn len(&self) -> usize {
-        self.order.len() as usize
-    }
-
-    /// Forgets the key at a place, which is the next one to be taken.
-    #[inline]
-    pub(crate) fn forget(&mut self, place: u32) {
-        self.order.unlink(place);
-    }
-}
-
-impl<K, A: Allocator> Ghost<K, A> {
     /// Writes a key to a place at the front: to a free one, or, if every place has a key, to the oldest
     /// key's, which the index still has. If there are no places, returns `None` and drops the key.
     #[inline(always)]
@@ -45,9 +31,11 @@ impl<K, A: Allocator> Ghost<K, A> {
         if self.order.limit() == 0 {
             return None;
         }
+        let value = Some(());
+        let entry = Entry { hash, key, value };
         if self.order.len() < self.order.limit() {
             let place = self.order.push();
-            self.keys.put(place, hash, key, Some(()));
+            self.keys.put(place, entry);
             return Some(Retired {
                 hash,
                 place,
@@ -55,7 +43,7 @@ impl<K, A: Allocator> Ghost<K, A> {
             });
         }
         let place = self.order.replace_oldest();
-        let (oldest, _) = self.keys.replace(place, hash, key, Some(()));
+        let (oldest, _) = self.keys.replace(place, entry);
         Some(Retired {
             hash,
             place,

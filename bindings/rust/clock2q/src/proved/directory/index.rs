@@ -6,7 +6,7 @@ mod growth;
 use crate::proved::directory::handle::Handle;
 use crate::proved::directory::history::Retired;
 use crate::proved::count::Count;
-use crate::proved::handles::{Candidates, Gap, Table};
+use crate::proved::handles::{Candidates, Entry, Gap, Table};
 use crate::proved::rattle::{AllocError, Allocator, Global};
 
 /// The most entries with which slots and places share a table. With one more, no run is too long
@@ -51,7 +51,7 @@ pub fn index_room(most: usize) -> usize {
 /// ```
 /// # #![allow(unused)]
 /// # use clock2q::proved::rattle::Global;
-/// # use clock2q::proved::directory::{directory::Directory, handle::Handle, index::Index, keys::Keys, newcomer::Newcomer};
+/// # use clock2q::proved::directory::{directory::Directory, handle::Handle, index::Index, keys::{Entry, Keys}, newcomer::Newcomer};
 /// let mut index = Index::new(Global, 2, 1)?;
 /// index.add_slot(None, 7, 0);
 /// index.remember(7, 0, 0);
@@ -105,10 +105,10 @@ impl<A: Allocator> Index<A> {
         self.shared.get_in_slots(hash)
     }
 
-    /// Returns the places under a hash, if they have a table of their own.
+    /// Returns the places under a hash, given that they have a table of their own.
     #[inline]
     pub fn own_places(&self, hash: u64) -> Candidates<'_, u32> {
-        self.own.get(hash)
+        self.own.get_in_slots(hash)
     }
 
     /// Charges one lookup of a hash, which is the most slots of both tables that the handles under
@@ -138,18 +138,28 @@ impl<A: Allocator> Index<A> {
         // a table of the slots alone may have no room for one more before another leaves
         let usable = if self.is_shared() { gap } else { None };
         charge(&self.shared, &self.own, &mut self.charged, &seen);
-        self.shared.replace(usable, hash, slot, old_hash, slot);
+        let entry = Entry { hash, handle: slot };
+        let old = Entry {
+            hash: old_hash,
+            handle: slot,
+        };
+        self.shared.replace(usable, entry, old);
     }
 
     /// Adds the slot of a key that becomes resident in place of another, which is remembered at a
     /// place: that of the oldest key, if one is forgotten.
     #[inline(always)]
     pub fn replace_remembering(&mut self, gap: Option<Gap>, hash: u64, slot: u32, retired: Retired) {
+        let entry = Entry { hash, handle: slot };
         if !self.is_shared() {
             self.forget(retired.oldest, retired.place);
             let seen = (hash, retired.hash);
             charge(&self.shared, &self.own, &mut self.charged, &seen);
-            self.shared.replace(None, hash, slot, retired.hash, slot);
+            let old = Entry {
+                hash: retired.hash,
+                handle: slot,
+            };
+            self.shared.replace(None, entry, old);
             self.own.insert_at_gap(None, retired.hash, retired.place);
             return;
         }
@@ -158,7 +168,11 @@ impl<A: Allocator> Index<A> {
         let handle = Handle::Remembered(retired.place).pack();
         match retired.oldest {
             Some(oldest) => {
-                self.shared.replace(gap, hash, slot, oldest, handle);
+                let old = Entry {
+                    hash: oldest,
+                    handle,
+                };
+                self.shared.replace(gap, entry, old);
                 self.shared.replace_handle(retired.hash, slot, handle);
             }
             None => {

@@ -13,7 +13,7 @@ use crate::proved::count::Count;
 ///
 /// ```
 /// # #![allow(unused)]
-/// # use clock2q::proved::handles::{partition, Table, TableError};
+/// # use clock2q::proved::handles::{partition, Entry, Table, TableError};
 /// # fn find(table: &Table<usize>, keys: &[u64], key: u64) -> Option<usize> {
 /// # let hash_of = |key: u64| key;
 /// let mut candidates = table.get(hash_of(key));

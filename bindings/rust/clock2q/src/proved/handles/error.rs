@@ -8,7 +8,7 @@
 /// ```
 /// # #![allow(unused)]
 /// # use clock2q::proved::rattle::Global;
-/// # use clock2q::proved::handles::{partition, Table, TableError};
+/// # use clock2q::proved::handles::{partition, Entry, Table, TableError};
 /// # let (mut table, hash, handle, rehash) = (Table::<usize>::new(Global), 7, 70, |_| 7);
 /// match table.insert(hash, handle, rehash) {
 ///     Ok(()) => println!("inserted"),

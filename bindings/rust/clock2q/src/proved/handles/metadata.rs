@@ -5,10 +5,6 @@
 /// below it.
 const UNIT: u32 = 1 << 8;
 
-/// An empty slot's word. Any word below a unit would do; the bytes of this one are all equal, so slots
-/// are filled by one call of `memset`.
-const EMPTY: u32 = 0;
-
 /// The furthest that an entry may be past its home.
 pub(super) const MAX_DISPLACEMENT: usize = (1 << 24) - 2;
 
@@ -19,10 +15,9 @@ pub(crate) struct Metadata {
 }
 
 impl Metadata {
-    #[inline]
-    pub(super) fn empty() -> Metadata {
-        Metadata { word: EMPTY }
-    }
+    /// The metadata of an empty slot. Any word below a unit would do; the bytes of this one are all
+    /// equal, so slots are filled by one call of `memset`.
+    pub(super) const EMPTY: Metadata = Metadata { word: 0 };
 
     #[inline]
     pub(super) fn is_empty(self) -> bool {

@@ -15,7 +15,7 @@
 ///
 /// ```
 /// # #![allow(unused)]
-/// # use clock2q::proved::handles::{partition, Table, TableError};
+/// # use clock2q::proved::handles::{partition, Entry, Table, TableError};
 /// # let (mut tables, hash) = ([0; 16], 7 << 50);
 /// let table = &mut tables[partition(hash, 16)];
 /// # *table = 1;

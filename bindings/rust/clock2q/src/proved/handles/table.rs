@@ -25,7 +25,7 @@ use core::fmt;
 /// ```
 /// # #![allow(unused)]
 /// # use clock2q::proved::rattle::Global;
-/// # use clock2q::proved::handles::{partition, Table, TableError};
+/// # use clock2q::proved::handles::{partition, Entry, Table, TableError};
 /// let mut table: Table<usize> = Table::with_capacity(Global, 12)?;
 /// table.insert(7, 70, |_| 7)?;
 /// table.insert(7, 71, |_| 7)?;

@@ -1,4 +1,5 @@
-use Rattle.std.proofs.Common.{◌≡◌, refl, ap, sym, ◌∙◌}
+use Rattle.std.proofs.Common.{◌≡◌, refl, ap, sym, ◌∙◌, subst}
+use Rattle.std.specs.Prelude.{IsSome}
 use Rattle.clock2q_directory.specs.Index.{is_shared, slots_among, places_among}
 use Rattle.clock2q_directory.specs.Keys.{KeyPlaces}
 use Rattle.clock2q_directory.proofs.Looking.{shared-places, own-places, own-there, searched}
@@ -29,7 +30,10 @@ returns-then-is_shared g c =
 pub find-requires : goal.find-requires
 find-requires g c =
     let is = sym (shared g (goal.at.find-requires g c).After-is_shared) ∙ c.if-is_shared.false in
-    record { used = rw (c.own_places.ensures.places, c.charge_lookup.ensures.looked) (own-there c.self.invariant c.args.hash is) }
+    record {
+      walking = subst IsSome (sym c.own_places.ensures.end) refl;
+      used = rw (c.own_places.ensures.places, c.charge_lookup.ensures.looked) (own-there c.self.invariant c.args.hash is);
+    }
 
 pub returns : goal.returns
 returns g c =

@@ -28,8 +28,8 @@ forget-requires g c =
       held = place_held g.met.K.Eq.laws c.args.hash c.args.key.now c.self.invariant hashed found;
     }
 
-pub forget-requires-2 : goal.forget-requires-2
-forget-requires-2 g c =
+pub unlink-requires : goal.unlink-requires
+unlink-requires g c =
     let hashed = rw (← c.self.view_is) at c.requires.hash in
     let placed = rw (← c.self.view_is) at c.requires.place in
     (place_there g.met.K.Eq.laws c.args.hash c.args.key.now c.self.invariant hashed (sym (ap found_place c.in-Remembered.is) ∙ placed))
@@ -38,13 +38,13 @@ pub invariant_of-self : goal.invariant_of-self
 invariant_of-self g c =
     let hashed = rw (← c.self.view_is) at c.requires.hash in
     let placed = rw (← c.self.view_is) at c.requires.place in
-    let f = forgets g.met.K.Eq.laws c.args.hash c.args.key.now c.self.invariant hashed (sym (ap found_place c.in-Remembered.is) ∙ placed) c.forget-2.ensures.whole c.forget-2.ensures.order in
-    rw (c.forget.ensures.forgotten, c.forget-2.ensures.kept) f.whole
+    let f = forgets g.met.K.Eq.laws c.args.hash c.args.key.now c.self.invariant hashed (sym (ap found_place c.in-Remembered.is) ∙ placed) c.unlink.ensures.whole c.unlink.ensures.order in
+    rw c.forget.ensures.forgotten f.whole
 
 pub returns : goal.returns
 returns g c =
     let gone : c.forget.new.self ≡ forgotten_at c.args.hash c.in-Remembered.place c.self.inside.index = c.forget.ensures.forgotten in
     let hashed = rw (← c.self.view_is) at c.requires.hash in
     let placed = rw (← c.self.view_is) at c.requires.place in
-    let f = forgets g.met.K.Eq.laws c.args.hash c.args.key.now c.self.invariant hashed (sym (ap found_place c.in-Remembered.is) ∙ placed) c.forget-2.ensures.whole c.forget-2.ensures.order in
-    rw (← c.self.view_is, gone, c.forget-2.ensures.kept) (record { found = sym f.found; forgotten = f.forgotten; kept = refl; places = f.places; accesses = f.accesses })
+    let f = forgets g.met.K.Eq.laws c.args.hash c.args.key.now c.self.invariant hashed (sym (ap found_place c.in-Remembered.is) ∙ placed) c.unlink.ensures.whole c.unlink.ensures.order in
+    rw (← c.self.view_is, gone) (record { found = sym f.found; forgotten = f.forgotten; kept = refl; places = f.places; accesses = f.accesses })

@@ -42,7 +42,8 @@ module _ (g : Over) (c : After-look_among-found g) where
 
   -- the place of the key, among the remembered ones
   known-place : is_shared c.self.inside.index ≡ true → found_slot found ≡ None
-      → found_place found ≡ place_of (g.K.PartialEq.eq c.args.key.now) (map (λ e. e.1) (entries_of c.self.inside.history.keys.entries c.self.inside.history.order.places)) c.self.inside.history.order.places
+      → found_place found ≡ place_of (g.K.PartialEq.eq c.args.key.now) (map (λ e. e.1) (entries_of c.self.inside.history.keys.entries c.self.inside.history.order.places))
+      c.self.inside.history.order.places
   known-place shared none =
       first.place none ∙ ap (λ z. find remembered z) (places-left shared)
       ∙ sym (placed g.met.K.Eq.laws c.args.hash c.args.key.now c.self.invariant (rw (← c.self.view_is) at c.requires.hash))
@@ -164,7 +165,10 @@ among g c = ap slots_among (rw c.charge_lookup.ensures.looked at c.own_places.en
 pub find-requires : goal.find-requires
 find-requires g c =
     let own = sym (ap is_shared c.charge_lookup.ensures.looked) ∙ sym c.is_shared.ensures.shared ∙ c.if-not-is_shared.true in
-    record { used = rw (c.look_among-found.ensures.remembered, c.own_places.ensures.places, c.charge_lookup.ensures.looked) (own-there c.self.invariant c.args.hash own) }
+    record {
+      walking = subst IsSome (sym c.own_places.ensures.end) refl;
+      used = rw (c.look_among-found.ensures.remembered, c.own_places.ensures.places, c.charge_lookup.ensures.looked) (own-there c.self.invariant c.args.hash own);
+    }
 
 pub returns-after-find-clause-place : goal.returns-after-find-clause-place
 returns-after-find-clause-place g c _ =

@@ -24,7 +24,8 @@ replace_remembering-requires-clause-may g c =
     record {
       held = rw put.hash (resident-held (rw (← c.self.view_is) at c.requires.resident) c.replace-old_hash.ensures.hash);
       short = omega (arith, (put.made i.index c.self.invariant.indexed).below, c.self.invariant.short);
-      held_place = at-index c.in-Some.retired.oldest (λ index. IsIndex (places index) i.history.keys.entries i.history.order.places) (λ index x. list_any (eqb place) (candidates (places index) x) ≡ true)
+      held_place = at-index c.in-Some.retired.oldest (λ index. IsIndex (places index) i.history.keys.entries i.history.order.places)
+          (λ index x. list_any (eqb place) (candidates (places index) x) ≡ true)
           i.index c.self.invariant.indexed put.held;
     }
 
@@ -50,7 +51,8 @@ returns-in_default-clause-index g c =
       had_key = c.replace-old_hash.ensures.key;
       becomes = ap (λ es. record (remembered_from c.replace.new.self i.history.order i.history.keys) { entries = es }) (none-kept (old_hash, c.replace-old_hash.result.1) c.self.invariant none);
       places = ap (λ z. places_from z i.history.order) c.replace.ensures.replaced
-          ∙ ap (λ q. entering_places (is_some c.args.newcomer.gap) c.args.newcomer.hash c.args.slot (places_from i.index i.history.order) q) (sym (pushed-nowhere old_hash c.args.slot _ c.self.invariant none));
+          ∙ ap (λ q. entering_places (is_some c.args.newcomer.gap) c.args.newcomer.hash c.args.slot (places_from i.index i.history.order) q)
+          (sym (pushed-nowhere old_hash c.args.slot _ c.self.invariant none));
       accesses = (omega arith, omega arith);
     })
 
@@ -63,7 +65,8 @@ invariant_of-self-2 g c =
     let may = may-retire (rw (← c.self.view_is) at c.requires.resident) c.replace-old_hash.ensures.hash ((rw (← c.self.view_is) at c.requires.absent) _ c.replace-old_hash.ensures.key) in
     let r = remembers c.self.invariant (put.made c.self.inside.index c.self.invariant.indexed) put.written put.whole may in
     let then = remembered_at old_hash c.args.slot place (forgotten_if c.in-Some.retired.oldest place c.self.inside.index) in
-    rw (c.replace_remembering.ensures.replaced, c.in-Some.ensures.hash) (IsHistory-index r.whole (places-entered then c.args.newcomer.hash c.args.slot below) (entered-like then c.args.newcomer.hash c.args.slot).shared)
+    rw (c.replace_remembering.ensures.replaced, c.in-Some.ensures.hash)
+    (IsHistory-index r.whole (places-entered then c.args.newcomer.hash c.args.slot below) (entered-like then c.args.newcomer.hash c.args.slot).shared)
 
 pub returns-clause-index : goal.returns-clause-index
 returns-clause-index g c =
@@ -77,6 +80,7 @@ returns-clause-index g c =
       had_hash = c.replace-old_hash.ensures.hash;
       had_key = c.replace-old_hash.ensures.key;
       becomes = ap (λ (z : Remembered _). record z { places = places_from c.replace_remembering.new.self order }) r.pushed;
-      places = ap (λ z. places_from z order) (rw c.in-Some.ensures.hash at c.replace_remembering.ensures.replaced) ∙ ap (λ q. entering_places (is_some c.args.newcomer.gap) c.args.newcomer.hash c.args.slot (places_from c.self.inside.index c.self.inside.history.order) q) r.places;
+      places = ap (λ z. places_from z order) (rw c.in-Some.ensures.hash at c.replace_remembering.ensures.replaced)
+          ∙ ap (λ q. entering_places (is_some c.args.newcomer.gap) c.args.newcomer.hash c.args.slot (places_from c.self.inside.index c.self.inside.history.order) q) r.places;
       accesses = r.accesses;
     })

@@ -11,7 +11,8 @@ pub invariant_of-self : goal.invariant_of-self
 invariant_of-self g c =
     let i = c.self.inside.index in
     let below : c.args.slot < first_remembered = omega (arith, c.requires.resident.below) in
-    rw (c.remove_slot.ensures.left, c.in_default.ensures.same) (IsHistory-index c.self.invariant (places-left i c.hash-hash.result c.args.slot below) (left-like i c.hash-hash.result c.args.slot).shared)
+    rw (c.remove_slot.ensures.left, c.in_default.ensures.same) (IsHistory-index c.self.invariant (places-left i c.hash-hash.result c.args.slot below)
+    (left-like i c.hash-hash.result c.args.slot).shared)
 
 pub invariant_of-self-2 : goal.invariant_of-self-2
 invariant_of-self-2 g c =

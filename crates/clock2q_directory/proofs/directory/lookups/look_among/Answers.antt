@@ -8,7 +8,10 @@ use Rattle.clock2q_directory.proofs.directory.lookups.look_among.Goals as goal
 
 pub key_equals-requires : goal.key_equals-requires
 key_equals-requires g c =
-    record { used = rw (ap (λ r. r.entries) c.loop-handle.invariant.residents) (resident-there _ _ _ (looks-next _ _ _ c.loop-handle.invariant.looks (sym c.in-Ok.ensures.candidate)) c.in-Resident.ensures.unpacked) }
+    record {
+      used = rw (ap (λ r. r.entries) c.loop-handle.invariant.residents)
+          (resident-there _ _ _ (looks-next _ _ _ c.loop-handle.invariant.looks (sym c.in-Ok.ensures.candidate)) c.in-Resident.ensures.unpacked);
+    }
 
 pub returns-then-key_equals-clause-found : goal.returns-then-key_equals-clause-found
 returns-then-key_equals-clause-found g c =
@@ -24,7 +27,10 @@ returns-then-key_equals-clause-compared g c =
 
 pub key_equals-requires-in-Remembered : goal.key_equals-requires-in-Remembered
 key_equals-requires-in-Remembered g c =
-    record { used = rw (ap (λ r. r.entries) c.loop-handle.invariant.remembered) (place-there _ _ _ (looks-next _ _ _ c.loop-handle.invariant.looks (sym c.in-Ok.ensures.candidate)) c.in-Remembered.ensures.unpacked) }
+    record {
+      used = rw (ap (λ r. r.entries) c.loop-handle.invariant.remembered)
+          (place-there _ _ _ (looks-next _ _ _ c.loop-handle.invariant.looks (sym c.in-Ok.ensures.candidate)) c.in-Remembered.ensures.unpacked);
+    }
 
 pub returns-then-key_equals-2-clause-found : goal.returns-then-key_equals-2-clause-found
 returns-then-key_equals-2-clause-found g c =

@@ -14,7 +14,8 @@ use Rattle.clock2q_directory.proofs.index.Index.replace_remembering.Goals as goa
 -- In two tables
 
 module _ (g : Over) (c : After-self-then-not-is_shared g) where
-  now : index_of c.self-then-not-is_shared.inside.shared c.self-then-not-is_shared.inside.own c.self-then-not-is_shared.inside.charged.total ≡ forgotten_if c.args.retired.oldest c.args.retired.place c.args.self.now
+  now : index_of c.self-then-not-is_shared.inside.shared c.self-then-not-is_shared.inside.own c.self-then-not-is_shared.inside.charged.total ≡ forgotten_if c.args.retired.oldest c.args.retired.place
+      c.args.self.now
   now = c.self-then-not-is_shared.view_is ∙ c.forget.ensures.forgotten
 
   same : slots (index_of c.self-then-not-is_shared.inside.shared c.self-then-not-is_shared.inside.own c.self-then-not-is_shared.inside.charged.total) ≡ slots c.args.self.now
@@ -116,22 +117,28 @@ pub replace_handle-requires : goal.replace_handle-requires
 replace_handle-requires g c =
     let x = goal.at.replace_handle-requires g c in
     let at = x.After-pack-handle in
-    record { held = still-held (Some c.in-Some.oldest) c.args.retired.place c.args.hash c.args.slot c.args.retired.hash c.self.inside.shared c.self.inside.own c.self.inside.charged.total c.self.invariant (shared g at) (held g at) (past g x.After-replace-in-Some (shared g at)) }
+    record {
+      held = still-held (Some c.in-Some.oldest) c.args.retired.place c.args.hash c.args.slot c.args.retired.hash c.self.inside.shared c.self.inside.own c.self.inside.charged.total
+          c.self.invariant (shared g at) (held g at) (past g x.After-replace-in-Some (shared g at));
+    }
 
 pub invariant_of-self-in-Some : goal.invariant_of-self-in-Some
 invariant_of-self-in-Some g c =
     let x = goal.at.invariant_of-self-in-Some g c in
     let at = x.After-pack-handle in
     let e = c.replace_handle.ensures in
-    succeeded-indexed (Some c.in-Some.oldest) c.args.retired.place c.args.hash c.args.slot c.args.retired.hash c.self.inside.shared c.self.inside.own c.self.inside.charged.total c.self.invariant (shared g at) (held g at) (past g x.After-replace-in-Some (shared g at))
-    c.replace_handle.new.self (rw c.pack-handle.ensures.packed at c.replace_handle.ensures.handle_replaced) (rw (c.in-Some.is, c.is_some.ensures) at c.charge-2.ensures.charged) e.laid.laid e.reads e.writes
+    succeeded-indexed (Some c.in-Some.oldest) c.args.retired.place c.args.hash c.args.slot c.args.retired.hash c.self.inside.shared c.self.inside.own c.self.inside.charged.total c.self.invariant
+    (shared g at) (held g at) (past g x.After-replace-in-Some (shared g at))
+    c.replace_handle.new.self (rw c.pack-handle.ensures.packed at c.replace_handle.ensures.handle_replaced) (rw (c.in-Some.is, c.is_some.ensures) at c.charge-2.ensures.charged)
+    e.laid.laid e.reads e.writes
 
 pub returns-in-Some : goal.returns-in-Some
 returns-in-Some g c =
     let x = goal.at.returns-in-Some g c in
     let at = x.After-pack-handle in
     record {
-      replaced = rw (← c.self.view_is, c.in-Some.is) (succeeded (Some c.in-Some.oldest) c.args.retired.place c.args.hash c.args.slot c.args.retired.hash c.self.inside.shared c.self.inside.own c.self.inside.charged.total c.self.invariant (shared g at) (held g at) (past g x.After-replace-in-Some (shared g at))
+      replaced = rw (← c.self.view_is, c.in-Some.is) (succeeded (Some c.in-Some.oldest) c.args.retired.place c.args.hash c.args.slot c.args.retired.hash c.self.inside.shared c.self.inside.own
+          c.self.inside.charged.total c.self.invariant (shared g at) (held g at) (past g x.After-replace-in-Some (shared g at))
           c.replace_handle.new.self (rw c.pack-handle.ensures.packed at c.replace_handle.ensures.handle_replaced) (rw (c.in-Some.is, c.is_some.ensures) at c.charge-2.ensures.charged));
     }
 
@@ -139,21 +146,27 @@ pub replace_handle-requires-in-None : goal.replace_handle-requires-in-None
 replace_handle-requires-in-None g c =
     let x = goal.at.replace_handle-requires-in-None g c in
     let at = x.After-pack-handle in
-    record { held = still-held None c.args.retired.place c.args.hash c.args.slot c.args.retired.hash c.self.inside.shared c.self.inside.own c.self.inside.charged.total c.self.invariant (shared g at) (held g at) (free g x.After-insert_at_gap-in-None) }
+    record {
+      held = still-held None c.args.retired.place c.args.hash c.args.slot c.args.retired.hash c.self.inside.shared c.self.inside.own c.self.inside.charged.total c.self.invariant (shared g at)
+          (held g at) (free g x.After-insert_at_gap-in-None);
+    }
 
 pub invariant_of-self-in-None : goal.invariant_of-self-in-None
 invariant_of-self-in-None g c =
     let x = goal.at.invariant_of-self-in-None g c in
     let at = x.After-pack-handle in
     let e = c.replace_handle-in-None.ensures in
-    succeeded-indexed None c.args.retired.place c.args.hash c.args.slot c.args.retired.hash c.self.inside.shared c.self.inside.own c.self.inside.charged.total c.self.invariant (shared g at) (held g at) (free g x.After-insert_at_gap-in-None)
-    c.replace_handle-in-None.new.self (rw c.pack-handle.ensures.packed at c.replace_handle-in-None.ensures.handle_replaced) (rw (c.in-None.is, c.is_some.ensures) at c.charge-2.ensures.charged) e.laid.laid e.reads e.writes
+    succeeded-indexed None c.args.retired.place c.args.hash c.args.slot c.args.retired.hash c.self.inside.shared c.self.inside.own c.self.inside.charged.total c.self.invariant (shared g at)
+    (held g at) (free g x.After-insert_at_gap-in-None)
+    c.replace_handle-in-None.new.self (rw c.pack-handle.ensures.packed at c.replace_handle-in-None.ensures.handle_replaced) (rw (c.in-None.is, c.is_some.ensures) at c.charge-2.ensures.charged)
+    e.laid.laid e.reads e.writes
 
 pub returns-in-None : goal.returns-in-None
 returns-in-None g c =
     let x = goal.at.returns-in-None g c in
     let at = x.After-pack-handle in
     record {
-      replaced = rw (← c.self.view_is, c.in-None.is) (succeeded None c.args.retired.place c.args.hash c.args.slot c.args.retired.hash c.self.inside.shared c.self.inside.own c.self.inside.charged.total c.self.invariant (shared g at) (held g at) (free g x.After-insert_at_gap-in-None)
+      replaced = rw (← c.self.view_is, c.in-None.is) (succeeded None c.args.retired.place c.args.hash c.args.slot c.args.retired.hash c.self.inside.shared c.self.inside.own
+          c.self.inside.charged.total c.self.invariant (shared g at) (held g at) (free g x.After-insert_at_gap-in-None)
           c.replace_handle-in-None.new.self (rw c.pack-handle.ensures.packed at c.replace_handle-in-None.ensures.handle_replaced) (rw (c.in-None.is, c.is_some.ensures) at c.charge-2.ensures.charged));
     }

@@ -15,7 +15,8 @@ loop-slot-preserved g c = elim c.if-has_slot.branch [
   | then-has_slot w ↦
       let room = slots-room _ _ _ c.loop-slot.invariant (omega (arith, c.loop-slot-test.true, c.len-slot-end.ensures.len)) c.requires.room c.requires.few in
       rw (w.index-is, w.add_slot.ensures.entered)
-      (slots-added _ _ _ c.loop-slot.invariant room (omega (arith, c.loop-slot-test.true, c.len-slot-end.ensures.len, c.requires.few)) c.hash-hash.ensures.hash c.has_slot.ensures.has w.if-has_slot.true)
+      (slots-added _ _ _ c.loop-slot.invariant room (omega (arith, c.loop-slot-test.true, c.len-slot-end.ensures.len, c.requires.few)) c.hash-hash.ensures.hash c.has_slot.ensures.has
+      w.if-has_slot.true)
   | else-has_slot w ↦ rw w.index-is (slots-passed _ _ _ c.loop-slot.invariant c.hash-hash.ensures.hash c.has_slot.ensures.has w.if-has_slot.false)
 ]
 

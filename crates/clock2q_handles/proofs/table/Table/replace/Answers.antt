@@ -8,7 +8,7 @@ use Rattle.clock2q_handles.proofs.table.Table.replace.Goals.{After-self}
 use Rattle.clock2q_handles.proofs.table.Table.replace.Goals as goal
 
 -- the walk for the hash ends at the gap, where there is room
-there : (g : Over) (c : After-self g) → IsEnd c.self.inside.slots.slots c.args.hash c.in-Some.gap.mark c.in-Some.gap.position
+there : (g : Over) (c : After-self g) → IsEnd c.self.inside.slots.slots c.args.entry.hash c.in-Some.gap.mark c.in-Some.gap.position
     × HasRoomAt c.self.inside.slots.slots c.in-Some.gap.mark c.in-Some.gap.position
 there g c =
     let spare = c.requires.spare (rw c.in-Some.is refl) in
@@ -25,7 +25,7 @@ find_existing-held-requires g c =
     record {
       tidy = table.tidy;
       near = table.near;
-      held = held_on c.self.invariant c.self.view_is g.H.PartialEq.eq s.0 s.1 c.put_at.ensures.puts c.args.old_hash c.args.old c.requires.held;
+      held = held_on c.self.invariant c.self.view_is g.H.PartialEq.eq s.0 s.1 c.put_at.ensures.puts c.args.old.hash c.args.old.handle c.requires.held;
     }
 
 pub take_out-requires : goal.take_out-requires
@@ -37,12 +37,12 @@ take_out-requires g c =
 pub invariant_of-self : goal.invariant_of-self
 invariant_of-self g c =
     let s = there g (goal.at.invariant_of-self g c).After-self in
-    replaced_table c.self.invariant c.self.view_is g.H.PartialEq.eq s.0 s.1 c.put_at.ensures.puts c.args.old_hash c.args.old c.requires.held c.find_existing-held.ensures.found c.take_out.ensures.taken
+    replaced_table c.self.invariant c.self.view_is g.H.PartialEq.eq s.0 s.1 c.put_at.ensures.puts c.args.old.hash c.args.old.handle c.requires.held c.find_existing-held.ensures.found c.take_out.ensures.taken
 
 pub returns : goal.returns
 returns g c =
     let s = there g (goal.at.returns g c).After-self in
     let done =
-    replacing c.self.invariant c.self.view_is g.H.PartialEq.eq s.0 s.1 c.put_at.ensures.puts c.args.old_hash c.args.old c.requires.held
+    replacing c.self.invariant c.self.view_is g.H.PartialEq.eq s.0 s.1 c.put_at.ensures.puts c.args.old.hash c.args.old.handle c.requires.held
     c.find_existing-held.ensures.found c.take_out.ensures.taken c.in-Some.gap c.put_at.new.reads.total c.put_at.ensures.reads c.find_existing-held.ensures.reached c.take_out.ensures.reads in
     record { replaced = done.replaced; accesses = rw c.in-Some.is done.accesses; longer = done.longer; laid = done.laid }

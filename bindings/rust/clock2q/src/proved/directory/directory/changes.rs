@@ -2,6 +2,7 @@
 //! What happens to a key: it enters, leaves, is remembered or forgotten.
 use crate::proved::directory::directory::Directory;
 use crate::proved::directory::handle::Found;
+use crate::proved::directory::keys::Entry;
 use crate::proved::directory::newcomer::Newcomer;
 use crate::proved::rattle::Allocator;
 
@@ -44,12 +45,12 @@ impl<K: Eq, V, A: Allocator> Directory<K, V, A> {
     #[inline]
     pub fn forget(&mut self, hash: u64, key: &K, found: &Found) -> bool {
         let _ = key;
-        let _ = self.history.len();
+        let _ = self.history.order.len();
         let Found::Remembered(place) = *found else {
             return false;
         };
         self.index.forget(Some(hash), place);
-        self.history.forget(place);
+        self.history.order.unlink(place);
         true
     }
 
@@ -77,7 +78,7 @@ impl<K: Eq, V, A: Allocator> Directory<K, V, A> {
             key,
             value,
         } = newcomer;
-        self.residents.put(slot, hash, key, value);
+        self.residents.put(slot, Entry { hash, key, value });
         self.index.add_slot(gap, hash, slot);
     }
 
@@ -91,7 +92,7 @@ impl<K: Eq, V, A: Allocator> Directory<K, V, A> {
             key,
             value,
         } = newcomer;
-        let old = self.residents.replace(slot, hash, key, value);
+        let old = self.residents.replace(slot, Entry { hash, key, value });
         self.index.replace(gap, hash, slot, old.0);
         old
     }
@@ -106,7 +107,8 @@ impl<K: Eq, V, A: Allocator> Directory<K, V, A> {
             key,
             value,
         } = newcomer;
-        let (old_hash, old_key) = self.residents.replace(slot, hash, key, value);
+        let entry = Entry { hash, key, value };
+        let (old_hash, old_key) = self.residents.replace(slot, entry);
         let Some(retired) = self.history.push(old_hash, old_key) else {
             self.index.replace(gap, hash, slot, old_hash);
             return;

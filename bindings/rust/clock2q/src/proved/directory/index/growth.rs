@@ -9,8 +9,9 @@ use crate::proved::rattle::{AllocError, Allocator};
 
 impl<A: Allocator + Copy> Index<A> {
     /// Returns an index for up to `slots` residents and `places` remembered keys, with every slot
-    /// and place that this one has. It takes all the memory that it will ever need, and is charged
-    /// what this one was as well.
+    /// and place that this one has, under the hashes of `keys`: the residents' and the remembered
+    /// ones. It takes all the memory that it will ever need, and is charged what this one was as
+    /// well.
     ///
     /// # Errors
     ///
@@ -25,9 +26,9 @@ impl<A: Allocator + Copy> Index<A> {
         alloc: A,
         slots: usize,
         places: usize,
-        residents: &Keys<K, V, A>,
-        remembered: &Keys<K, (), A>,
+        keys: (&Keys<K, V, A>, &Keys<K, (), A>),
     ) -> Result<Self, AllocError> {
+        let (residents, remembered) = keys;
         let mut index = Index::new(alloc, slots, places)?;
         index.charge_as(self);
         add_places(&mut index, self, remembered);

@@ -40,7 +40,7 @@ impl<H: Copy + Default, A: Allocator> Slots<H, A> {
     {
         let mut metadata = Vec::with_capacity(alloc, count)?;
         let mut handles = Vec::with_capacity(alloc, count)?;
-        metadata.resize(count, Metadata::empty())?;
+        metadata.resize(count, Metadata::EMPTY)?;
         handles.resize(count, H::default())?;
         Ok(Slots {
             metadata,
@@ -102,14 +102,18 @@ impl<H: Copy + Default, A: Allocator> Slots<H, A> {
         let mut there = metadata[slot];
         while !there.is_empty() {
             let held = handles[slot];
-            write(metadata, handles, writes, slot, word, handle);
+            metadata[slot] = word;
+            handles[slot] = handle;
+            writes.tick();
             word = there.one_further();
             handle = held;
             slot = after(slot, mask);
             reads.tick();
             there = metadata[slot];
         }
-        write(metadata, handles, writes, slot, word, handle);
+        metadata[slot] = word;
+        handles[slot] = handle;
+        writes.tick();
     }
 
     /// Removes the entry in a slot. The entries after it move back by one slot, up to an empty slot
@@ -130,10 +134,12 @@ impl<H: Copy + Default, A: Allocator> Slots<H, A> {
                 break;
             }
             let handle = handles[next];
-            write(metadata, handles, writes, hole, word.one_nearer(), handle);
+            metadata[hole] = word.one_nearer();
+            handles[hole] = handle;
+            writes.tick();
             hole = next;
         }
-        metadata[hole] = Metadata::empty();
+        metadata[hole] = Metadata::EMPTY;
         writes.tick();
     }
 
@@ -142,7 +148,7 @@ impl<H: Copy + Default, A: Allocator> Slots<H, A> {
     pub(crate) fn clear(&mut self) {
         fill(
             self.metadata.as_mut_slice(),
-            Metadata::empty(),
+            Metadata::EMPTY,
             &mut self.writes,
         );
     }
@@ -185,21 +191,6 @@ impl<'a, H: Copy + Default> View<'a, H> {
         let handles = self.handles;
         handles[slot]
     }
-}
-
-/// Writes a slot in both vectors, and counts the write.
-#[inline]
-fn write<H: Copy>(
-    metadata: &mut [Metadata],
-    handles: &mut [H],
-    writes: &mut Count,
-    slot: usize,
-    word: Metadata,
-    handle: H,
-) {
-    metadata[slot] = word;
-    handles[slot] = handle;
-    writes.tick();
 }
 
 /// Returns the slot after `slot`, of `mask + 1` slots: slot 0 after the last.

@@ -1,6 +1,7 @@
 // Written by bindings/rust/erase from crates/clock2q_handles/src/table/infallible.rt; change that, and run erase.
 //! Changes that can't fail, since the caller knows that there is room, or that the entry is there.
 
+use crate::proved::handles::entry::Entry;
 use crate::proved::handles::gap::Gap;
 use crate::proved::handles::table::Table;
 use crate::proved::rattle::Allocator;
@@ -45,10 +46,10 @@ impl<H: Copy + Eq + Default, A: Allocator> Table<H, A> {
         self.len -= 1;
     }
 
-    /// Inserts `handle` under `hash`, at the gap for it if a lookup found that, and removes the first
-    /// candidate of `old_hash` that equals `old`, given that there is one. At a gap it inserts first,
-    /// and so it takes one only if the table has room for that time. Otherwise it
-    /// removes first, and the table may be full.
+    /// Inserts `entry`, at the gap for its hash if a lookup found that, and removes the first candidate
+    /// of the old entry's hash that equals its handle, given that there is one. At a gap it inserts
+    /// first, and so it takes one only if the table has room for that time. Otherwise it removes
+    /// first, and the table may be full.
     ///
     /// # Cost
     ///
@@ -56,13 +57,15 @@ impl<H: Copy + Eq + Default, A: Allocator> Table<H, A> {
     /// entry's to that of the last entry that moves back. Without a gap it also takes the walk of the
     /// hash.
     #[inline(always)]
-    pub fn replace(&mut self, gap: Option<Gap>, hash: u64, handle: H, old_hash: u64, old: H) {
+    pub fn replace(&mut self, gap: Option<Gap>, entry: Entry<H>, old: Entry<H>) {
         let Some(gap) = gap else {
-            self.remove_existing(old_hash, old);
-            return self.insert_at_gap(None, hash, handle);
+            self.remove_existing(old.hash, old.handle);
+            return self.insert_at_gap(None, entry.hash, entry.handle);
         };
-        self.slots.put_at(&gap, handle, &mut self.reads);
-        let held = self.slots.find_existing(old_hash, old, &mut self.reads);
+        self.slots.put_at(&gap, entry.handle, &mut self.reads);
+        let held = self
+            .slots
+            .find_existing(old.hash, old.handle, &mut self.reads);
         self.slots.take_out(held, &mut self.reads);
     }
 

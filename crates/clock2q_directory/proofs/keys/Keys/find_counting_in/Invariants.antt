@@ -2,7 +2,7 @@ use Rattle.std.proofs.Common.{length}
 use Rattle.clock2q_directory.specs.Keys.{is_key_at}
 use Rattle.clock2q_directory.specs.Index.{slots_among}
 use Rattle.clock2q_directory.proofs.Lookups.{Compared}
-use Rattle.clock2q_directory.proofs.keys.store.Keys.find_counting_in.Given as goal
+use Rattle.clock2q_directory.proofs.keys.Keys.find_counting_in.Given as goal
 
 abbrev pub invariant-loop-handle : goal.invariant-loop-handle
 invariant-loop-handle g l =

@@ -4,7 +4,7 @@ use Rattle.clock2q_directory.specs.Index.{slots_among}
 use Rattle.clock2q_directory.specs.Keys.{is_key_at, comparisons_of}
 use Rattle.clock2q_directory.proofs.Looking.{compared-slot}
 use Rattle.clock2q_directory.proofs.Lookups.{compared-found, is_empty}
-use Rattle.clock2q_directory.proofs.keys.store.Keys.find_counting_in.Goals as goal
+use Rattle.clock2q_directory.proofs.keys.Keys.find_counting_in.Goals as goal
 
 pub is_counting_in-requires : goal.is_counting_in-requires
 is_counting_in-requires g c = record { used = (compared-slot c.loop-handle.handles.left c.loop-handle.invariant c.in-Some.ensures.candidate c.in-Resident.ensures.unpacked).there.0 }

@@ -4,16 +4,16 @@ use Rattle.std.proofs.lemmas.Option.{slice_get_read}
 use Rattle.clock2q_directory.specs.Keys.{entry}
 use Rattle.clock2q_directory.proofs.Entries.{set-written}
 use Rattle.clock2q_directory.proofs.Taking.{brings-value, keeps-value}
-use Rattle.clock2q_directory.proofs.keys.store.Keys.replace.Given.{Over}
-use Rattle.clock2q_directory.proofs.keys.store.Keys.replace.Goals.{After-drop-old}
-use Rattle.clock2q_directory.proofs.keys.store.Keys.replace.Goals as goal
+use Rattle.clock2q_directory.proofs.keys.Keys.replace.Given.{Over}
+use Rattle.clock2q_directory.proofs.keys.Keys.replace.Goals.{After-drop-old}
+use Rattle.clock2q_directory.proofs.keys.Keys.replace.Goals as goal
 
 pub returns-in_default-clause-entries : goal.returns-in_default-clause-entries
 returns-in_default-clause-entries g c =
     let es = c.self.inside.entries.items in
     let within : c.args.place < length es = subst (λ k. c.args.place < length k.entries) (sym c.self.view_is) c.requires.used in
     let there = slice_get_read es (length es) c.args.place _ refl within c.index_mut-entry.ensures.value in
-    rw c.in_default.is (keeps-value c.args.place c.args.hash c.args.key c.args.self.now.entries _ c.requires.used
+    rw c.in_default.is (keeps-value c.args.place c.args.entry.hash c.args.entry.key c.args.self.now.entries _ c.requires.used
     (rw (← c.self.view_is, there, c.replace-old_hash.ensures.after, c.replace-old_key.ensures.after) refl))
 
 within : (g : Over) (c : After-drop-old g) → c.args.place < length c.self.inside.entries.items
@@ -34,5 +34,5 @@ returns-clause-key g c = rw (there g c) refl
 
 pub returns-clause-entries : goal.returns-clause-entries
 returns-clause-entries g c =
-    let is = set-written c.args.place (entry c.args.hash c.args.key c.in-Some.value) c.self.inside.entries.items (within g c) in
-    rw (c.in-Some.is, c.replace-old.ensures.after, ← c.self.view_is) (brings-value c.args.place c.args.hash c.args.key c.in-Some.value c.self.inside.entries.items _ is)
+    let is = set-written c.args.place (entry c.args.entry.hash c.args.entry.key c.in-Some.value) c.self.inside.entries.items (within g c) in
+    rw (c.in-Some.is, c.replace-old.ensures.after, ← c.self.view_is) (brings-value c.args.place c.args.entry.hash c.args.entry.key c.in-Some.value c.self.inside.entries.items _ is)

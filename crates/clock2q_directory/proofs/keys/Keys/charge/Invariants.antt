@@ -1,5 +1,5 @@
 use Rattle.std.specs.Prelude.{◌+◌}
-use Rattle.clock2q_directory.proofs.keys.store.Keys.charge.Given as goal
+use Rattle.clock2q_directory.proofs.keys.Keys.charge.Given as goal
 
 abbrev pub ghost-raise : goal.ghost-raise
 ghost-raise g a = a.self.now.total + g.more

@@ -4,7 +4,7 @@ use Rattle.clock2q_directory.specs.Index.{slots_among}
 use Rattle.clock2q_directory.specs.Hashed.{has_hash}
 use Rattle.clock2q_directory.proofs.Lookups.{is_empty}
 use Rattle.clock2q_directory.proofs.WithHash.{sought-slot, sought-found, hash-compared}
-use Rattle.clock2q_directory.proofs.keys.store.Keys.with_hash.Goals as goal
+use Rattle.clock2q_directory.proofs.keys.Keys.with_hash.Goals as goal
 
 pub hash-requires : goal.hash-requires
 hash-requires g c = record { used = (sought-slot c.loop-handle.handles.left c.loop-handle.invariant c.in-Some.ensures.candidate c.in-Resident.ensures.unpacked).there.0 }

@@ -2,7 +2,7 @@ use Rattle.std.proofs.Common.{◌≡◌, length}
 use Rattle.clock2q_directory.specs.Keys.{is_key_at}
 use Rattle.clock2q_directory.specs.Index.{places_among}
 use Rattle.clock2q_directory.proofs.Lookups.{Compared}
-use Rattle.clock2q_directory.proofs.keys.store.Keys.find_remembered.Given as goal
+use Rattle.clock2q_directory.proofs.keys.Keys.find_remembered.Given as goal
 
 abbrev pub invariant-loop-handle : goal.invariant-loop-handle
 invariant-loop-handle g l =
