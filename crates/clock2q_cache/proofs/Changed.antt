@@ -1,9 +1,8 @@
 -- A cache's fields keep their invariant when a key's history is erased or a value is replaced, and those of a new cache
 -- have it.
-use Rattle.std.proofs.Common.{◌≡◌, ℕ, ◌<◌, ◌==◌, Bool, true, false, not, Option, Some, None, slice_get, List, [], ◌∷◌, map, length, refl, sym, ap, ◌∙◌, subst, arith, eqb-true}
-use Rattle.clock2q_cache.proofs.Names.{nat_le, is_some, IsEquivalence, filter, list_any, AllByRecursion, Entry, below-more, KeyPlaces, written, hash_at, key_at, with_value, IsIndex, HasHash, no_entries, QueueState, Remembered, most_beside, slice_get-written, slice_get-written_other, length-written, set-written, all-written, values-written, length-values, IsIndex-cleared, length-cleared, IsIndex-kept, Shares, Machine, stored, empty, vacancy, goes_to_main, IsWhole, machine_of, queued_slots, IsStored, IsSized, IsCache, whole-forgotten, all_resident, small_share, whole-changed, All-from_recursion, recursion_from_All, All-filter, slice_get_some}
-use Rattle.std.proofs.lemmas.Bool.{le-leb}
-use Rattle.clock2q_queues.proofs.Booleans.{or_false}
+use Rattle.std.proofs.Common.{◌≡◌, ℕ, ◌<◌, ◌≤◌, Bool, true, false, not, Option, Some, None, slice_get, List, [], ◌∷◌, map, length, refl, sym, ap, ◌∙◌, subst, arith, eqb-true}
+use Rattle.clock2q_cache.proofs.Names.{if◌then◌else◌, is_some, IsEquivalence, filter, list_any, AllByRecursion, Entry, below-more, KeyPlaces, written, hash_at, key_at, with_value, IsIndex, HasHash, no_entries, QueueState, Remembered, most_beside, slice_get-written, slice_get-written_other, length-written, set-written, all-written, values-written, length-values, IsIndex-cleared, length-cleared, IsIndex-kept, Shares, Machine, stored, empty, vacancy, goes_to_main, IsWhole, machine_of, queued_slots, IsStored, IsSized, IsCache, whole-forgotten, all_resident, small_share, whole-changed, All-from_recursion, recursion_from_All, All-filter, slice_get_some}
+use Rattle.std.proofs.lemmas.Bool.Decides.{nat_tests}
 use Rattle.clock2q_directory.specs.History.{forgotten, places_looked_up}
 use Rattle.clock2q_machine.specs.Machine as cache
 use Rattle.clock2q_cache.proofs.WithKeys.{small_with, main_with, keys-agree}
@@ -123,13 +122,13 @@ module _ {K V : Type 0} {eq : K → K → Bool} {hash : K → ℕ} {shares : Sha
     }
 
 module _ {K V : Type 0} where
-  -- whether a key that the history doesn't have enters Main, with a vacancy and without one
-  module _ (m : Machine K V) {known : Bool} {share : ℕ} (new : known ≡ false) (at : share ≡ m.shares.small) where
-    pub admits-vacant : {n : ℕ} → is_some (vacancy m) ≡ true → n ≡ length m.small → nat_le share n ≡ goes_to_main known m
-    admits-vacant {n} vacant is = grind (arith, le-leb)
+  -- whether a key that the history doesn't have enters Main: if there is a vacancy, the length of Small decides
+  module _ (m : Machine K V) {room : Bool} {share n : ℕ} (at : share ≡ m.shares.small) (vacant : room ≡ is_some (vacancy m)) (is : n ≡ (if room then length m.small else 0)) where
+    pub admits-main : share ≤ n → true ≡ goes_to_main false m
+    admits-main full = grind (arith, nat_tests)
 
-    pub admits-full : is_some (vacancy m) ≡ false → (share == 0) ≡ goes_to_main known m
-    admits-full full = rw (new, full, at) (sym (or_false (m.shares.small == 0)))
+    pub admits-small : n < share → false ≡ goes_to_main false m
+    admits-small few = grind (arith, nat_tests)
 
   -- a full cache has an entry in Small, if Small has a share
   pub small-some : (eq : K → K → Bool) (m : Machine K V) → IsWhole eq m → is_some (vacancy m) ≡ false → goes_to_main false m ≡ false → 0 < length m.small

@@ -1,7 +1,4 @@
 //! Insertion of a key that is not resident.
-ghost use Rattle.std.specs.Prelude.{◌≡◌};
-ghost use Rattle.clock2q_cache.specs.Insertions.{is_main};
-
 use crate::cache::Cache;
 use clock2q_directory::handle::Found;
 use clock2q_directory::newcomer::Newcomer;
@@ -15,19 +12,6 @@ pub(super) enum Admission {
     Small,
     /// Main, just before the hand.
     Main,
-}
-
-impl Admission {
-    /// Returns Main if a key goes there, and Small otherwise.
-    fn main_if(goes: bool) -> Self
-        ensures { is_main result ≡ goes }
-    {
-        if goes {
-            Admission::Main
-        } else {
-            Admission::Small
-        }
-    }
 }
 
 impl<K: Hash + Eq + Drop, V: Drop, S: BuildHasher, A: Allocator> Cache<K, V, S, A> {
@@ -181,11 +165,16 @@ impl<K: Hash + Eq + Drop, V: Drop, S: BuildHasher, A: Allocator> Cache<K, V, S, 
         if self.forget(hash, key, found) {
             return Admission::Main;
         }
-        let share = self.shares.small;
-        if self.has_room(Admission::Small) {
-            return Admission::main_if(share <= self.queues.small_len());
+        // without a vacancy a key goes to Small if that has a share
+        let in_small = if self.has_room(Admission::Small) {
+            self.queues.small_len()
+        } else {
+            0
+        };
+        if self.shares.small <= in_small {
+            return Admission::Main;
         }
-        Admission::main_if(share == 0)
+        Admission::Small
     }
 
     /// Inserts a key into a full Main, in place of its victim.
