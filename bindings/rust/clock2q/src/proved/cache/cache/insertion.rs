@@ -1,6 +1,5 @@
 // Written by bindings/rust/erase from crates/clock2q_cache/src/cache/insertion.rt; change that, and run erase.
 //! Insertion of a key that is not resident.
-
 use crate::proved::cache::cache::Cache;
 use crate::proved::directory::handle::Found;
 use crate::proved::directory::newcomer::Newcomer;
@@ -14,18 +13,6 @@ pub(super) enum Admission {
     Small,
     /// Main, just before the hand.
     Main,
-}
-
-impl Admission {
-    /// Returns Main if a key goes there, and Small otherwise.
-    #[inline]
-    fn main_if(goes: bool) -> Self {
-        if goes {
-            Admission::Main
-        } else {
-            Admission::Small
-        }
-    }
 }
 
 impl<K: Hash + Eq, V, S: BuildHasher, A: Allocator> Cache<K, V, S, A> {
@@ -116,11 +103,16 @@ impl<K: Hash + Eq, V, S: BuildHasher, A: Allocator> Cache<K, V, S, A> {
         if self.forget(hash, key, found) {
             return Admission::Main;
         }
-        let share = self.shares.small;
-        if self.has_room(Admission::Small) {
-            return Admission::main_if(share <= self.queues.small_len());
+        // without a vacancy a key goes to Small if that has a share
+        let in_small = if self.has_room(Admission::Small) {
+            self.queues.small_len()
+        } else {
+            0
+        };
+        if self.shares.small <= in_small {
+            return Admission::Main;
         }
-        Admission::main_if(share == 0)
+        Admission::Small
     }
 
     /// Inserts a key into a full Main, in place of its victim.

@@ -34,9 +34,9 @@ one_further-word-requires-clause-room g c =
 -- what the next turn starts from
 more : (g : Over) (c : After-after-slot g) → c.loop-there.slot < length c.loop-there.metadata
     → (let ms = set c.loop-there.metadata c.loop-there.slot c.loop-there.word in
-       CarryState (cells c.as_mut_slice-metadata.result.now c.as_mut_slice-handles.result.now) (cells ms (set c.loop-there.handles c.loop-there.slot c.loop-there.handle)) (cell (meaning c.metadata-word.result) c.args.handle)
-       (cell (meaning c.one_further-word.result) c.index-handles-slot.result) (meaning (get_or ms c.after-slot.result (record { word = 0 })))
-       c.gap.inside.slot c.after-slot.result c.self.inside.writes.total (c.loop-there.writes.total + 1))
+    CarryState (cells c.as_mut_slice-metadata.result.now c.as_mut_slice-handles.result.now) (cells ms (set c.loop-there.handles c.loop-there.slot c.loop-there.handle)) (cell (meaning c.metadata-word.result) c.args.handle)
+    (cell (meaning c.one_further-word.result) c.index-handles-slot.result) (meaning (get_or ms c.after-slot.result (record { word = 0 })))
+    c.gap.inside.slot c.after-slot.result c.self.inside.writes.total (c.loop-there.writes.total + 1))
 more g c here =
     let l = c.loop-there.invariant in
     let ms = set c.loop-there.metadata c.loop-there.slot c.loop-there.word in

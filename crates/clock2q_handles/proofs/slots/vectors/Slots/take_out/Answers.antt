@@ -34,7 +34,7 @@ pub offset_bounds-handles-hole : goal.offset_bounds-handles-hole
 offset_bounds-handles-hole g c =
     let l = c.loop-handles.invariant in
     let here : c.loop-handles.hole < length c.as_mut_slice-handles.result.now =
-        omega (arith, close_slot _ (cells c.loop-handles.metadata c.loop-handles.handles) l.tidy l.state, length-cells _ _ l.pair.same, l.pair.same, c.loop-handles.auto.handles) in
+    omega (arith, close_slot _ (cells c.loop-handles.metadata c.loop-handles.handles) l.tidy l.state, length-cells _ _ l.pair.same, l.pair.same, c.loop-handles.auto.handles) in
     search rules
 
 pub loop-handles-smaller : goal.loop-handles-smaller
