@@ -6,6 +6,7 @@ use Rattle.clock2q_queues.proofs.Names.{main_entries, from_victim, IsSmallQueue,
 use Rattle.clock2q_queues.proofs.Names.{queues_shown, differs, IsDistinct-append, AllByRecursion-append, among-without-back, or_parts, or_neither, get_or-same, SetsBit}
 use Rattle.clock2q_queues.proofs.Main.{PushesMain}
 use Rattle.clock2q_queues.proofs.QueuesApart.{KeepsMain-from, KeepsSmall-from, small_apart, main_apart}
+use Rattle.clock2q_queues.proofs.Window.{Admits}
 use Rattle.clock2q_queues.proofs.SlotLists.{slots_of-entries, slots_of-mapped, slots_of-append, slots_of-filter, members-chosen}
 
 -- queues with the same lists, bounds and counts are equal
@@ -100,12 +101,11 @@ module _ (l : LinkState) (small : Small) (main : Main) (q : AreQueues l small ma
       → ((list_any (eqb t) ss ≡ false) × (list_any (eqb t) ss ≡ false)) ⊎ (location_at new.records.items t ≡ Free)
   left_free new slot t ss f a = grind (arith, cases_Bool, eqb-true, not_among)
 
-  pub after_admission : (new : LinkState) (small' : Small) (slot window : ℕ) → list_any (eqb slot) (main_slots l main) ≡ false → IsSmallQueue new small'
-      → small_entries new small' ≡ admitted window slot (small_entries l small) → IsSameBut (slot ∷ small_slots l small) l new
+  pub after_admission : (new : LinkState) (small' : Small) (slot : ℕ) → list_any (eqb slot) (main_slots l main) ≡ false → Admits slot l small.cursor (small_slots l small) new small'
       → new.made ≡ made_below (slot + 1) l.made → length new.window.items ≡ length l.window.items → new.bits.inspections ≡ l.bits.inspections
-      → Becomes new small' main (record (queues_shown l small main) { small = admitted window slot (small_entries l small); made = made_below (slot + 1) l.made; accesses = accesses_of new })
-  after_admission new small' slot window n w e s d p i = small_changed (slot ∷ small_slots l small) (clear_of_main slot n) w e s d p i (λ t a.
-      let slots = slots_of-mapped (λ a. grown_older window a) (small_entries l small) ∙ small_slots-of l small in
+      → Becomes new small' main (record (queues_shown l small main) { small = admitted (length l.window.items) slot (small_entries l small); made = made_below (slot + 1) l.made; accesses = accesses_of new })
+  after_admission new small' slot n admits d p i = small_changed (slot ∷ small_slots l small) (clear_of_main slot n) admits.whole admits.entries admits.others d p i (λ t a.
+      let slots = slots_of-mapped (λ a. grown_older (length l.window.items) a) (small_entries l small) ∙ small_slots-of l small in
       let b : list_any (eqb t) (slot ∷ small_slots l small) ≡ false = ap (λ zs. list_any (eqb t) (slot ∷ zs)) (sym slots) ∙ a in
       inl (b, (or_parts (eqb t slot) (list_any (eqb t) (small_slots l small)) b).1))
 

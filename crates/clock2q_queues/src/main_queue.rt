@@ -1,9 +1,9 @@
 //! Main: a ring of slots with a hand, which looks for the slot to evict.
-ghost use Rattle.std.specs.Prelude.{◌≡◌, ℕ, ◌+◌, ◌-◌, ◌^◌, ◌<◌, ◌≤◌, ◌==◌, true, false, not, [], ◌∷◌, ◌++◌, length, drop, Some, slice_get, nat_eq};
+ghost use Rattle.std.specs.Prelude.{◌≡◌, ℕ, ◌+◌, ◌-◌, ◌^◌, ◌<◌, ◌==◌, true, false, not, [], length, Some, slice_get, nat_eq};
 ghost use Rattle.std.specs.List.{filter, list_any};
 ghost use Rattle.std.specs.Option.{option_map};
-ghost use Rattle.clock2q_queues.specs.Cells.{Rises, accessed, cells_state};
-ghost use Rattle.clock2q_queues.specs.Links.{LinkState, IsSameBut, location_at, made_below};
+ghost use Rattle.clock2q_queues.specs.Cells.{Rises, cells_state};
+ghost use Rattle.clock2q_queues.specs.Links.{LinkState, IsSameBut, location_at};
 
 use crate::entries::Location;
 use crate::links::Links;

@@ -1,12 +1,11 @@
 //! The two queues of a cache's residents, Small and Main, over the links that they share.
-ghost use Rattle.std.specs.Prelude.{◌≡◌, ℕ, ◌+◌, ◌-◌, ◌<◌, ◌≤◌, ◌⊎◌, false, true, [], ◌∷◌, ◌++◌, length, take, drop, slice_get, None, Some, IfOk, nat_eq};
+ghost use Rattle.std.specs.Prelude.{◌≡◌, ℕ, ◌+◌, ◌-◌, ◌<◌, ◌≤◌, ◌⊎◌, false, true, [], ◌∷◌, ◌++◌, length, take, None, Some, IfOk, nat_eq};
 ghost use Rattle.std.specs.List.{last_or, list_any};
-ghost use Rattle.std.specs.Option.{option_map};
 ghost use Rattle.clock2q_queues.specs.Cells.{Rises};
 ghost use Rattle.clock2q_queues.specs.Links.{made_below};
 ghost use Rattle.clock2q_queues.specs.Small.{admitted, small_hit_at};
-ghost use Rattle.clock2q_queues.specs.Main.{inspections, from_victim, main_hit_at};
-ghost use Rattle.clock2q_queues.specs.Queues.{slots_of, without_slot, empty_queues, victim_leaves, looks_ahead, IsAt, IsWholeQueues, tail_promoted};
+ghost use Rattle.clock2q_queues.specs.Main.{main_hit_at};
+ghost use Rattle.clock2q_queues.specs.Queues.{slots_of, without_slot, empty_queues, IsAt, IsWholeQueues, tail_promoted};
 
 mod growth;
 mod hand;
@@ -142,7 +141,17 @@ impl<A: Allocator> Queues<A> {
             } }
         ensures accesses { Rises 3 10 self.old.accesses self.new.accesses }
     {
-        self.small.push(&mut self.links, slot);
+        let cursor = self.small.cursor;
+        self.small.cursor = self.links.take_position(cursor, slot);
+        let location = Location::SmallYoung(cursor);
+        if self.small.len == 0 {
+            self.links.attach_alone(slot, location);
+            self.small.oldest = slot;
+        } else {
+            self.links.attach(slot, self.small.newest, location);
+        }
+        self.small.newest = slot;
+        self.small.len += 1;
     }
 
     /// Puts a slot at the end of Main, with a clear bit.
@@ -229,9 +238,9 @@ impl<A: Allocator> Queues<A> {
         let was = self.links.look(slot).0;
         self.links.leave_position(was.held);
         self.small.oldest = was.previous;
+        self.small.newest = slot;
         self.small.cursor = self.links.take_position(cursor, slot);
         self.links.relocate(slot, Location::SmallYoung(cursor));
-        self.small.newest = slot;
         slot
     }
 

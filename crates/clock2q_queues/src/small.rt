@@ -1,8 +1,8 @@
 //! Small: the queue of the newest residents, of which the last admitted ones are young.
-ghost use Rattle.std.specs.Prelude.{◌≡◌, ℕ, ◌+◌, ◌-◌, ◌^◌, ◌<◌, ◌≤◌, ◌==◌, true, false, not, [], ◌∷◌, length, nat_eq};
+ghost use Rattle.std.specs.Prelude.{◌≡◌, ℕ, ◌-◌, ◌^◌, ◌<◌, ◌==◌, true, not, [], length, nat_eq};
 ghost use Rattle.std.specs.List.{filter, list_any};
 ghost use Rattle.clock2q_queues.specs.Cells.{Rises};
-ghost use Rattle.clock2q_queues.specs.Links.{LinkState, IsBlank, IsSameBut, accesses_of, location_at, made_below};
+ghost use Rattle.clock2q_queues.specs.Links.{LinkState, IsBlank, IsSameBut, accesses_of, location_at};
 
 use crate::entries::Location;
 use crate::links::Links;
@@ -19,7 +19,7 @@ pub(crate) struct Small {
 }
 
 impl Small {
-    ghost use Rattle.clock2q_queues.specs.Small.{IsSmallQueue, small_slots, small_entries, admitted};
+    ghost use Rattle.clock2q_queues.specs.Small.{IsSmallQueue, small_slots, small_entries};
 
     /// Returns an empty queue.
     pub(crate) fn new() -> Self
@@ -32,35 +32,6 @@ impl Small {
             len: 0,
             cursor: 0,
         }
-    }
-
-    /// Admits a slot as the newest, and young. All other young slots grow older.
-    #[inline(always)]
-    pub(crate) fn push<A: Allocator>(&mut self, links: &mut Links<A>, slot: u32)
-        requires whole { IsSmallQueue links.old self.old }
-        requires slot_in { slot < length links.old.records.items }
-        requires next { slot ≤ links.old.made }
-        requires absent { list_any (nat_eq slot) (small_slots links.old self.old) ≡ false }
-        requires window { 0 < length links.old.window.items }
-        ensures whole { IsSmallQueue links.new self.new }
-        ensures entries { small_entries links.new self.new
-            ≡ admitted (length links.old.window.items) slot (small_entries links.old self.old) }
-        ensures others { IsSameBut (slot ∷ small_slots links.old self.old) links.old links.new }
-        ensures window { length links.new.window.items ≡ length links.old.window.items }
-        ensures inspections { links.new.bits.inspections ≡ links.old.bits.inspections }
-        ensures made { links.new.made ≡ made_below (slot + 1) links.old.made }
-        ensures accesses { Rises 3 10 (accesses_of links.old) (accesses_of links.new) }
-    {
-        let cursor = self.cursor;
-        self.cursor = links.take_position(cursor, slot);
-        if self.len == 0 {
-            links.attach_alone(slot, Location::SmallYoung(cursor));
-            self.oldest = slot;
-        } else {
-            links.attach(slot, self.newest, Location::SmallYoung(cursor));
-        }
-        self.newest = slot;
-        self.len += 1;
     }
 
     /// Removes a slot. If it was young, its position becomes free.

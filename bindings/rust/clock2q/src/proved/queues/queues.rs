@@ -102,7 +102,17 @@ impl<A: Allocator> Queues<A> {
     /// At most ten accesses to links.
     #[inline(always)]
     pub fn admit(&mut self, slot: u32) {
-        self.small.push(&mut self.links, slot);
+        let cursor = self.small.cursor;
+        self.small.cursor = self.links.take_position(cursor, slot);
+        let location = Location::SmallYoung(cursor);
+        if self.small.len == 0 {
+            self.links.attach_alone(slot, location);
+            self.small.oldest = slot;
+        } else {
+            self.links.attach(slot, self.small.newest, location);
+        }
+        self.small.newest = slot;
+        self.small.len += 1;
     }
 
     /// Puts a slot at the end of Main, with a clear bit.
@@ -154,9 +164,9 @@ impl<A: Allocator> Queues<A> {
         let was = self.links.look(slot).0;
         self.links.leave_position(was.held);
         self.small.oldest = was.previous;
+        self.small.newest = slot;
         self.small.cursor = self.links.take_position(cursor, slot);
         self.links.relocate(slot, Location::SmallYoung(cursor));
-        self.small.newest = slot;
         slot
     }
 

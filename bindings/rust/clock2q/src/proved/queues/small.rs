@@ -27,21 +27,6 @@ impl Small {
         }
     }
 
-    /// Admits a slot as the newest, and young. All other young slots grow older.
-    #[inline(always)]
-    pub(crate) fn push<A: Allocator>(&mut self, links: &mut Links<A>, slot: u32) {
-        let cursor = self.cursor;
-        self.cursor = links.take_position(cursor, slot);
-        if self.len == 0 {
-            links.attach_alone(slot, Location::SmallYoung(cursor));
-            self.oldest = slot;
-        } else {
-            links.attach(slot, self.newest, Location::SmallYoung(cursor));
-        }
-        self.newest = slot;
-        self.len += 1;
-    }
-
     /// Removes a slot. If it was young, its position becomes free.
     #[inline]
     pub(crate) fn unlink<A: Allocator>(&mut self, links: &mut Links<A>, slot: u32) {
