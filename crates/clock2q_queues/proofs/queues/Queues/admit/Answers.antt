@@ -36,7 +36,7 @@ module _ (g : Over) (c : Joined-self-eq0 g) where
       let t = c.take_position-self-inside.ensures in
       after_admission i.links i.small i.main c.self.invariant new small' c.args.slot (in_main i.links i.small i.main _ c.args.slot false c.self.view_is c.requires.not_in_main) admits
       (made ∙ ap (λ n. made_below (c.args.slot + 1) n) t.made)
-      (ap (λ (w : CellsState (Option ℕ)). length w.items) cleared.window ∙ ap (λ (w : CellsState (Option ℕ)). length w.items) t.taken ∙ length-set i.links.window.items i.small.cursor (Some c.args.slot))
+      (ap (λ (w : CellsState (Option ℕ)). length w.items) (cleared.window ∙ t.taken) ∙ length-set i.links.window.items i.small.cursor (Some c.args.slot))
       (cleared.inspections ∙ t.older.inspections)
 
   put : Becomes c.if-self-eq0.self-inside.links

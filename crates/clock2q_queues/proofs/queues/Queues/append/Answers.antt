@@ -9,7 +9,8 @@ use Rattle.clock2q_queues.proofs.queues.Queues.append.Goals as goal
 pub attach-requires-clause-previous_in : goal.attach-requires-clause-previous_in
 attach-requires-clause-previous_in g c = (hand_linked c.self.inside.links c.self.inside.main c.in-Some.hand c.self.invariant.main c.in-Some.is).previous
 
-appended : (g : Over) (c : Joined-self g) → Becomes c.match-self.self-inside.links c.match-self.self-inside.small (record { hand = c.match-self.self-inside.main.hand; len = c.match-self.self-inside.main.len + 1 })
+appended : (g : Over) (c : Joined-self g) → Becomes c.match-self.self-inside.links c.match-self.self-inside.small
+    (record { hand = c.match-self.self-inside.main.hand; len = c.match-self.self-inside.main.len + 1 })
     (record (queues_shown c.self.inside.links c.self.inside.small c.self.inside.main) {
       main = main_entries c.self.inside.links c.self.inside.main ++ (c.args.slot, false) ∷ [];
       made = made_below (c.args.slot + 1) c.self.inside.links.made;
@@ -30,15 +31,16 @@ appended g c =
       | in-Some w ↦
           let a = w.attach in
           let main : Main = record { hand = i.main.hand; len = i.main.len + 1 } in
-          let pushed = PushesMain-attached slot i.links i.main a.new.self main c.self.invariant.main within in_no_main a.ensures.cleared refl w.in-Some.hand w.in-Some.is a.ensures.attached w.in-Some.is in
+          let pushed = PushesMain-attached slot i.links i.main a.new.self main c.self.invariant.main within in_no_main a.ensures.cleared refl
+          w.in-Some.hand w.in-Some.is a.ensures.attached w.in-Some.is in
           rw w.self-inside-is (after_append i.links i.small i.main c.self.invariant a.new.self main slot in_no_small pushed a.ensures.made a.ensures.cleared)
     ]
 
 pub overflow_add-self : goal.overflow_add-self
 overflow_add-self g c =
     let i = c.self.inside in
-    let fits = count_fits i.links.records.items i.main.hand i.main.len _ c.args.slot c.self.invariant.main.queue (in_main i.links i.small i.main _ c.args.slot false c.self.view_is c.requires.not_in_main)
-    (rw (ap (λ (q : QueueState). q.slots) c.self.view_is) c.requires.slot_in) in
+    let fits = count_fits i.links.records.items i.main.hand i.main.len _ c.args.slot c.self.invariant.main.queue
+    (in_main i.links i.small i.main _ c.args.slot false c.self.view_is c.requires.not_in_main) (rw (ap (λ (q : QueueState). q.slots) c.self.view_is) c.requires.slot_in) in
     grind (arith, fits)
 
 pub invariant_of-self : goal.invariant_of-self

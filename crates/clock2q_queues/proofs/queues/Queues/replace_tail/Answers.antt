@@ -51,8 +51,8 @@ module _ (g : Over) (c : After-relocate g) where
       let aged = c.take_position-self-inside in
       let small' : Small = record { newest = i.small.oldest; oldest = c.look.result.0.previous; len = i.small.len; cursor = aged.result } in
       let turned : Turns i.small.oldest i.links i.small c.relocate.new.self small' =
-      Turns-from i.small.oldest i.links i.small c.self.invariant.small (oldest_is c.self.invariant.small (some_small i.links i.small i.main _ c.self.view_is c.requires.some)) left (rw (c.look.ensures.entry, c.look.ensures.counted) at c.leave_position.ensures)
-      (aged_before left aged.new.self) aged.new.self c.relocate.new.self small' (rw (ap (λ (q : QueueState). q.window) c.self.view_is) c.requires.window)
+      Turns-from i.small.oldest i.links i.small c.self.invariant.small (oldest_is c.self.invariant.small (some_small i.links i.small i.main _ c.self.view_is c.requires.some)) left
+      (rw (c.look.ensures.entry, c.look.ensures.counted) at c.leave_position.ensures) (aged_before left aged.new.self) aged.new.self c.relocate.new.self small' (rw (ap (λ (q : QueueState). q.window) c.self.view_is) c.requires.window)
       aged.ensures.older (position_taken left aged.new.self i.small.cursor i.small.oldest aged.ensures.taken) c.relocate.ensures.moved c.relocate.ensures.cleared
       refl (ap (λ (r : Record). r.previous) c.look.ensures.entry) refl aged.ensures.next in
       after_reuse i.links i.small i.main c.self.invariant c.relocate.new.self small' i.small.oldest (length i.links.window.items)
