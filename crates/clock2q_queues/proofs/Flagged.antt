@@ -1,5 +1,5 @@
 -- The flags of the slots agree with the records after a write to both.
-use Rattle.clock2q_queues.proofs.Names.{◌≡◌, ℕ, ◌+◌, ◌<◌, ◌≤◌, Bool, true, false, None, eqb, Option, List, map, length, get_or, set, replicate, inl, inr, refl, sym, ap, ◌∙◌, arith, true≢false}
+use Rattle.clock2q_queues.proofs.Names.{◌≡◌, ℕ, ◌+◌, ◌<◌, ◌≤◌, Bool, true, false, None, eqb, Option, List, map, length, get_or, set, replicate, inl, inr, refl, sym, ap, ◌∙◌, arith}
 use Rattle.clock2q_queues.proofs.Names.{cases_Bool, eqb-true, get_or-map, length-map, length-replicate, length-set, map-set, Flag, Location, CellsState, cells_state, Record, SetsBit, fresh}
 use Rattle.clock2q_queues.proofs.Names.{made_below, Attaches, Detaches, location_at, vacant, RingState, ring_state, changed, get_or-same, mapped-same, eqb_self, AreLinks, FlagState, flag_state}
 use Rattle.clock2q_queues.proofs.Names.{is_linked, is_set, links_shown, says_linked}
@@ -12,14 +12,7 @@ mapped-set says flags slot f b e = map-set says flags slot f ∙ ap (λ z. set (
 -- no slot is in a queue
 pub are_fresh : (n accesses : ℕ) (ring : RingState) (flags : FlagState) → ring ≡ ring_state (cells_state (replicate n vacant) accesses) 0 → flags ≡ flag_state (replicate n Flag.Free) 0
     → AreLinks ring flags
-are_fresh n accesses ring flags empty free =
-    let nowhere : (t : ℕ) → is_linked (location_at ring.cells.items t) ≡ false = λ t. rw empty (ap (λ (r : Record). is_linked r.held) (get_or-same n t vacant)) in
-    record {
-      as_many = rw (empty, free) (length-replicate n Flag.Free ∙ sym (length-replicate n vacant));
-      agree = λ t. rw (free, mapped-same says_linked n Flag.Free) (get_or-same n t false) ∙ sym (nowhere t);
-      made = λ t linked. absurd (true≢false (sym linked ∙ nowhere t));
-      together = rw (empty, free) refl;
-    }
+are_fresh n accesses ring flags empty free = grind (arith, get_or-same, mapped-same, length-replicate)
 
 -- the flag of a slot that is in a queue says so
 pub flag_linked : {ring : RingState} {flags : FlagState} → AreLinks ring flags → (slot : ℕ) → is_linked (location_at ring.cells.items slot) ≡ true

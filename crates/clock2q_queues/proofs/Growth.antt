@@ -31,17 +31,7 @@ IsQueue-grown old new first count ss n p more countable q = record {
 module _ (old new : RingState) (newest : Option ℕ) (len : ℕ) (chain : Chain) (limit : ℕ) (g : GrowsRing (λ e. e) limit old new) (fits : length old.cells.items ≤ limit) (countable : limit < 2 ^ 32)
     (o : IsOrder old newest len chain) where
   pub order-grown : IsOrderOf new newest len chain (slots_from old.cells.items newest len) (free_places old.cells.items chain)
-  order-grown =
-      let next = (λ (t : ℕ). ap (λ (r : Record). r.next) (g.entries t)) in
-      record {
-        queue = IsQueue-grown old.cells.items new.cells.items newest len (slots_from old.cells.items newest len) next (λ t. ap (λ (r : Record). r.previous) (g.entries t))
-            (rw g.as_many fits) (rw g.as_many countable) o.queue;
-        chained = around-kept (next_at old.cells.items) (next_at new.cells.items) chain.head chain.len (λ t h. next t);
-        apart = o.apart;
-        below = o.below;
-        within = omega (arith, o.within, g.as_many, fits);
-        made = g.made ∙ o.made;
-      }
+  order-grown = grind (arith, IsQueue-grown, around-kept)
 
 -- Small and Main
 

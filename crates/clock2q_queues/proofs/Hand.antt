@@ -77,14 +77,10 @@ module _ (now l : LinkState) (main : Main) (hand : ℕ) (rest : List ℕ) (k : L
   entries_turned = grind (arith, map-append, others_kept, hand_cleared)
 
   entries_stayed : map {B = ℕ × Bool} (λ s. (s, bit_at l s)) (hand ∷ rest) ≡ (hand, false) ∷ map {B = ℕ × Bool} (λ s. (s, bit_at now s)) rest
-  entries_stayed =
-      ap (λ z. (hand, z) ∷ map {B = ℕ × Bool} (λ s. (s, bit_at l s)) rest) hand_cleared
-      ∙ ap (λ (z : List (ℕ × Bool)). (hand, false) ∷ z) others_kept
+  entries_stayed = grind (arith, others_kept, hand_cleared)
 
   same_elsewhere : (t : ℕ) → list_any (eqb t) (hand ∷ rest) ≡ false → slot_at l t ≡ slot_at now t
-  same_elsewhere t h =
-      ap (λ (z : List Record). (record_at z t, bit_at l t)) k.items
-      ∙ ap (λ z. (record_at now.records.items t, z)) (k.bits t ∙ rw ((or_parts (eqb t hand) (list_any (eqb t) rest) h).0) refl)
+  same_elsewhere t h = grind (arith, k.items, k.bits, or_parts)
 
 first_entry : (bits : ℕ → Bool) (ss : List ℕ) (slot : ℕ) → slice_get (map {B = ℕ × Bool} (λ s. (s, bits s)) ss) 0 ≡ Some (slot, false)
     → (rest : List ℕ) × ((ss ≡ slot ∷ rest) × (bits slot ≡ false))

@@ -194,9 +194,7 @@ module _ (l : LinkState) (small : Small) (main : Main) (q : AreQueues l small ma
   -- records were read
   pub after_reads : (new : LinkState) → new ≡ record l { records = cells_state l.records.items new.records.accesses } → l.records.accesses + 0 ≤ new.records.accesses
       → Becomes new small main (record (queues_shown l small main) { accesses = accesses_of l + (new.records.accesses - l.records.accesses) })
-  after_reads new e more =
-      let grown : new.records.accesses ≡ l.records.accesses + (new.records.accesses - l.records.accesses) = omega (arith, more) in
-      after_counting new (new.records.accesses - l.records.accesses) (e ∙ ap (λ n. record l { records = cells_state l.records.items n }) grown)
+  after_reads new e more = after_counting new (new.records.accesses - l.records.accesses) (grind (arith, e, more))
 
 -- links with no slot in a queue
 pub AreQueues-blank : (l : LinkState) (small : Small) (main : Main) → IsSmallQueue l small → IsMainQueue l main → IsBlank l → AreQueues l small main

@@ -78,7 +78,7 @@ pub record AreStaying (l : LinkState) (cursor : ℕ) (ss : List ℕ) : Type 0 wh
 
 -- all of them, if none leaves
 pub all_stay : {l : LinkState} {small : Small} → IsSmallQueue l small → AreStaying l small.cursor (small_slots l small)
-all_stay m = record { location = m.location; placed = m.placed; occupied = m.occupied; cursor_in = m.cursor_in; countable = m.queue.countable; countable_positions = m.countable_positions }
+all_stay m = grind (arith)
 
 -- a slot at the cursor is in Small
 pub cursor_linked : {l : LinkState} {cursor : ℕ} {ss : List ℕ} → AreStaying l cursor ss → IfSome (young_at l cursor) (λ slot. is_linked (location_at l.records.items slot) ≡ true)
