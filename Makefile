@@ -19,9 +19,9 @@ export PREFIX INTO
 
 all: crates/clock2q_program/out/made crates/simulator/out/made
 
-crates/clock2q_program/out/made: needs = some 39 minutes of processor time, 15 of the clock on four cores, \
+crates/clock2q_program/out/made: needs = some 32 minutes of processor time, 30 of the clock on two cores, \
 	3 GB of disk and 6 GB of memory
-crates/simulator/out/made: needs = up to 55 minutes of processor time and 6 GB of disk, or 24 minutes and \
+crates/simulator/out/made: needs = up to 50 minutes of processor time and 6 GB of disk, or 24 minutes and \
 	3 GB once clock2q is built, and 6 GB of memory
 
 crates/%/out/made: always
