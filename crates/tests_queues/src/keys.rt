@@ -125,13 +125,14 @@ fn put(keys: &mut Keys<u64, ()>, index: &mut Table<u32>, hash: u64, key: u64)
 /// Looks a key up twice through an index of all keys: a count of its own counts one lookup, and the
 /// keys count the other.
 fn place_of(keys: &mut Keys<u64, ()>, index: &Table<u32>, hash: u64, key: u64) -> Option<u32>
+    requires some { 0 < length index.now.homes }
     requires indexed { (places : List ℕ) × IsIndex index.now.homes keys.old.entries places }
     ensures has { IfSome result (λ place. is_key_at nat_eq key keys.old.entries place ≡ true) }
     ensures same { keys.new ≡ record keys.old { comparisons = keys.new.comparisons } }
 {
     let mut asked = Count::new();
     let found = keys.find_counting_in(index.get(hash), &key, &mut asked);
-    let again = keys.find(index.get(hash), &key);
+    let again = keys.find(index.get_in_slots(hash), &key);
     prove!(found == again);
     found
 }
@@ -139,6 +140,7 @@ fn place_of(keys: &mut Keys<u64, ()>, index: &Table<u32>, hash: u64, key: u64) -
 /// Returns the places of five keys. Two of the three that are there have the same hash, and an index can't
 /// distinguish the third's from it.
 fn places_of(keys: &mut Keys<u64, ()>, index: &Table<u32>) -> [Option<u32>; 5]
+    requires some { 0 < length index.now.homes }
     requires indexed { (places : List ℕ) × IsIndex index.now.homes keys.old.entries places }
 {
     [

@@ -17,3 +17,8 @@ put-requires-clause-indexed c =
     let homes : c.in_ok-index.index.homes ≡ made_for (index_room 3) = ap (λ (z : TableValue ℕ). z.homes) c.in_ok-index.ensures.made ∙ ap (λ n. made_for {H = ℕ} n) c.index_room.ensures.room in
     let none = ap (λ (z : KeyPlaces ℕ Unit). length z.entries) c.in_ok-keys.ensures.made in
     ([], rw homes (IsIndex-new (index_room 3) c.in_ok-keys.keys.entries), tt, sym none)
+
+pub places_of-requires-clause-some : goal.places_of-requires-clause-some
+places_of-requires-clause-some c =
+    let room = ap (λ (z : KeyPlaces ℕ Unit). z.room) c.in_ok-keys.ensures.made in
+    omega (arith, room, c.put.ensures.room, c.put-2.ensures.room, c.put-3.ensures.room, c.put-3.ensures.spacious)

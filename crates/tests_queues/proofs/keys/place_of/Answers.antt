@@ -1,5 +1,5 @@
-use Rattle.std.proofs.Common.{◌≡◌, ℕ, Bool, true, eqb, ltb, Option, Some, None, List, [], ◌∷◌, inl, inr}
-use Rattle.std.specs.Prelude.{IfSome}
+use Rattle.std.proofs.Common.{◌≡◌, ℕ, Bool, true, eqb, ltb, Option, Some, None, List, [], ◌∷◌, inl, inr, refl, sym, subst}
+use Rattle.std.specs.Prelude.{IfSome, IsSome}
 use Rattle.std.specs.List.{find, AllByRecursion}
 use Rattle.std.proofs.lemmas.Bool.{cases_Bool}
 use Rattle.clock2q_directory.specs.Index.{first_remembered, slots_among}
@@ -29,7 +29,8 @@ find_counting_in-found-requires c =
 pub find-again-requires : goal.find-again-requires
 find-again-requires c =
     record {
-      used = rw c.get-2.ensures.candidates
+      walking = subst IsSome (sym c.get_in_slots.ensures.end) refl;
+      used = rw c.get_in_slots.ensures.candidates
           (all_slots _ _ (candidates_there c.args.index.now.homes c.args.keys.now.entries c.requires.indexed.0 c.args.hash c.requires.indexed.1));
     }
 

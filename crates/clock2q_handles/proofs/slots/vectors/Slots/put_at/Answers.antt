@@ -23,7 +23,8 @@ offset_bounds-handles-slot g c =
 
 pub offset_bounds-handles-slot-in-loop-there : goal.offset_bounds-handles-slot-in-loop-there
 offset_bounds-handles-slot-in-loop-there g c =
-    let l : c.loop-there.slot < length c.as_mut_slice-handles.result.now = omega (arith, within g (goal.at.offset_bounds-handles-slot-in-loop-there g c).In-loop-there, c.loop-there.invariant.pair.same, c.loop-there.auto.handles) in search rules
+    let l : c.loop-there.slot < length c.as_mut_slice-handles.result.now = omega
+    (arith, within g (goal.at.offset_bounds-handles-slot-in-loop-there g c).In-loop-there, c.loop-there.invariant.pair.same, c.loop-there.auto.handles) in search rules
 
 pub one_further-word-requires-clause-room : goal.one_further-word-requires-clause-room
 one_further-word-requires-clause-room g c =
@@ -34,7 +35,8 @@ one_further-word-requires-clause-room g c =
 -- what the next turn starts from
 more : (g : Over) (c : After-after-slot g) → c.loop-there.slot < length c.loop-there.metadata
     → (let ms = set c.loop-there.metadata c.loop-there.slot c.loop-there.word in
-    CarryState (cells c.as_mut_slice-metadata.result.now c.as_mut_slice-handles.result.now) (cells ms (set c.loop-there.handles c.loop-there.slot c.loop-there.handle)) (cell (meaning c.metadata-word.result) c.args.handle)
+    CarryState (cells c.as_mut_slice-metadata.result.now c.as_mut_slice-handles.result.now) (cells ms (set c.loop-there.handles c.loop-there.slot c.loop-there.handle))
+    (cell (meaning c.metadata-word.result) c.args.handle)
     (cell (meaning c.one_further-word.result) c.index-handles-slot.result) (meaning (get_or ms c.after-slot.result (record { word = 0 })))
     c.gap.inside.slot c.after-slot.result c.self.inside.writes.total (c.loop-there.writes.total + 1))
 more g c here =
@@ -69,7 +71,8 @@ returns-clause-puts g c =
     let l = c.loop-there.invariant in
     let written = set-cells c.loop-there.metadata c.loop-there.handles c.loop-there.slot c.loop-there.word c.loop-there.handle l.pair.same in
     let new = cells (set c.loop-there.metadata c.loop-there.slot c.loop-there.word) (set c.loop-there.handles c.loop-there.slot c.loop-there.handle) in
-    let puts : PutsAt (cells c.as_mut_slice-metadata.result.now c.as_mut_slice-handles.result.now) new c.args.gap.now.mark c.args.gap.now.position c.args.handle c.self.inside.writes.total c.tick-2.new.self.total = record {
+    let puts : PutsAt (cells c.as_mut_slice-metadata.result.now c.as_mut_slice-handles.result.now) new c.args.gap.now.mark c.args.gap.now.position c.args.handle c.self.inside.writes.total
+    c.tick-2.new.self.total = record {
       opens = λ h n f come is.
           let first = ap (λ m. cell m c.args.handle) (c.metadata-word.ensures ∙ ap (λ p. p.mark) c.gap.view_is ∙ is) in
           let ended = carry_ends _ (cells c.loop-there.metadata c.loop-there.handles) l.tidy l.state new (c.is_empty.ensures.0 c.loop-there-test.false) written h n (f, c.args.handle)

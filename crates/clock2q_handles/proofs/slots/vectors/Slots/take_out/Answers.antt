@@ -20,7 +20,8 @@ next g c =
 -- what the next turn starts from
 more : (g : Over) (c : After-one_nearer g) → (next : c.after-next.result < length c.loop-handles.metadata)
     × (c.after-next.result ≡ (c.loop-handles.hole + 1) % length (cells c.loop-handles.metadata c.loop-handles.handles))
-    → CloseState (cells c.as_mut_slice-metadata.result.now c.as_mut_slice-handles.result.now) (cells (set c.loop-handles.metadata c.loop-handles.hole c.one_nearer.result) (set c.loop-handles.handles c.loop-handles.hole c.index-handles-next.result))
+    → CloseState (cells c.as_mut_slice-metadata.result.now c.as_mut_slice-handles.result.now)
+    (cells (set c.loop-handles.metadata c.loop-handles.hole c.one_nearer.result) (set c.loop-handles.handles c.loop-handles.hole c.index-handles-next.result))
     c.args.slot c.after-next.result c.self.inside.writes.total (c.loop-handles.writes.total + 1)
 more g c next =
     let l = c.loop-handles.invariant in
@@ -55,7 +56,8 @@ returns-clause-taken g c =
     let left = set_empty c.loop-handles.metadata c.loop-handles.handles c.loop-handles.hole l.pair.same in
     let near = near_of_meaning c.can_move_back.result _ (slot_at now c.after-next.result) c.can_move_back.ensures c.if-not-can_move_back.true
     (mark_read_or c.loop-handles.metadata c.loop-handles.handles c.after-next.result (record { word = 0 }) l.pair.same here.0) in
-    let taken : TakesOutAt (cells c.as_mut_slice-metadata.result.now c.as_mut_slice-handles.result.now) (cells (set c.loop-handles.metadata c.loop-handles.hole (record { word = 0 })) c.loop-handles.handles) c.args.slot c.self.inside.writes.total c.tick-2.new.self.total = record {
+    let taken : TakesOutAt (cells c.as_mut_slice-metadata.result.now c.as_mut_slice-handles.result.now)
+    (cells (set c.loop-handles.metadata c.loop-handles.hole (record { word = 0 })) c.loop-handles.handles) c.args.slot c.self.inside.writes.total c.tick-2.new.self.total = record {
       closes = λ h n e come was.
           let ended = close_ends _ now l.tidy l.state here.1 _ near left h n e come was in
           (ended.0, ended.1, omega (arith, ended.2, c.tick-2.ensures.ticked));
