@@ -39,8 +39,8 @@ module _ (K V S A H : RattleType) (key : HashMembers K.Denot) (build : builder.G
       MatchResult r (λ value. BecomesKnown (With k value.now) (fetched (key.eq k) k value.now old.machine) (known_with key build hash k old) old new)
       (λ _. BecomesKnown (Try k None) old.machine (looked_for key build hash k old).known old new)
 
-  -- the same once the reference into the cache has ended
-  abbrev pub LeavesTried : {E : Type 0} → MutBor (CacheState K.Denot V.Denot S.Denot) → K.Denot → Result (Bor V.Denot) E → Fml
+  -- the same once the reference into the cache has ended; a tactic that looked into it would take minutes
+  unfoldable pub LeavesTried : {E : Type 0} → MutBor (CacheState K.Denot V.Denot S.Denot) → K.Denot → Result (Bor V.Denot) E → Fml
   LeavesTried c k r = follows_so cache_row cache_row c.ghost_name none (λ _ _. ⊤) (Tries c.now k r)
 
   -- the value of that slot is what the caller leaves behind the reference, and nothing else changes

@@ -27,7 +27,7 @@ use Rattle.clock2q_uses.proofs.records.read_through.Statement.{statement}
 use Rattle.clock2q_uses.proofs.records.read_through.Code as code
 
 pub read_through_spec : {M : Type 1} → statement M
-unfolding no_drop.code
+unfolding no_drop.code LeavesTried
 read_through_spec {M} 𝓤 𝓛 𝓜 𝓡 wired K V S A F E H LK LV LS LA LF LE LH CV
     hash d₀ equals d₁ equal d₂ clone d₃ build d₄ hasher d₅ heap d₆ called d₇ d₈ d₉ d₁₀ d₁₁ by_hash by_equals by_equal by_clone by_build by_hasher by_heap by_call drops_K drops_A drops_F drops_H =
     let Hp = 𝓛.H in let 𝓣 = tables 𝓤 Hp 𝓜 𝓡 𝓡.env in

@@ -23,6 +23,7 @@ use Rattle.clock2q_cache.proofs.cache.Cache.try_get_or_insert_with.Statement.{st
 use Rattle.clock2q_cache.proofs.cache.Cache.try_get_or_insert_with.Code as code
 
 pub try_get_or_insert_with_spec : {M : Type 1} → statement M
+unfolding LeavesTried
 try_get_or_insert_with_spec 𝓤 𝓛 𝓜 𝓡 wired K V S A H F E LK LV LS LA LH LF LE
     hash d₀ equals d₁ equal d₂ build d₃ hasher d₄ heap d₅ d₆ d₇ d₈ d₉ called d₁₀ d₁₁ by_hash by_equals by_equal by_build by_hasher by_heap drops_K drops_V drops_A drops_H by_call drops_F =
     let Hp = 𝓛.H in let 𝓣 = tables 𝓤 Hp 𝓜 𝓡 𝓡.env in
