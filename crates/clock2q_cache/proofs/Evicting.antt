@@ -1,12 +1,12 @@
 -- The resident that leaves for a key, and what comes back of it.
-use Rattle.std.proofs.Common.{arith, ◌≡◌, ℕ, ◌<◌, Bool, true, false, List, length, Option, Some, None, refl, sym, ap, ◌∙◌, subst, eq-eqb}
+use Rattle.std.proofs.Common.{arith, ◌≡◌, ℕ, ◌<◌, Bool, false, List, length, Option, Some, None, refl, sym, ap, ◌∙◌, subst, eq-eqb}
 use Rattle.std.specs.Borrow.{Bor}
 use Rattle.std.specs.Option.{IsSomeAnd}
 use Rattle.std.specs.Prelude.{IfSome, MatchOption}
 use Rattle.std.specs.Fn.{Once, FnOnceReturnsAt}
-use Rattle.clock2q_cache.proofs.Names.{if◌then◌else◌, is_some, slice_get, list_any, option_and_then, option_map, slice_get_within, last_or, main_share, Machine, Placement, slot_of, value_of, vacancy, stored, inserted, IsWhole, Fills, into_queue, stored_same, Put}
+use Rattle.clock2q_cache.proofs.Names.{if◌then◌else◌, is_some, slice_get, list_any, option_and_then, option_map, slice_get_within, main_share, Machine, Placement, slot_of, value_of, stored, inserted, IsWhole, Fills, into_queue, stored_same, Put}
 use Rattle.clock2q_machine.specs.Entries.{first_of, from_victim}
-use Rattle.clock2q_machine.specs.Leaving.{leaves_for, leaves_for_main, leaves_for_small, victim_of, with_value}
+use Rattle.clock2q_machine.specs.Leaving.{leaves_for, leaves_for_main, victim_of, with_value}
 use Rattle.clock2q_cache.specs.Insertions.{IsAdmitted, leaves_placed, Notes}
 use Rattle.clock2q_cache.proofs.Making.{small-unknown, placed-there, placed-values}
 
@@ -19,10 +19,6 @@ module _ {K V : Type 0} (m : Machine K V) where
   -- for a key that enters Main
   pub full-leaver : length m.main ≡ main_share m.shares → leaves_for_main m ≡ first_of (from_victim m.main)
   full-leaver full = ap (λ b. if b then first_of (from_victim m.main) else None) (eq-eqb (length m.main) (main_share m.shares) full)
-
-  -- for a key that enters Small at a vacancy
-  pub vacant-leaver : is_some (vacancy m) ≡ true → leaves_placed false m ≡ None
-  vacant-leaver some = grind (arith, vacancy, is_some, leaves_for_small, last_or)
 
 -- what `map` returns if its closure returns `f` of a value
 pub map-gives : {X Y : Type 0} (f : X → Y) {P : X → Y → Type 0} (o : Option X) (r : Option Y) → MatchOption o (r ≡ None) (λ x. IsSomeAnd r (P x)) → ((x : X) (y : Y) → P x y → y ≡ f x)

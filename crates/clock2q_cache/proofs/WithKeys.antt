@@ -131,9 +131,7 @@ module _ {K : Type 0} (key : ℕ → Option K) where
 
   -- a slot that is put at the end, behind the hand
   pub main-behind : (slot : ℕ) (k : K) (es : List (ℕ × Bool)) → key slot ≡ Some k → with_keys_main key (es ++ (slot, false) ∷ []) ≡ machine.behind_hand k slot (with_keys_main key es)
-  main-behind slot k es h =
-      filter_map-append (λ (e : ℕ × Bool). option_map (λ k. main_with e k) (key e.0)) es ((slot, false) ∷ [])
-      ∙ ap (λ zs. with_keys_main key es ++ zs) (keys-cons main_with key (slot, false) [] k h)
+  main-behind slot k es h = grind (arith, filter_map-append, option_map, main_with, with_keys_main, keys-cons)
 
   -- the front of Small, and its tail
   pub small-take : (n : ℕ) (es : List (ℕ × Age)) → HaveKeys key (slots_of es) → with_keys_small key (take n es) ≡ take n (with_keys_small key es)
