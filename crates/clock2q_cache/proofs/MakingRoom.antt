@@ -1,18 +1,7 @@
 -- Which resident leaves next, and what a cache's fields become when it leaves though no key comes.
-use Rattle.std.proofs.Common.{◌≡◌, ℕ, suc, ◌+◌, ◌-◌, ◌<◌, ◌==◌, Bool, true, false, not, ◌&&◌, cond, eqb, Option, Some, None, List, [], ◌∷◌, ◌++◌, map, length, take, reverse, inl, inr, refl, sym, ap, ◌∙◌, subst, arith, eq-eqb, eqb-true, length-append}
-use Rattle.clock2q_cache.proofs.Names.{if◌then◌else◌, nat_lt, none_is, slice_get, slice_get_some, IfSome, IsEquivalence, last_or, option_map, AllByRecursion, cases_Bool, lt-ltb, ltb-true, Age, take-map, All-from_recursion, recursion_from_All, All-take, without, among-without_test, and_true, and_false, eqb_swap, KeyPlaces, hash_at, key_at, without_handle, length-taken, QueueState, slots_of, from_victim, inspections_of, counts_of, Spends, Remembered, most_beside, Shares, SmallEntry, Machine, is_promoted, IsWhole, machine_of, queued_slots, with_keys_small, with_keys_main, IsStored, IsCache, list_any}
-use Rattle.std.proofs.lemmas.List.{length-reverse}
-use Rattle.clock2q_queues.proofs.Joining.{length-without}
-use Rattle.clock2q_queues.specs.Cells.{Rises}
-use Rattle.clock2q_queues.specs.Main.{inspections}
+use Rattle.clock2q_cache.proofs.Names.{◌≡◌, ℕ, suc, ◌+◌, ◌-◌, ◌<◌, ◌==◌, Bool, true, false, not, ◌&&◌, cond, eqb, Option, Some, None, List, [], ◌∷◌, ◌++◌, map, length, take, reverse, inl, inr, refl, sym, ap, ◌∙◌, subst, arith, eq-eqb, eqb-true, length-append, if◌then◌else◌, nat_lt, none_is, slice_get, slice_get_some, IfSome, IsEquivalence, last_or, option_map, AllByRecursion, cases_Bool, lt-ltb, ltb-true, Age, take-map, All-from_recursion, recursion_from_All, All-take, without, among-without_test, and_true, and_false, eqb_swap, KeyPlaces, hash_at, key_at, without_handle, length-taken, QueueState, slots_of, from_victim, inspections_of, counts_of, Spends, Remembered, most_beside, Shares, SmallEntry, Machine, is_promoted, IsWhole, machine_of, queued_slots, with_keys_small, with_keys_main, IsStored, IsCache, list_any, length-reverse, length-without, Rises, inspections, first_of, behind_hand, tail_evicted, victim_evicted, victim_leaves, keeps_tail, leaves_now, whole-tail, empty_small, tail_some, Evict, lasting-after}
 use Rattle.clock2q_machine.specs.Entries as machine
-use Rattle.clock2q_machine.specs.Entries.{first_of, behind_hand}
-use Rattle.clock2q_machine.specs.Machine.{tail_evicted, victim_evicted, victim_leaves, keeps_tail, leaves_now}
-use Rattle.clock2q_machine.proofs.Evicted.{whole-tail}
-use Rattle.clock2q_machine.proofs.Whole.{empty_small, tail_some}
 use Rattle.clock2q_queues.specs.Queues as queues
-use Rattle.clock2q_machine.specs.Calls.{Evict}
-use Rattle.clock2q_machine.proofs.MachineInvariant.{lasting-after}
 use Rattle.clock2q_cache.proofs.WithKeys.{main-behind, main-inspections}
 use Rattle.clock2q_cache.proofs.Stored.{stored-left, stored-same, hash-of-key}
 use Rattle.clock2q_cache.proofs.Slots.{main_have, apart, times, times-none, times-both, times-pushed, among-times, at_most_once, length-places, length-swept}
@@ -22,17 +11,8 @@ use Rattle.clock2q_cache.proofs.Renewed.{front_times, length-front, front_entrie
 -- Who leaves next.
 
 module _ {K V : Type 0} (m : Machine K V) where
-  main-some : 0 < length m.main → victim_leaves m ≡ keeps_tail (last_or None m.small)
-  main-some some = ap (λ b. b && keeps_tail (last_or None m.small)) (lt-ltb 0 (length m.main) some)
-
   pub leaves-some : victim_leaves m ≡ true → 0 < length m.main
   leaves-some leaves = grind (arith, ltb-true)
-
-  pub leaves-alone : 0 < length m.main → length m.small ≡ 0 → true ≡ victim_leaves m
-  leaves-alone some none = grind (arith, last_or, m, main-some, keeps_tail, tail_some)
-
-  pub leaves-tail : 0 < length m.main → 0 < length m.small → (b : Bool) → IfSome (last_or None m.small) (λ tail. b ≡ is_promoted tail.age) → b ≡ victim_leaves m
-  leaves-tail some small b is_value = grind (arith, last_or, m, main-some, is_promoted, keeps_tail, empty_small)
 
 -- what isn't some is none
 pub no-other : {X : Type 0} (o : Option X) → ((x : X) → o ≡ Some x → ⊥) → None ≡ o
@@ -205,7 +185,7 @@ module _ {K V : Type 0} {eq : K → K → Bool} {hash : K → ℕ} {shares : Sha
     by None none = ap (λ (z : List (ℕ × Age)). queues.keeps_tail (last_or None z)) (small_empty none) ∙ sym (ap keeps_tail (last_none none))
     by (Some tail) last = ap queues.keeps_tail (tail_at laws kept tail last).1 ∙ sym (ap keeps_tail (last_entry laws kept tail last))
 
-  leaves_same : queues.victim_leaves q ≡ victim_leaves m
+  pub leaves_same : queues.victim_leaves q ≡ victim_leaves m
   leaves_same = ap (λ n. nat_lt 0 n && queues.keeps_tail (last_or None q.small)) (sym (length_in_main laws kept)) ∙ ap (λ b. nat_lt 0 (length m.main) && b) keeps_same
 
   -- the queues look at no more than that

@@ -91,13 +91,7 @@ impl<K: Hash + Eq + Copy, V: Drop, S: BuildHasher, A: Allocator> Cache<K, V, S, 
         ensures kept { self.new ≡ record self.old { counts = self.new.counts } }
         ensures counts { Spends 0 1 0 self.old.counts self.new.counts }
     {
-        if self.queues.main_len() == 0 {
-            return false;
-        }
-        if self.queues.small_len() == 0 {
-            return true;
-        }
-        self.tail_is_promoted()
+        self.queues.victim_leaves()
     }
 
     /// Evicts Main's victim, while Small's tail moves on to Main.

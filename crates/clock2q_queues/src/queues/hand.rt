@@ -56,7 +56,7 @@ impl<A: Allocator> Queues<A> {
     }
 
     /// Returns true if a slot of Main leaves next, rather than Small's oldest one.
-    fn victim_leaves(&mut self) -> bool
+    pub fn victim_leaves(&mut self) -> bool
         ensures leaves { result ≡ victim_leaves self.old }
         ensures queues { self.new ≡ record self.old { accesses = self.new.accesses } }
         ensures accesses { Rises 0 1 self.old.accesses self.new.accesses }

@@ -54,13 +54,7 @@ impl<K: Hash + Eq + Copy, V, S: BuildHasher, A: Allocator> Cache<K, V, S, A> {
     /// Returns true if a resident of Main leaves next, rather than Small's tail.
     #[inline]
     fn victim_leaves(&mut self) -> bool {
-        if self.queues.main_len() == 0 {
-            return false;
-        }
-        if self.queues.small_len() == 0 {
-            return true;
-        }
-        self.tail_is_promoted()
+        self.queues.victim_leaves()
     }
 
     /// Evicts Main's victim, while Small's tail moves on to Main.

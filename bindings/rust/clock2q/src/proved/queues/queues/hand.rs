@@ -35,7 +35,7 @@ impl<A: Allocator> Queues<A> {
 
     /// Returns true if a slot of Main leaves next, rather than Small's oldest one.
     #[inline]
-    fn victim_leaves(&mut self) -> bool {
+    pub fn victim_leaves(&mut self) -> bool {
         if self.main.len == 0 {
             return false;
         }
