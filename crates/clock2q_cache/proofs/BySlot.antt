@@ -1,9 +1,7 @@
 -- What a hit and a removal by slot leave, and what they cost.
-use Rattle.std.proofs.Common.{◌≡◌, ℕ, Option, Some, None, refl, sym, arith}
-use Rattle.clock2q_cache.proofs.Names.{HashMembers, IfSome, CacheState, Counts, Spends, Costs, Get, Remove, hash_in, left_by, vacated, hit, slot_of}
+use Rattle.clock2q_cache.proofs.Names.{◌≡◌, ℕ, Option, Some, None, refl, sym, arith, HashMembers, IfSome, CacheState, Counts, Spends, Costs, Get, Remove, hash_in, left_by, vacated, hit, slot_of, removed}
 use Rattle.std.specs.declared.hash.Hasher as hasher
 use Rattle.std.specs.declared.hash.BuildHasher as builder
-use Rattle.clock2q_machine.specs.Machine.{removed}
 use Rattle.clock2q_cache.proofs.Reaching.{reaches-own}
 use Rattle.clock2q_cache.proofs.Spent.{costs-of, reaches-none, remove-costs}
 

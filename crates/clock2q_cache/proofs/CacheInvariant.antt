@@ -1,7 +1,5 @@
 -- A cache's fields keep their invariant after each change of the layers, and the machine becomes what it should.
-use Rattle.std.proofs.Common.{◌≡◌, ℕ, suc, ◌+◌, ◌^◌, ◌<◌, ◌≤◌, Bool, true, false, Option, Some, None, List, [], ◌∷◌, ◌++◌, map, length, drop, reverse, refl, sym, ap, ◌∙◌, ◌↔◌, arith, length-append, eqb}
-use Rattle.std.specs.Option.{option_to_list, unwrap_or}
-use Rattle.clock2q_cache.proofs.Names.{Entry, length-written, made_below, key_at-own, key_at-others, values-written, length-values, IfNone, IsSome, IsEquivalence, last_or, AllByRecursion, total, capacity, with_handle, KeyPlaces, entry, written, key_at, admitted, QueueState, slots_of, IndexState, is_shared, slots, Remembered, most_beside, list_any-append, length-put, or_parts, Shares, main_share, Machine, Placement, vacancy, vacant_slot, into_main, into_small, into_small_at, joining_main, into_queue, stored, known_count, Fills, Writes, machine_of, queued_slots, with_keys_small, with_keys_main, IsStored, IsSized, IsCache, IsPlaced, whole-stored, placed-admitted, placed-joining, slots-entered, slots-left, without_handle, left, list_any, reverse-append, append-nil}
+use Rattle.clock2q_cache.proofs.Names.{◌≡◌, ℕ, suc, ◌+◌, ◌^◌, ◌<◌, ◌≤◌, Bool, true, false, Option, Some, None, List, [], ◌∷◌, ◌++◌, map, length, drop, reverse, refl, sym, ap, ◌∙◌, ◌↔◌, arith, length-append, eqb, option_to_list, unwrap_or, Entry, length-written, made_below, key_at-own, key_at-others, values-written, length-values, IfNone, IsSome, IsEquivalence, last_or, AllByRecursion, total, capacity, with_handle, KeyPlaces, entry, written, key_at, admitted, QueueState, slots_of, IndexState, is_shared, slots, Remembered, most_beside, list_any-append, length-put, or_parts, Shares, main_share, Machine, Placement, vacancy, vacant_slot, into_main, into_small, into_small_at, joining_main, into_queue, stored, known_count, Fills, Writes, machine_of, queued_slots, with_keys_small, with_keys_main, IsStored, IsSized, IsCache, IsPlaced, whole-stored, placed-admitted, placed-joining, slots-entered, slots-left, without_handle, left, list_any, reverse-append, append-nil}
 use Rattle.clock2q_directory.specs.Index as known
 use Rattle.clock2q_machine.specs.Entries as machine
 use Rattle.clock2q_cache.proofs.WithKeys.{small-admitted, main-behind, small_with, main_with, keys-agree, length-small, length-main}

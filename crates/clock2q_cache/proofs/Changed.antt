@@ -1,9 +1,7 @@
 -- A cache's fields keep their invariant when a key's history is erased or a value is replaced, and those of a new cache
 -- have it.
-use Rattle.std.proofs.Common.{◌≡◌, ℕ, ◌<◌, ◌≤◌, Bool, true, false, not, Option, Some, None, slice_get, List, [], ◌∷◌, map, length, refl, sym, ap, ◌∙◌, subst, arith, eqb-true}
-use Rattle.clock2q_cache.proofs.Names.{if◌then◌else◌, is_some, IsEquivalence, filter, list_any, AllByRecursion, Entry, below-more, KeyPlaces, written, hash_at, key_at, with_value, IsIndex, HasHash, no_entries, QueueState, Remembered, most_beside, slice_get-written, slice_get-written_other, length-written, set-written, all-written, values-written, length-values, IsIndex-cleared, length-cleared, IsIndex-kept, Shares, Machine, stored, empty, vacancy, goes_to_main, IsWhole, machine_of, queued_slots, IsStored, IsSized, IsCache, whole-forgotten, all_resident, small_share, whole-changed, All-from_recursion, recursion_from_All, All-filter, slice_get_some}
-use Rattle.std.proofs.lemmas.Bool.Decides.{nat_tests}
-use Rattle.clock2q_directory.specs.History.{forgotten, places_looked_up}
+use Rattle.clock2q_cache.proofs.Names.{◌≡◌, ℕ, ◌<◌, ◌≤◌, Bool, true, false, not, Option, Some, None, slice_get, List, [], ◌∷◌, map, length, refl, sym, ap, ◌∙◌, subst, arith, eqb-true, if◌then◌else◌, is_some, IsEquivalence, filter, list_any, AllByRecursion, Entry, below-more, KeyPlaces, written, hash_at, key_at, with_value, IsIndex, HasHash, no_entries, QueueState, Remembered, most_beside, slice_get-written, slice_get-written_other, length-written, set-written, all-written, values-written, length-values, IsIndex-cleared, length-cleared, IsIndex-kept, Shares, Machine, stored, empty, vacancy, goes_to_main, IsWhole, machine_of, queued_slots, IsStored, IsSized, IsCache, whole-forgotten, all_resident, small_share, whole-changed, All-from_recursion, recursion_from_All, All-filter, slice_get_some, nat_tests, places_looked_up}
+use Rattle.clock2q_directory.specs.History.{forgotten}
 use Rattle.clock2q_machine.specs.Machine as cache
 use Rattle.clock2q_cache.proofs.WithKeys.{small_with, main_with, keys-agree}
 use Rattle.clock2q_cache.proofs.CacheInvariant.{sized-same}

@@ -1,11 +1,7 @@
 -- A cache whose counts are raised to their bounds before a value of it is lent.
-use Rattle.std.proofs.Common.{◌≡◌, ℕ, ◌+◌, ◌-◌, Bool, true, length, refl, arith}
-use Rattle.clock2q_cache.proofs.Names.{HashMembers, IsEquivalence, inspections_for, CacheState, cache_state, Put, most_links, most_keys, with_slot, TakesSlot, Costs, Spends, accesses_for, alike, IsWhole, Machine, stored, known_taken, put, slotted, stored_same}
+use Rattle.clock2q_cache.proofs.Names.{◌≡◌, ℕ, ◌+◌, ◌-◌, Bool, true, length, refl, arith, HashMembers, IsEquivalence, inspections_for, CacheState, cache_state, Put, most_links, most_keys, with_slot, TakesSlot, Costs, Spends, accesses_for, alike, IsWhole, Machine, stored, known_taken, put, slotted, stored_same, IsWithinCapacity, SlotFor, clock_bounded}
 use Rattle.std.specs.declared.hash.Hasher as hasher
 use Rattle.std.specs.declared.hash.BuildHasher as builder
-use Rattle.clock2q_directory.specs.Index.{IsWithinCapacity}
-use Rattle.clock2q_machine.specs.Calls.{SlotFor}
-use Rattle.clock2q_machine.proofs.Clock.{clock_bounded}
 use Rattle.clock2q_cache.proofs.Reaching.{reaches-taken}
 
 module _ {K V S H : Type 0} (key : HashMembers K) (build : builder.Ghosts S H) (hash : hasher.Ghosts H) {k : K} {made : V → Type 0} {slot : ℕ} (old new : CacheState K V S)

@@ -1,13 +1,7 @@
 -- The resident that leaves for a key, and what comes back of it.
-use Rattle.std.proofs.Common.{arith, ◌≡◌, ℕ, ◌<◌, Bool, false, List, length, Option, Some, None, refl, sym, ap, ◌∙◌, subst, eq-eqb}
-use Rattle.std.specs.Borrow.{Bor}
-use Rattle.std.specs.Option.{IsSomeAnd}
-use Rattle.std.specs.Prelude.{IfSome, MatchOption}
-use Rattle.std.specs.Fn.{Once, FnOnceReturnsAt}
-use Rattle.clock2q_cache.proofs.Names.{if◌then◌else◌, is_some, slice_get, list_any, option_and_then, option_map, slice_get_within, main_share, Machine, Placement, slot_of, value_of, stored, inserted, IsWhole, Fills, into_queue, stored_same, Put}
-use Rattle.clock2q_machine.specs.Entries.{first_of, from_victim}
-use Rattle.clock2q_machine.specs.Leaving.{leaves_for, leaves_for_main, victim_of, with_value}
-use Rattle.clock2q_cache.specs.Insertions.{IsAdmitted, leaves_placed, Notes}
+use Rattle.clock2q_cache.proofs.Names.{arith, ◌≡◌, ℕ, ◌<◌, Bool, false, List, length, Option, Some, None, refl, sym, ap, ◌∙◌, subst, eq-eqb, Bor, IsSomeAnd, IfSome, MatchOption, Once, FnOnceReturnsAt, if◌then◌else◌, is_some, slice_get, list_any, option_and_then, option_map, slice_get_within, main_share, Machine, Placement, slot_of, value_of, stored, inserted, IsWhole, Fills, into_queue, stored_same, Put, first_of, leaves_for, leaves_for_main, victim_of, IsAdmitted, leaves_placed, Notes}
+use Rattle.clock2q_machine.specs.Entries.{from_victim}
+use Rattle.clock2q_machine.specs.Leaving.{with_value}
 use Rattle.clock2q_cache.proofs.Making.{small-unknown, placed-there, placed-values}
 
 -- a closure was called with the key that leaves

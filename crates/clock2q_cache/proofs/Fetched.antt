@@ -1,6 +1,5 @@
 -- A key that is hit, or inserted with a value that was made.
-use Rattle.std.proofs.Common.{◌≡◌, ℕ, Bool, Some, None, arith}
-use Rattle.clock2q_cache.proofs.Names.{IsEquivalence, Machine, slot_of, hit, inserted, placement, put, fetched, IsWhole, Fetches, resident_made, stored_again, stored_same, get-within, slot_at_most, inserted_value}
+use Rattle.clock2q_cache.proofs.Names.{◌≡◌, ℕ, Bool, Some, None, arith, IsEquivalence, Machine, slot_of, hit, inserted, placement, put, fetched, IsWhole, Fetches, resident_made, stored_again, stored_same, get-within, slot_at_most, inserted_value}
 
 -- so a value that was fetched and is not written to stays as it was fetched
 pub unwritten : {K V : Type 0} {is : K → Bool} {key : K} {made : V → Type 0} {old new : Machine K V} {slot : ℕ} (f : Fetches is key made old slot new)

@@ -1,9 +1,7 @@
 -- Slots that were never made are made, and are free.
-use Rattle.std.proofs.Common.{◌≡◌, ℕ, suc, ◌+◌, ◌-◌, ◌<◌, Bool, true, Option, Some, None, slice_get, List, [], ◌∷◌, ◌++◌, map, length, reverse, refl, ap, ◌∙◌, arith, length-append, ◌||◌, eqb}
-use Rattle.clock2q_cache.proofs.Names.{made_below, length-values, IsEquivalence, Mut, Called, AllByRecursion, range_with_len, append-nil, append_assoc, map-append, reverse-append, reverse-reverse, or_true, Entry, KeyPlaces, entry, key_at, QueueState, slots_of, Remembered, list_any-append, below_of, below-among, IsIndex-kept, FillsUp, Shares, Machine, prefilled, machine_of, queued_slots, IsCache, lasting-prefilled, get-append, list_any}
+use Rattle.clock2q_cache.proofs.Names.{◌≡◌, ℕ, suc, ◌+◌, ◌-◌, ◌<◌, Bool, true, Option, Some, None, slice_get, List, [], ◌∷◌, ◌++◌, map, length, reverse, refl, ap, ◌∙◌, arith, length-append, ◌||◌, eqb, made_below, length-values, IsEquivalence, Mut, Called, AllByRecursion, range_with_len, append-nil, append_assoc, map-append, reverse-append, reverse-reverse, or_true, Entry, KeyPlaces, entry, key_at, QueueState, slots_of, Remembered, list_any-append, below_of, below-among, IsIndex-kept, FillsUp, Shares, Machine, prefilled, machine_of, queued_slots, IsCache, lasting-prefilled, get-append, list_any, FoldsTo-push}
 use Rattle.clock2q_cache.proofs.WithKeys.{small_with, main_with, keys-agree}
 use Rattle.clock2q_cache.proofs.CacheInvariant.{sized-same}
-use Rattle.std.proofs.lemmas.Fn.{FoldsTo-push}
 
 all-append : {X : Type 0} (P : X → Type 0) (xs ys : List X) → AllByRecursion P xs → AllByRecursion P ys → AllByRecursion P (xs ++ ys)
 all-append P [] ys a b = b

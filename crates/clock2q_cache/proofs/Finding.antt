@@ -1,14 +1,11 @@
 -- A lookup through the index finds the machine's slot of the key, and a hit there does what the machine's does.
-use Rattle.std.proofs.Common.{◌≡◌, ℕ, ◌+◌, ◌<◌, ◌≤◌, ◌⊎◌, Bool, true, false, not, ◌&&◌, cond, eqb, Option, Some, None, slice_get, List, [], ◌∷◌, map, length, refl, sym, ap, ◌∙◌, arith, eqb-true}
-use Rattle.clock2q_cache.proofs.Names.{IfSome, IsSome, is_some, IsEquivalence, option_map, count_by, find, list_any, cons_option, AllByRecursion, sum_by-cons, candidates, or_true, touched, slots_of-hit, Entry, KeyPlaces, key_at, entries_of, is_key_at, HasHash, small_hit_at, main_hit_at, then_some, QueueState, slots_of, Remembered, place_of, found_slot, found_place, found_gap, list_any-append, among_first, below_of, same_place, key_there, any_entry, length-values, lookup, found_there, not_found, Shares, Machine, slot_of, hit, is_at, machine_of, queued_slots, IsCache, whole-hit, candidates_there, distinct_none, distinct_more, IsDistinct}
-use Rattle.clock2q_directory.specs.declared.handle.Found.{Found}
+use Rattle.clock2q_cache.proofs.Names.{◌≡◌, ℕ, ◌+◌, ◌<◌, ◌≤◌, ◌⊎◌, Bool, true, false, not, ◌&&◌, cond, eqb, Option, Some, None, slice_get, List, [], ◌∷◌, map, length, refl, sym, ap, ◌∙◌, arith, eqb-true, IfSome, IsSome, is_some, IsEquivalence, option_map, count_by, find, list_any, cons_option, AllByRecursion, sum_by-cons, candidates, or_true, touched, slots_of-hit, Entry, KeyPlaces, key_at, entries_of, is_key_at, HasHash, small_hit_at, main_hit_at, then_some, QueueState, slots_of, Remembered, place_of, found_slot, found_place, found_gap, list_any-append, among_first, below_of, same_place, key_there, any_entry, length-values, lookup, found_there, not_found, Shares, Machine, slot_of, hit, is_at, machine_of, queued_slots, IsCache, whole-hit, candidates_there, distinct_none, distinct_more, IsDistinct, Found, counted_residents}
 use Rattle.clock2q_cache.proofs.WithKeys.{HaveKeys, have_later, paired, paired-cons, small-hit, main-hit}
 use Rattle.clock2q_cache.proofs.Indexed.{residents-paired}
 use Rattle.clock2q_cache.proofs.Stored.{have_keys}
 use Rattle.clock2q_cache.proofs.CacheInvariant.{sized-same}
 use Rattle.clock2q_cache.proofs.Stored.{all-at}
 use Rattle.clock2q_cache.proofs.Slots.{small_have, main_have}
-use Rattle.clock2q_machine.proofs.Victims.{counted_residents}
 
 pub none-has : {X : Type 0} (is : X → Bool) (es : List X) → count_by is es ≡ 0 → list_any is es ≡ false
 none-has is [] h = refl

@@ -1,7 +1,5 @@
 -- The index while the residents are asked for, slot by slot: those that are gone have left it.
-use Rattle.std.proofs.Common.{◌≡◌, ℕ, zero, suc, ◌+◌, ◌<◌, ◌==◌, false, not, Some, None, List, [], ◌∷◌, ◌++◌, map, refl, ap, ◌∙◌, arith, ne_eqb}
-use Rattle.std.specs.List.{fold}
-use Rattle.clock2q_cache.proofs.Names.{is_some, if◌then◌else◌, filter, find, range_with_len, append-nil, fold-append, SmallEntry, MainEntry, Machine, Places, resident_at, vacated, left_by}
+use Rattle.clock2q_cache.proofs.Names.{◌≡◌, ℕ, zero, suc, ◌+◌, ◌<◌, ◌==◌, false, not, Some, None, List, [], ◌∷◌, ◌++◌, map, refl, ap, ◌∙◌, arith, ne_eqb, fold, is_some, if◌then◌else◌, filter, find, range_with_len, append-nil, fold-append, SmallEntry, MainEntry, Machine, Places, resident_at, vacated, left_by}
 use Rattle.clock2q_cache.proofs.Retained.{range-last, resident-other}
 
 range-next : (n : ℕ) → range_with_len 0 (n + 1) ≡ range_with_len 0 n ++ n ∷ []

@@ -1,11 +1,7 @@
 -- A cache's fields keep their invariant when there is more room.
-use Rattle.std.proofs.Common.{◌≡◌, ℕ, ◌+◌, ◌*◌, ◌^◌, ◌<◌, ◌≤◌, Bool, List, refl, ap, ◌∙◌, arith, ⊎_elim}
-use Rattle.clock2q_cache.proofs.Names.{cases_lt, IsEquivalence, KeyPlaces, QueueState, Remembered, Shares, Machine, slots, for-new, IsWhole, machine_of, queued_slots, IsCache, cache_state, counts_of}
+use Rattle.clock2q_cache.proofs.Names.{◌≡◌, ℕ, ◌+◌, ◌*◌, ◌^◌, ◌<◌, ◌≤◌, Bool, List, refl, ap, ◌∙◌, arith, ⊎_elim, cases_lt, IsEquivalence, KeyPlaces, QueueState, Remembered, Shares, Machine, slots, for-new, IsWhole, machine_of, queued_slots, IsCache, cache_state, counts_of, IsPolicy, IsAtLeast, grown, Grows}
 use Rattle.clock2q_cache.proofs.Slots.{apart}
-use Rattle.clock2q_machine.specs.Policies.{IsPolicy}
-use Rattle.clock2q_machine.specs.Growth.{IsAtLeast, grown}
 use Rattle.clock2q_directory.specs.Growth as directory
-use Rattle.clock2q_cache.specs.Growth.{Grows}
 
 -- a whole machine is whole with more room
 pub whole-grown : {K V : Type 0} {eq : K → K → Bool} {m : Machine K V} {shares : Shares} → IsWhole eq m → shares.small < shares.capacity → IsAtLeast m.shares shares → IsWhole eq (grown shares m)

@@ -1,17 +1,7 @@
 -- What a call that may insert a key costs the index at most.
-use Rattle.std.proofs.Common.{◌≡◌, ℕ, ◌+◌, ◌*◌, ◌≤◌, ◌||◌, ◌&&◌, Bool, true, false, not, Option, Some, None, List, [], ◌∷◌, length, inl, inr, refl, sym, ap, ◌∙◌, subst, arith}
+use Rattle.clock2q_cache.proofs.Names.{◌≡◌, ℕ, ◌+◌, ◌*◌, ◌≤◌, ◌||◌, ◌&&◌, Bool, true, false, not, Option, Some, None, List, [], ◌∷◌, length, inl, inr, refl, sym, ap, ◌∙◌, subst, arith, cases_Bool, or_parts, filter, list_any, last_or, last_some, option_map, is_some, none_is, if◌then◌else◌, IfSome, IsEquivalence, HashMembers, Places, place_of, oldest_hash, SmallEntry, MainEntry, Machine, placement, inserted, forgotten, slot_of, resident_at, resident_made, goes_to_main, get-within, replaced, after, Put, IsWhole, CacheState, hash_of, key_out, left_by, discarded, hash_in, looked_for, known_at, known_once, known_taken, first_of, leaves_for, leaves_for_small, leaver, lasting-inserted, slots_apart, differs, entered_there, others_stay, IndexState, IsWithinCapacity, is_shared, looked_up, most_reached, inserted-most, reached_oldest, freed-dear, freed-accesses, pushed-accesses, reached, reached_if, walked, slots_for, slots_to_take, vacated_for, out_of}
 use Rattle.std.specs.declared.hash.Hasher as hasher
 use Rattle.std.specs.declared.hash.BuildHasher as builder
-use Rattle.clock2q_cache.proofs.Names.{cases_Bool, or_parts, filter, list_any, last_or, last_some, option_map, is_some, none_is, if◌then◌else◌, IfSome, IsEquivalence, HashMembers, Places, place_of, oldest_hash, SmallEntry, MainEntry, Machine, placement, inserted, forgotten, slot_of, resident_at, resident_made, goes_to_main, get-within, replaced, after, Put, IsWhole, CacheState, hash_of, key_out, left_by, discarded, hash_in, looked_for, known_at, known_once, known_taken}
-use Rattle.clock2q_machine.specs.Entries.{first_of}
-use Rattle.clock2q_machine.specs.Leaving.{leaves_for, leaves_for_small, leaver}
-use Rattle.clock2q_machine.proofs.MachineInvariant.{lasting-inserted}
-use Rattle.clock2q_machine.proofs.Entering.{slots_apart, differs, entered_there}
-use Rattle.clock2q_machine.proofs.Victims.{others_stay}
-use Rattle.clock2q_directory.specs.Index.{IndexState, IsWithinCapacity, is_shared, looked_up, most_reached}
-use Rattle.clock2q_directory.proofs.Prices.{inserted-most, reached_oldest, freed-dear, freed-accesses, pushed-accesses}
-use Rattle.clock2q_cache.specs.Costs.{reached, reached_if, walked, slots_for, slots_to_take}
-use Rattle.clock2q_cache.specs.Places.{vacated_for, out_of}
 use Rattle.clock2q_cache.proofs.Listed.{at_its_slot}
 
 module _ {K V : Type 0} (eq : K → K → Bool) (laws : IsEquivalence eq) (m : Machine K V) (whole : IsWhole eq m) (key : K) (absent : slot_of (eq key) m ≡ None) where

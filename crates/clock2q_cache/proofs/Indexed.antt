@@ -1,6 +1,5 @@
 -- What is in the index, in terms of the machine.
-use Rattle.std.proofs.Common.{◌≡◌, ℕ, ◌<◌, ◌≤◌, ◌==◌, Bool, ◌||◌, ◌&&◌, Option, Some, None, slice_get, List, [], ◌∷◌, map, length, refl, arith, eqb-true, eqb}
-use Rattle.clock2q_cache.proofs.Names.{slice_get_some, list_any, zip, AllByRecursion, length-map, IsEquivalence, Entry, KeyPlaces, key_at, hash_at, hashed_at, entries_of, IsIndex, is_named, is_alike, QueueState, Remembered, IsWholeHistory, among_first, Shares, residents, machine_of, queued_slots, IsCache, HasPlaces}
+use Rattle.clock2q_cache.proofs.Names.{◌≡◌, ℕ, ◌<◌, ◌≤◌, ◌==◌, Bool, ◌||◌, ◌&&◌, Option, Some, None, slice_get, List, [], ◌∷◌, map, length, refl, arith, eqb-true, eqb, slice_get_some, list_any, zip, AllByRecursion, length-map, IsEquivalence, Entry, KeyPlaces, key_at, hash_at, hashed_at, entries_of, IsIndex, is_named, is_alike, QueueState, Remembered, IsWholeHistory, among_first, Shares, residents, machine_of, queued_slots, IsCache, HasPlaces}
 use Rattle.clock2q_directory.specs.Index as known
 use Rattle.clock2q_cache.proofs.WithKeys.{HaveKeys, have_later, paired, paired-cons, residents-keyed}
 use Rattle.clock2q_cache.proofs.Stored.{all-at}

@@ -1,11 +1,5 @@
 -- What the insertion of a key costs.
-use Rattle.std.proofs.Common.{◌≡◌, ℕ, ◌+◌, ◌<◌, ◌≤◌, Bool, false, not, List, [], ◌∷◌, length, Some, None, ap, sym, ◌∙◌, arith}
-use Rattle.clock2q_cache.proofs.Names.{if◌then◌else◌, is_some, IfSome, list_any, last_or, IsEquivalence, KeyPlaces, key_at, inspections, QueueState, Entry, Remembered, Places, Age, is_promoted, last_some, none_is, Shares, Machine, slot_of, vacancy, goes_to_main, forgotten, goes_on, inspections_for, small_inspections, machine_of, IsCache, counts_of, CacheState, Counts, Spends, accesses_for, discarded}
-use Rattle.clock2q_queues.specs.Cells.{Rises}
-use Rattle.clock2q_directory.specs.declared.handle.Found.{Found}
-use Rattle.clock2q_directory.specs.History.{found_gap}
-use Rattle.clock2q_directory.specs.Index.{IsGapFor}
-use Rattle.clock2q_cache.specs.Insertions.{IsFoundFor, IsAdmitted}
+use Rattle.clock2q_cache.proofs.Names.{◌≡◌, ℕ, ◌+◌, ◌<◌, ◌≤◌, Bool, false, not, List, [], ◌∷◌, length, Some, None, ap, sym, ◌∙◌, arith, if◌then◌else◌, is_some, IfSome, list_any, last_or, IsEquivalence, KeyPlaces, key_at, inspections, QueueState, Entry, Remembered, Places, Age, is_promoted, last_some, none_is, Shares, Machine, slot_of, vacancy, goes_to_main, forgotten, goes_on, inspections_for, small_inspections, machine_of, IsCache, counts_of, CacheState, Counts, Spends, accesses_for, discarded, Rises, Found, found_gap, IsGapFor, IsFoundFor, IsAdmitted}
 use Rattle.clock2q_machine.specs.Entries as machine
 use Rattle.clock2q_cache.proofs.Spent.{spends-both, spends-more}
 use Rattle.clock2q_cache.proofs.WithKeys.{main-inspections}

@@ -1,17 +1,7 @@
 -- What an iterator over the residents has left: slot by slot, and the number.
-use Rattle.std.proofs.Common.{◌≡◌, ℕ, zero, suc, ◌+◌, ◌<◌, ◌≤◌, ◌==◌, Bool, false, Option, Some, List, [], ◌∷◌, map, length, refl, ap, arith, eq-eqb}
-use Rattle.std.specs.Prelude.{is_some, IsSome, slice_get, nat_lt, if◌then◌else◌}
-use Rattle.std.specs.List.{filter_map, range_with_len, cons_option, find, sum_by, count_by}
-use mathlib.Core.List.{map-map}
-use Rattle.std.proofs.lemmas.List.{length-map, length-append}
-use Rattle.std.proofs.lemmas.List.Sums.{sum_by-cons}
-use Rattle.clock2q_machine.specs.Entries.{SmallEntry, MainEntry}
-use Rattle.clock2q_machine.specs.Machine.{Machine, residents, resident_at, resident_count, by_slot}
-use Rattle.clock2q_machine.specs.Whole.{IsWhole}
-use Rattle.clock2q_machine.proofs.Whole.{one_if}
-use Rattle.clock2q_machine.proofs.Standing.{get-within}
-use Rattle.clock2q_machine.proofs.Victims.{counted_residents}
-use Rattle.clock2q_cache.specs.Iteration.{entry_at, entries_from, entries, key_and_slot, key_of, keys}
+use Rattle.clock2q_cache.proofs.Names.{◌≡◌, ℕ, zero, suc, ◌+◌, ◌<◌, ◌≤◌, ◌==◌, Bool, false, Option, Some, List, [], ◌∷◌, map, length, refl, ap, arith, eq-eqb, is_some, IsSome, slice_get, nat_lt, if◌then◌else◌, filter_map, range_with_len, cons_option, find, count_by, map-map, length-map, sum_by-cons, SmallEntry, MainEntry, Machine, residents, resident_at, resident_count, by_slot, IsWhole, one_if, get-within, counted_residents, entry_at, entries_from, entries, key_and_slot, key_of, keys}
+use Rattle.std.specs.List.{sum_by}
+use Rattle.std.proofs.lemmas.List.{length-append}
 
 module _ {K V : Type 0} (m : Machine K V) where
   one_more : (slot : ℕ) → slot < length m.values → (o : Option (K × ℕ × V)) → entry_at m slot ≡ o → entries_from m slot ≡ cons_option o (entries_from m (slot + 1))

@@ -1,8 +1,7 @@
 -- What a lookup leaves in the index, beside what it leaves of the machine.
-use Rattle.std.proofs.Common.{◌≡◌}
+use Rattle.clock2q_cache.proofs.Names.{◌≡◌, HashMembers, Call, Machine, Places, CacheState, Costs, Becomes}
 use Rattle.std.specs.declared.hash.Hasher as hasher
 use Rattle.std.specs.declared.hash.BuildHasher as builder
-use Rattle.clock2q_cache.proofs.Names.{HashMembers, Call, Machine, Places, CacheState, Costs, Becomes}
 
 module _ {K V S H : Type 0} {key : HashMembers K} {build : builder.Ghosts S H} {hash : hasher.Ghosts H} where
   -- the machine becomes this one, and the index is this one

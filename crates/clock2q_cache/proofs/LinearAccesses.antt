@@ -1,15 +1,5 @@
 -- A list of calls takes linear time: at most 30 link accesses a call, and one for each bit that was set before.
-use Rattle.std.proofs.Common.{◌≡◌, ◌+◌, ◌*◌, ◌≤◌, Bool, false, List, [], ◌∷◌, length, Some, None, arith}
-use Rattle.std.specs.Cmp.{IsEquivalence}
-use Rattle.std.specs.List.{AllByRecursion}
-use Rattle.clock2q_machine.specs.Calls.{Call, Put, Get, Peek, Contains, GetAt, Set, With, Try, SlotFor, Remove, Retain, Clear, Evict, Prefill, Len, IsEmpty, Capacity}
-use Rattle.clock2q_machine.specs.Machine.{Machine}
-use Rattle.clock2q_machine.specs.Steps.{after, after_all}
-use Rattle.clock2q_machine.specs.Bounds.{set_bits, inspections_for, inspections_of, summed}
-use Rattle.clock2q_machine.specs.Whole.{IsWhole}
-use Rattle.clock2q_machine.proofs.Linear.{linear_inspections}
-use Rattle.clock2q_cache.specs.Costs.{accesses_for, most_accesses}
-use Rattle.clock2q_cache.specs.Visits.{visits_all}
+use Rattle.clock2q_cache.proofs.Names.{◌≡◌, ◌+◌, ◌*◌, ◌≤◌, Bool, false, List, [], ◌∷◌, length, Some, None, arith, IsEquivalence, AllByRecursion, Call, Put, Get, Peek, Contains, GetAt, Set, With, Try, SlotFor, Remove, Retain, Clear, Evict, Prefill, Len, IsEmpty, Capacity, Machine, after, after_all, set_bits, inspections_for, inspections_of, summed, IsWhole, linear_inspections, accesses_for, most_accesses, visits_all}
 
 module _ {K V : Type 0} (eq : K → K → Bool) where
   wanted_accesses : (is : K → Bool) (m : Machine K V) → accesses_for is m ≤ inspections_for is m + 29

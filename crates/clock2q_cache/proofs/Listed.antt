@@ -1,17 +1,6 @@
 -- What a caller may rely on about an iterator over the residents: each of its entries has its key's value, and each key
 -- that has a value is there.
-use Rattle.std.proofs.Common.{◌≡◌, ℕ, zero, suc, ◌+◌, ◌-◌, ◌<◌, ◌≤◌, ◌==◌, Bool, true, ◌&&◌, Option, Some, None, List, [], ◌∷◌, length, refl, arith, eqb-true, eq-eqb}
-use Rattle.std.specs.Cmp.{IsEquivalence}
-use Rattle.std.specs.List.{filter_map, range_with_len, find, count_by, list_any, AllByRecursion}
-use Rattle.std.proofs.lemmas.List.Sums.{sum_by-cons}
-use Rattle.clock2q_machine.specs.Machine.{Machine, residents, resident_at, slot_of, value_of}
-use Rattle.clock2q_machine.specs.Whole.{IsWhole}
-use Rattle.clock2q_machine.proofs.Whole.{one_if}
-use Rattle.clock2q_machine.proofs.Standing.{get-within, found_at, resident_once}
-use Rattle.clock2q_machine.proofs.MachineInvariant.{resident_made}
-use Rattle.clock2q_machine.proofs.Entering.{slots_apart}
-use Rattle.clock2q_machine.proofs.Victims.{counted_residents}
-use Rattle.clock2q_cache.specs.Iteration.{entry_at, entries}
+use Rattle.clock2q_cache.proofs.Names.{◌≡◌, ℕ, zero, suc, ◌+◌, ◌-◌, ◌<◌, ◌≤◌, ◌==◌, Bool, true, ◌&&◌, Option, Some, None, List, [], ◌∷◌, length, refl, arith, eqb-true, eq-eqb, IsEquivalence, filter_map, range_with_len, find, count_by, list_any, AllByRecursion, sum_by-cons, Machine, residents, resident_at, slot_of, value_of, IsWhole, one_if, get-within, found_at, resident_once, resident_made, slots_apart, counted_residents, entry_at, entries}
 use Rattle.clock2q_cache.proofs.Vacated.{found-resident}
 
 module _ {X : Type 0} (p q : X → Bool) where

@@ -1,7 +1,5 @@
 -- A closure may be called this number of times in turn if each call keeps what it needs.
-use Rattle.std.proofs.Common.{ℕ, zero, suc, ◌+◌, ◌-◌, ◌<◌, [], ◌∷◌, length, refl, arith}
-use Rattle.clock2q_cache.proofs.Names.{Mut, Called, always_mut, mut_next, Machine, TakesTimes, MayMake}
-use Rattle.std.specs.Fn.{Takes}
+use Rattle.clock2q_cache.proofs.Names.{ℕ, zero, suc, ◌+◌, ◌-◌, ◌<◌, [], ◌∷◌, length, refl, arith, Mut, Called, always_mut, mut_next, Machine, TakesTimes, MayMake, Takes}
 
 module _ {F V : Type 0} (g : Mut F Unit V) where
   times_by : (I : F → Type 0) (takes : (f : F) → I f → Takes g f tt) (keeps : (f : F) (value : V) (next : F) → I f → Called g f tt value next → I next)

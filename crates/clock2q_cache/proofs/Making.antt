@@ -1,11 +1,7 @@
 -- When a key that is placed makes a slot, and when it finds a value in one.
-use Rattle.std.proofs.Common.{◌≡◌, ℕ, ◌<◌, ◌==◌, Bool, false, not, ◌&&◌, List, [], ◌∷◌, length, Option, Some, None, refl, arith}
-use Rattle.clock2q_cache.proofs.Names.{HashMembers, CacheState, discarded, unknown_once_forgotten, nat_lt, is_some, IfSome, IfNone, IsEquivalence, slice_get_past, sum_by-cons, Machine, Placement, vacancy, vacant_slot, goes_to_main, placement, forgotten, slot_of, hit, IsWhole, Reuses, TakesSlot, Fills, into_queue, next_is_vacant, makes_slot, one_if, counted_made, victim_made, no_vacancy, all_resident, placed-main, placed-small, length-from_victim, resident_made, get-within, slot_at_most, reused_value, stored_again, stored_same}
-use Rattle.clock2q_directory.specs.declared.handle.Found.{Found}
-use Rattle.clock2q_directory.specs.History.{found_gap}
+use Rattle.clock2q_cache.proofs.Names.{◌≡◌, ℕ, ◌<◌, ◌==◌, Bool, false, not, ◌&&◌, List, [], ◌∷◌, length, Option, Some, None, refl, arith, HashMembers, CacheState, discarded, unknown_once_forgotten, nat_lt, is_some, IfSome, IfNone, IsEquivalence, slice_get_past, sum_by-cons, Machine, Placement, vacancy, vacant_slot, goes_to_main, placement, forgotten, slot_of, hit, IsWhole, Reuses, TakesSlot, Fills, into_queue, next_is_vacant, makes_slot, one_if, counted_made, victim_made, no_vacancy, all_resident, placed-main, placed-small, length-from_victim, resident_made, get-within, slot_at_most, reused_value, stored_again, stored_same, Found, found_gap, IsAbsent, IsFoundFor, IsAdmitted, IsUnknown}
 use Rattle.std.specs.declared.hash.Hasher as hasher
 use Rattle.std.specs.declared.hash.BuildHasher as builder
-use Rattle.clock2q_cache.specs.Insertions.{IsAbsent, IsFoundFor, IsAdmitted, IsUnknown}
 use Rattle.clock2q_cache.proofs.Insertions.{gap-still}
 
 module _ {K V : Type 0} (eq : K → K → Bool) (m : Machine K V) (h : IsWhole eq m) where

@@ -1,6 +1,5 @@
 -- Which resident is at a slot, and what an insertion does to the index.
-use Rattle.std.proofs.Common.{arith, ◌≡◌, ℕ, ◌==◌, Bool, true, false, eqb, Option, Some, None, List, [], ◌∷◌, map, inl, inr, refl, sym, ap, ◌∙◌, eqb-true, eq-eqb}
-use Rattle.clock2q_cache.proofs.Names.{find, last_or, AllByRecursion, IsEquivalence, cases_Bool, KeyPlaces, key_at, hash_at, QueueState, slots_of, Remembered, Places, oldest_hash, pushed_places, among_first, eqb_swap, Shares, Machine, resident_at, machine_of, queued_slots, IsCache, if◌then◌else◌, IfSome, option_map, is_promoted, SmallEntry, remembering, left_by, entered, key_out, list_any}
+use Rattle.clock2q_cache.proofs.Names.{arith, ◌≡◌, ℕ, ◌==◌, Bool, true, false, eqb, Option, Some, None, List, [], ◌∷◌, map, inl, inr, refl, sym, ap, ◌∙◌, eqb-true, eq-eqb, find, last_or, AllByRecursion, IsEquivalence, cases_Bool, KeyPlaces, key_at, hash_at, QueueState, slots_of, Remembered, Places, oldest_hash, pushed_places, among_first, eqb_swap, Shares, Machine, resident_at, machine_of, queued_slots, IsCache, if◌then◌else◌, IfSome, option_map, is_promoted, SmallEntry, remembering, left_by, entered, key_out, list_any}
 use Rattle.clock2q_directory.specs.Index as known
 use Rattle.clock2q_cache.proofs.WithKeys.{HaveKeys, have_later, paired, paired-cons}
 use Rattle.clock2q_cache.proofs.Stored.{have_keys, hash-of-key}

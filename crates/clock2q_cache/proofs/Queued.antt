@@ -1,11 +1,8 @@
 -- A key that isn't known enters a queue that has room, or Small in place of another.
-use Rattle.std.proofs.Common.{◌≡◌, ℕ, ◌<◌, Bool, true, false, not, length, Option, None, arith}
+use Rattle.clock2q_cache.proofs.Names.{◌≡◌, ℕ, ◌<◌, Bool, true, false, not, length, Option, None, arith, leaves_for_small, Enters, EntersQueue, EntersSmall, has_room, leaves_placed, HashMembers, CacheState, Spends, IfSome, is_some, into_queue, is_promoted, last_or, option_map, vacancy, Machine, IsWhole, main_share, goes_to_main, eqb-false}
 use Rattle.std.specs.declared.hash.Hasher as hasher
 use Rattle.std.specs.declared.hash.BuildHasher as builder
 use Rattle.clock2q_machine.specs.Entries.{inspections}
-use Rattle.clock2q_machine.specs.Leaving.{leaves_for_small}
-use Rattle.clock2q_cache.specs.Insertions.{Enters, EntersQueue, EntersSmall, has_room, leaves_placed}
-use Rattle.clock2q_cache.proofs.Names.{HashMembers, CacheState, Spends, IfSome, is_some, into_queue, is_promoted, last_or, option_map, vacancy, Machine, IsWhole, main_share, goes_to_main, eqb-false}
 use Rattle.clock2q_cache.proofs.Insertions.{looked-spends, tail-inspections}
 use Rattle.clock2q_cache.proofs.Places.{key-out}
 use Rattle.clock2q_cache.proofs.Spent.{spends-more}

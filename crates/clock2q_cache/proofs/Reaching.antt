@@ -1,12 +1,8 @@
 -- How many slots of the index the parts of a call read and write.
-use Rattle.std.proofs.Common.{◌≡◌, ℕ, ◌+◌, ◌≤◌, Bool, true, not, [], length, Option, Some, refl, ap, ◌∙◌, arith}
-use Rattle.std.specs.Prelude.{sum_by}
+use Rattle.clock2q_cache.proofs.Names.{◌≡◌, ℕ, ◌+◌, ◌≤◌, Bool, true, not, [], length, Option, Some, refl, ap, ◌∙◌, arith, sum_by, most_reached, IsWithinCapacity, left-dear, freed-accesses, HashMembers, is_some, IfSome, IsEquivalence, cons_option, sum_by-append, IndexState, Places, place_of, resident_at, slot_of, IsWhole, CacheState, Reaches, reached, walked, slots_for, slots_to_take, hash_of, hash_in, looked_for, known_once, known_with, known_taken, discarded, left_by}
 use Rattle.std.specs.declared.hash.Hasher as hasher
 use Rattle.std.specs.declared.hash.BuildHasher as builder
 use Rattle.clock2q_directory.specs.Index as known
-use Rattle.clock2q_directory.specs.Index.{most_reached, IsWithinCapacity}
-use Rattle.clock2q_directory.proofs.Prices.{left-dear, freed-accesses}
-use Rattle.clock2q_cache.proofs.Names.{HashMembers, is_some, IfSome, IsEquivalence, cons_option, sum_by-append, IndexState, Places, place_of, resident_at, slot_of, IsWhole, CacheState, Reaches, reached, walked, slots_for, slots_to_take, hash_of, hash_in, looked_for, known_once, known_with, known_taken, discarded, left_by}
 use Rattle.clock2q_cache.proofs.IndexPrices.{within-looked, known_once-reaches, known_taken-reaches}
 use Rattle.clock2q_cache.proofs.Listed.{same-key}
 use Rattle.clock2q_cache.proofs.Retained.{below, below-more}

@@ -1,10 +1,6 @@
 -- The closure was called for the residents of the first slots, and those that it refused left: one slot at a time, up
 -- to the last.
-use Rattle.std.proofs.Common.{◌≡◌, ℕ, zero, suc, ◌+◌, ◌-◌, ◌<◌, ◌≤◌, ◌==◌, Bool, true, false, not, cond, eqb, Option, Some, None, List, [], ◌∷◌, ◌++◌, map, length, refl, sym, ap, ◌∙◌, subst, arith, eqb-true, ne_eqb, length-append}
-use Rattle.clock2q_cache.proofs.Names.{slice_get, Mut, Called, always_mut, mut_next, filter, filter_map, cons_option, find, range_with_len, append-nil, map-append, length-map, filter_map-append, fold-append, AsksResident, MayBeAsked, Retains, TakesResidents, SmallEntry, MainEntry, Machine, by_slot, resident_at, vacated, vacated_all, refused_slots, retained}
-use Rattle.std.specs.Borrow.{Bor}
-use Rattle.std.specs.Fn.{Takes}
-use Rattle.std.specs.List.Retain.{ReturnsInTurn}
+use Rattle.clock2q_cache.proofs.Names.{◌≡◌, ℕ, zero, suc, ◌+◌, ◌-◌, ◌<◌, ◌≤◌, ◌==◌, Bool, true, false, not, cond, eqb, Option, Some, None, List, [], ◌∷◌, ◌++◌, map, length, refl, sym, ap, ◌∙◌, subst, arith, eqb-true, ne_eqb, length-append, slice_get, Mut, Called, always_mut, mut_next, filter, filter_map, cons_option, find, range_with_len, append-nil, map-append, length-map, filter_map-append, fold-append, AsksResident, MayBeAsked, Retains, TakesResidents, SmallEntry, MainEntry, Machine, by_slot, resident_at, vacated, vacated_all, refused_slots, retained, Bor, Takes, ReturnsInTurn}
 
 pub range-last : (a n : ℕ) → range_with_len a (suc n) ≡ range_with_len a n ++ (a + n) ∷ []
 range-last a zero = grind arith

@@ -1,15 +1,8 @@
 -- What an eviction costs, though no key comes.
-use Rattle.std.proofs.Common.{◌≡◌, ℕ, ◌+◌, ◌≤◌, true, false, Option, Some, None, length, sym, ap, ◌∙◌, arith}
+use Rattle.clock2q_cache.proofs.Names.{◌≡◌, ℕ, ◌+◌, ◌≤◌, true, false, Option, Some, None, length, sym, ap, ◌∙◌, arith, IsWithinCapacity, pushed-accesses, Evict, first_of, victim_leaves, victim_evicted, tail_evicted, evicted, leaves_now, reached_if, retired_from, if◌then◌else◌, last_or, option_map, HashMembers, IsEquivalence, IsWhole, SmallEntry, Machine, CacheState, Counts, Spends, Costs, hash_in, left_by}
 use Rattle.std.specs.declared.hash.Hasher as hasher
 use Rattle.std.specs.declared.hash.BuildHasher as builder
-use Rattle.clock2q_directory.specs.Index.{IsWithinCapacity}
-use Rattle.clock2q_directory.proofs.Prices.{pushed-accesses}
-use Rattle.clock2q_machine.specs.Calls.{Evict}
-use Rattle.clock2q_machine.specs.Entries.{first_of, from_victim, inspections}
-use Rattle.clock2q_machine.specs.Machine.{victim_leaves, victim_evicted, tail_evicted, evicted, leaves_now}
-use Rattle.clock2q_cache.specs.Costs.{reached_if}
-use Rattle.clock2q_cache.specs.MakingRoom.{retired_from}
-use Rattle.clock2q_cache.proofs.Names.{if◌then◌else◌, last_or, option_map, HashMembers, IsEquivalence, IsWhole, SmallEntry, Machine, CacheState, Counts, Spends, Costs, hash_in, left_by}
+use Rattle.clock2q_machine.specs.Entries.{from_victim, inspections}
 use Rattle.clock2q_cache.proofs.IndexPrices.{oldest_reached}
 use Rattle.clock2q_cache.proofs.Reaching.{reaches-gone}
 use Rattle.clock2q_cache.proofs.Spent.{costs-of, spends-both}

@@ -1,34 +1,13 @@
 -- A `&mut` that is lent for a call and comes back, or is shared for the rest of its lifetime; and what is known of the
 -- value that it leaves behind.
 -- For the walk of a call that lends a value to read at an error of any type, and for the walks of its callers. Assumes `Logic`.
+use Rattle.clock2q_cache.proofs.Names.{none, Ura, full_share, right, named, Val, GName, Lft, Share, fobs, fbor, fres, flft, fdead, SProp, ent, ex, ex_i, ex_e, sep, emp, emp∗, via, mono_l, wand, apply∗, id⊢, Toks, ◌⊑◌, meet_⊑_left, fact, fact_i, Logic, sem, lfts, ‵, raw, ◌⊛◌, some, later, ◌$◌, ◌∵◌, !, qed, done, move, keep, use1, use2, use3, split, join, fsplit, fjoin, feq_i, pick, await, updating, now, show, lft_new, lft_end, name_done, Laws, of_field, is_one, copy_shared, u32, u32-field, shr_ref_field, u32-laws, u32-copy, shr_ref_laws, shr_ref_copy, RattleType, MutBor, MutRef, ShrRef, as_bor, mut_vals, NamedLft, mem, part_at, hidden_shr, settles, LentAgain, lends_again, comes_back, follows_so, follows_if}
 use mathlib.Core.Path.{refl}
 use mathlib.Core.List.{List, [], ◌∷◌, ◌++◌}
-use mathlib.Core.Option.{none}
 use Prim.Native.Nat.{ℕ}
-use seplogic.Ra.Ura.{Ura}
-use base.Fraction.{full_share}
-use base.Share.{left, right}
-use mir.Syntax.{named}
-use mir.Val.{Val}
-use base.Fml.{GName, Lft, Share, fobs, fbor, fres, flft, fdead}
-use base.Logic.{SProp, ent, ex, ex_i, ex_e, sep, emp, emp∗, via, mono_l, wand, apply∗, id⊢}
-use ghost.Rules.{Toks}
-use contract.BorrowLft.{◌⊑◌, meet_⊑_left}
-use contract.Monad.{fact, fact_i}
-use types.Logic.{Logic, sem, lfts}
-use types.Kit.{‵, raw, ◌⊛◌, some, later, ◌$◌, ◌∵◌, !, qed, done, move, keep, use1, use2, use3, split, join, fsplit, fjoin, feq_i, pick, await, drop, updating, now, show}
-use types.Tokens.{lft_new, lft_end, name_done}
-use denote.Param.Laws.{Laws, of_field, is_one}
-use denote.Param.Shared.{copy_shared}
-use denote.Builtin.{u32}
-use denote.Struct.Field.{u32-field, shr_ref_field}
-use denote.Struct.Laws.{u32-laws, u32-copy, shr_ref_laws, shr_ref_copy}
-use denote.RattleType.{RattleType}
-use denote.Ref.{MutBor, MutRef, ShrRef, as_bor, mut_vals, NamedLft}
-use denote.Memory.{mem, part_at, hidden_shr}
-use denote.Shares.{settles}
-use denote.Lend.{LentAgain, lends_again, comes_back}
-use denote.Follow.{such_by, follows_by, follows_so, follows_if}
+use base.Share.{left}
+use types.Kit.{drop}
+use denote.Follow.{such_by, follows_by}
 
 module _ {M : Type 1} {𝓤 : Ura M} (𝓛 : Logic 𝓤) (R : RattleType) where
   open 𝓛 use {H, A}

@@ -1,6 +1,5 @@
 -- How often a slot occurs in a cache's queues, and which slots are distinct.
-use Rattle.std.proofs.Common.{◌≡◌, ℕ, zero, suc, ◌+◌, ◌<◌, ◌≤◌, ◌==◌, Bool, true, false, cond, Some, List, [], ◌∷◌, ◌++◌, map, length, take, drop, reverse, refl, ap, ◌∙◌, subst, arith, length-append, eqb}
-use Rattle.clock2q_cache.proofs.Names.{length-values, is_some, count_by, both_ways, length-map, sum_by-cons, sum_by-append, slots_of-mapped, or_true, Entry, KeyPlaces, key_at, Remembered, IsEquivalence, Age, grown_older, admitted, from_victim, QueueState, slots_of, list_any-append, eqb_self, eqb_swap, Shares, Machine, vacancy, vacant_slot, standings, machine_of, queued_slots, IsStored, IsCache, distinct_none, distinct_more, list_any, IsDistinct}
+use Rattle.clock2q_cache.proofs.Names.{◌≡◌, ℕ, zero, suc, ◌+◌, ◌<◌, ◌≤◌, ◌==◌, Bool, true, false, cond, Some, List, [], ◌∷◌, ◌++◌, map, length, take, drop, reverse, refl, ap, ◌∙◌, subst, arith, length-append, eqb, length-values, is_some, count_by, both_ways, length-map, sum_by-cons, sum_by-append, slots_of-mapped, or_true, Entry, KeyPlaces, key_at, Remembered, IsEquivalence, Age, grown_older, admitted, from_victim, QueueState, slots_of, list_any-append, eqb_self, eqb_swap, Shares, Machine, vacancy, vacant_slot, standings, machine_of, queued_slots, IsStored, IsCache, distinct_none, distinct_more, list_any, IsDistinct}
 use Rattle.clock2q_cache.proofs.WithKeys.{HaveKeys, standing-keyed, length-small, length-main}
 use Rattle.clock2q_cache.proofs.Stored.{have_keys, stored-same}
 

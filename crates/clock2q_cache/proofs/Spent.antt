@@ -1,10 +1,7 @@
 -- What the parts of a call cost.
-use Rattle.std.proofs.Common.{◌-◌, ◌≡◌, ℕ, ◌+◌, ◌*◌, ◌≤◌, Bool, true, false, List, length, Some, None, ap, ◌∙◌, arith}
-use Rattle.clock2q_cache.proofs.Names.{if◌then◌else◌, HashMembers, candidates, KeyPlaces, comparisons_of, Remembered, QueueState, comparisons-most, inspections_for, inspections_of, accesses_for, alike, Call, Put, Get, GetAt, Set, Remove, Retain, Prefill, counts_of, Places, CacheState, Counts, residents_in, Spends, Reaches, Costs, Becomes, most_accesses, most_comparisons, most_slots, walked, hash_of, looked_for, slot_of, hit, put, stored, prefilled, vacated, removed_at, then_some, is_at, after, hit_at, retained, replaced, hit-absent}
+use Rattle.clock2q_cache.proofs.Names.{◌-◌, ◌≡◌, ℕ, ◌+◌, ◌*◌, ◌≤◌, Bool, true, false, List, length, Some, None, ap, ◌∙◌, arith, if◌then◌else◌, HashMembers, candidates, KeyPlaces, comparisons_of, Remembered, QueueState, comparisons-most, inspections_for, inspections_of, accesses_for, alike, Call, Put, Get, GetAt, Set, Remove, Retain, Prefill, counts_of, Places, CacheState, Counts, residents_in, Spends, Reaches, Costs, Becomes, most_accesses, most_comparisons, most_slots, walked, hash_of, looked_for, slot_of, hit, put, stored, prefilled, vacated, removed_at, then_some, is_at, after, hit_at, retained, replaced, hit-absent, SlotFor, clock_bounded}
 use Rattle.std.specs.declared.hash.Hasher as hasher
 use Rattle.std.specs.declared.hash.BuildHasher as builder
-use Rattle.clock2q_machine.specs.Calls.{SlotFor}
-use Rattle.clock2q_machine.proofs.Clock.{clock_bounded}
 
 -- two parts of a call, each with its cost
 pub spends-both : {i j n l k x l' k' x' : ℕ} {a b c : Counts} → Spends i l k a b → Spends j l' k' b c → i + j ≡ n → l + l' ≤ x → k + k' ≤ x' → Spends n x x' a c

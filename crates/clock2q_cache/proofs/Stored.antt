@@ -1,7 +1,5 @@
 -- The keys by slot and their index, after a key enters or replaces another.
-use Rattle.std.proofs.Common.{◌≡◌, ℕ, zero, suc, ◌<◌, ◌≤◌, true, false, eqb, Some, None, List, [], ◌∷◌, length, ap, sym, ◌∙◌, arith, subst, slice_get}
-use Rattle.clock2q_cache.proofs.Names.{AllByRecursion, with_handle, without_handle, Entry, without, entry, written, hash_at, key_at, eqb_self, below_of, among-without, among-without_test, below-among, below-more, and_true, and_false, some_is, length-written, slice_get_some, all-written, hash_at-own, hash_at-others, IsIndex-put, IsIndex-taken, length-taken, IsStored, list_any, IsDistinct}
-use Rattle.clock2q_queues.proofs.Joining.{length-without}
+use Rattle.clock2q_cache.proofs.Names.{◌≡◌, ℕ, zero, suc, ◌<◌, ◌≤◌, true, false, eqb, Some, None, List, [], ◌∷◌, length, ap, sym, ◌∙◌, arith, subst, slice_get, AllByRecursion, with_handle, without_handle, Entry, without, entry, written, hash_at, key_at, eqb_self, below_of, among-without, among-without_test, below-among, below-more, and_true, and_false, some_is, length-written, slice_get_some, all-written, hash_at-own, hash_at-others, IsIndex-put, IsIndex-taken, length-taken, IsStored, list_any, IsDistinct, length-without}
 use Rattle.clock2q_cache.proofs.WithKeys.{HaveKeys}
 
 -- what holds of all holds of the one at a place

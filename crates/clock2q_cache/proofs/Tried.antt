@@ -1,13 +1,11 @@
 -- What `try_get_or_insert_with` ensures, from what its two calls ensure: the search for the slot, and the loan of the
 -- value there.
-use Rattle.std.proofs.Common.{arith, ◌≡◌, ℕ, ◌<◌, length, Some, None, Result, Ok, Err, MatchResult, IsOkAnd, IfErr, IfOk, OnErr, OnOk, sym, ◌∙◌}
-use Rattle.std.specs.Borrow.{RattleType, Bor}
+use Rattle.clock2q_cache.proofs.Names.{arith, ◌≡◌, ℕ, ◌<◌, length, Some, None, Result, Ok, Err, MatchResult, IsOkAnd, IfErr, IfOk, OnErr, OnOk, sym, ◌∙◌, Bor, HashMembers, slice_get, UnwrapsOrElse, CacheState, Reaches, Spends, Fetches, hit-absent, slot_of, value_of, some_is, inspections_for, accesses_for, alike, slots_for, walked, known_with, looked_for, Tries}
+use Rattle.std.specs.Borrow.{RattleType}
 use Rattle.std.specs.declared.alloc.Allocator as alloc
 use Rattle.std.specs.declared.hash.Hasher as hasher
 use Rattle.std.specs.declared.hash.BuildHasher as builder
-use Rattle.clock2q_cache.proofs.Names.{HashMembers, slice_get, UnwrapsOrElse, CacheState, Reaches, Spends, Fetches, hit-absent, slot_of, value_of, some_is, inspections_for, accesses_for, alike, slots_for, walked, known_with, looked_for}
 use Rattle.clock2q_cache.proofs.Spent.{costs-of}
-use Rattle.clock2q_cache.specs.CacheLends.{Tries}
 
 module _ (K V S A H : RattleType) (key : HashMembers K.Denot) (build : builder.Ghosts S.Denot H.Denot) (hash : hasher.Ghosts H.Denot) (heap : alloc.Ghosts A.Denot)
     {E : Type 0} (k : K.Denot) (post : Result V.Denot E → Type 0) (old new : CacheState K.Denot V.Denot S.Denot) where

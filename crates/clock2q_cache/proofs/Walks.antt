@@ -28,17 +28,9 @@ pub use denote.Triple.Clauses.{Lasts, lasts}
 pub use denote.Triple.Table.{framed}
 pub use denote.Triple.Walked.{Stays, stay_dropped, stay_ref, walk_of, Goes-ref, Goes-spent_ref, Goes-dropped}
 pub use Rattle.std.proofs.raw_atomic.Walks.{proved_at, leaves}
+use Rattle.clock2q_cache.proofs.Names.{T, Ura, Ty, has_ty, WT, emp, fact_i, Logic, Goal, Item, Seq, Step, step, use0, Typed}
 use mathlib.Core.Path.{◌≡◌, refl}
 use mathlib.Core.List.{List, [], ◌∷◌}
-use lib.Dec.{T}
-use seplogic.Ra.Ura.{Ura}
-use mir.Syntax.{Ty}
-use mir.Val.{has_ty, WT}
-use base.Logic.{emp}
-use contract.Monad.{fact_i}
-use types.Logic.{Logic}
-use types.Kit.{Goal, Item, Seq, Step, step, use0}
-use denote.Laws.{Typed}
 
 abbrev pub Good : Ty → Val → Type 0
 Good τ v = T (has_ty τ v) × WT v

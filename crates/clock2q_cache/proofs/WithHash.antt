@@ -1,9 +1,6 @@
 -- The slots whose keys have one hash are those of the residents whose keys have it, each once.
-use Rattle.std.proofs.Common.{◌≡◌, ℕ, ◌<◌, Bool, true, ◌&&◌, eqb-true, Option, Some, None, slice_get, List, [], ◌∷◌, length, inl, inr, refl, sym, ◌∙◌, arith, ◌-◌, eqb}
-use Rattle.clock2q_cache.proofs.Names.{and_false, IfNone, IfSome, length-values, IsEquivalence, AllByRecursion, eqb_self, find, is_key_at, slot_of, filter, cases_Bool, candidates, Entry, KeyPlaces, among_first, below_of, candidate_there, slice_get_some, QueueState, Remembered, Shares, Machine, machine_of, queued_slots, IsCache, distinct_none, distinct_first, distinct_rest, distinct_more, list_any, IsDistinct, among_later}
+use Rattle.clock2q_cache.proofs.Names.{◌≡◌, ℕ, ◌<◌, Bool, true, ◌&&◌, eqb-true, Option, Some, None, slice_get, List, [], ◌∷◌, length, inl, inr, refl, sym, ◌∙◌, arith, ◌-◌, eqb, and_false, IfNone, IfSome, length-values, IsEquivalence, AllByRecursion, eqb_self, find, is_key_at, slot_of, filter, cases_Bool, candidates, Entry, KeyPlaces, among_first, below_of, candidate_there, slice_get_some, QueueState, Remembered, Shares, Machine, machine_of, queued_slots, IsCache, distinct_none, distinct_first, distinct_rest, distinct_more, list_any, IsDistinct, among_later, has_hash, has_hash_at}
 use Rattle.std.proofs.lemmas.Bool.{eq-eqb}
-use Rattle.clock2q_directory.specs.Hashed.{has_hash}
-use Rattle.clock2q_cache.specs.SlotsByHash.{has_hash_at}
 use Rattle.clock2q_cache.proofs.Stored.{all-at}
 use Rattle.clock2q_cache.proofs.Places.{resident-there, resident-none}
 use Rattle.clock2q_cache.proofs.Finding.{found, candidates-there}

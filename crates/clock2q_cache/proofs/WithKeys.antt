@@ -1,6 +1,5 @@
 -- The queues' lists of slots, with the keys at the slots, change as the machine's lists do.
-use Rattle.std.proofs.Common.{◌≡◌, ℕ, zero, suc, ◌+◌, ◌==◌, Bool, true, false, not, cond, eqb, Option, Some, None, List, [], ◌∷◌, ◌++◌, map, length, take, drop, inl, inr, refl, ap, ◌∙◌, arith}
-use Rattle.clock2q_cache.proofs.Names.{if◌then◌else◌, last_or, count_by, filter, filter_map, option_map, cases_Bool, filter_map-append, sum_by-cons, Age, grown_older, touched, admitted, small_hit_at, set_front, inspections, from_victim, main_hit_at, slots_of, without_slot, among_first, among_later, SmallEntry, MainEntry, with_keys_small, with_keys_main, list_any}
+use Rattle.clock2q_cache.proofs.Names.{◌≡◌, ℕ, zero, suc, ◌+◌, ◌==◌, Bool, true, false, not, cond, eqb, Option, Some, None, List, [], ◌∷◌, ◌++◌, map, length, take, drop, inl, inr, refl, ap, ◌∙◌, arith, if◌then◌else◌, last_or, count_by, filter, filter_map, option_map, cases_Bool, filter_map-append, sum_by-cons, Age, grown_older, touched, admitted, small_hit_at, set_front, inspections, from_victim, main_hit_at, slots_of, without_slot, among_first, among_later, SmallEntry, MainEntry, with_keys_small, with_keys_main, list_any}
 use Rattle.clock2q_machine.specs.Entries as machine
 
 -- an entry of Small or of Main, and its key

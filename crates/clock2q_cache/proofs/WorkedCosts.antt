@@ -1,18 +1,10 @@
 -- The bounds on link accesses and on slots of the index of some calls, worked out by hand.
-use Rattle.std.proofs.Common.{◌≡◌, ℕ, false, eqb, None, get_or, List, [], ◌∷◌, ◌++◌, map, refl}
+use Rattle.clock2q_cache.proofs.Names.{◌≡◌, ℕ, false, eqb, None, get_or, List, [], ◌∷◌, ◌++◌, map, refl, no_entries, index_state, places_with, Call, Evict, SlotFor, after_all, set_bits, summed, puts, gets, state, uncounted, HashMembers, Put, Get, GetAt, Try, Remove, Retain, Clear, CacheState, cache_state, most_accesses, most_slots}
 use Rattle.std.specs.declared.hash.Hasher as hasher
 use Rattle.std.specs.declared.hash.BuildHasher as builder
-use Rattle.clock2q_handles.specs.Homes.{no_entries}
 use Rattle.clock2q_handles.specs.Layout.{spill, layout}
-use Rattle.clock2q_directory.specs.Index.{index_state, entered}
-use Rattle.clock2q_directory.specs.History.{places_with}
-use Rattle.clock2q_machine.specs.Calls.{Call, Evict, SlotFor}
-use Rattle.clock2q_machine.specs.Steps.{after_all}
-use Rattle.clock2q_machine.specs.Bounds.{set_bits, summed}
-use Rattle.clock2q_machine.proofs.WorkedRuns.{puts, gets, state}
-use Rattle.clock2q_cache.specs.CacheState.{uncounted}
+use Rattle.clock2q_directory.specs.Index.{entered}
 use Rattle.clock2q_cache.specs.Hashes.{hash_of}
-use Rattle.clock2q_cache.proofs.Names.{HashMembers, Put, Get, GetAt, Try, Remove, Retain, Clear, CacheState, cache_state, most_accesses, most_slots}
 
 links_of_a_whole_round : let m = state 20 (puts 1 20 ++ gets 3 18 ++ Get 1 ∷ []) in
     (most_accesses eqb (Put 21 21) m ≡ 48) × (most_accesses eqb (Put 20 20) m ≡ 0) × (most_accesses eqb (Try 21 None) m ≡ 0)

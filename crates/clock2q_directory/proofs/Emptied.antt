@@ -1,14 +1,6 @@
 -- An empty index: a new one, or one that was cleared.
-use Rattle.std.proofs.Common.{◌≡◌, ℕ, zero, suc, ◌+◌, ◌^◌, ◌<◌, ◌≤◌, ◌⊎◌, max, ◌==◌, true, false, List, [], ◌∷◌, length, inl, inr, refl, sym, ap, ◌∙◌, arith}
-use Rattle.std.specs.Prelude.{if◌then◌else◌}
-use Rattle.std.proofs.lemmas.Bool.{both_ways, cases_Bool, eqb-true}
-use Rattle.std.proofs.lemmas.Bool.Decides.{leb_tells}
-use Rattle.std.proofs.lemmas.List.{length-replicate, length-map}
-use Rattle.clock2q_handles.specs.Homes.{capacity, no_entries}
-use Rattle.clock2q_handles.specs.TableStep.{made_for, fit}
-use Rattle.clock2q_directory.specs.declared.keys.Entry.{Entry}
-use Rattle.clock2q_directory.specs.Indexes.{IsIndex}
-use Rattle.clock2q_directory.specs.Index.{IndexState, index_state, emptied, index_for, index_room, most_entries, is_shared, slots, places, slots_in, places_in, slot_entries}
+use Rattle.clock2q_directory.proofs.Names.{◌≡◌, ℕ, zero, suc, ◌+◌, ◌^◌, ◌<◌, ◌≤◌, ◌⊎◌, max, ◌==◌, true, false, List, [], ◌∷◌, length, inl, inr, refl, sym, ap, ◌∙◌, arith, if◌then◌else◌, both_ways, cases_Bool, eqb-true, leb_tells, length-replicate, length-map, capacity, no_entries, made_for, Entry, IsIndex, IndexState, index_state, emptied, index_for, index_room, most_entries, is_shared, slots, places, slots_in, places_in, slot_entries}
+use Rattle.clock2q_handles.specs.TableStep.{fit}
 use Rattle.clock2q_directory.proofs.Views.{IsLikeBefore}
 use Rattle.clock2q_directory.proofs.Indexes.{IsIndex-cleared, fits_new}
 

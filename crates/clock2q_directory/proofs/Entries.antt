@@ -1,17 +1,5 @@
 -- How the keys by place change.
-use Rattle.std.proofs.Common.{◌≡◌, ℕ, zero, suc, ◌+◌, ◌<◌, ◌≤◌, max, Bool, true, false, Option, Some, None, slice_get, slice_set, List, [], ◌∷◌, ◌++◌, length, take, inl, inr, refl, sym, ap}
-use Rattle.std.proofs.Common.{◌∙◌, subst, eqb, arith, map}
-use Rattle.std.specs.Prelude.{if◌then◌else◌, nat_lt}
-use Rattle.std.specs.List.{cons_option, AllByRecursion, list_any, IsDistinct}
-use Rattle.std.specs.Cmp.{IsEquivalence}
-use Rattle.std.proofs.lemmas.Option.{slice_get_within}
-use Rattle.std.proofs.lemmas.Bool.{both_ways, or_cases, eq-eqb, eqb-true, cases_lt, lt-ltb, le-ltb}
-use Rattle.std.proofs.lemmas.List.{map-append}
-use Rattle.clock2q_directory.specs.declared.keys.Entry.{Entry}
-use Rattle.clock2q_directory.specs.Keys.{entry, written, hash_at, hashed_at, entries_of, is_key_at, key_at, value_at}
-use Rattle.clock2q_directory.specs.Indexes.{has_key}
-use Rattle.clock2q_queues.proofs.Rings.{among_first, among_later, distinct_first, distinct_rest}
-use Rattle.clock2q_queues.proofs.Booleans.{or_left, or_right}
+use Rattle.clock2q_directory.proofs.Names.{◌≡◌, ℕ, zero, suc, ◌+◌, ◌<◌, ◌≤◌, max, Bool, true, false, Option, Some, None, slice_get, slice_set, List, [], ◌∷◌, ◌++◌, length, take, inl, inr, refl, sym, ap, ◌∙◌, subst, eqb, arith, map, if◌then◌else◌, nat_lt, cons_option, AllByRecursion, list_any, IsDistinct, IsEquivalence, slice_get_within, both_ways, or_cases, eq-eqb, eqb-true, cases_lt, lt-ltb, le-ltb, map-append, Entry, entry, written, hash_at, hashed_at, entries_of, is_key_at, key_at, value_at, has_key, among_first, among_later, distinct_first, distinct_rest, or_left, or_right}
 
 -- Entries written
 

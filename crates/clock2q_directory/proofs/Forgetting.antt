@@ -1,26 +1,10 @@
 -- A key forgotten by the history.
-use Rattle.std.proofs.Common.{◌≡◌, ℕ, ◌+◌, ◌^◌, ◌<◌, ◌≤◌, Bool, true, false, eqb, Option, Some, None, slice_get, List, [], ◌∷◌, map, length, inl, inr, refl, sym, ap, ◌∙◌, subst, arith}
-use Rattle.std.specs.List.{cons_option, find, list_any, AllByRecursion, IsDistinct}
-use Rattle.std.specs.Cmp.{IsEquivalence}
-use Rattle.std.proofs.lemmas.Bool.{both_ways, cases_Bool, eqb-true}
-use Rattle.clock2q_handles.specs.Homes.{candidates}
+use Rattle.clock2q_directory.proofs.Names.{◌≡◌, ℕ, ◌+◌, ◌^◌, ◌<◌, ◌≤◌, Bool, true, false, eqb, Option, Some, None, slice_get, List, [], ◌∷◌, map, length, inl, inr, refl, sym, ap, ◌∙◌, subst, arith, cons_option, find, list_any, AllByRecursion, IsDistinct, IsEquivalence, both_ways, cases_Bool, eqb-true, candidates, IndexState, forgotten_at, Entry, without, PlaceOrder, IsWholeOrder, used, KeyPlaces, hash_at, hashed_at, entries_of, is_key_at, IsIndex, HasHash, has_key, Found, Remembered, IsHistory, forgotten, remembered_from, accesses_of, places_with, places_from, place_of, found_place, freed_place, Rises, among_first, among_later, below_of, IsDistinct-left, AllByRecursion-left, distinct_none, distinct_first, distinct_rest, distinct_more, length-without, or_parts, or_neither}
 use Rattle.clock2q_directory.specs.Index as known
-use Rattle.clock2q_directory.specs.Index.{IndexState, forgotten_at}
-use Rattle.clock2q_directory.specs.declared.keys.Entry.{Entry}
-use Rattle.clock2q_queues.specs.Rings.{without}
-use Rattle.clock2q_queues.specs.Order.{PlaceOrder, IsWholeOrder, used}
-use Rattle.clock2q_directory.specs.Keys.{KeyPlaces, hash_at, hashed_at, entries_of, is_key_at}
-use Rattle.clock2q_directory.specs.Indexes.{IsIndex, HasHash, has_key}
-use Rattle.clock2q_directory.specs.declared.handle.Found.{Found}
-use Rattle.clock2q_directory.specs.History.{Remembered, IsHistory, forgotten, remembered_from, accesses_of, places_with, places_from, place_of, found_place, freed_place}
-use Rattle.clock2q_queues.specs.Cells.{Rises}
-use Rattle.clock2q_queues.proofs.Rings.{among_first, among_later, below_of, IsDistinct-left, AllByRecursion-left, distinct_none, distinct_first, distinct_rest, distinct_more}
-use Rattle.clock2q_queues.proofs.Joining.{length-without}
 use Rattle.clock2q_directory.proofs.Entries.{key_there, any_entry, same_place, hashed_there, entries-cons}
 use Rattle.clock2q_directory.proofs.Histories.{shown-as}
 use Rattle.clock2q_directory.proofs.Indexes.{IsIndex-removed, named-own}
 use Rattle.clock2q_directory.proofs.Views.{places-forgotten, forgotten-like}
-use Rattle.clock2q_queues.proofs.Booleans.{or_parts, or_neither}
 use Rattle.clock2q_directory.proofs.Lookups.{found_there, not_found, lookup, hash_there}
 
 -- a lookup that found no remembered key found no place

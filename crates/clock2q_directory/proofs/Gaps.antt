@@ -1,10 +1,5 @@
 -- What a gap that a lookup has found spares an index.
-use Rattle.std.proofs.Common.{◌≡◌, ℕ, ◌≤◌, Bool, true, false, ◌&&◌, if◌then◌else◌, List, Option, Some, None, inl, inr, refl, arith}
-use Rattle.std.specs.Prelude.{is_some, IsSome}
-use Rattle.std.proofs.lemmas.Bool.{cases_Bool}
-use Rattle.clock2q_handles.specs.Layout.{walk}
-use Rattle.clock2q_handles.specs.Positions.{GapValue, walk_to_gap}
-use Rattle.clock2q_directory.specs.Index.{IndexState, IsGapFor}
+use Rattle.clock2q_directory.proofs.Names.{◌≡◌, ℕ, ◌≤◌, Bool, true, false, ◌&&◌, if◌then◌else◌, List, Option, Some, None, inl, inr, refl, arith, is_some, IsSome, cases_Bool, walk, GapValue, walk_to_gap, IndexState, IsGapFor}
 
 module _ (homes : List (List (ℕ × ℕ))) (x : ℕ) where
   -- the walk to the gap

@@ -1,16 +1,5 @@
 -- Places and slots that are copied from one index to another.
-use Rattle.std.proofs.Common.{◌≡◌, ℕ, zero, suc, ◌+◌, ◌^◌, ◌<◌, ◌≤◌, Bool, true, false, ◌&&◌, if◌then◌else◌, eqb, Some, None, List, [], ◌∷◌, length, inl, inr, refl, sym, ap, ◌∙◌, arith, add-one}
-use Rattle.std.specs.List.{list_any, AllByRecursion, IsDistinct}
-use Rattle.std.proofs.lemmas.Bool.{both_ways, cases_Bool, or_cases, eqb-true}
-use Rattle.std.proofs.lemmas.Cmp.{nat_eq_equiv}
-use Rattle.std.proofs.lemmas.Map.Made.{length-from_same_keys}
-use Rattle.clock2q_handles.specs.Homes.{total, capacity, candidates, with_handle}
-use Rattle.clock2q_directory.specs.declared.keys.Entry.{Entry}
-use Rattle.clock2q_directory.specs.Keys.{hash_at}
-use Rattle.clock2q_directory.specs.Indexes.{IsIndex, is_named}
-use Rattle.clock2q_directory.specs.Index.{IndexState, first_remembered, is_shared, slots, places, beside, entered, HasSlotRoom}
-use Rattle.clock2q_directory.specs.Growth.{place_entered, slots_beside, Keeps, HasSizesOf, HasRoomForPlace, AddsPlaces, AddsSlots}
-use Rattle.clock2q_queues.proofs.Rings.{among_first, among_later, distinct_none, distinct_more, below_of}
+use Rattle.clock2q_directory.proofs.Names.{◌≡◌, ℕ, zero, suc, ◌+◌, ◌^◌, ◌<◌, ◌≤◌, Bool, true, false, ◌&&◌, if◌then◌else◌, eqb, Some, None, List, [], ◌∷◌, length, inl, inr, refl, sym, ap, ◌∙◌, arith, add-one, list_any, AllByRecursion, IsDistinct, both_ways, cases_Bool, or_cases, eqb-true, nat_eq_equiv, length-from_same_keys, total, capacity, candidates, with_handle, Entry, hash_at, IsIndex, is_named, IndexState, first_remembered, is_shared, slots, places, beside, entered, HasSlotRoom, place_entered, slots_beside, Keeps, HasSizesOf, HasRoomForPlace, AddsPlaces, AddsSlots, among_first, among_later, distinct_none, distinct_more, below_of}
 use Rattle.clock2q_directory.proofs.Entries.{slice_get_some}
 use Rattle.clock2q_directory.proofs.Indexes.{named-own, IsIndex-put}
 use Rattle.clock2q_directory.proofs.Views.{slots-entered, places-entered}

@@ -1,9 +1,6 @@
 -- Histories whose hashes are their keys' remainders.
-use Rattle.std.proofs.Common.{◌≡◌, ℕ, zero, suc, ◌%◌, false, eqb, List, [], ◌∷◌, take, inl, inr, refl, sym, ap, ◌∙◌, eqb-true}
-use Rattle.std.specs.List.{AllByRecursion}
-use Rattle.std.proofs.lemmas.Bool.{cases_Bool}
-use Rattle.clock2q_directory.specs.Indexes.{HasHash}
-use Rattle.clock2q_directory.specs.History.{is_remembered, forgotten}
+use Rattle.clock2q_directory.proofs.Names.{◌≡◌, ℕ, zero, suc, ◌%◌, false, eqb, List, [], ◌∷◌, take, inl, inr, refl, sym, ap, ◌∙◌, AllByRecursion, cases_Bool, HasHash, is_remembered, forgotten}
+use Rattle.std.proofs.Common.{eqb-true}
 
 pub has_hash : (key hashes : ℕ) (es : List (ℕ × ℕ)) → AllByRecursion (λ e. e.0 ≡ e.1 % hashes) es → HasHash eqb (key % hashes) key es
 has_hash key hashes [] a = tt

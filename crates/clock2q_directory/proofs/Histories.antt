@@ -1,14 +1,6 @@
 -- A new history, one that was cleared, and what callers see of one.
-use Rattle.std.proofs.Common.{◌≡◌, ℕ, ◌^◌, ◌<◌, ◌≤◌, Bool, List, [], length, refl, sym, ap, ◌∙◌, subst, arith}
-use Rattle.std.specs.List.{IsDistinct}
-use Rattle.clock2q_directory.specs.declared.keys.Entry.{Entry}
-use Rattle.clock2q_queues.specs.Order.{PlaceOrder, IsWholeOrder, unused, used}
-use Rattle.clock2q_directory.specs.Keys.{KeyPlaces, entries_of}
-use Rattle.clock2q_directory.specs.Indexes.{IsIndex}
+use Rattle.clock2q_directory.proofs.Names.{◌≡◌, ℕ, ◌^◌, ◌<◌, ◌≤◌, Bool, List, [], length, refl, sym, ap, ◌∙◌, subst, arith, IsDistinct, Entry, PlaceOrder, IsWholeOrder, unused, used, KeyPlaces, entries_of, IsIndex, IndexState, emptied, index_for, is_shared, HasSlotRoom, HasRoomBeside, Places, IsHistory, IsWholeHistory, remembered, remembered_from, AllByRecursion-left, distinct_none}
 use Rattle.clock2q_directory.specs.Index as known
-use Rattle.clock2q_directory.specs.Index.{IndexState, emptied, index_for, is_shared, HasSlotRoom, HasRoomBeside}
-use Rattle.clock2q_directory.specs.History.{Places, IsHistory, IsWholeHistory, remembered, remembered_from}
-use Rattle.clock2q_queues.proofs.Rings.{AllByRecursion-left, distinct_none}
 use Rattle.clock2q_directory.proofs.Entries.{length-entries}
 use Rattle.clock2q_directory.proofs.Emptied.{for-new, new-none, emptied-places, cleared_like}
 

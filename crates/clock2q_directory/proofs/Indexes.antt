@@ -1,25 +1,9 @@
 -- How putting a place into the index, and taking one out, changes it.
-use Rattle.std.proofs.Common.{◌≡◌, ℕ, zero, suc, ◌+◌, ◌*◌, ◌%◌, ◌<◌, ◌≤◌, Bool, true, false, not, ◌||◌, ◌&&◌, ◌==◌, eqb, Option, Some, None, get_or, List, [], ◌∷◌, ◌++◌, length, map, filter}
-use Rattle.std.proofs.Common.{inl, inr, refl, sym, ap, ◌∙◌, subst, arith, eqb-true}
-use Rattle.std.specs.List.{list_any, AllByRecursion, IsDistinct}
-use Rattle.std.proofs.lemmas.Bool.{both_ways, cases_Bool}
-use Rattle.std.proofs.lemmas.Bool.Decides.{leb_tells}
-use Rattle.std.proofs.lemmas.List.{length-append, length-replicate}
-use Rattle.std.proofs.lemmas.List.Folds.{list_any-append}
-use Rattle.clock2q_queues.specs.Rings.{without}
-use Rattle.clock2q_handles.specs.Homes.{top, home, no_entries, capacity, listed, total, candidates, with_handle, without_handle, is_entry_of, without_first}
-use Rattle.clock2q_directory.specs.Keys.{hash_at}
-use Rattle.clock2q_handles.specs.TableStep.{fit, doubled_until, made_for}
-use Rattle.clock2q_directory.specs.Indexes.{IsIndex, is_alike, is_named}
-use Rattle.clock2q_directory.specs.declared.keys.Entry.{Entry}
-use Rattle.clock2q_queues.proofs.Booleans.{and_parts, and_true, and_false, and_swap, or_true, or_false, or_neither}
+use Rattle.clock2q_directory.proofs.Names.{◌≡◌, ℕ, zero, suc, ◌+◌, ◌*◌, ◌%◌, ◌<◌, ◌≤◌, Bool, true, false, not, ◌||◌, ◌&&◌, ◌==◌, eqb, Option, Some, None, get_or, List, [], ◌∷◌, ◌++◌, length, map, inl, inr, refl, sym, ap, ◌∙◌, subst, arith, list_any, AllByRecursion, IsDistinct, both_ways, cases_Bool, leb_tells, length-append, length-replicate, list_any-append, without, top, home, no_entries, capacity, listed, total, candidates, with_handle, without_handle, is_entry_of, without_first, hash_at, doubled_until, made_for, IsIndex, is_alike, is_named, Entry, and_parts, and_true, and_false, and_swap, or_true, or_false, or_neither, eqb_self, among_first, among_later, differs, IsDistinct-append, without_absent, among-without_test, distinct_none, distinct_first, distinct_rest, distinct_more, distinct_alone, length-without, total-no_entries, length-with_list, total-with_list, candidates-inserted, candidates-inserted_other, candidates-removed, candidates-removed_other}
+use Rattle.std.proofs.Common.{filter}
+use Rattle.std.proofs.Common.{eqb-true}
+use Rattle.clock2q_handles.specs.TableStep.{fit}
 use Rattle.clock2q_directory.proofs.Entries.{hash_in}
-use Rattle.clock2q_queues.proofs.Rings.{eqb_self, among_first, among_later, differs, IsDistinct-append, without_absent, among-without_test, distinct_none, distinct_first, distinct_rest}
-use Rattle.clock2q_queues.proofs.Rings.{distinct_more, distinct_alone}
-use Rattle.clock2q_queues.proofs.Joining.{length-without}
-use Rattle.clock2q_handles.proofs.FewerEntries.{total-no_entries}
-use Rattle.clock2q_handles.proofs.Changes.{length-with_list, total-with_list}
-use Rattle.clock2q_handles.proofs.Lookups.{candidates-inserted, candidates-inserted_other, candidates-removed, candidates-removed_other}
 
 -- Lists
 

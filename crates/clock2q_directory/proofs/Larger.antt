@@ -1,23 +1,5 @@
 -- A larger index, and the history with it.
-use Rattle.std.proofs.Common.{◌≡◌, ℕ, ◌+◌, ◌-◌, ◌*◌, ◌^◌, ◌<◌, ◌≤◌, Bool, true, false, ◌||◌, ◌==◌, if◌then◌else◌, eqb, ltb, List, [], ◌∷◌, ◌++◌, length, inl, inr, refl, sym, ap, ◌∙◌, subst}
-use Rattle.std.proofs.Common.{arith, append-nil}
-use Rattle.std.specs.List.{list_any, AllByRecursion}
-use Rattle.std.proofs.lemmas.Bool.{cases_Bool, eqb-true, ltb-true, ltb-false}
-use Rattle.std.proofs.lemmas.Cmp.{nat_eq_equiv}
-use Rattle.std.proofs.lemmas.List.{length-map, map-append}
-use Rattle.std.proofs.lemmas.List.Elements.{filter-append}
-use Rattle.clock2q_handles.specs.Homes.{top, listed, total, capacity, candidates, with_handle}
-use Rattle.clock2q_handles.specs.TableStep.{HasSpare}
-use Rattle.clock2q_directory.specs.declared.keys.Entry.{Entry}
-use Rattle.clock2q_directory.specs.Index.{IndexState, index_state, index_for, first_remembered, is_shared, slots, places, beside, entered, slots_among, places_among, slot_entries}
-use Rattle.clock2q_directory.specs.Index.{place_entries, slots_in, places_in, IsSorted}
-use Rattle.clock2q_directory.specs.Indexes.{IsIndex}
-use Rattle.clock2q_directory.specs.Growth.{place_entered, HasRoomForPlace, HasSizesOf, Keeps, AddsPlaces, AddsSlots, Outgrows, Grows}
-use Rattle.clock2q_directory.specs.Directory.{known}
-use Rattle.clock2q_directory.specs.Keys.{KeyPlaces}
-use Rattle.clock2q_directory.specs.History.{IsHistory, remembered_from, places_from, accesses_of}
-use Rattle.clock2q_queues.specs.Order.{PlaceOrder, IsWholeOrder, used}
-use Rattle.clock2q_queues.proofs.Rings.{AllByRecursion-left, IsDistinct-left}
+use Rattle.clock2q_directory.proofs.Names.{◌≡◌, ℕ, ◌+◌, ◌-◌, ◌*◌, ◌^◌, ◌<◌, ◌≤◌, Bool, true, false, ◌||◌, ◌==◌, if◌then◌else◌, eqb, ltb, List, [], ◌∷◌, ◌++◌, length, inl, inr, refl, sym, ap, ◌∙◌, subst, arith, append-nil, list_any, AllByRecursion, cases_Bool, eqb-true, ltb-true, ltb-false, nat_eq_equiv, length-map, map-append, filter-append, top, listed, total, capacity, candidates, with_handle, HasSpare, Entry, IndexState, index_state, index_for, first_remembered, is_shared, slots, places, beside, entered, slots_among, places_among, slot_entries, place_entries, slots_in, places_in, IsSorted, IsIndex, place_entered, HasRoomForPlace, HasSizesOf, Keeps, AddsPlaces, AddsSlots, Outgrows, Grows, known, KeyPlaces, IsHistory, remembered_from, places_from, accesses_of, PlaceOrder, IsWholeOrder, used, AllByRecursion-left, IsDistinct-left}
 use Rattle.clock2q_directory.proofs.Indexes.{length-put}
 use Rattle.clock2q_directory.proofs.Views.{place_of, place_is_past, place_back, listed-view, view-with_list, view-unseen, candidates-slots, candidates-places, candidates-own}
 use Rattle.clock2q_directory.proofs.Sorted.{total-parted}

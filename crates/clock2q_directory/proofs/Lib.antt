@@ -10,6 +10,7 @@ pub mod Larger
 pub mod Looking
 pub mod Lookups
 pub mod MakingPlaces
+pub mod Names
 pub mod Prices
 pub mod Remembering
 pub mod Views

@@ -1,20 +1,6 @@
 -- What a lookup among residents and remembered keys finds, and how many comparisons it makes.
-use Rattle.std.proofs.Common.{◌≡◌, ℕ, ◌+◌, ◌-◌, ◌<◌, ◌≤◌, Bool, true, false, ltb, Option, Some, None, slice_get, List, [], ◌∷◌, drop, length, map, inl, inr, refl, sym, ap, ◌∙◌, subst, arith}
-use Rattle.std.specs.Prelude.{IfSome}
-use Rattle.std.specs.List.{find, AllByRecursion}
-use Rattle.std.specs.Cmp.{IsEquivalence}
-use Rattle.std.proofs.lemmas.Bool.{cases_Bool, lt-ltb, le-ltb, ltb-true, ltb-false}
-use Rattle.clock2q_directory.specs.declared.handle.Handle.{Handle}
-use Rattle.clock2q_directory.specs.declared.handle.Found.{Found}
-use Rattle.clock2q_handles.specs.Homes.{candidates}
-use Rattle.clock2q_handles.specs.Positions.{GapValue}
+use Rattle.clock2q_directory.proofs.Names.{◌≡◌, ℕ, ◌+◌, ◌-◌, ◌<◌, ◌≤◌, Bool, true, false, ltb, Option, Some, None, slice_get, List, [], ◌∷◌, drop, length, map, inl, inr, refl, sym, ap, ◌∙◌, subst, arith, IfSome, find, AllByRecursion, IsEquivalence, cases_Bool, lt-ltb, le-ltb, ltb-true, ltb-false, Handle, Found, candidates, GapValue, IndexState, IsGapFor, first_remembered, unpacked, is_shared, slots_among, places_among, Rises, PlaceOrder, KeyPlaces, entries_of, is_key_at, comparisons_of, HasHash, IsHistory, place_of, found_slot, found_place, found_gap, first_known}
 use Rattle.clock2q_directory.specs.Index as known
-use Rattle.clock2q_directory.specs.Index.{IndexState, IsGapFor, first_remembered, unpacked, is_shared, slots_among, places_among}
-use Rattle.clock2q_queues.specs.Cells.{Rises}
-use Rattle.clock2q_queues.specs.Order.{PlaceOrder}
-use Rattle.clock2q_directory.specs.Keys.{KeyPlaces, entries_of, is_key_at, comparisons_of}
-use Rattle.clock2q_directory.specs.Indexes.{HasHash}
-use Rattle.clock2q_directory.specs.History.{IsHistory, place_of, found_slot, found_place, found_gap, first_known}
 use Rattle.clock2q_directory.proofs.Indexes.{candidates_there}
 use Rattle.clock2q_directory.proofs.Lookups.{Compared, begins_with, comparisons-within}
 use Rattle.clock2q_directory.proofs.Views.{candidates-slots, candidates-places, candidates-own}

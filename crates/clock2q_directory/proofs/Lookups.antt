@@ -1,13 +1,5 @@
 -- What a lookup of a key through an index finds, and how many comparisons it makes.
-use Rattle.std.proofs.Common.{◌≡◌, ℕ, ◌+◌, ◌<◌, ◌≤◌, Bool, true, false, eqb, Option, Some, None, slice_get, List, [], ◌∷◌, drop, length, inl, inr, refl, sym, ap, ◌∙◌, subst, arith}
-use Rattle.std.specs.List.{find, AllByRecursion, list_any, IsDistinct}
-use Rattle.std.specs.Cmp.{IsEquivalence}
-use Rattle.std.proofs.lemmas.Bool.{both_ways, cases_Bool, or_cases, eqb-true}
-use Rattle.clock2q_handles.specs.Homes.{candidates}
-use Rattle.clock2q_directory.specs.declared.keys.Entry.{Entry}
-use Rattle.clock2q_directory.specs.Keys.{hash_at, entries_of, is_key_at, comparisons_of}
-use Rattle.clock2q_directory.specs.Indexes.{IsIndex, HasHash}
-use Rattle.clock2q_queues.proofs.Rings.{among_first, among_later}
+use Rattle.clock2q_directory.proofs.Names.{◌≡◌, ℕ, ◌+◌, ◌<◌, ◌≤◌, Bool, true, false, eqb, Option, Some, None, slice_get, List, [], ◌∷◌, drop, length, inl, inr, refl, sym, ap, ◌∙◌, subst, arith, find, AllByRecursion, list_any, IsDistinct, IsEquivalence, both_ways, cases_Bool, or_cases, eqb-true, candidates, Entry, hash_at, entries_of, is_key_at, comparisons_of, IsIndex, HasHash, among_first, among_later}
 use Rattle.clock2q_directory.proofs.Entries.{key_there, hash_of_hashed, all_entry, same_place}
 use Rattle.clock2q_directory.proofs.Indexes.{named-own, candidate_there}
 

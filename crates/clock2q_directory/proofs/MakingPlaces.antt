@@ -1,25 +1,8 @@
 -- A place for a new key in the history.
-use Rattle.std.proofs.Common.{◌≡◌, ℕ, suc, ◌+◌, ◌-◌, ◌<◌, ◌≤◌, max, true, false, eqb, Option, Some, None, List, [], ◌∷◌, ◌++◌, length, take, drop, take_all, refl, sym, ap, ◌∙◌, subst, arith}
-use Rattle.std.specs.Prelude.{if◌then◌else◌}
-use Rattle.std.specs.List.{last_or, cons_option, list_any, IsDistinct}
-use Rattle.std.proofs.lemmas.Bool.{lt-ltb, le-ltb}
+use Rattle.clock2q_directory.proofs.Names.{◌≡◌, ℕ, suc, ◌+◌, ◌-◌, ◌<◌, ◌≤◌, max, true, false, eqb, Option, Some, None, List, [], ◌∷◌, ◌++◌, length, take, drop, take_all, refl, sym, ap, ◌∙◌, subst, arith, if◌then◌else◌, last_or, cons_option, list_any, IsDistinct, lt-ltb, le-ltb, list_any-append, Entry, without, Rises, candidates, without_handle, IndexState, remembered_at, forgotten_at, PlaceOrder, IsWholeOrder, used, next_place, place_for, hash_at, hashed_at, entries_of, IsIndex, MakesPlace, places_with, places_from, oldest_hash, taking_free, taking_oldest, or_true, and_false, eqb_self, IsDistinct-left, AllByRecursion-left, below_of, without-parted, among-without_test, split_last, length-without, FitsNext, FitsNext-from, take_front}
 use Rattle.std.proofs.lemmas.List.{append-nil}
-use Rattle.std.proofs.lemmas.List.Folds.{list_any-append}
-use Rattle.clock2q_directory.specs.declared.keys.Entry.{Entry}
-use Rattle.clock2q_queues.specs.Rings.{without}
-use Rattle.clock2q_queues.specs.Cells.{Rises}
-use Rattle.clock2q_handles.specs.Homes.{candidates, without_handle}
 use Rattle.clock2q_directory.specs.Index as known
-use Rattle.clock2q_directory.specs.Index.{IndexState, remembered_at, forgotten_at}
-use Rattle.clock2q_queues.specs.Order.{PlaceOrder, IsWholeOrder, used, next_place, place_for}
-use Rattle.clock2q_directory.specs.Keys.{hash_at, hashed_at, entries_of}
-use Rattle.clock2q_directory.specs.Indexes.{IsIndex}
-use Rattle.clock2q_directory.specs.History.{MakesPlace, places_with, places_from, oldest_hash, taking_free, taking_oldest}
-use Rattle.clock2q_queues.proofs.Booleans.{or_true, and_false}
-use Rattle.clock2q_queues.proofs.Rings.{eqb_self, IsDistinct-left, AllByRecursion-left, below_of, without-parted, among-without_test}
-use Rattle.clock2q_queues.proofs.Joining.{split_last, length-without}
 use Rattle.clock2q_directory.proofs.Entries.{hashed_there, hash_of_hashed}
-use Rattle.clock2q_queues.proofs.Orders.{FitsNext, FitsNext-from, take_front}
 use Rattle.clock2q_directory.proofs.Indexes.{IsIndex-removed, named-own}
 use Rattle.clock2q_directory.proofs.Views.{places-forgotten, slots-forgotten, forgotten-like}
 

@@ -1,13 +1,5 @@
 -- What the changes of an index cost at most, in the state before the first of them.
-use Rattle.std.proofs.Common.{ℕ, ◌+◌, ◌≤◌, eqb, Bool, true, false, Option, Some, None, List, length, inl, inr, arith}
-use Rattle.std.specs.List.{last_or}
-use Rattle.std.proofs.lemmas.Bool.{cases_Bool}
-use Rattle.clock2q_handles.specs.Homes.{total, capacity, without_handle}
-use Rattle.clock2q_handles.proofs.Removals.{removed-walk}
-use Rattle.clock2q_handles.proofs.Runs.{removed-room, removed-run}
-use Rattle.clock2q_directory.specs.Accesses.{most_changed, most_inserted}
-use Rattle.clock2q_directory.specs.Index.{IndexState, IsWithinCapacity, is_shared, left, remembered_at, forgotten_at, most_reached}
-use Rattle.clock2q_directory.specs.History.{Places, pushed_places, freed_place, taking_oldest}
+use Rattle.clock2q_directory.proofs.Names.{ℕ, ◌+◌, ◌≤◌, eqb, Bool, true, false, Option, Some, None, List, length, inl, inr, arith, last_or, cases_Bool, total, capacity, without_handle, removed-walk, removed-room, removed-run, most_changed, most_inserted, IndexState, IsWithinCapacity, is_shared, left, remembered_at, forgotten_at, most_reached, Places, pushed_places, freed_place, taking_oldest}
 
 module _ (homes : List (List (ℕ × ℕ))) (room : total homes ≤ capacity (length homes)) (x h : ℕ) where
   -- once an entry has left a table, no change reads and writes more slots than before

@@ -1,24 +1,9 @@
 -- A key put at the front of the history.
-use Rattle.std.proofs.Common.{◌≡◌, ℕ, zero, suc, ◌+◌, ◌-◌, ◌<◌, ◌≤◌, Bool, true, false, eqb, ltb, Option, Some, None, slice_get, List, [], ◌∷◌, length, take, inl, inr, refl, sym, ap, ◌∙◌}
-use Rattle.std.proofs.Common.{subst, arith}
-use Rattle.std.specs.Prelude.{if◌then◌else◌}
-use Rattle.std.specs.List.{last_or, list_any, IsDistinct}
-use Rattle.std.proofs.lemmas.Bool.{cases_Bool, eq-eqb, le-ltb}
-use Rattle.clock2q_handles.specs.Homes.{without_handle}
+use Rattle.clock2q_directory.proofs.Names.{◌≡◌, ℕ, zero, suc, ◌+◌, ◌-◌, ◌<◌, ◌≤◌, Bool, true, false, eqb, ltb, Option, Some, None, slice_get, List, [], ◌∷◌, length, take, inl, inr, refl, sym, ap, ◌∙◌, subst, arith, if◌then◌else◌, last_or, list_any, IsDistinct, cases_Bool, eq-eqb, le-ltb, without_handle, IndexState, first_remembered, left, remembered_at, forgotten_at, HasPlaceRoom, HasSlotUnder, Entry, PlaceOrder, IsWholeOrder, used, place_for, KeyPlaces, entry, written, hash_at, hashed_at, entries_of, IsIndex, has_key, Places, Remembered, IsHistory, MakesPlace, MayRetire, remembered_from, accesses_of, places_from, pushed_places, freed_place, oldest_hash, taking_free, taking_oldest, Rises, differs, AllByRecursion-left, distinct_none, distinct_first, distinct_rest, distinct_more, or_parts}
 use Rattle.clock2q_directory.specs.Index as known
-use Rattle.clock2q_directory.specs.Index.{IndexState, first_remembered, left, remembered_at, forgotten_at, HasPlaceRoom, HasSlotUnder}
-use Rattle.clock2q_directory.specs.declared.keys.Entry.{Entry}
-use Rattle.clock2q_queues.specs.Order.{PlaceOrder, IsWholeOrder, used, place_for}
-use Rattle.clock2q_directory.specs.Keys.{KeyPlaces, entry, written, hash_at, hashed_at, entries_of}
-use Rattle.clock2q_directory.specs.Indexes.{IsIndex, has_key}
-use Rattle.clock2q_directory.specs.History.{Places, Remembered, IsHistory, MakesPlace, MayRetire, remembered_from, accesses_of, places_from, pushed_places, freed_place, oldest_hash}
-use Rattle.clock2q_directory.specs.History.{taking_free, taking_oldest}
-use Rattle.clock2q_queues.specs.Cells.{Rises}
-use Rattle.clock2q_queues.proofs.Rings.{differs, AllByRecursion-left, distinct_none, distinct_first, distinct_rest, distinct_more}
 use Rattle.clock2q_directory.proofs.Entries.{slice_get-written, slice_get-written_other, length-written, entries-agree, entries-cons, entries-take}
 use Rattle.clock2q_directory.proofs.Histories.{shown-as}
 use Rattle.clock2q_directory.proofs.Views.{IsIndex-remembered, remembered-like, forgotten-like, slots-remembered, slots-left, slots-forgotten}
-use Rattle.clock2q_queues.proofs.Booleans.{or_parts}
 
 module _ {K : Type 0} (eq : K → K → Bool) where
   key_absent-take : (key : K) (k : ℕ) (es : List (ℕ × K)) → has_key eq key es ≡ false → has_key eq key (take k es) ≡ false

@@ -1,18 +1,6 @@
 -- A key that takes the slot of another, which is remembered at a place: that of the oldest key, if one is forgotten.
-use Rattle.std.proofs.Common.{◌≡◌, ℕ, ◌+◌, ◌-◌, ◌^◌, ◌<◌, ◌≤◌, eqb, Bool, true, false, ◌&&◌, List, length, Option, Some, None, if◌then◌else◌, inl, inr, refl, sym, ap, ◌∙◌, arith}
-use Rattle.std.specs.Prelude.{is_some}
-use Rattle.std.specs.List.{list_any}
-use Rattle.std.proofs.lemmas.Bool.{cases_Bool}
-use Rattle.clock2q_handles.specs.Changes.{ChangesAtMost, ReadsWalk, RisesAtMost, WritesAtMost}
-use Rattle.clock2q_handles.specs.Homes.{candidates, is_entry_of, listed, without_handle, total, with_handle}
-use Rattle.clock2q_handles.specs.Layout.{layout, run, walk}
-use Rattle.clock2q_handles.specs.Positions.{GapValue, handle_replaced, walk_to_gap}
-use Rattle.clock2q_handles.specs.TableStep.{TableValue}
-use Rattle.clock2q_handles.proofs.Changes.{length-with_list}
-use Rattle.clock2q_handles.proofs.MoreEntries.{walk-more}
-use Rattle.clock2q_handles.proofs.Removals.{held-still, replaced-homes}
-use Rattle.clock2q_directory.specs.Accesses.{most_changed, most_inserted}
-use Rattle.clock2q_directory.specs.Index.{IndexState, AreLaidOut, index_of, is_shared, slots, places, beside, entered_from, remembered_at, first_remembered, forgotten_if}
+use Rattle.clock2q_directory.proofs.Names.{◌≡◌, ℕ, ◌+◌, ◌-◌, ◌^◌, ◌<◌, ◌≤◌, eqb, Bool, true, false, ◌&&◌, List, length, Option, Some, None, if◌then◌else◌, inl, inr, refl, sym, ap, ◌∙◌, arith, is_some, list_any, cases_Bool, ChangesAtMost, ReadsWalk, RisesAtMost, WritesAtMost, candidates, is_entry_of, listed, without_handle, total, with_handle, run, walk, GapValue, handle_replaced, walk_to_gap, TableValue, length-with_list, walk-more, held-still, replaced-homes, most_changed, most_inserted, IndexState, AreLaidOut, index_of, is_shared, slots, places, beside, entered_from, remembered_at, first_remembered, forgotten_if}
+use Rattle.clock2q_handles.specs.Layout.{layout}
 use Rattle.clock2q_directory.proofs.Gaps.{walk-found}
 use Rattle.clock2q_directory.proofs.Indexes.{length-put, length-taken}
 use Rattle.clock2q_directory.proofs.Sorted.{sorted-shared}

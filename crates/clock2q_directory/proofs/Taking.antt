@@ -1,12 +1,6 @@
 -- A key that takes a place, with a value or with the one that the place had; and the room that a resident leaves in the
 -- index.
-use Rattle.std.proofs.Common.{◌≡◌, ℕ, ◌<◌, Bool, false, Some, None, List, length, refl, ap, ◌∙◌, arith}
-use Rattle.std.specs.Prelude.{slice_set}
-use Rattle.clock2q_directory.specs.declared.keys.Entry.{Entry}
-use Rattle.clock2q_directory.specs.Keys.{entry, written, with_key, hash_at, Writes}
-use Rattle.clock2q_directory.specs.Index.{HasSlotUnder}
-use Rattle.clock2q_directory.specs.History.{is_remembered, MayRetire}
-use Rattle.clock2q_directory.specs.Directory.{Known, IsResident}
+use Rattle.clock2q_directory.proofs.Names.{◌≡◌, ℕ, ◌<◌, Bool, false, Some, None, List, length, refl, ap, ◌∙◌, arith, slice_set, Entry, entry, written, with_key, hash_at, Writes, HasSlotUnder, is_remembered, MayRetire, Known, IsResident}
 use Rattle.clock2q_directory.proofs.Entries.{slice_get_some, set-written, value-there}
 use Rattle.clock2q_directory.proofs.Indexes.{named-own}
 

@@ -1,24 +1,6 @@
 -- The slots and the places of an index, and how each of its calls changes them.
-use Rattle.std.proofs.Common.{◌≡◌, ℕ, zero, suc, ◌+◌, ◌-◌, ◌%◌, ◌<◌, Bool, true, false, not, ◌&&◌, ◌||◌, if◌then◌else◌, eqb, ltb, Some, List, [], ◌∷◌, ◌++◌, length, map, set, get_or, inl}
-use Rattle.std.proofs.Common.{inr, refl, sym, ap, ◌∙◌, subst, arith, append-nil, eqb-true, eq-eqb, ne_eqb, lt-ltb, le-ltb, ltb-false}
-use Rattle.std.specs.List.{filter, list_any, IsDistinct}
-use Rattle.std.proofs.lemmas.Bool.{both_ways, cases_Bool, cases_eq, eqb-false}
-use Rattle.std.proofs.lemmas.List.{append_assoc, length-append, length-map, map-set, nil_from_length, set-get_or}
-use Rattle.std.proofs.lemmas.List.Elements.{filter-append}
-use Rattle.std.proofs.lemmas.List.Sums.{sum_by-cons}
-use Rattle.std.proofs.lemmas.List.Folds.{list_any-append}
-use Rattle.clock2q_handles.specs.Homes.{top, home, listed, total, candidates, with_list, with_handle, without_handle, without_first, is_entry_of}
-use Rattle.clock2q_handles.specs.Positions.{with_first, handle_replaced}
-use Rattle.clock2q_handles.proofs.Lookups.{with_top}
-use Rattle.clock2q_handles.proofs.Changes.{length-with_list, listed-with_same, listed-with_other, total-with_list}
-use Rattle.clock2q_directory.specs.declared.keys.Entry.{Entry}
-use Rattle.clock2q_directory.specs.Keys.{hash_at}
-use Rattle.clock2q_directory.specs.Indexes.{IsIndex}
-use Rattle.clock2q_directory.specs.Accesses.{most_changed}
-use Rattle.clock2q_directory.specs.Index.{IndexState, first_remembered, is_shared, slots, places, entered, left, remembered_at, forgotten_at, slots_among, places_among, slot_entries}
-use Rattle.clock2q_directory.specs.Index.{place_entries, slots_in, places_in}
-use Rattle.clock2q_queues.proofs.Booleans.{and_parts}
-use Rattle.clock2q_queues.proofs.Rings.{IsDistinct-append, IsDistinct-left, IsDistinct-right, IsDistinct-turned, apart_from}
+use Rattle.clock2q_directory.proofs.Names.{◌≡◌, ℕ, zero, suc, ◌+◌, ◌-◌, ◌%◌, ◌<◌, Bool, true, false, not, ◌&&◌, ◌||◌, if◌then◌else◌, eqb, ltb, Some, List, [], ◌∷◌, ◌++◌, length, map, set, get_or, inl, inr, refl, sym, ap, ◌∙◌, subst, arith, append-nil, ne_eqb, filter, list_any, IsDistinct, both_ways, cases_Bool, cases_eq, eqb-false, append_assoc, length-append, length-map, map-set, nil_from_length, set-get_or, filter-append, sum_by-cons, list_any-append, top, home, listed, total, candidates, with_list, with_handle, without_handle, without_first, is_entry_of, with_first, handle_replaced, with_top, length-with_list, listed-with_same, listed-with_other, total-with_list, Entry, hash_at, IsIndex, most_changed, IndexState, first_remembered, is_shared, slots, places, entered, left, remembered_at, forgotten_at, slots_among, places_among, slot_entries, place_entries, slots_in, places_in, and_parts, IsDistinct-append, IsDistinct-left, IsDistinct-right, IsDistinct-turned, apart_from}
+use Rattle.std.proofs.Common.{eqb-true, eq-eqb, lt-ltb, le-ltb, ltb-false}
 use Rattle.clock2q_directory.proofs.Indexes.{any-candidate, named-length, length-put, length-taken, total-put, IsIndex-put}
 
 -- Lists of which some elements are kept

@@ -1,12 +1,5 @@
 -- What a search for the keys of one hash has still to find.
-use Rattle.std.proofs.Common.{◌≡◌, ℕ, zero, ◌<◌, ◌==◌, Bool, true, false, Option, Some, None, slice_get, List, ◌∷◌, drop, refl, sym, ◌∙◌, subst}
-use Rattle.std.specs.List.{filter, AllByRecursion}
-use Rattle.std.proofs.lemmas.Bool.{eq-eqb}
-use Rattle.clock2q_directory.specs.declared.keys.Entry.{Entry}
-use Rattle.clock2q_directory.specs.Hashed.{has_hash}
-use Rattle.clock2q_directory.specs.declared.handle.Handle.{Handle}
-use Rattle.clock2q_directory.specs.Index.{slots_among, unpacked}
-use Rattle.clock2q_directory.specs.Keys.{hash_at}
+use Rattle.clock2q_directory.proofs.Names.{◌≡◌, ℕ, zero, ◌<◌, ◌==◌, Bool, true, false, Option, Some, None, slice_get, List, ◌∷◌, drop, refl, sym, ◌∙◌, subst, filter, AllByRecursion, eq-eqb, Entry, has_hash, Handle, slots_among, unpacked, hash_at}
 use Rattle.clock2q_directory.proofs.Looking.{next-slot}
 
 -- past `left` the number `more` is what number `nth` was

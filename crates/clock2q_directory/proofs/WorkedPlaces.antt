@@ -1,9 +1,6 @@
 -- The places of a history for two keys, worked out by hand: a discarded key's place is taken first, and then the oldest key's.
-use Rattle.std.proofs.Common.{◌≡◌, ℕ, Bool, eqb, false, true, [], ◌∷◌, map, Some, refl}
-use Rattle.clock2q_handles.specs.Homes.{no_entries, candidates}
+use Rattle.clock2q_directory.proofs.Names.{◌≡◌, ℕ, Bool, eqb, false, true, [], ◌∷◌, map, Some, refl, no_entries, candidates, IndexState, index_state, slots, places, entered, Places, places_with, pushed_places, freed_place, place_of}
 use Rattle.clock2q_handles.specs.Layout.{spill, layout}
-use Rattle.clock2q_directory.specs.Index.{IndexState, index_state, slots, places, entered}
-use Rattle.clock2q_directory.specs.History.{Places, places_with, pushed_places, freed_place, place_of}
 
 -- no key yet, and 16 slots
 abbrev none : Places

@@ -1,4 +1,4 @@
-use Rattle.std.proofs.Common.{rules}
+use Rattle.clock2q_cache.proofs.Names.{rules}
 use Rattle.clock2q_cache.proofs.cache.Cache.capacity.Goals as goal
 
 pub returns : goal.returns

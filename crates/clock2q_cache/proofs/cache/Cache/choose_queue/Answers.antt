@@ -1,6 +1,5 @@
 -- If there is a vacancy, the length of Small decides; otherwise whether Small has a share.
-use Rattle.std.proofs.Common.{arith, ◌≡◌, length, sym, ap, ◌∙◌}
-use Rattle.clock2q_cache.proofs.Names.{CacheState, if◌then◌else◌}
+use Rattle.clock2q_cache.proofs.Names.{arith, ◌≡◌, length, sym, ap, ◌∙◌, CacheState, if◌then◌else◌}
 use Rattle.clock2q_cache.proofs.CacheInvariant.{length_in_small}
 use Rattle.clock2q_cache.proofs.Changed.{admits-main, admits-small}
 use Rattle.clock2q_cache.proofs.Insertions.{sent-by}

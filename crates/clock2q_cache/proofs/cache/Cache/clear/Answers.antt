@@ -1,6 +1,5 @@
 -- The queues, the history and the index are empty.
-use Rattle.std.proofs.Common.{◌+◌, ◌≡◌, ap, ◌∙◌, rules}
-use Rattle.clock2q_cache.proofs.Names.{if◌then◌else◌, slots, KeyPlaces, QueueState, Remembered, most_beside, cleared_like, slots-cleared}
+use Rattle.clock2q_cache.proofs.Names.{◌+◌, ◌≡◌, ap, ◌∙◌, rules, if◌then◌else◌, slots, KeyPlaces, QueueState, Remembered, most_beside, cleared_like, slots-cleared}
 use Rattle.clock2q_cache.proofs.Changed.{kept-cleared}
 use Rattle.clock2q_cache.proofs.cache.Cache.clear.Goals as goal
 

@@ -1,6 +1,5 @@
 -- The counts are at their bounds when the value is lent.
-use Rattle.std.proofs.Common.{ℕ, refl, sym, ap, ◌∙◌}
-use Rattle.clock2q_cache.proofs.Names.{slice_get, CacheState, stored, some_is}
+use Rattle.clock2q_cache.proofs.Names.{ℕ, refl, sym, ap, ◌∙◌, slice_get, CacheState, stored, some_is}
 use Rattle.clock2q_cache.proofs.Charged.{lent, unwritten}
 use Rattle.clock2q_cache.proofs.cache.Cache.enter.Goals as goal
 

@@ -1,5 +1,5 @@
 -- Main's victim leaves, or Small's tail.
-use Rattle.std.proofs.Common.{sym}
+use Rattle.clock2q_cache.proofs.Names.{sym}
 use Rattle.clock2q_cache.proofs.RoomCosts.{victim-costs, tail-costs}
 use Rattle.clock2q_cache.proofs.cache.Cache.evict.Goals as goal
 

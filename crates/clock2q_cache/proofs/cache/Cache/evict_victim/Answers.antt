@@ -1,6 +1,5 @@
 -- The victim's slot is free, and Small's tail moves on.
-use Rattle.std.proofs.Common.{◌≡◌, ◌+◌, Some, None, length, eqb, refl, sym, ap, ◌∙◌, arith, vec_capacity}
-use Rattle.clock2q_cache.proofs.Names.{made_below, CacheState, last_or, slots_of, slots, slots-left, without_handle}
+use Rattle.clock2q_cache.proofs.Names.{◌≡◌, ◌+◌, Some, None, length, eqb, refl, sym, ap, ◌∙◌, arith, vec_capacity, made_below, CacheState, last_or, slots_of, slots, slots-left, without_handle}
 use Rattle.clock2q_cache.proofs.CacheInvariant.{made-still, kept-reindexed, reindexed, now-slots, length_in_main}
 use Rattle.clock2q_cache.proofs.Insertions.{victim-spends}
 use Rattle.clock2q_cache.proofs.Renewed.{is-resident, slot-below, victim-in, tail-in, tail-not_in_front, tail-not_in_rest}

@@ -1,5 +1,5 @@
 -- What the index has follows from the directory's facts.
-use Rattle.std.proofs.Common.{arith}
+use Rattle.clock2q_cache.proofs.Names.{arith}
 use Rattle.clock2q_cache.proofs.Indexed.{residents-have, remembers}
 use Rattle.clock2q_cache.proofs.cache.Cache.facts.Goals as goal
 

@@ -1,6 +1,5 @@
 -- The lookup through the index finds the slot of the resident.
-use Rattle.std.proofs.Common.{refl, ap, ◌∙◌}
-use Rattle.clock2q_cache.proofs.Names.{hash_of, CacheState, slot_of}
+use Rattle.clock2q_cache.proofs.Names.{refl, ap, ◌∙◌, hash_of, CacheState, slot_of}
 use Rattle.clock2q_cache.proofs.Changed.{kept-looked}
 use Rattle.clock2q_cache.proofs.Finding.{candidates-there, found, found-made}
 use Rattle.clock2q_cache.proofs.Spent.{asked-spends}

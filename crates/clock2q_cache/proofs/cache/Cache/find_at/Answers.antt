@@ -1,6 +1,5 @@
 -- A key is resident at a slot if the slot has a resident and the key is the one there.
-use Rattle.std.proofs.Common.{refl, ap, sym, ◌∙◌, arith}
-use Rattle.clock2q_cache.proofs.Names.{then_some}
+use Rattle.clock2q_cache.proofs.Names.{refl, ap, sym, ◌∙◌, arith, then_some}
 use Rattle.clock2q_cache.proofs.Changed.{kept-asked}
 use Rattle.clock2q_cache.proofs.Finding.{at-places, not-at, found-at}
 use Rattle.clock2q_cache.proofs.Renewed.{slot-below}

@@ -1,6 +1,5 @@
 -- The value is at the slot where the key was found, or at the one that it took.
-use Rattle.std.proofs.Common.{sym, ap, ◌∙◌, arith}
-use Rattle.clock2q_cache.proofs.Names.{slice_get_within, inserted}
+use Rattle.clock2q_cache.proofs.Names.{sym, ap, ◌∙◌, arith, slice_get_within, inserted}
 use Rattle.clock2q_cache.proofs.Finding.{gap-found, no-slot}
 use Rattle.clock2q_cache.proofs.Fetched.{hit-fetches, new-fetches}
 use Rattle.clock2q_cache.proofs.Insertions.{hit-spends, insert-spends}

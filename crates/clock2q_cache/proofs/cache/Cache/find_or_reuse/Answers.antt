@@ -1,6 +1,5 @@
 -- The key is at the slot where it was found, or at the one that it took.
-use Rattle.std.proofs.Common.{sym, ap, ◌∙◌, arith}
-use Rattle.clock2q_cache.proofs.Names.{slice_get_within, hit}
+use Rattle.clock2q_cache.proofs.Names.{sym, ap, ◌∙◌, arith, slice_get_within, hit}
 use Rattle.clock2q_cache.proofs.Making.{hit-takes, new-takes}
 use Rattle.clock2q_cache.proofs.Insertions.{hit-spends, insert-spends}
 use Rattle.clock2q_cache.proofs.cache.Cache.find_or_reuse.Goals as goal

@@ -1,5 +1,4 @@
-use Rattle.std.proofs.Common.{ap}
-use Rattle.clock2q_cache.proofs.Names.{hash_of}
+use Rattle.clock2q_cache.proofs.Names.{ap, hash_of}
 use Rattle.clock2q_cache.proofs.Changed.{discard-hash}
 use Rattle.clock2q_cache.proofs.cache.Cache.find_place.Goals as goal
 

@@ -1,6 +1,5 @@
 -- The key's history is erased.
-use Rattle.std.proofs.Common.{◌+◌, ap, ◌∙◌}
-use Rattle.clock2q_cache.proofs.Names.{list_any, is_shared, slots, Remembered, Places, most_beside, slots-freed, shared-freed, if◌then◌else◌, hash_of, CacheState, forgotten, discarded}
+use Rattle.clock2q_cache.proofs.Names.{◌+◌, ap, ◌∙◌, list_any, is_shared, slots, Remembered, Places, most_beside, slots-freed, shared-freed, if◌then◌else◌, hash_of, CacheState, forgotten, discarded}
 use Rattle.clock2q_cache.proofs.Changed.{known-any, discard-hash, forgotten-machine, kept-forgotten}
 use Rattle.clock2q_cache.proofs.cache.Cache.forget.Goals as goal
 

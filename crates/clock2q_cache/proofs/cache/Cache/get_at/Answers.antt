@@ -1,6 +1,5 @@
 -- The value is read where the key was found, and then the key is hit; a key that is not resident at the slot is not hit.
-use Rattle.std.proofs.Common.{arith, ◌≡◌, Some, rules, refl, ap, ◌∙◌}
-use Rattle.clock2q_cache.proofs.Names.{CacheState, hit, value-there, slot_of}
+use Rattle.clock2q_cache.proofs.Names.{arith, ◌≡◌, Some, rules, refl, ap, ◌∙◌, CacheState, hit, value-there, slot_of}
 use Rattle.clock2q_cache.proofs.CacheInvariant.{m}
 use Rattle.clock2q_cache.proofs.Finding.{found-queued, hit-machine, kept-hit}
 use Rattle.clock2q_cache.proofs.KnownIndex.{becomes-known}

@@ -1,5 +1,5 @@
 -- Whatever is left behind the reference is the value of the key that is hit.
-use Rattle.std.proofs.Common.{rules, refl, sym}
+use Rattle.clock2q_cache.proofs.Names.{rules, refl, sym}
 use Rattle.clock2q_cache.proofs.KnownIndex.{becomes-known}
 use Rattle.clock2q_cache.proofs.Spent.{unhit-becomes, unlent-becomes, lent-becomes}
 use Rattle.clock2q_cache.proofs.cache.Cache.get_mut.Goals as goal

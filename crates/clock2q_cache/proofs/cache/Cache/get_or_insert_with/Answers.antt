@@ -1,6 +1,5 @@
 -- The value that the key was fetched with is at its slot.
-use Rattle.std.proofs.Common.{refl, sym, ◌∙◌}
-use Rattle.clock2q_cache.proofs.Names.{some_is}
+use Rattle.clock2q_cache.proofs.Names.{refl, sym, ◌∙◌, some_is}
 use Rattle.clock2q_cache.proofs.Spent.{costs-of}
 use Rattle.clock2q_cache.proofs.cache.Cache.get_or_insert_with.Goals as goal
 

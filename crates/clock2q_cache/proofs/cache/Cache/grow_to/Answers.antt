@@ -1,6 +1,5 @@
 -- Every layer has more room, and keeps what it holds.
-use Rattle.std.proofs.Common.{rules, refl, arith, ap}
-use Rattle.clock2q_machine.specs.Growth.{IsAtLeast}
+use Rattle.clock2q_cache.proofs.Names.{rules, refl, arith, ap, IsAtLeast}
 use Rattle.clock2q_cache.proofs.Growth.{kept-roomier, kept-grown, grows}
 use Rattle.clock2q_cache.proofs.cache.Cache.grow_to.Goals as goal
 

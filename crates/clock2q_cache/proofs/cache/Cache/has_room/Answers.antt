@@ -1,5 +1,5 @@
 -- Main has fewer entries than slots, or there is a vacancy.
-use Rattle.std.proofs.Common.{arith}
+use Rattle.clock2q_cache.proofs.Names.{arith}
 use Rattle.clock2q_cache.proofs.CacheInvariant.{length_in_main}
 use Rattle.clock2q_cache.proofs.cache.Cache.has_room.Goals as goal
 

@@ -1,5 +1,5 @@
 -- A key that is not resident is not hit.
-use Rattle.std.proofs.Common.{sym}
+use Rattle.clock2q_cache.proofs.Names.{sym}
 use Rattle.clock2q_cache.proofs.Spent.{missed-becomes, hit-becomes}
 use Rattle.clock2q_cache.proofs.cache.Cache.hit.Goals as goal
 

@@ -1,5 +1,5 @@
 -- A hit on a slot is one on the key that is resident there, and costs no more than one by key.
-use Rattle.std.proofs.Common.{sym, arith}
+use Rattle.clock2q_cache.proofs.Names.{sym, arith}
 use Rattle.clock2q_cache.proofs.BySlot.{hit-slot-costs}
 use Rattle.clock2q_cache.proofs.Finding.{either-queue, hit-machine, kept-hit}
 use Rattle.clock2q_cache.proofs.Vacated.{slot-used, own-key, own-slot, own-resident}

@@ -1,7 +1,5 @@
 -- A key that takes the slot of another: the other comes back with the value of the slot.
-use Rattle.std.proofs.Common.{arith, false, refl, ap, ◌∙◌, rules}
-use Rattle.clock2q_directory.specs.History.{Places}
-use Rattle.clock2q_cache.proofs.Names.{ltb-true}
+use Rattle.clock2q_cache.proofs.Names.{arith, false, refl, ap, ◌∙◌, rules, Places, ltb-true}
 use Rattle.clock2q_cache.proofs.Making.{makes-here}
 use Rattle.clock2q_cache.proofs.Evicting.{leaver-there, map-gives, hands-over, slot-made, slot-had, slot-stored}
 use Rattle.clock2q_cache.proofs.cache.Cache.insert_evicting.Goals as goal

@@ -1,5 +1,5 @@
 -- A slot is made if none is free and no other key's is taken.
-use Rattle.std.proofs.Common.{arith, not, sym, ap, ◌∙◌}
+use Rattle.clock2q_cache.proofs.Names.{arith, not, sym, ap, ◌∙◌}
 use Rattle.clock2q_cache.proofs.Making.{makes-here, makes-there, values-there, reuses, made-or-none, fills-there}
 use Rattle.clock2q_cache.proofs.cache.Cache.insert_reusing.Goals as goal
 

@@ -1,6 +1,5 @@
 -- A full cache has an entry in Small, if Small has a share.
-use Rattle.std.proofs.Common.{sym, ap, arith}
-use Rattle.clock2q_cache.specs.Insertions.{is_main}
+use Rattle.clock2q_cache.proofs.Names.{sym, ap, arith, is_main}
 use Rattle.clock2q_cache.proofs.Changed.{small-some}
 use Rattle.clock2q_cache.proofs.Queued.{joins, room-main, room-small, room-leaver, promotes-tail, evicts-tail}
 use Rattle.clock2q_cache.proofs.cache.Cache.insert_unknown.Goals as goal

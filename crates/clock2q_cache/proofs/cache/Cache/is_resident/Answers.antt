@@ -1,6 +1,5 @@
 -- The slot has a resident if it is in a queue.
-use Rattle.std.proofs.Common.{ap, sym, ◌∙◌, arith}
-use Rattle.clock2q_cache.proofs.Names.{is_some, CacheState, resident_at}
+use Rattle.clock2q_cache.proofs.Names.{ap, sym, ◌∙◌, arith, is_some, CacheState, resident_at}
 use Rattle.clock2q_cache.proofs.Renewed.{slot-below}
 use Rattle.clock2q_cache.proofs.Vacated.{resident-some, own-slots}
 use Rattle.clock2q_cache.proofs.cache.Cache.is_resident.Goals as goal

@@ -1,4 +1,4 @@
-use Rattle.std.proofs.Common.{sym, ◌∙◌}
+use Rattle.clock2q_cache.proofs.Names.{sym, ◌∙◌}
 use Rattle.clock2q_cache.proofs.Iteration.{entries-by_slot, length-entries}
 use Rattle.clock2q_cache.proofs.cache.Cache.iter.Goals as goal
 

@@ -1,8 +1,6 @@
 -- The new key's slot is the vacancy.
-use Rattle.std.proofs.Common.{◌≡◌, ◌<◌, ◌↔◌, refl, ap, length, drop, reverse, vec_len, vec_capacity, arith, rules}
-use Rattle.clock2q_cache.proofs.Names.{is_some, IsSome, slots, Remembered, slots-entered, into_main, into_small}
+use Rattle.clock2q_cache.proofs.Names.{◌≡◌, ◌<◌, ◌↔◌, refl, ap, length, drop, reverse, vec_len, vec_capacity, arith, rules, is_some, IsSome, slots, Remembered, slots-entered, into_main, into_small, is_main}
 use Rattle.clock2q_cache.proofs.CacheInvariant.{m, IsFree, IsDone, done-reindexed, reindexed, now-slots, free-to-join, left-free, made-to-join, main-done, small-done}
-use Rattle.clock2q_cache.specs.Insertions.{is_main}
 use Rattle.clock2q_cache.proofs.Insertions.{joined-spends}
 use Rattle.clock2q_cache.proofs.Places.{entered-vacant}
 use Rattle.clock2q_cache.proofs.cache.Cache.join.Given.{Over}

@@ -1,5 +1,4 @@
-use Rattle.std.proofs.Common.{ap, sym, ◌∙◌}
-use Rattle.clock2q_cache.proofs.Names.{CacheState, resident_at}
+use Rattle.clock2q_cache.proofs.Names.{ap, sym, ◌∙◌, CacheState, resident_at}
 use Rattle.clock2q_cache.proofs.Vacated.{slot-made, resident-key}
 use Rattle.clock2q_cache.proofs.cache.Cache.key.Goals as goal
 

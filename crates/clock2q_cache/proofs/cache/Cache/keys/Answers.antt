@@ -1,6 +1,4 @@
-use Rattle.std.proofs.Common.{map, ap, ◌∙◌}
-use Rattle.std.proofs.lemmas.List.{length-map}
-use Rattle.clock2q_cache.specs.Iteration.{key_of}
+use Rattle.clock2q_cache.proofs.Names.{map, ap, ◌∙◌, length-map, key_of}
 use Rattle.clock2q_cache.proofs.Iteration.{entries-keys}
 use Rattle.clock2q_cache.proofs.cache.Cache.keys.Goals as goal
 

@@ -1,5 +1,5 @@
 -- There are as many residents as slots in the queues.
-use Rattle.std.proofs.Common.{arith}
+use Rattle.clock2q_cache.proofs.Names.{arith}
 use Rattle.clock2q_cache.proofs.CacheInvariant.{length_in_small, length_in_main}
 use Rattle.clock2q_cache.proofs.cache.Cache.len.Goals as goal
 

@@ -1,6 +1,5 @@
 -- The lookup finds the slot of the resident, or the place of the remembered key.
-use Rattle.std.proofs.Common.{ap, ◌∙◌}
-use Rattle.clock2q_cache.proofs.Names.{found_slot, hash_of, CacheState, slot_of}
+use Rattle.clock2q_cache.proofs.Names.{ap, ◌∙◌, found_slot, hash_of, CacheState, slot_of}
 use Rattle.clock2q_cache.proofs.Changed.{discard-hash}
 use Rattle.clock2q_cache.proofs.Finding.{candidates-there, found-made, looked}
 use Rattle.clock2q_cache.proofs.Indexed.{remembers}

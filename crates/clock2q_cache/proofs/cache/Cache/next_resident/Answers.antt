@@ -1,4 +1,4 @@
-use Rattle.std.proofs.Common.{arith}
+use Rattle.clock2q_cache.proofs.Names.{arith}
 use Rattle.clock2q_cache.proofs.Iteration.{entries-past}
 use Rattle.clock2q_cache.proofs.cache.Cache.next_resident.Goals as goal
 

@@ -1,5 +1,4 @@
-use Rattle.std.proofs.Common.{◌≡◌, ◌+◌}
-use Rattle.clock2q_cache.specs.Iteration.{entries_from}
+use Rattle.clock2q_cache.proofs.Names.{◌≡◌, ◌+◌, entries_from}
 use Rattle.clock2q_cache.proofs.cache.Cache.next_resident.Given as goal
 
 -- the slots that were passed have no resident, and each was looked at once

@@ -1,12 +1,7 @@
 -- The queues name the slot, and nothing but their count of accesses has changed.
-use Rattle.std.proofs.Common.{refl, ap, ◌∙◌}
-use Rattle.clock2q_cache.proofs.Names.{CacheState, counts_of}
-use Rattle.clock2q_cache.specs.CacheState.{cache_state}
-use Rattle.clock2q_machine.specs.Leaving.{next_victim}
-use Rattle.clock2q_machine.specs.Machine.{leaves_now}
+use Rattle.clock2q_cache.proofs.Names.{refl, ap, ◌∙◌, CacheState, counts_of, cache_state, next_victim, leaves_now, evicts_next}
 use Rattle.clock2q_cache.proofs.Renewed.{slot-below}
 use Rattle.clock2q_cache.proofs.MakingRoom.{next-in, next-leaves, next-none, looked-machine, looked-spends}
-use Rattle.clock2q_machine.proofs.Evicted.{evicts_next}
 use Rattle.clock2q_cache.proofs.cache.Cache.next_victim.Goals as goal
 
 pub key-requires : goal.key-requires

@@ -1,6 +1,5 @@
 -- The slots that were never made are made, and are free.
-use Rattle.std.proofs.Common.{arith, ◌≡◌, ◌-◌, ◌≤◌, ◌++◌, length, map, refl, reverse, ap, ◌∙◌}
-use Rattle.clock2q_cache.proofs.Names.{length-values, range_with_len}
+use Rattle.clock2q_cache.proofs.Names.{arith, ◌≡◌, ◌-◌, ◌≤◌, ◌++◌, length, map, refl, reverse, ap, ◌∙◌, length-values, range_with_len}
 use Rattle.clock2q_cache.proofs.Filled.{made-count, machine-prefilled, kept-prefilled}
 use Rattle.clock2q_cache.proofs.Spent.{made-spends, prefill-costs}
 use Rattle.clock2q_cache.proofs.cache.Cache.prefill.Given.{Over}

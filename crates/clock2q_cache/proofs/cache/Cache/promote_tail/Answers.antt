@@ -1,6 +1,5 @@
 -- The tail moves on to Main, and the new key takes the slot of Main's victim.
-use Rattle.std.proofs.Common.{◌≡◌, ◌+◌, true, Some, None, refl, sym, arith, vec_capacity, ap, ◌∙◌}
-use Rattle.clock2q_cache.proofs.Names.{is_some, made_below, last_or, slots_of, slots, Remembered, into_small}
+use Rattle.clock2q_cache.proofs.Names.{◌≡◌, ◌+◌, true, Some, None, refl, sym, arith, vec_capacity, ap, ◌∙◌, is_some, made_below, last_or, slots_of, slots, Remembered, into_small}
 use Rattle.clock2q_cache.proofs.CacheInvariant.{made-still, m, IsDone, done-reindexed, reindexed, slots-renewed, length_in_small}
 use Rattle.clock2q_cache.proofs.Renewed.{is-resident, within-room, slot-below, no-tail, victim-in, victim-leaves, leaves-by, victim-not_in_front, victim-not_behind, tail-in, tail-not_in_front, tail-not_in_rest, promoted-done}
 use Rattle.clock2q_cache.proofs.Insertions.{victim-spends}

@@ -1,7 +1,5 @@
 -- The key is resident with its value.
-use Rattle.std.proofs.Common.{ap, sym, ◌∙◌, arith, rules}
-use Rattle.clock2q_cache.proofs.Names.{CacheState}
-use Rattle.clock2q_machine.proofs.Laws.{put_there}
+use Rattle.clock2q_cache.proofs.Names.{ap, sym, ◌∙◌, arith, rules, CacheState, put_there}
 use Rattle.clock2q_cache.proofs.Finding.{gap-found, no-slot}
 use Rattle.clock2q_cache.proofs.Insertions.{hit-spends, insert-spends}
 use Rattle.clock2q_cache.proofs.Reaching.{reaches-with}

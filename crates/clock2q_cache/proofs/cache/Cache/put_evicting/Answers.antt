@@ -1,7 +1,5 @@
 -- The key is resident with its value, and what it replaces or evicts comes back.
-use Rattle.std.proofs.Common.{refl, sym, ap, ◌∙◌, arith, rules}
-use Rattle.clock2q_cache.proofs.Names.{none_is, CacheState}
-use Rattle.clock2q_machine.proofs.Laws.{put_there}
+use Rattle.clock2q_cache.proofs.Names.{refl, sym, ap, ◌∙◌, arith, rules, none_is, CacheState, put_there}
 use Rattle.clock2q_cache.proofs.Finding.{gap-found, no-slot}
 use Rattle.clock2q_cache.proofs.Insertions.{hit-spends, insert-spends}
 use Rattle.clock2q_cache.proofs.Evicting.{none-had, had-before, victim-handed}

@@ -1,8 +1,5 @@
 -- The key is at the slot that is returned.
-use Rattle.std.proofs.Common.{◌≡◌, ℕ, ◌<◌, Bool, false, Some, sym, ap, ◌∙◌, subst, arith}
-use Rattle.clock2q_machine.proofs.MachineInvariant.{lasting-inserted, lasting-after, resident_made}
-use Rattle.clock2q_machine.proofs.Entering.{weight-replaced, same_slots, entered_there}
-use Rattle.clock2q_cache.proofs.Names.{IsEquivalence, IsWhole, Machine, hit, slot_of, stored, inserted, CacheState, replaced_at, Put, put}
+use Rattle.clock2q_cache.proofs.Names.{◌≡◌, ℕ, ◌<◌, Bool, false, Some, sym, ap, ◌∙◌, subst, arith, lasting-inserted, lasting-after, resident_made, weight-replaced, same_slots, entered_there, IsEquivalence, IsWhole, Machine, hit, slot_of, stored, inserted, CacheState, replaced_at, Put, put}
 use Rattle.clock2q_cache.proofs.Insertions.{hit-spends, insert-spends}
 use Rattle.clock2q_cache.proofs.Reaching.{reaches-taken}
 use Rattle.clock2q_cache.proofs.Spent.{put-costs}

@@ -1,6 +1,5 @@
 -- A hit on a slot is one on the key that is resident there.
-use Rattle.std.proofs.Common.{ap, ◌∙◌}
-use Rattle.clock2q_cache.proofs.Names.{CacheState, hit}
+use Rattle.clock2q_cache.proofs.Names.{ap, ◌∙◌, CacheState, hit}
 use Rattle.clock2q_cache.proofs.Finding.{found-queued, hit-machine, kept-hit}
 use Rattle.clock2q_cache.proofs.cache.Cache.record_hit.Goals as goal
 

@@ -1,6 +1,5 @@
 -- The key that is found is at its slot.
-use Rattle.std.proofs.Common.{◌∙◌, sym, arith, rules}
-use Rattle.clock2q_cache.proofs.Names.{slot_of}
+use Rattle.clock2q_cache.proofs.Names.{◌∙◌, sym, arith, rules, slot_of}
 use Rattle.clock2q_cache.proofs.Finding.{no-slot}
 use Rattle.clock2q_cache.proofs.Vacated.{found-resident}
 use Rattle.clock2q_cache.proofs.Reaching.{reaches-discarded, reaches-left}

@@ -1,6 +1,5 @@
 -- The resident's key is the one that is found at the slot, so its removal frees the slot.
-use Rattle.std.proofs.Common.{arith}
-use Rattle.clock2q_cache.proofs.Names.{resident_at}
+use Rattle.clock2q_cache.proofs.Names.{arith, resident_at}
 use Rattle.clock2q_cache.proofs.BySlot.{removed-slot, removed-slot-costs}
 use Rattle.clock2q_cache.proofs.cache.Cache.remove_slot.Goals as goal
 

@@ -1,6 +1,5 @@
 -- The tail's key goes into the history, and the new key takes its slot.
-use Rattle.std.proofs.Common.{◌+◌, ◌≡◌, ℕ, eqb, false, Some, refl, ap, ◌∙◌, arith, vec_capacity}
-use Rattle.clock2q_cache.proofs.Names.{is_some, oldest_hash, pushed_places, if◌then◌else◌, with_handle, without_handle, is_shared, slots, Remembered, Places, most_beside, slots-pushed, shared-pushed, slots-entered, into_small}
+use Rattle.clock2q_cache.proofs.Names.{◌+◌, ◌≡◌, ℕ, eqb, false, Some, refl, ap, ◌∙◌, arith, vec_capacity, is_some, oldest_hash, pushed_places, if◌then◌else◌, with_handle, without_handle, is_shared, slots, Remembered, Places, most_beside, slots-pushed, shared-pushed, slots-entered, into_small}
 use Rattle.clock2q_cache.proofs.CacheInvariant.{m, IsDone}
 use Rattle.clock2q_cache.proofs.Renewed.{is-resident, within-room, slot-below, tail-in, tail-unremembered, tail_is, leaves-by, evicted-done}
 use Rattle.clock2q_cache.proofs.Insertions.{evicted-spends}

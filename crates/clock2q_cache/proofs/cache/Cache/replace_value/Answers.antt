@@ -1,6 +1,5 @@
 -- The value of a slot is replaced.
-use Rattle.std.proofs.Common.{ap, sym, ◌∙◌, slice_get}
-use Rattle.clock2q_cache.proofs.Names.{value-there, KeyPlaces, CacheState, machine_of, stored}
+use Rattle.clock2q_cache.proofs.Names.{ap, sym, ◌∙◌, slice_get, value-there, KeyPlaces, CacheState, machine_of, stored}
 use Rattle.clock2q_cache.proofs.Changed.{replaced-machine, kept-replaced}
 use Rattle.clock2q_cache.proofs.cache.Cache.replace_value.Goals as goal
 

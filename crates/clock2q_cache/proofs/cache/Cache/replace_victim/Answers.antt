@@ -1,6 +1,5 @@
 -- The key goes to the end of Main, at the victim's slot.
-use Rattle.std.proofs.Common.{arith, refl, ap, ◌∙◌, vec_capacity}
-use Rattle.clock2q_cache.proofs.Names.{is_some, slots, Remembered, into_main}
+use Rattle.clock2q_cache.proofs.Names.{arith, refl, ap, ◌∙◌, vec_capacity, is_some, slots, Remembered, into_main}
 use Rattle.clock2q_cache.proofs.CacheInvariant.{m, IsDone, done-reindexed, reindexed, slots-renewed}
 use Rattle.clock2q_cache.proofs.Renewed.{is-resident, within-room, slot-below, victim-in, victim-leaves, replaced-done}
 use Rattle.clock2q_cache.proofs.Insertions.{victim-spends}

@@ -1,7 +1,5 @@
 -- The closure is called for each resident, which leaves if it is refused.
-use Rattle.std.proofs.Common.{◌≡◌, ◌+◌, ◌*◌, ◌<◌, ◌≤◌, false, Option, None, Some, arith, List, length, refl, ap, sym, ◌∙◌, subst}
-use Rattle.clock2q_cache.proofs.Names.{is_some, Spends, hash_in, reached, resident_at}
-use Rattle.std.specs.Prelude.{sum_by}
+use Rattle.clock2q_cache.proofs.Names.{◌≡◌, ◌+◌, ◌*◌, ◌<◌, ◌≤◌, false, Option, None, Some, arith, List, length, refl, ap, sym, ◌∙◌, subst, is_some, Spends, hash_in, reached, resident_at, sum_by}
 use Rattle.clock2q_cache.proofs.Retained.{below, retains-none, retains-past, retains-asks, retains-kept, retains-refused, retains-all}
 use Rattle.clock2q_cache.proofs.Gone.{gone_below, gone-none, gone-stays, gone-left}
 use Rattle.clock2q_cache.proofs.Reaching.{left-none, left-stays, left-more}

@@ -1,5 +1,4 @@
-use Rattle.std.proofs.Common.{◌+◌, ◌≤◌}
-use Rattle.clock2q_cache.proofs.Names.{◌≡◌, ◌*◌, Spends, hash_in, resident_count}
+use Rattle.clock2q_cache.proofs.Names.{◌+◌, ◌≤◌, ◌≡◌, ◌*◌, Spends, hash_in, resident_count}
 use Rattle.clock2q_cache.proofs.Gone.{gone_below}
 use Rattle.clock2q_cache.proofs.Reaching.{LeftBelow}
 use Rattle.clock2q_cache.proofs.Retained.{RetainsBelow}

@@ -1,6 +1,5 @@
 -- The tail's key goes into the history, and its slot is free.
-use Rattle.std.proofs.Common.{◌+◌, ◌≡◌, ℕ, length, sym, ap, ◌∙◌, arith, rules, vec_len}
-use Rattle.clock2q_cache.proofs.Names.{Remembered, Places, oldest_hash, is_shared, slots, most_beside, slots-pushed, shared-pushed, if◌then◌else◌}
+use Rattle.clock2q_cache.proofs.Names.{◌+◌, ◌≡◌, ℕ, length, sym, ap, ◌∙◌, arith, rules, vec_len, Remembered, Places, oldest_hash, is_shared, slots, most_beside, slots-pushed, shared-pushed, if◌then◌else◌}
 use Rattle.clock2q_cache.proofs.Renewed.{is-resident, slot-below, tail-in, tail-unremembered}
 use Rattle.clock2q_cache.proofs.MakingRoom.{kept-unmoved, unretired-machine, last_none, retired-machine, kept-retired, tail-entry, room-for-free}
 use Rattle.clock2q_cache.proofs.Places.{pushed-key}

@@ -1,6 +1,5 @@
 -- The lookup through the index finds the slot of the resident.
-use Rattle.std.proofs.Common.{ap, ◌∙◌}
-use Rattle.clock2q_cache.proofs.Names.{hash_of, CacheState, slot_of}
+use Rattle.clock2q_cache.proofs.Names.{ap, ◌∙◌, hash_of, CacheState, slot_of}
 use Rattle.clock2q_cache.proofs.Finding.{candidates-there, found, found-made}
 use Rattle.clock2q_cache.proofs.cache.Cache.slot_of.Goals as goal
 

@@ -1,9 +1,5 @@
 -- The key enters if no resident has its hash.
-use Rattle.std.proofs.Common.{false, length, refl, sym, ap, ◌∙◌, arith}
-use Rattle.clock2q_directory.proofs.Lookups.{is_empty}
-use Rattle.clock2q_machine.proofs.Entering.{entered_there}
-use Rattle.clock2q_machine.proofs.MachineInvariant.{lasting-inserted, resident_made}
-use Rattle.clock2q_cache.proofs.Names.{inserted, is_some, if◌then◌else◌, CacheState, candidates, remembered_in, replaced}
+use Rattle.clock2q_cache.proofs.Names.{false, length, refl, sym, ap, ◌∙◌, arith, is_empty, entered_there, lasting-inserted, resident_made, inserted, is_some, if◌then◌else◌, CacheState, candidates, remembered_in, replaced}
 use Rattle.clock2q_cache.proofs.Insertions.{insert-spends}
 use Rattle.clock2q_cache.proofs.Reaching.{reaches-once}
 use Rattle.clock2q_cache.proofs.Spent.{costs-of}

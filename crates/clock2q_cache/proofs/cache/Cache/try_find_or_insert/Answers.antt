@@ -1,6 +1,5 @@
 -- The value is at the slot where the key was found, or at the one that it took.
-use Rattle.std.proofs.Common.{sym, ap, ◌∙◌, subst, Ok, arith, rules}
-use Rattle.clock2q_cache.proofs.Names.{slice_get_within, inserted, CacheState}
+use Rattle.clock2q_cache.proofs.Names.{sym, ap, ◌∙◌, subst, Ok, arith, rules, slice_get_within, inserted, CacheState}
 use Rattle.clock2q_cache.proofs.Finding.{gap-found, no-slot}
 use Rattle.clock2q_cache.proofs.Fetched.{hit-fetches, new-fetches}
 use Rattle.clock2q_cache.proofs.Insertions.{hit-spends, insert-spends}

@@ -1,16 +1,14 @@
 -- A call that says what it leaves of the cache finds or makes the slot. The value there is lent to read for the rest of
 -- the lifetime of the reference to the cache, so nothing changes any more, and what the cache ends as is known. The
 -- borrow checker writes no such proof at an error of any type, so this is a walk by hand. Assumes `Logic`.
-use Rattle.std.proofs.Common.{◌≡◌, ℕ, List, [], ◌∷◌, ◌++◌, refl, sym, subst, None, MutBor}
-use denote.Builtin.{u32}
-use Rattle.std.specs.HashMap.Lent.{HashMembers}
+use Rattle.clock2q_cache.proofs.Names.{◌≡◌, ℕ, List, [], ◌∷◌, ◌++◌, refl, sym, subst, None, u32, HashMembers, slot_of, Tries}
+use Rattle.std.proofs.Common.{MutBor}
 use Rattle.std.specs.contracts.result.Result as result
 use Rattle.std.proofs.result.Result.TheLaws.{the_row_laws as result_laws}
 use Rattle.clock2q_cache.proofs.Walks.{a_type, named, dcons, dnil, Val, vptr, inst_fn, SProp, ent, id⊢, right, Lft, Share, GName, ftrue, flft, fres, WpFn, fact, ◌⊑◌, ⊑_trans, meet_⊑_left, meet_⊑_right, tables, sem, ‵, raw, ◌⊛◌, some, later, ◌$◌, ◌∵◌, !, qed, by, move, keep, use1, use2, use3, split, split3, join, fsplit, fsplit3, fjoin, pick, await, rewrite, suffices, stop, addr, of_opd, no_more, and_then, returns, enter, alloc_all, pass_all, free_all, look_at, get, through, sets, lands_as, no, RattleType, owns, Is, shows, MutRef, ShrRef, mut_vals, as_bor, param, layout, bounded, param_laws, types_at, type_at, plain, mut_ref_to, nothing, heard, peeks, triple_of, calls_at, Lasts, lasts, framed, Stays, stay_dropped, walk_of, Goes-spent_ref, Goes-dropped, proved_at, leaves, one, hears, learns, says, knows}
 use Rattle.clock2q_cache.proofs.Shared.{rests_so, Kept, lends_within, comes_within, shares_for_good, u32_laws, ref_laws}
 use Rattle.clock2q_cache.proofs.Tried.{Slot-fetched, Slot-made, Slot-err, Slot-absent, Slot-machine, Slot-counts, Slot-index, Slot-asked, Slot-known, Lent, Has-value, Is-err, Is-absent, fetches}
-use Rattle.clock2q_machine.specs.Machine.{slot_of}
-use Rattle.clock2q_cache.specs.CacheLends.{Tries, LeavesTried}
+use Rattle.clock2q_cache.specs.CacheLends.{LeavesTried}
 use Rattle.clock2q_cache.specs.contracts.cache.Cache.{the_row}
 use Rattle.clock2q_cache.proofs.cache.Cache.TheLaws.{the_row_laws, the_within}
 use Rattle.clock2q_cache.specs.contracts.cache.Cache.try_find_or_insert as search

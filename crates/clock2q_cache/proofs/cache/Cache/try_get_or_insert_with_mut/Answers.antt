@@ -1,6 +1,5 @@
 -- Whatever is left behind the reference is the key's value, as after `put`.
-use Rattle.std.proofs.Common.{Result, Ok, Err, IsOk, IsErr, OnErr, refl, rules, sym, ◌∙◌}
-use Rattle.clock2q_cache.proofs.Names.{hit-absent, some_is}
+use Rattle.clock2q_cache.proofs.Names.{Result, Ok, Err, IsOk, IsErr, OnErr, refl, rules, sym, ◌∙◌, hit-absent, some_is}
 use Rattle.clock2q_cache.proofs.Fetched.{unwritten}
 use Rattle.clock2q_cache.proofs.Spent.{costs-of}
 use Rattle.clock2q_cache.proofs.cache.Cache.try_get_or_insert_with_mut.Goals as goal

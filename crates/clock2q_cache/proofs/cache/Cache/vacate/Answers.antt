@@ -1,6 +1,5 @@
 -- The resident's slot leaves the index and its queue, and is free.
-use Rattle.std.proofs.Common.{refl, ap, ◌∙◌, arith}
-use Rattle.clock2q_cache.proofs.Names.{QueueState, slots, Remembered, slots-left, CacheState, resident_at, hash_of, left_by, machine_of, vacated}
+use Rattle.clock2q_cache.proofs.Names.{refl, ap, ◌∙◌, arith, QueueState, slots, Remembered, slots-left, CacheState, resident_at, hash_of, left_by, machine_of, vacated}
 use Rattle.clock2q_cache.proofs.CacheInvariant.{kept-reindexed, reindexed, now-slots}
 use Rattle.clock2q_cache.proofs.Places.{left-resident}
 use Rattle.clock2q_cache.proofs.Renewed.{slot-below, is-resident}

@@ -1,6 +1,5 @@
 -- Whatever is left behind the reference is the slot's value.
-use Rattle.std.proofs.Common.{refl, ap, sym, ◌∙◌, slice_get}
-use Rattle.clock2q_cache.proofs.Names.{value-there, with_value, stored, CacheState, cache_state, counts_of}
+use Rattle.clock2q_cache.proofs.Names.{refl, ap, sym, ◌∙◌, slice_get, value-there, with_value, stored, CacheState, cache_state, counts_of}
 use Rattle.clock2q_cache.proofs.Changed.{replaced-machine, kept-replaced}
 use Rattle.clock2q_cache.proofs.cache.Cache.value_mut.Goals as goal
 

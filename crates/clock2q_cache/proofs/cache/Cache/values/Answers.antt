@@ -1,6 +1,4 @@
-use Rattle.std.proofs.Common.{◌∙◌}
-use Rattle.std.proofs.lemmas.List.{length-map}
-use Rattle.clock2q_cache.specs.Iteration.{value_in}
+use Rattle.clock2q_cache.proofs.Names.{◌∙◌, length-map, value_in}
 use Rattle.clock2q_cache.proofs.cache.Cache.values.Goals as goal
 
 pub returns-clause-len : goal.returns-clause-len

@@ -1,7 +1,5 @@
 -- What the walk finds are the slots of the residents with the hash, each once.
-use Rattle.std.proofs.Common.{slice_get, ap, ◌∙◌}
-use Rattle.clock2q_cache.proofs.Names.{hash_of, CacheState}
-use Rattle.clock2q_cache.specs.SlotsByHash.{slots_with_hash}
+use Rattle.clock2q_cache.proofs.Names.{slice_get, ap, ◌∙◌, hash_of, CacheState, slots_with_hash}
 use Rattle.clock2q_cache.proofs.Finding.{candidates-there}
 use Rattle.clock2q_cache.proofs.WithHash.{found-within, with-hash, absent-unless, lists-each, lists-once}
 use Rattle.clock2q_cache.proofs.cache.Cache.with_hash.Goals as goal

@@ -1,4 +1,4 @@
-use Rattle.std.proofs.Common.{rules}
+use Rattle.clock2q_cache.proofs.Names.{rules}
 use Rattle.clock2q_cache.proofs.cache.Cache.with_policy.Goals as goal
 
 pub returns-clause-made : goal.returns-clause-made

@@ -1,6 +1,5 @@
 -- Nothing is resident, remembered or free, and the layers are as large as the shares say.
-use Rattle.std.proofs.Common.{[], ◌^◌, ◌<◌, ◌≡◌, ap, ◌∙◌, arith, ⊎_elim}
-use Rattle.clock2q_cache.proofs.Names.{cases_lt, KeyPlaces, Remembered, QueueState, for-new, new-none, emptied-slots, Known, hash_of}
+use Rattle.clock2q_cache.proofs.Names.{[], ◌^◌, ◌<◌, ◌≡◌, ap, ◌∙◌, arith, ⊎_elim, cases_lt, KeyPlaces, Remembered, QueueState, for-new, new-none, emptied-slots, Known, hash_of}
 use Rattle.clock2q_cache.proofs.Changed.{kept-empty}
 use Rattle.clock2q_cache.proofs.cache.Cache.with_shares.Goals as goal
 

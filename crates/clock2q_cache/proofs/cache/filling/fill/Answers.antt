@@ -1,7 +1,6 @@
 -- One more entry, with the next value.
-use Rattle.std.proofs.Common.{◌+◌, ◌-◌, arith, refl, sym, ap, ◌∙◌, subst}
+use Rattle.clock2q_cache.proofs.Names.{◌+◌, ◌-◌, arith, refl, sym, ap, ◌∙◌, subst, KeyPlaces, FillsUp, TakesTimes}
 use Rattle.clock2q_cache.specs.Hashes.{hash_of}
-use Rattle.clock2q_cache.proofs.Names.{KeyPlaces, FillsUp, TakesTimes}
 use Rattle.clock2q_cache.proofs.Filled.{FillsUp-none, FillsUp-more, FillsUp-length}
 use Rattle.clock2q_cache.proofs.Makers.{next_call}
 use Rattle.clock2q_cache.proofs.cache.filling.fill.Goals as goal

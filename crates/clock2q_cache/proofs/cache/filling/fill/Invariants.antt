@@ -1,5 +1,4 @@
-use Rattle.std.proofs.Common.{◌≡◌, ◌-◌}
-use Rattle.clock2q_cache.proofs.Names.{FillsUp, hash_of, TakesTimes}
+use Rattle.clock2q_cache.proofs.Names.{◌≡◌, ◌-◌, FillsUp, hash_of, TakesTimes}
 use Rattle.clock2q_cache.proofs.cache.filling.fill.Given as goal
 
 abbrev pub invariant-loop : goal.invariant-loop

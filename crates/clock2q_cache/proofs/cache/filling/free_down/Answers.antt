@@ -1,6 +1,5 @@
 -- One more slot, below the others.
-use Rattle.std.proofs.Common.{◌≡◌, ◌+◌, ◌-◌, ◌++◌, ◌∷◌, [], reverse, arith, ap, sym, ◌∙◌}
-use Rattle.clock2q_cache.proofs.Names.{range_with_len}
+use Rattle.clock2q_cache.proofs.Names.{◌≡◌, ◌+◌, ◌-◌, ◌++◌, ◌∷◌, [], reverse, arith, ap, sym, ◌∙◌, range_with_len}
 use Rattle.clock2q_cache.proofs.Filled.{freed-more}
 use Rattle.clock2q_cache.proofs.cache.filling.free_down.Goals as goal
 

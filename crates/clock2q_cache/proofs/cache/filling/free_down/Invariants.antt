@@ -1,5 +1,4 @@
-use Rattle.std.proofs.Common.{◌≡◌, ◌+◌, ◌-◌, ◌≤◌, ◌++◌, reverse, vec_len, vec_capacity}
-use Rattle.clock2q_cache.proofs.Names.{range_with_len}
+use Rattle.clock2q_cache.proofs.Names.{◌≡◌, ◌+◌, ◌-◌, ◌≤◌, ◌++◌, reverse, vec_len, vec_capacity, range_with_len}
 use Rattle.clock2q_cache.proofs.cache.filling.free_down.Given as goal
 
 abbrev pub invariant-loop-slot : goal.invariant-loop-slot

@@ -1,4 +1,4 @@
-use Rattle.std.proofs.Common.{refl, arith}
+use Rattle.clock2q_directory.proofs.Names.{refl, arith}
 use Rattle.clock2q_directory.proofs.Histories.{IsHistory-index}
 use Rattle.clock2q_directory.proofs.Views.{places-entered, entered-like}
 use Rattle.clock2q_directory.proofs.directory.Directory.enter.Goals as goal

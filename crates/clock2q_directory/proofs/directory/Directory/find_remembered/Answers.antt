@@ -1,7 +1,4 @@
-use Rattle.std.proofs.Common.{◌≡◌, refl, ap, sym, ◌∙◌, subst}
-use Rattle.std.specs.Prelude.{IsSome}
-use Rattle.clock2q_directory.specs.Index.{is_shared, slots_among, places_among}
-use Rattle.clock2q_directory.specs.Keys.{KeyPlaces}
+use Rattle.clock2q_directory.proofs.Names.{◌≡◌, refl, ap, sym, ◌∙◌, subst, IsSome, is_shared, slots_among, places_among, KeyPlaces}
 use Rattle.clock2q_directory.proofs.Looking.{shared-places, own-places, own-there, searched}
 use Rattle.clock2q_directory.proofs.Views.{candidates-places}
 use Rattle.clock2q_directory.proofs.directory.Directory.find_remembered.Given.{Over}

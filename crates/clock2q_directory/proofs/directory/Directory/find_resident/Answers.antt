@@ -1,5 +1,4 @@
-use Rattle.std.proofs.Common.{refl, sym, subst}
-use Rattle.std.specs.Prelude.{IsSome}
+use Rattle.clock2q_directory.proofs.Names.{refl, sym, subst, IsSome}
 use Rattle.clock2q_directory.proofs.Looking.{slots-read}
 use Rattle.clock2q_directory.proofs.directory.Directory.find_resident.Goals as goal
 

@@ -1,6 +1,4 @@
-use Rattle.std.proofs.Common.{◌≡◌, refl, ap, sym, ◌∙◌, arith}
-use Rattle.clock2q_directory.specs.Index.{forgotten_at}
-use Rattle.clock2q_directory.specs.History.{remembered_from, places_from, found_place, freed_place}
+use Rattle.clock2q_directory.proofs.Names.{◌≡◌, refl, ap, sym, ◌∙◌, arith, forgotten_at, remembered_from, places_from, found_place, freed_place}
 use Rattle.clock2q_directory.proofs.Forgetting.{no_place, forgets, missed, place_there, place_held, place_short}
 use Rattle.clock2q_directory.proofs.directory.Directory.forget.Goals as goal
 

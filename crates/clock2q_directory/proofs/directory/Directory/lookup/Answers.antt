@@ -1,14 +1,4 @@
-use Rattle.std.proofs.Common.{◌≡◌, ◌≤◌, ℕ, Bool, true, false, Option, Some, None, [], length, map, inl, inr, refl, ap, sym, ◌∙◌, subst, arith}
-use Rattle.std.specs.Prelude.{IfSome, IsSome}
-use Rattle.std.specs.List.{find}
-use Rattle.std.proofs.lemmas.Bool.{cases_Bool}
-use Rattle.clock2q_handles.specs.Homes.{candidates}
-use Rattle.clock2q_handles.specs.Positions.{GapValue}
-use Rattle.clock2q_queues.specs.Cells.{Rises}
-use Rattle.clock2q_directory.specs.declared.handle.Found.{Found}
-use Rattle.clock2q_directory.specs.Index.{IsGapFor, is_shared, slots, places, slots_among, places_among}
-use Rattle.clock2q_directory.specs.Keys.{KeyPlaces, is_key_at, entries_of}
-use Rattle.clock2q_directory.specs.History.{place_of, found_slot, found_place, found_gap}
+use Rattle.clock2q_directory.proofs.Names.{◌≡◌, ◌≤◌, ℕ, Bool, true, false, Option, Some, None, [], length, map, inl, inr, refl, ap, sym, ◌∙◌, subst, arith, IfSome, IsSome, find, cases_Bool, candidates, GapValue, Rises, Found, IsGapFor, is_shared, slots, places, slots_among, places_among, KeyPlaces, is_key_at, entries_of, place_of, found_slot, found_place, found_gap}
 use Rattle.clock2q_directory.proofs.Looking.{IsFirst, end-found, first-known, further-gap, no-place-found, own-places, own-there, searched, shared-places, slots-read, some-not}
 use Rattle.clock2q_directory.proofs.Lookups.{comparisons-within}
 use Rattle.clock2q_directory.proofs.Forgetting.{placed}

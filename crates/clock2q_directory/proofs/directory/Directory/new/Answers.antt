@@ -1,8 +1,4 @@
-use Rattle.std.proofs.Common.{ap, sym, subst, arith}
-use Rattle.clock2q_queues.specs.Order.{IsWholeOrder}
-use Rattle.clock2q_directory.specs.Keys.{KeyPlaces}
-use Rattle.clock2q_directory.specs.Index.{index_for}
-use Rattle.clock2q_directory.specs.History.{IsHistory}
+use Rattle.clock2q_directory.proofs.Names.{ap, sym, subst, arith, IsWholeOrder, KeyPlaces, index_for, IsHistory}
 use Rattle.clock2q_directory.proofs.Histories.{IsHistory-new}
 use Rattle.clock2q_directory.proofs.directory.Directory.new.Goals as goal
 

@@ -1,5 +1,4 @@
-use Rattle.std.proofs.Common.{length, sym, ap, ◌∙◌}
-use Rattle.clock2q_directory.specs.Directory.{Known}
+use Rattle.clock2q_directory.proofs.Names.{length, sym, ap, ◌∙◌, Known}
 use Rattle.clock2q_directory.proofs.Histories.{entries_counted}
 use Rattle.clock2q_directory.proofs.directory.Directory.remembered_len.Goals as goal
 

@@ -1,5 +1,4 @@
-use Rattle.std.proofs.Common.{◌<◌, refl, ◌∙◌, arith}
-use Rattle.clock2q_directory.specs.Index.{left, first_remembered}
+use Rattle.clock2q_directory.proofs.Names.{◌<◌, refl, ◌∙◌, arith, left, first_remembered}
 use Rattle.clock2q_directory.proofs.Histories.{IsHistory-index}
 use Rattle.clock2q_directory.proofs.Views.{places-entered, places-left, entered-like, left-like}
 use Rattle.clock2q_directory.proofs.directory.Directory.replace.Goals as goal

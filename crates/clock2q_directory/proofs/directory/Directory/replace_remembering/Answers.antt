@@ -1,11 +1,5 @@
 -- The old key goes into the history, and its slot to the new one.
-use Rattle.std.proofs.Common.{◌≡◌, ◌<◌, ℕ, true, Option, Some, None, ap, sym, ◌∙◌, eqb, arith}
-use Rattle.std.specs.Prelude.{is_some, IfSome}
-use Rattle.std.specs.List.{list_any}
-use Rattle.clock2q_handles.specs.Homes.{candidates}
-use Rattle.clock2q_directory.specs.Index.{IndexState, first_remembered, forgotten_if, left, places, remembered_at}
-use Rattle.clock2q_directory.specs.Indexes.{IsIndex}
-use Rattle.clock2q_directory.specs.History.{Remembered, remembered_from, entering_places, places_from}
+use Rattle.clock2q_directory.proofs.Names.{◌≡◌, ◌<◌, ℕ, true, Option, Some, None, ap, sym, ◌∙◌, eqb, arith, is_some, IfSome, list_any, candidates, IndexState, first_remembered, forgotten_if, left, places, remembered_at, IsIndex, Remembered, remembered_from, entering_places, places_from}
 use Rattle.clock2q_directory.proofs.Histories.{IsHistory-index}
 use Rattle.clock2q_directory.proofs.Remembering.{remembers, pushed-nowhere, none-kept}
 use Rattle.clock2q_directory.proofs.Taking.{may-retire, resident-held}

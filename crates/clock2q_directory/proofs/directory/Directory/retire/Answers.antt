@@ -1,6 +1,5 @@
 -- The resident's key goes into the history, and its slot leaves the index.
-use Rattle.std.proofs.Common.{◌<◌, arith}
-use Rattle.clock2q_directory.specs.Index.{first_remembered}
+use Rattle.clock2q_directory.proofs.Names.{◌<◌, arith, first_remembered}
 use Rattle.clock2q_directory.proofs.Histories.{IsHistory-index}
 use Rattle.clock2q_directory.proofs.Remembering.{remembers}
 use Rattle.clock2q_directory.proofs.Taking.{may-retire}

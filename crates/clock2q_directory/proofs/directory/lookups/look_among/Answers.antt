@@ -1,8 +1,4 @@
-use Rattle.std.proofs.Common.{ap, sym, ◌∙◌, subst, arith}
-use Rattle.std.specs.Prelude.{IsSome}
-use Rattle.clock2q_directory.specs.declared.handle.Found.{Found}
-use Rattle.clock2q_directory.specs.History.{first_known}
-use Rattle.clock2q_directory.specs.Keys.{is_key_at}
+use Rattle.clock2q_directory.proofs.Names.{ap, sym, ◌∙◌, subst, arith, IsSome, Found, first_known, is_key_at}
 use Rattle.clock2q_directory.proofs.Looking.{looks-next, resident-there, resident-found, place-there, place-found}
 use Rattle.clock2q_directory.proofs.directory.lookups.look_among.Goals as goal
 

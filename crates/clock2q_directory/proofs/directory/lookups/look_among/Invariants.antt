@@ -1,5 +1,4 @@
-use Rattle.std.proofs.Common.{◌≡◌, length}
-use Rattle.clock2q_directory.specs.Keys.{is_key_at}
+use Rattle.clock2q_directory.proofs.Names.{◌≡◌, length, is_key_at}
 use Rattle.clock2q_directory.proofs.Looking.{LooksOn}
 use Rattle.clock2q_directory.proofs.directory.lookups.look_among.Given as goal
 

@@ -1,4 +1,4 @@
-use Rattle.std.proofs.Common.{◌<◌, ◌≤◌, length, arith}
+use Rattle.clock2q_directory.proofs.Names.{◌<◌, ◌≤◌, length, arith}
 use Rattle.clock2q_directory.proofs.MakingPlaces.{MakesPlace-new, MakesPlace-oldest, oldest_held, place-next}
 use Rattle.clock2q_directory.proofs.history.Ghost.push.Goals as goal
 

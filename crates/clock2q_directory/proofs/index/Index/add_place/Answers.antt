@@ -1,6 +1,4 @@
-use Rattle.std.proofs.Common.{◌≡◌, true, false, ap, sym, ◌∙◌, arith}
-use Rattle.clock2q_handles.specs.Layout.{run}
-use Rattle.clock2q_directory.specs.Index.{index_of, index_state, is_shared}
+use Rattle.clock2q_directory.proofs.Names.{◌≡◌, true, false, ap, sym, ◌∙◌, arith, run, index_of, index_state, is_shared}
 use Rattle.clock2q_directory.proofs.Larger.{spare-shared, spare-own, sorted-own}
 use Rattle.clock2q_directory.proofs.Sorted.{sorted-shared}
 use Rattle.clock2q_directory.proofs.Indexes.{length-put}

@@ -1,6 +1,4 @@
-use Rattle.std.specs.Prelude.{if◌then◌else◌}
-use Rattle.clock2q_directory.specs.Accesses.{most_changed}
-use Rattle.clock2q_directory.specs.Index.{index_state, is_shared}
+use Rattle.clock2q_directory.proofs.Names.{if◌then◌else◌, most_changed, index_state, is_shared}
 use Rattle.clock2q_directory.proofs.index.Index.add_place.Given as goal
 
 abbrev pub ghost-charge : goal.ghost-charge

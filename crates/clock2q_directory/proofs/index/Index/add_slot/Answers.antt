@@ -1,6 +1,4 @@
-use Rattle.std.proofs.Common.{ap, arith}
-use Rattle.clock2q_handles.specs.Layout.{run}
-use Rattle.clock2q_directory.specs.Index.{index_of, is_shared}
+use Rattle.clock2q_directory.proofs.Names.{ap, arith, run, index_of, is_shared}
 use Rattle.clock2q_directory.proofs.Gaps.{walk-spared}
 use Rattle.clock2q_directory.proofs.Sorted.{spare-there, sorted-entered}
 use Rattle.clock2q_directory.proofs.index.Index.add_slot.Goals as goal

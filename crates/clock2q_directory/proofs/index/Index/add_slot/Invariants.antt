@@ -1,6 +1,4 @@
-use Rattle.std.specs.Prelude.{◌&&◌}
-use Rattle.clock2q_directory.specs.Accesses.{most_inserted}
-use Rattle.clock2q_directory.specs.Index.{index_state, is_shared}
+use Rattle.clock2q_directory.proofs.Names.{◌&&◌, most_inserted, index_state, is_shared}
 use Rattle.clock2q_directory.proofs.index.Index.add_slot.Given as goal
 
 abbrev pub ghost-charge : goal.ghost-charge

@@ -1,5 +1,4 @@
-use Rattle.std.specs.Prelude.{◌+◌}
-use Rattle.clock2q_handles.specs.Layout.{walk}
+use Rattle.clock2q_directory.proofs.Names.{◌+◌, walk}
 use Rattle.clock2q_directory.proofs.index.Index.charge_lookup.Given as goal
 
 abbrev pub ghost-charge : goal.ghost-charge

@@ -1,5 +1,4 @@
-use Rattle.std.proofs.Common.{length, ap, ◌∙◌, arith}
-use Rattle.clock2q_handles.proofs.Reading.{length-layout}
+use Rattle.clock2q_directory.proofs.Names.{length, ap, ◌∙◌, arith, length-layout}
 use Rattle.clock2q_directory.proofs.Sorted.{sorted-cleared}
 use Rattle.clock2q_directory.proofs.index.Index.clear.Goals as goal
 

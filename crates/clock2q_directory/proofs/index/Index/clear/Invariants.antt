@@ -1,4 +1,4 @@
-use Rattle.std.specs.Prelude.{◌+◌, length}
+use Rattle.clock2q_directory.proofs.Names.{◌+◌, length}
 use Rattle.clock2q_directory.proofs.index.Index.clear.Given as goal
 
 abbrev pub ghost-charge : goal.ghost-charge

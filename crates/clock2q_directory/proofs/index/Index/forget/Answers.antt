@@ -1,6 +1,4 @@
-use Rattle.std.proofs.Common.{◌≡◌, true, rules, ap, sym, ◌∙◌, arith}
-use Rattle.clock2q_handles.specs.Layout.{run}
-use Rattle.clock2q_directory.specs.Index.{index_of, index_state, is_shared}
+use Rattle.clock2q_directory.proofs.Names.{◌≡◌, true, rules, ap, sym, ◌∙◌, arith, run, index_of, index_state, is_shared}
 use Rattle.clock2q_directory.proofs.Sorted.{held_place, held_own}
 use Rattle.clock2q_directory.proofs.index.Index.forget.Goals as goal
 

@@ -1,4 +1,4 @@
-use Rattle.std.proofs.Common.{arith}
+use Rattle.clock2q_directory.proofs.Names.{arith}
 use Rattle.clock2q_directory.proofs.Larger.{new-slots, new-places, new-sizes, room-places, room-slots, sizes-chained, outgrows}
 use Rattle.clock2q_directory.proofs.index.Index.grown.Goals as goal
 

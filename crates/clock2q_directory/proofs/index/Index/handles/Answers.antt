@@ -1,5 +1,4 @@
-use Rattle.std.proofs.Common.{ap, ◌∙◌}
-use Rattle.clock2q_directory.specs.Index.{index_of, is_shared, places_among}
+use Rattle.clock2q_directory.proofs.Names.{ap, ◌∙◌, index_of, is_shared, places_among}
 use Rattle.clock2q_directory.proofs.Views.{no-places}
 use Rattle.clock2q_directory.proofs.index.Index.handles.Goals as goal
 

@@ -1,4 +1,4 @@
-use Rattle.std.proofs.Common.{sym, ◌∙◌}
+use Rattle.clock2q_directory.proofs.Names.{sym, ◌∙◌}
 use Rattle.clock2q_directory.proofs.Larger.{place-listed, own-listed}
 use Rattle.clock2q_directory.proofs.index.Index.has_place.Goals as goal
 

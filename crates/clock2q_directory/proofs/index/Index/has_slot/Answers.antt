@@ -1,4 +1,4 @@
-use Rattle.std.proofs.Common.{◌∙◌}
+use Rattle.clock2q_directory.proofs.Names.{◌∙◌}
 use Rattle.clock2q_directory.proofs.Larger.{slot-listed}
 use Rattle.clock2q_directory.proofs.index.Index.has_slot.Goals as goal
 

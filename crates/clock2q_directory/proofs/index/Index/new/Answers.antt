@@ -1,4 +1,4 @@
-use Rattle.std.proofs.Common.{◌<◌, refl, arith}
+use Rattle.clock2q_directory.proofs.Names.{◌<◌, refl, arith}
 use Rattle.clock2q_directory.proofs.Sorted.{room_some, sorted-made}
 use Rattle.clock2q_directory.proofs.index.Index.new.Goals.{then-is_shared, else-is_shared}
 use Rattle.clock2q_directory.proofs.index.Index.new.Goals as goal

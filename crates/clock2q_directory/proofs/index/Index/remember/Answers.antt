@@ -1,7 +1,4 @@
-use Rattle.std.proofs.Common.{◌≡◌, true, false, ap, sym, ◌∙◌, arith}
-use Rattle.clock2q_handles.specs.Layout.{run}
-use Rattle.clock2q_handles.proofs.Changes.{length-with_list}
-use Rattle.clock2q_directory.specs.Index.{index_of, index_state, is_shared}
+use Rattle.clock2q_directory.proofs.Names.{◌≡◌, true, false, ap, sym, ◌∙◌, arith, run, length-with_list, index_of, index_state, is_shared}
 use Rattle.clock2q_directory.proofs.Views.{held_entry}
 use Rattle.clock2q_directory.proofs.Sorted.{sorted-remembered, sorted-shared}
 use Rattle.clock2q_directory.proofs.index.Index.remember.Goals as goal

@@ -1,6 +1,4 @@
-use Rattle.std.proofs.Common.{ap, arith}
-use Rattle.clock2q_handles.specs.Layout.{run}
-use Rattle.clock2q_directory.specs.Index.{index_of}
+use Rattle.clock2q_directory.proofs.Names.{ap, arith, run, index_of}
 use Rattle.clock2q_directory.proofs.Views.{held_entry}
 use Rattle.clock2q_directory.proofs.Sorted.{sorted-left}
 use Rattle.clock2q_directory.proofs.index.Index.remove_slot.Goals as goal

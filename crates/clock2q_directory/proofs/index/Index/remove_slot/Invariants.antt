@@ -1,4 +1,4 @@
-use Rattle.clock2q_directory.specs.Accesses.{most_changed}
+use Rattle.clock2q_directory.proofs.Names.{most_changed}
 use Rattle.clock2q_directory.proofs.index.Index.remove_slot.Given as goal
 
 abbrev pub ghost-charge : goal.ghost-charge

@@ -1,7 +1,4 @@
-use Rattle.std.proofs.Common.{◌≡◌, None, if◌then◌else◌, sym, ap, ◌∙◌, arith}
-use Rattle.clock2q_handles.specs.Layout.{run}
-use Rattle.clock2q_handles.specs.Positions.{walk_to_gap}
-use Rattle.clock2q_directory.specs.Index.{index_of, is_shared}
+use Rattle.clock2q_directory.proofs.Names.{◌≡◌, None, if◌then◌else◌, sym, ap, ◌∙◌, arith, run, walk_to_gap, index_of, is_shared}
 use Rattle.clock2q_directory.proofs.Gaps.{usable-gap, usable-shared, walk-usable}
 use Rattle.clock2q_directory.proofs.Views.{held_entry}
 use Rattle.clock2q_directory.proofs.Sorted.{shared-few, spare-there, sorted-entered, sorted-left}

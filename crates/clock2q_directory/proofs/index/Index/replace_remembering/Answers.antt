@@ -1,9 +1,4 @@
-use Rattle.std.specs.Prelude.{is_some}
-use Rattle.std.proofs.Common.{◌≡◌, true, false, Some, None, ap, sym, ◌∙◌, arith, eqb}
-use Rattle.std.specs.List.{list_any}
-use Rattle.clock2q_handles.specs.Homes.{candidates}
-use Rattle.clock2q_handles.specs.Layout.{run}
-use Rattle.clock2q_directory.specs.Index.{IndexState, HasSlotRoom, index_of, index_state, is_shared, slots, forgotten_if}
+use Rattle.clock2q_directory.proofs.Names.{is_some, ◌≡◌, true, false, Some, None, ap, sym, ◌∙◌, arith, eqb, list_any, candidates, run, IndexState, HasSlotRoom, index_of, index_state, is_shared, slots, forgotten_if}
 use Rattle.clock2q_directory.proofs.Views.{held_entry}
 use Rattle.clock2q_directory.proofs.Sorted.{shared-few, spare-there, held_place, sorted-entered, sorted-remembered}
 use Rattle.clock2q_directory.proofs.Succession.{IsBeside, beside-free, beside-past, still-held, succeeded, succeeded-indexed, slots-if, shared-if, few-apart}

@@ -1,5 +1,4 @@
-use Rattle.std.specs.Prelude.{◌-◌, false}
-use Rattle.clock2q_directory.specs.Index.{index_of, index_state, entered_from, forgotten_if, remembered_at}
+use Rattle.clock2q_directory.proofs.Names.{◌-◌, false, index_of, index_state, entered_from, forgotten_if, remembered_at}
 use Rattle.clock2q_directory.proofs.index.Index.replace_remembering.Given as goal
 
 abbrev pub ghost-charge : goal.ghost-charge

@@ -1,4 +1,4 @@
-use Rattle.std.proofs.Common.{arith}
+use Rattle.clock2q_directory.proofs.Names.{arith}
 use Rattle.clock2q_directory.proofs.Growing.{places-start, places-room, places-added, places-passed, places-all}
 use Rattle.clock2q_directory.proofs.index.growth.add_places.Goals.{then-has_place, else-has_place}
 use Rattle.clock2q_directory.proofs.index.growth.add_places.Goals as goal

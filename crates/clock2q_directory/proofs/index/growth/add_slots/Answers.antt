@@ -1,4 +1,4 @@
-use Rattle.std.proofs.Common.{arith}
+use Rattle.clock2q_directory.proofs.Names.{arith}
 use Rattle.clock2q_directory.proofs.Growing.{slots-start, slots-room, slots-added, slots-passed, slots-all}
 use Rattle.clock2q_directory.proofs.index.growth.add_slots.Goals.{then-has_slot, else-has_slot}
 use Rattle.clock2q_directory.proofs.index.growth.add_slots.Goals as goal

@@ -1,6 +1,4 @@
-use Rattle.std.proofs.Common.{◌≡◌, length}
-use Rattle.std.specs.Prelude.{nat_eq}
-use Rattle.std.specs.List.{list_any}
+use Rattle.clock2q_directory.proofs.Names.{◌≡◌, length, nat_eq, list_any}
 use Rattle.clock2q_directory.proofs.index.growth.is_among.Given as goal
 
 abbrev pub invariant-loop-other : goal.invariant-loop-other

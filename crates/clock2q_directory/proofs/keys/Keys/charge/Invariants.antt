@@ -1,4 +1,4 @@
-use Rattle.std.specs.Prelude.{◌+◌}
+use Rattle.clock2q_directory.proofs.Names.{◌+◌}
 use Rattle.clock2q_directory.proofs.keys.Keys.charge.Given as goal
 
 abbrev pub ghost-raise : goal.ghost-raise

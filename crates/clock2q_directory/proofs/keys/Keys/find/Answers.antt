@@ -1,8 +1,4 @@
-use Rattle.std.proofs.Common.{◌≡◌, ◌+◌, ℕ, Bool, drop, ap, sym, ◌∙◌, subst, arith}
-use Rattle.std.specs.Prelude.{IsSome}
-use Rattle.std.specs.List.{find}
-use Rattle.clock2q_directory.specs.Index.{slots_among}
-use Rattle.clock2q_directory.specs.Keys.{KeyPlaces, is_key_at, comparisons_of}
+use Rattle.clock2q_directory.proofs.Names.{◌≡◌, ◌+◌, ℕ, Bool, drop, ap, sym, ◌∙◌, subst, arith, IsSome, find, slots_among, KeyPlaces, is_key_at, comparisons_of}
 use Rattle.clock2q_directory.proofs.Looking.{compared-slot}
 use Rattle.clock2q_directory.proofs.Lookups.{compared-found}
 use Rattle.clock2q_directory.proofs.keys.Keys.find.Goals as goal

@@ -1,7 +1,4 @@
-use Rattle.std.proofs.Common.{ap, drop, sym, ◌∙◌, arith}
-use Rattle.std.specs.List.{find}
-use Rattle.clock2q_directory.specs.Index.{slots_among}
-use Rattle.clock2q_directory.specs.Keys.{is_key_at, comparisons_of}
+use Rattle.clock2q_directory.proofs.Names.{ap, drop, sym, ◌∙◌, arith, find, slots_among, is_key_at, comparisons_of}
 use Rattle.clock2q_directory.proofs.Looking.{compared-slot}
 use Rattle.clock2q_directory.proofs.Lookups.{compared-found, is_empty}
 use Rattle.clock2q_directory.proofs.keys.Keys.find_counting_in.Goals as goal

@@ -1,6 +1,4 @@
-use Rattle.std.proofs.Common.{length}
-use Rattle.clock2q_directory.specs.Keys.{is_key_at}
-use Rattle.clock2q_directory.specs.Index.{slots_among}
+use Rattle.clock2q_directory.proofs.Names.{length, is_key_at, slots_among}
 use Rattle.clock2q_directory.proofs.Lookups.{Compared}
 use Rattle.clock2q_directory.proofs.keys.Keys.find_counting_in.Given as goal
 

@@ -1,6 +1,4 @@
-use Rattle.std.proofs.Common.{◌≡◌, length}
-use Rattle.clock2q_directory.specs.Keys.{is_key_at}
-use Rattle.clock2q_directory.specs.Index.{places_among}
+use Rattle.clock2q_directory.proofs.Names.{◌≡◌, length, is_key_at, places_among}
 use Rattle.clock2q_directory.proofs.Lookups.{Compared}
 use Rattle.clock2q_directory.proofs.keys.Keys.find_remembered.Given as goal
 

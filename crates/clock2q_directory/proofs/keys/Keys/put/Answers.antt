@@ -1,6 +1,5 @@
 -- The place has its value, or keeps the one that it had.
-use Rattle.std.proofs.Common.{ap, ◌∙◌, arith, sym}
-use Rattle.clock2q_directory.specs.Keys.{KeyPlaces, entry}
+use Rattle.clock2q_directory.proofs.Names.{ap, ◌∙◌, arith, sym, KeyPlaces, entry}
 use Rattle.clock2q_directory.proofs.Entries.{written-push}
 use Rattle.clock2q_directory.proofs.Taking.{brings-value}
 use Rattle.clock2q_directory.proofs.keys.Keys.put.Goals as goal

@@ -1,7 +1,5 @@
 -- The place has its value, or keeps the one that it had.
-use Rattle.std.proofs.Common.{◌≡◌, ◌<◌, Some, length, slice_get, refl, sym, subst}
-use Rattle.std.proofs.lemmas.Option.{slice_get_read}
-use Rattle.clock2q_directory.specs.Keys.{entry}
+use Rattle.clock2q_directory.proofs.Names.{◌≡◌, ◌<◌, Some, length, slice_get, refl, sym, subst, slice_get_read, entry}
 use Rattle.clock2q_directory.proofs.Entries.{set-written}
 use Rattle.clock2q_directory.proofs.Taking.{brings-value, keeps-value}
 use Rattle.clock2q_directory.proofs.keys.Keys.replace.Given.{Over}

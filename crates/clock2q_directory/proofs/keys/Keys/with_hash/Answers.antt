@@ -1,7 +1,4 @@
-use Rattle.std.proofs.Common.{ap, drop, sym, ◌∙◌, slice_get}
-use Rattle.std.specs.List.{filter}
-use Rattle.clock2q_directory.specs.Index.{slots_among}
-use Rattle.clock2q_directory.specs.Hashed.{has_hash}
+use Rattle.clock2q_directory.proofs.Names.{ap, drop, sym, ◌∙◌, slice_get, filter, slots_among, has_hash}
 use Rattle.clock2q_directory.proofs.Lookups.{is_empty}
 use Rattle.clock2q_directory.proofs.WithHash.{sought-slot, sought-found, hash-compared}
 use Rattle.clock2q_directory.proofs.keys.Keys.with_hash.Goals as goal

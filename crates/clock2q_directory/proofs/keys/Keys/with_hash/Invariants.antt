@@ -1,6 +1,4 @@
-use Rattle.std.proofs.Common.{length}
-use Rattle.clock2q_directory.specs.Hashed.{has_hash}
-use Rattle.clock2q_directory.specs.Index.{slots_among}
+use Rattle.clock2q_directory.proofs.Names.{length, has_hash, slots_among}
 use Rattle.clock2q_directory.proofs.WithHash.{Sought}
 use Rattle.clock2q_directory.proofs.keys.Keys.with_hash.Given as goal
 

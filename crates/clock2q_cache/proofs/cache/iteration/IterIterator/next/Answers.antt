@@ -1,5 +1,5 @@
 -- The resident that is found is the first that is left.
-use Rattle.std.proofs.Common.{ℕ, List, length, arith, ap}
+use Rattle.clock2q_cache.proofs.Names.{ℕ, List, length, arith, ap}
 use Rattle.clock2q_cache.proofs.Iteration.{entries-there, some-left}
 use Rattle.clock2q_cache.proofs.cache.iteration.IterIterator.next.Goals as goal
 
